@@ -1,0 +1,12 @@
+pub mod Tree
+pub mod Meaning
+pub mod Modern
+pub mod Reserved
+pub mod Description
+pub mod Texts
+pub mod Faults
+pub mod Sentences
+pub mod Equality
+pub mod ComponentEquality
+pub mod TreeEquality
+pub mod Laws

@@ -1,0 +1,29 @@
+//! A description of version 3, whose reserved bytes are known.
+
+ghost use Rattle.std.specs.Prelude.{◌≡◌};
+ghost use Rattle.timefd_items.specs.Meaning.{inner_tree};
+ghost use Rattle.timefd_items.specs.Reserved.{reserve};
+
+pub mod inner;
+pub mod opaque;
+
+use inner::FormatDescriptionV3Inner;
+
+/// A description of version 3, as a formatter takes it.
+#[derive(Drop)]
+pub struct FormatDescriptionV3<'a> {
+    max_bytes_needed: usize,
+    inner: FormatDescriptionV3Inner<'a>,
+    ghost reserves: { max_bytes_needed ≡ reserve (inner_tree inner) },
+}
+
+impl FormatDescriptionV3<'_> {
+    ghost use Rattle.timefd_items.specs.Description.{description_tree};
+
+    /// The reserved bytes: how many bytes its longest rendering has.
+    pub fn max_bytes_needed(&self) -> usize
+        ensures { result ≡ reserve (description_tree self.now) }
+    {
+        self.max_bytes_needed
+    }
+}

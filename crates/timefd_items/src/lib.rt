@@ -1,0 +1,16 @@
+//! Components, items, descriptions and faults.
+#![tactic(auto)]
+
+mod borrowed_format_item;
+mod component;
+mod format_description_v3;
+mod invalid_format_description;
+pub mod laws;
+mod reserved;
+
+pub use borrowed_format_item::BorrowedFormatItem;
+pub use component::Component;
+pub use format_description_v3::FormatDescriptionV3;
+pub use format_description_v3::inner::FormatDescriptionV3Inner;
+pub use format_description_v3::opaque::{NotOpaque, OpaqueCause};
+pub use invalid_format_description::InvalidFormatDescription;

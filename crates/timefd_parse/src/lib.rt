@@ -1,0 +1,9 @@
+//! Reads format descriptions.
+#![tactic(auto)]
+
+mod description_version;
+pub mod laws;
+mod parse;
+
+pub use description_version::DescriptionVersion;
+pub use parse::{BorrowedOutput, ParseError, parse_borrowed};
