@@ -14,5 +14,6 @@ pub mod Strftime
 pub mod Rewritten
 pub mod Recased
 pub mod Relaxed
+pub mod Cut
 pub mod Answers
 pub mod Laws

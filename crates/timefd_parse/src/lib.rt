@@ -2,8 +2,10 @@
 #![tactic(auto)]
 
 mod description_version;
+mod fault;
 pub mod laws;
 mod parse;
+mod text;
 
 pub use description_version::DescriptionVersion;
 pub use parse::{BorrowedOutput, ParseError, parse_borrowed};
