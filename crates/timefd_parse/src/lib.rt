@@ -4,6 +4,8 @@
 mod description_version;
 pub mod laws;
 mod parse;
+mod same;
+mod setting;
 
 pub use description_version::DescriptionVersion;
 pub use parse::{BorrowedOutput, ParseError, parse_borrowed};
