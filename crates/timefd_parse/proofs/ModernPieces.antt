@@ -9,7 +9,7 @@ use Rattle.timefd_items.proofs.ModernLemmas.{modern_twice_law}
 use Rattle.timefd_parse.specs.declared.description_version.DescriptionVersion.{DescriptionVersion}
 use Rattle.timefd_parse.specs.Bytes.{named, same, is_version_three}
 use Rattle.timefd_parse.specs.Head.{Head, head_text, placed}
-use Rattle.timefd_parse.specs.Settings.{Settings}
+use Rattle.timefd_parse.specs.declared.setting.Settings.{Settings}
 use Rattle.timefd_parse.specs.Names.{Row, rows, row_of, ignored}
 use Rattle.timefd_parse.specs.Verdict.{Part, behind, bad_modifiers, settings, made, touching, nested_refused, is_formatted, only, optional_verdict, first_verdict, component_verdict, verdict}
 use Rattle.timefd_parse.specs.Grammar.{Pieces, no_pieces, run, escape, closing, bracket, Nested, no_nested, nested, spelling, nested_text, items, ArePieces, AreNested, parts_from}

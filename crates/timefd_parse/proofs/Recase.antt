@@ -8,7 +8,9 @@ use Rattle.timefd_parse.specs.Bytes.{lowered, equal, same, is_word_byte, is_key_
 use Rattle.timefd_items.specs.Faults.{Fault, Kind, fault}
 use Rattle.timefd_parse.specs.Fault.{expected_nested, first_item}
 use Rattle.timefd_parse.specs.Head.{Modifier, Head, AreModifiers, IsHead, Placed, placed_at, placed_from, placed, name_index, modifier_text, head_text}
-use Rattle.timefd_parse.specs.Settings.{Setting, Settings, defaults}
+use Rattle.timefd_parse.specs.declared.setting.Setting.{Setting}
+use Rattle.timefd_parse.specs.declared.setting.Settings.{Settings}
+use Rattle.timefd_parse.specs.Settings.{defaults}
 use Rattle.timefd_parse.specs.Values.{Values, words, numbers, Key, sets_of, key_in, setting_in, counted, count_of, digits_of, digits_value, format}
 use Rattle.timefd_parse.specs.Names.{Row, rows, row_of}
 use Rattle.timefd_items.specs.declared.component.Component.{Component}

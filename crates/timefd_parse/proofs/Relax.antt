@@ -22,7 +22,9 @@ use Rattle.timefd_parse.specs.declared.description_version.DescriptionVersion.Th
 use Rattle.timefd_parse.specs.Bytes.{right, equal, same, named}
 use Rattle.timefd_parse.specs.Fault.{expected_nested, expected_alternative}
 use Rattle.timefd_parse.specs.Head.{Head, Placed, placed, head_text}
-use Rattle.timefd_parse.specs.Settings.{Setting, Settings, defaults, with}
+use Rattle.timefd_parse.specs.declared.setting.Setting.{Setting}
+use Rattle.timefd_parse.specs.declared.setting.Settings.{Settings}
+use Rattle.timefd_parse.specs.Settings.{defaults, with}
 use Rattle.timefd_parse.specs.Values.{padding, trailing_input, hour_repr, count, month_repr, case_sensitive, sign, case, digits, precision, weekday_repr, one_indexed, week_number_repr, year_repr, range, base, format, Value, Values, words, numbers, Key, sets_of, setting_in, key_in, counted, count_of, digits_of, not_zero}
 use Rattle.timefd_parse.specs.Names.{Row, rows, row_of, ignored}
 use Rattle.timefd_parse.specs.Verdict.{refuse, bad_value, bad_modifier, bad_modifiers, is_set, setting_of, with_option, settings_from, settings, made, any_modifier, is_formatted, only, optional_verdict, first_verdict, component_verdict, verdict}
@@ -36,7 +38,7 @@ use Rattle.timefd_parse.proofs.Recase.{or_none, none_or, refuse_none, none_refus
 -- Keys.
 
 abbrev is_range : Setting → Bool
-is_range (Setting.range r) = true
+is_range (Setting.Range r) = true
 is_range _ = false
 
 -- words in lower case, that set the range where the key is `range`, and no others
@@ -271,8 +273,8 @@ counted-free None v e = absurd cc
 counted-free (Some zero) v e = absurd cc
 counted-free (Some (suc n)) v e = by (nat_le (suc n) 65535) e
   where
-    by : (t : Bool) → elim t [ true ↦ Some (Setting.count (not_zero n)) | false ↦ None ] ≡ Some v → is_range v ≡ false
-    by true h = let is : Setting.count (not_zero n) ≡ v = cc in subst (λ y. is_range y ≡ false) is refl
+    by : (t : Bool) → elim t [ true ↦ Some (Setting.Count (not_zero n)) | false ↦ None ] ≡ Some v → is_range v ≡ false
+    by true h = let is : Setting.Count (not_zero n) ≡ v = cc in subst (λ y. is_range y ≡ false) is refl
     by false h = absurd cc
 
 count_of-free : (text : Text) (v : Setting) → count_of text ≡ Some v → is_range v ≡ false
@@ -326,11 +328,11 @@ settings_same keys s (m ∷ ms) f =
     ∙ sym (ap (λ o. settings_from true keys (with_option s o) ms) (ap (λ o. setting_of true o m.value) f.0.strict_key ∙ f.0.strict_setting))
 
 with_range : (r : YearRange) (s : Settings) (v : Setting) → is_range v ≡ true → with (in_range r s) v ≡ with s v
-with_range r s (Setting.range x) e = refl
+with_range r s (Setting.Range x) e = refl
 with_range r s _ e = absurd (false≢true e)
 
 with_other : (r : YearRange) (s : Settings) (v : Setting) → is_range v ≡ false → with (in_range r s) v ≡ in_range r (with s v)
-with_other r s (Setting.range x) e = absurd (false≢true (sym e))
+with_other r s (Setting.Range x) e = absurd (false≢true (sym e))
 with_other r s _ e = refl
 
 -- another range at first makes no difference where a modifier sets the range, and else is the range at last

@@ -5,7 +5,9 @@ use Rattle.timefd_items.specs.Faults.{fault, unclosed_bracket, invalid_name, inv
 use Rattle.timefd_parse.specs.Fault.{expected_closing_escape, expected_escape, expected_white, expected_nested, expected_alternative, too_highly_nested, many_nested, optional_item, first_item, nested_here}
 use Rattle.timefd_modifier.specs.declared.enums.YearRange.{YearRange}
 use Rattle.timefd_items.specs.Reserved.{reserve}
-use Rattle.timefd_parse.specs.Settings.{Setting, Settings, defaults, with}
+use Rattle.timefd_parse.specs.declared.setting.Setting.{Setting}
+use Rattle.timefd_parse.specs.declared.setting.Settings.{Settings}
+use Rattle.timefd_parse.specs.Settings.{defaults, with}
 use Rattle.timefd_parse.specs.Values.{Values, words, numbers, Key}
 use Rattle.timefd_parse.specs.Names.{Row, rows}
 use Rattle.timefd_parse.proofs.Reader.{answer_of}
