@@ -14,6 +14,10 @@ pub mod Strftime
 pub mod Rewritten
 pub mod Recased
 pub mod Relaxed
+pub mod Lookup
 pub mod Cut
+pub mod Shown
+pub mod Places
+pub mod Checked
 pub mod Answers
 pub mod Laws
