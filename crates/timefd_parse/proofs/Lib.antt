@@ -24,3 +24,4 @@ pub mod Reserved
 pub mod Recase
 pub mod Relax
 pub mod ModernPieces
+pub mod Words
