@@ -25,3 +25,4 @@ pub mod Recase
 pub mod Relax
 pub mod ModernPieces
 pub mod Words
+pub mod Named

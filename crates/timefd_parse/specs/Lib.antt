@@ -2,6 +2,7 @@ pub mod Bytes
 pub mod Settings
 pub mod Values
 pub mod Names
+pub mod Lookup
 pub mod Combinations
 pub mod Fault
 pub mod Head

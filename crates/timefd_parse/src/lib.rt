@@ -3,6 +3,7 @@
 
 mod description_version;
 pub mod laws;
+mod name;
 mod parse;
 mod same;
 mod setting;
