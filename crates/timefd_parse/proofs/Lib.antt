@@ -26,3 +26,7 @@ pub mod Relax
 pub mod ModernPieces
 pub mod CutLemmas
 pub mod ModifierLemmas
+pub mod Words
+pub mod Named
+pub mod CheckLemmas
+pub mod HeadLemmas

@@ -2,6 +2,7 @@ pub mod Bytes
 pub mod Settings
 pub mod Values
 pub mod Names
+pub mod Lookup
 pub mod Combinations
 pub mod Fault
 pub mod Head
@@ -14,10 +15,10 @@ pub mod Strftime
 pub mod Rewritten
 pub mod Recased
 pub mod Relaxed
-pub mod Lookup
 pub mod Cut
 pub mod Shown
 pub mod Places
 pub mod Checked
+pub mod Heads
 pub mod Answers
 pub mod Laws

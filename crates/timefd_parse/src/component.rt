@@ -3,7 +3,7 @@
 ghost use Rattle.std.specs.Prelude.{◌≡◌, MatchOption, codes, IfSome};
 ghost use Rattle.timefd_items.specs.Faults.{missing_modifier};
 ghost use Rattle.timefd_items.specs.Modern.{modern};
-ghost use Rattle.timefd_parse.specs.Lookup.{row_for};
+ghost use Rattle.timefd_parse.specs.Names.{row_for};
 
 use crate::name::ComponentName;
 use crate::setting::Settings;

@@ -5,6 +5,7 @@ mod combination;
 mod component;
 mod description_version;
 mod fault;
+mod head;
 mod key;
 pub mod laws;
 mod modifier;

@@ -1,0 +1,30 @@
+-- Words that are compared.
+use Rattle.std.proofs.Common.{ℕ, ◌≡◌, ◌+◌, ◌==◌, ◌&&◌, Bool, true, false, List, [], ◌∷◌, map, length, nat_le, nat_lt, IsTrue, ◌↔◌, refl, sym, ap, ap₂, ◌∙◌, arith, eqb-true, eq-eqb, cond}
+use Rattle.std.specs.Char.{to_ascii_lowercase}
+use Rattle.std.proofs.lemmas.Bool.{and_parts, and_from, cases_Bool}
+use Rattle.std.proofs.lemmas.Bool.Decides.{nat_tests, same_from_decides}
+use Rattle.timefd_items.specs.Tree.{Text}
+use Rattle.timefd_parse.specs.Bytes.{lowered, equal, same}
+use Rattle.timefd_parse.proofs.Lookup.{equal-true}
+
+lowered-is : (b : ℕ) → lowered b ≡ to_ascii_lowercase b
+lowered-is b = grind (arith, nat_tests)
+
+all_lowered-is : (bytes : Text) → map lowered bytes ≡ map to_ascii_lowercase bytes
+all_lowered-is [] = refl
+all_lowered-is (b ∷ bytes) = ap₂ (λ x y. x ∷ y) (lowered-is b) (all_lowered-is bytes)
+
+pub equal-refl : (a : Text) → equal a a ≡ true
+equal-refl [] = refl
+equal-refl (x ∷ a) = and_from (x == x) (equal a a) (eq-eqb x x refl) (equal-refl a)
+
+equal-from : (a b : Text) → a ≡ b → equal a b ≡ true
+equal-from a b e = ap (equal a) (sym e) ∙ equal-refl a
+
+-- what `eq_ignore_ascii_case` says
+pub same_lowered : (r : Bool) (a b : Text) → (IsTrue r ↔ (map to_ascii_lowercase a ≡ map to_ascii_lowercase b)) → r ≡ same false a b
+same_lowered r a b test =
+    same_from_decides r (same false a b) test (
+      λ e. sym (all_lowered-is a) ∙ equal-true (map lowered a) (map lowered b) e ∙ all_lowered-is b,
+      λ e. equal-from (map lowered a) (map lowered b) (all_lowered-is a ∙ e ∙ sym (all_lowered-is b)),
+    )

@@ -1,0 +1,62 @@
+//! The head of a bracket: its name and its modifiers.
+
+ghost use Rattle.std.specs.Prelude.{ℕ, ◌≡◌, ◌∷◌, MatchResult};
+ghost use Rattle.timefd_items.specs.Tree.{Text};
+ghost use Rattle.timefd_parse.specs.Bytes.{is_version_three};
+ghost use Rattle.timefd_parse.specs.Heads.{ReadsHead};
+
+use crate::fault::{Fault, Kind};
+use crate::modifier::read_modifier;
+use crate::modifiers::Modifiers;
+use crate::name::{Name, name_of};
+use crate::text::{Class, cut};
+
+/// What stands in a bracket up to its first nested description, or its end.
+#[derive(Clone, Copy)]
+pub struct Head<'a> {
+    /// The word that names the bracket, and how many bytes of the text remain from there on.
+    pub word: &'a str,
+    pub remaining: usize,
+    /// What the word names.
+    pub name: Option<Name>,
+    pub modifiers: Modifiers<'a>,
+    /// The white bytes behind all that.
+    pub white: &'a str,
+}
+
+/// The head of the bracket that has this inside, and the rest.
+pub fn read_head<'a>(strict: bool, inside: &'a str) -> Result<(Head<'a>, &'a str), Fault<'a>>
+    ensures { ReadsHead strict inside.now result }
+{
+    let (white, named) = cut(inside, Class::White);
+    let (word, after_word) = cut(named, Class::Word);
+    if word.is_empty() {
+        let remaining = if white.is_empty() {
+            inside.len() + 1
+        } else {
+            inside.len()
+        };
+        return Err(Fault {
+            kind: Kind::MissingName,
+            remaining,
+        });
+    }
+    let name = name_of(strict, word);
+    let mut modifiers = Modifiers::new(strict);
+    let mut rest = after_word;
+    'modifiers: loop {
+        let (white, after) = cut(rest, Class::White);
+        let Some((modifier, after_modifier)) = read_modifier(after)? else {
+            let head = Head {
+                word,
+                remaining: named.len(),
+                name,
+                modifiers,
+                white,
+            };
+            return Ok((head, after));
+        };
+        modifiers.take(strict, name, modifier);
+        rest = after_modifier;
+    }
+}
