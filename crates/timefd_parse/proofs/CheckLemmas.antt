@@ -39,7 +39,7 @@ or_assoc None b c = refl
 
 -- One more modifier, in the rules.
 
-bad_more : (strict : Bool) (keys : List Key) (before ps : List Placed) (p : Placed)
+pub bad_more : (strict : Bool) (keys : List Key) (before ps : List Placed) (p : Placed)
     → bad_modifiers strict keys before (ps ++ p ∷ []) ≡ (bad_modifiers strict keys before ps or bad_modifier strict (key_in strict p.key keys) (before ++ ps) p)
 bad_more strict keys before [] p =
     or_none _ ∙ ap (λ b. bad_modifier strict (key_in strict p.key keys) b p) (sym (append-nil before))

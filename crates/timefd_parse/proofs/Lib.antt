@@ -30,3 +30,4 @@ pub mod Words
 pub mod Named
 pub mod CheckLemmas
 pub mod HeadLemmas
+pub mod VerdictLemmas

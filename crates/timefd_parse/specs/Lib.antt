@@ -20,5 +20,8 @@ pub mod Shown
 pub mod Places
 pub mod Checked
 pub mod Heads
+pub mod Strings
+pub mod Pieces
+pub mod Judged
 pub mod Answers
 pub mod Laws

@@ -8,15 +8,18 @@ mod fault;
 mod head;
 mod key;
 pub mod laws;
+mod members;
 mod modifier;
 mod modifiers;
 mod name;
 mod parse;
+mod piece;
 mod places;
 mod same;
 mod setting;
 mod text;
 mod value;
+mod verdict;
 
 pub use description_version::DescriptionVersion;
 pub use parse::{BorrowedOutput, ParseError, parse_borrowed};

@@ -1,0 +1,338 @@
+-- The verdict, rule by rule.
+use Rattle.std.proofs.Common.{◌≡◌, ℕ, ◌+◌, ◌<◌, Bool, true, false, not, if◌then◌else◌, codes, List, [], ◌∷◌, length, map, drop, get_or, Option, Some, None, option_map, Result, Ok, Err, IsTrue, refl, sym, ap, ◌∙◌, subst, arith}
+use Rattle.std.proofs.lemmas.Bool.{true≢false}
+use Rattle.std.proofs.lemmas.List.{length-map}
+use Rattle.std.specs.Borrow.{Bor}
+use Rattle.timefd_items.specs.declared.component.Component.{Component}
+use Rattle.timefd_items.specs.Faults.{Kind, Fault, fault, invalid_name, missing_modifier, invalid_combination}
+use Rattle.timefd_items.specs.Tree.{Text, Tree, component, optional, first, trees, pack}
+use Rattle.timefd_items.specs.Meaning.{inner_tree}
+use Rattle.timefd_parse.specs.declared.fault.Fault as code_fault
+use Rattle.timefd_parse.specs.declared.fault.Kind.TheVariants as kinds
+use Rattle.timefd_parse.specs.declared.head.Head as code_head
+use Rattle.timefd_parse.specs.declared.members.Members.{Members}
+use Rattle.timefd_parse.specs.declared.members.Members.TheVariants.{Empty, One, Many}
+use Rattle.timefd_parse.specs.declared.name.ComponentName.{ComponentName}
+use Rattle.timefd_parse.specs.declared.name.Name.{Name}
+use Rattle.timefd_parse.specs.declared.name.Name.TheVariants as names
+use Rattle.timefd_parse.specs.declared.places.Places.{Places}
+use Rattle.timefd_parse.specs.declared.combination.Refusal as code_refusal
+use Rattle.timefd_parse.specs.declared.key.Key as code_key
+use Rattle.timefd_parse.specs.declared.setting.Settings.{Settings}
+use Rattle.timefd_parse.specs.Bytes.{equal, same}
+use Rattle.timefd_parse.specs.Fault.{expected_white, expected_nested, expected_alternative, many_nested, optional_item, first_item, nested_here}
+use Rattle.timefd_parse.specs.Head.{Head, Placed, placed, name_index}
+use Rattle.timefd_parse.specs.Names.{Row, row_for, row_of}
+use Rattle.timefd_parse.specs.Values.{format}
+use Rattle.timefd_parse.specs.Combinations.{Refusal, refusals}
+use Rattle.timefd_parse.specs.Lookup.{key_for, IsNameOf, shown}
+use Rattle.timefd_parse.specs.Places.{place}
+use Rattle.timefd_parse.specs.Verdict.{Part, ◌or◌, unless, behind, refuse, bad_modifiers, settings, component_verdict, combination, combined, misplaced, made, any_modifier, nested_wanted, too_many, is_formatted, only, optional_verdict, first_verdict, touching, nested_refused, verdict}
+use Rattle.timefd_parse.specs.Shown.{IsFault, kind_of}
+use Rattle.timefd_parse.specs.Checked.{Checks, ShowsFault, ShowsPlace, first_place}
+use Rattle.timefd_parse.specs.Heads.{ShowsHead}
+use Rattle.timefd_parse.specs.Pieces.{members_trees, no_members, AreMembers}
+use Rattle.timefd_parse.specs.Judged.{ShowsMembers, ShowsDescriptions, ShowsPlaces, JudgedFault, refused_in, placing}
+use Rattle.timefd_parse.proofs.CheckLemmas.{none_shown}
+
+-- Parts.
+
+nothing_mapped : {A B : Type 0} (f : A → B) (xs : List A) → map f xs ≡ [] → xs ≡ []
+nothing_mapped {A} {B} f [] e = refl
+nothing_mapped {A} {B} f (x ∷ xs) e = absurd cc
+
+pub members_shown : (total : ℕ) (spaced : Bool) (remaining : ℕ) (m : Members) (parts : List Part) → ShowsDescriptions total spaced remaining (members_trees m) parts → ShowsMembers m parts
+members_shown total spaced remaining m [] shows = shows
+members_shown total spaced remaining m (p ∷ ps) shows = shows.2
+
+some_members : (m : Members) → no_members m ≡ false → AreMembers m → members_trees m ≡ [] → ⊥
+some_members Empty some are e = true≢false some
+some_members (One item) some are e = absurd cc
+some_members (Many items) some are e = absurd (omega (arith, are, ap length (nothing_mapped inner_tree items.items e)))
+
+pub parts_none : (m : Members) (parts : List Part) → ShowsMembers m parts → m ≡ Empty → parts ≡ []
+parts_none m parts shows e = nothing_mapped _ parts (sym shows ∙ ap members_trees e)
+
+pub parts_empty : (m : Members) (parts : List Part) → ShowsMembers m parts → no_members m ≡ true → parts ≡ []
+parts_empty Empty parts shows e = parts_none Empty parts shows refl
+parts_empty (One item) parts shows e = absurd (true≢false (sym e))
+parts_empty (Many items) parts shows e = absurd (true≢false (sym e))
+
+pub parts_many : (total : ℕ) (spaced : Bool) (remaining : ℕ) (m : Members) (parts : List Part) → ShowsDescriptions total spaced remaining (members_trees m) parts → AreMembers m
+    → no_members m ≡ false → ((item : _) → m ≡ One item → ⊥)
+    → (f : Fault) × (too_many parts ≡ Some f) × (f.kind ≡ many_nested) × (f.index + remaining ≡ total)
+parts_many total spaced remaining Empty parts shows are some many = absurd (true≢false some)
+parts_many total spaced remaining (One item) parts shows are some many = absurd (many item refl)
+parts_many total spaced remaining (Many items) [] shows are some many = absurd (some_members (Many items) some are shows)
+parts_many total spaced remaining (Many items) (p ∷ []) shows are some many =
+    let one = simp length-map at (ap length shows.2) in
+    absurd (omega (arith, one, are))
+parts_many total spaced remaining (Many items) (p ∷ q ∷ ps) shows are some many = (fault many_nested p.index, refl, refl, shows.1)
+
+pub parts_touch : (total : ℕ) (spaced : Bool) (remaining : ℕ) (m : Members) (parts : List Part) → ShowsDescriptions total spaced remaining (members_trees m) parts → AreMembers m
+    → no_members m ≡ false → spaced ≡ false
+    → (f : Fault) × (touching parts ≡ Some f) × (f.kind ≡ expected_white) × (f.index + remaining ≡ total)
+parts_touch total spaced remaining m [] shows are some close = absurd (some_members m some are shows)
+parts_touch total spaced remaining m (p ∷ ps) shows are some close =
+    (fault expected_white p.index, ap (λ b. refuse (not b) expected_white p.index) (shows.0 ∙ close), refl, shows.1)
+
+pub parts_apart : (total : ℕ) (spaced : Bool) (remaining : ℕ) (m : Members) (parts : List Part) → ShowsDescriptions total spaced remaining (members_trees m) parts
+    → (no_members m ≡ false → spaced ≡ true) → touching parts ≡ None
+parts_apart total spaced remaining m [] shows apart = refl
+parts_apart total spaced remaining Empty (p ∷ ps) shows apart = let e = shows.2 in absurd cc
+parts_apart total spaced remaining (One item) (p ∷ ps) shows apart = ap (λ b. refuse (not b) expected_white p.index) (shows.0 ∙ apart refl)
+parts_apart total spaced remaining (Many items) (p ∷ ps) shows apart = ap (λ b. refuse (not b) expected_white p.index) (shows.0 ∙ apart refl)
+
+pub parts_refused : (m : Members) (parts : List Part) → ShowsMembers m parts → AreMembers m → no_members m ≡ false → nested_refused parts ≡ Some (fault nested_here 0)
+parts_refused m [] shows are some = absurd (some_members m some are shows)
+parts_refused m (p ∷ ps) shows are some = refl
+
+-- What modifiers come to.
+
+pub fault_shown : (total : ℕ) (o : Option code_fault.Fault) (b : Option Fault) (f : code_fault.Fault) → ShowsFault total o b → o ≡ Some f
+    → (g : Fault) × (b ≡ Some g) × IsFault total f g
+fault_shown total None b f is e = absurd cc
+fault_shown total (Some x) None f is e = absurd is
+fault_shown total (Some x) (Some g) f is e = (g, refl, subst (λ y. IsFault total y g) (let same : x ≡ f = cc in same) is)
+
+-- `optional`
+
+pub optional_none : (strict : Bool) (place : ℕ) (h : Head) (parts : List Part) → bad_modifiers strict (format ∷ []) [] (placed h) ≡ None → parts ≡ []
+    → optional_verdict strict h parts place ≡ Err (fault expected_nested place)
+optional_none strict place h parts bad none =
+    subst (λ ps. optional_verdict strict h ps place ≡ Err (fault expected_nested place)) (sym none)
+    (subst (λ a. unless (a or too_many [] or nested_wanted expected_nested [] place or refuse (not strict) optional_item 0) (optional (is_formatted strict (placed h)) (only [])) ≡ Err (fault expected_nested place)) (sym bad) refl)
+
+pub optional_many : (strict : Bool) (place : ℕ) (h : Head) (parts : List Part) (g : Fault) → bad_modifiers strict (format ∷ []) [] (placed h) ≡ None → too_many parts ≡ Some g
+    → optional_verdict strict h parts place ≡ Err g
+optional_many strict place h parts g bad many =
+    subst (λ a. unless (a or too_many parts or nested_wanted expected_nested parts place or refuse (not strict) optional_item 0) (optional (is_formatted strict (placed h)) (only parts)) ≡ Err g) (sym bad)
+    (subst (λ a. unless (None or a or nested_wanted expected_nested parts place or refuse (not strict) optional_item 0) (optional (is_formatted strict (placed h)) (only parts)) ≡ Err g) (sym many) refl)
+
+one_part : (x : Tree) (parts : List Part) → x ∷ [] ≡ map (λ (q : Part). pack q.trees) parts → (p : Part) × (parts ≡ p ∷ []) × (x ≡ pack p.trees)
+one_part x [] e = absurd cc
+one_part x (p ∷ []) e = (p, refl, cc)
+one_part x (p ∷ q ∷ ps) e = absurd cc
+
+pub optional_lax : (strict : Bool) (place : ℕ) (h : Head) (x : Tree) (parts : List Part) → bad_modifiers strict (format ∷ []) [] (placed h) ≡ None → strict ≡ false
+    → x ∷ [] ≡ map (λ (q : Part). pack q.trees) parts → optional_verdict strict h parts place ≡ Err (fault optional_item 0)
+optional_lax strict place h x parts bad lax one =
+    let only_one = one_part x parts one in
+    subst (λ ps. optional_verdict strict h ps place ≡ Err (fault optional_item 0)) (sym only_one.1)
+    (subst (λ a. unless (a or None or None or refuse (not strict) optional_item 0) (optional (is_formatted strict (placed h)) (only (only_one.0 ∷ []))) ≡ Err (fault optional_item 0)) (sym bad)
+    (subst (λ b. unless (None or None or None or refuse (not b) optional_item 0) (optional (is_formatted strict (placed h)) (only (only_one.0 ∷ []))) ≡ Err (fault optional_item 0)) (sym lax) refl))
+
+pub optional_one : (strict : Bool) (place : ℕ) (h : Head) (x : Tree) (parts : List Part) (settings' : Settings) → bad_modifiers strict (format ∷ []) [] (placed h) ≡ None → strict ≡ true
+    → settings' ≡ settings strict (format ∷ []) (placed h)
+    → x ∷ [] ≡ map (λ (q : Part). pack q.trees) parts → optional_verdict strict h parts place ≡ Ok (optional settings'.format x)
+optional_one strict place h x parts settings' bad exact set one =
+    let only_one = one_part x parts one in
+    subst (λ ps. optional_verdict strict h ps place ≡ Ok (optional settings'.format x)) (sym only_one.1)
+    (subst (λ a. unless (a or None or None or refuse (not strict) optional_item 0) (optional (is_formatted strict (placed h)) (only (only_one.0 ∷ []))) ≡ Ok (optional settings'.format x)) (sym bad)
+    (subst (λ b. unless (None or None or None or refuse (not b) optional_item 0) (optional (is_formatted strict (placed h)) (only (only_one.0 ∷ []))) ≡ Ok (optional settings'.format x)) (sym exact)
+    (ap (λ (s : Settings). Ok (optional s.format (pack only_one.0.trees))) (sym set) ∙ ap (λ t. Ok (optional settings'.format t)) (sym only_one.2))))
+
+-- `first`
+
+any_is_bad : (strict : Bool) (ps : List Placed) → any_modifier ps ≡ bad_modifiers strict [] [] ps
+any_is_bad strict [] = refl
+any_is_bad strict (p ∷ ps) = refl
+
+pub first_bad : (strict : Bool) (place : ℕ) (h : Head) (parts : List Part) (g : Fault) → bad_modifiers strict [] [] (placed h) ≡ Some g → first_verdict strict h parts place ≡ Err g
+first_bad strict place h parts g bad =
+    subst (λ a. unless (a or (if strict then nested_wanted expected_alternative parts place else Some (fault first_item 0))) (first (trees (map (λ (p : Part). pack p.trees) parts))) ≡ Err g) (sym (any_is_bad strict (placed h) ∙ bad)) refl
+
+pub first_lax : (strict : Bool) (place : ℕ) (h : Head) (parts : List Part) → bad_modifiers strict [] [] (placed h) ≡ None → strict ≡ false
+    → first_verdict strict h parts place ≡ Err (fault first_item 0)
+first_lax strict place h parts bad lax =
+    subst (λ a. unless (a or (if strict then nested_wanted expected_alternative parts place else Some (fault first_item 0))) (first (trees (map (λ (p : Part). pack p.trees) parts))) ≡ Err (fault first_item 0)) (sym (any_is_bad strict (placed h) ∙ bad))
+    (subst (λ b. unless (None or (if b then nested_wanted expected_alternative parts place else Some (fault first_item 0))) (first (trees (map (λ (p : Part). pack p.trees) parts))) ≡ Err (fault first_item 0)) (sym lax) refl)
+
+pub first_empty : (strict : Bool) (place : ℕ) (h : Head) (parts : List Part) → bad_modifiers strict [] [] (placed h) ≡ None → strict ≡ true → parts ≡ []
+    → first_verdict strict h parts place ≡ Err (fault expected_alternative place)
+first_empty strict place h parts bad exact none =
+    subst (λ a. unless (a or (if strict then nested_wanted expected_alternative parts place else Some (fault first_item 0))) (first (trees (map (λ (p : Part). pack p.trees) parts))) ≡ Err (fault expected_alternative place)) (sym (any_is_bad strict (placed h) ∙ bad))
+    (subst (λ b. unless (None or (if b then nested_wanted expected_alternative parts place else Some (fault first_item 0))) (first (trees (map (λ (p : Part). pack p.trees) parts))) ≡ Err (fault expected_alternative place)) (sym exact)
+    (subst (λ ps. unless (nested_wanted expected_alternative ps place) (first (trees (map (λ (p : Part). pack p.trees) ps))) ≡ Err (fault expected_alternative place)) (sym none) refl))
+
+some_wanted : (m : Members) (parts : List Part) (place : ℕ) → ShowsMembers m parts → AreMembers m → (m ≡ Empty → ⊥) → nested_wanted expected_alternative parts place ≡ None
+some_wanted Empty parts place shows are some = absurd (some refl)
+some_wanted (One item) [] place shows are some = absurd (some_members (One item) refl are shows)
+some_wanted (Many items) [] place shows are some = absurd (some_members (Many items) refl are shows)
+some_wanted (One item) (p ∷ ps) place shows are some = refl
+some_wanted (Many items) (p ∷ ps) place shows are some = refl
+
+pub first_found : (strict : Bool) (place : ℕ) (h : Head) (m : Members) (parts : List Part) (list : List Tree) → bad_modifiers strict [] [] (placed h) ≡ None → strict ≡ true
+    → ShowsMembers m parts → AreMembers m → (m ≡ Empty → ⊥) → list ≡ members_trees m → first_verdict strict h parts place ≡ Ok (first (trees list))
+first_found strict place h m parts list bad exact shows are some made =
+    subst (λ a. unless (a or (if strict then nested_wanted expected_alternative parts place else Some (fault first_item 0))) (first (trees (map (λ (p : Part). pack p.trees) parts))) ≡ Ok (first (trees list))) (sym (any_is_bad strict (placed h) ∙ bad))
+    (subst (λ b. unless (None or (if b then nested_wanted expected_alternative parts place else Some (fault first_item 0))) (first (trees (map (λ (p : Part). pack p.trees) parts))) ≡ Ok (first (trees list))) (sym exact)
+    (subst (λ a. unless a (first (trees (map (λ (p : Part). pack p.trees) parts))) ≡ Ok (first (trees list))) (sym (some_wanted m parts place shows are some))
+    (ap (λ ts. Ok (first (trees ts))) (sym (made ∙ shows)))))
+
+-- Components.
+
+misplaced_at : (r : Refusal) (ps : List Placed) → misplaced r ps ≡ option_map (λ i. fault (invalid_combination r.key r.context) i) (first_place r.key ps)
+misplaced_at r [] = refl
+misplaced_at r (p ∷ ps) = by (equal r.key p.key) (misplaced_at r ps)
+  where
+    by : (t : Bool) → misplaced r ps ≡ option_map (λ i. fault (invalid_combination r.key r.context) i) (first_place r.key ps)
+        → (refuse t (invalid_combination r.key r.context) p.key_index or misplaced r ps)
+        ≡ option_map (λ i. fault (invalid_combination r.key r.context) i) (elim t as (λ _. Option ℕ) [ true ↦ Some p.key_index | false ↦ first_place r.key ps ])
+    by true e = refl
+    by false e = e
+
+pub none_refused : (total : ℕ) (o : Option code_fault.Fault) (b : Option Fault) → o ≡ None → b ≡ None → ShowsFault total o b
+none_refused total None None e d = tt
+none_refused total None (Some g) e d = absurd cc
+none_refused total (Some f) b e d = absurd cc
+
+pub lax_refused : (total : ℕ) (strict : Bool) (c : Component) (ps : List Placed) → strict ≡ false → ShowsFault total None (combination strict c ps)
+lax_refused total strict c ps lax = none_refused total None _ refl (ap (λ b. if b then combined (refusals c) ps else None) lax)
+
+pub exactly : (strict : Bool) (c : Component) (ps : List Placed) → strict ≡ true → combination strict c ps ≡ combined (refusals c) ps
+exactly strict c ps exact = ap (λ b. if b then combined (refusals c) ps else None) exact
+
+-- the refusals from one on decide
+pub refused_here : (total : ℕ) (places : Places) (ps : List Placed) (r : code_refusal.Refusal) (rest : List Refusal) (remaining : ℕ) (spelling : Bor (List ℕ)) (all : Option Fault) → ShowsPlaces total places ps
+    → place places r.key ≡ Some remaining → spelling.now ≡ (key_for r.key).key → all ≡ combined (shown r ∷ rest) ps
+    → ShowsFault total (Some (record { kind = kinds.InvalidCombination spelling r.context; remaining = remaining })) all
+refused_here total places ps r rest remaining spelling all shows at spelled e =
+    by (first_place (key_for r.key).key ps) refl (subst (λ o. ShowsPlace total o (first_place (key_for r.key).key ps)) at (shows r.key))
+  where
+    by : (o : Option ℕ) → first_place (key_for r.key).key ps ≡ o → ShowsPlace total (Some remaining) o
+        → ShowsFault total (Some (record { kind = kinds.InvalidCombination spelling r.context; remaining = remaining })) all
+    by None f is = absurd is
+    by (Some i) f is =
+        let g : Fault = fault (invalid_combination (key_for r.key).key r.context.now) i in
+        subst (ShowsFault total (Some (record { kind = kinds.InvalidCombination spelling r.context; remaining = remaining })))
+        (sym (e ∙ ap (λ x. x or combined rest ps) (misplaced_at (shown r) ps ∙ ap (option_map (λ j. fault (invalid_combination (key_for r.key).key r.context.now) j)) f)))
+        (record { kind = ap (λ k. invalid_combination k r.context.now) (sym spelled); place = is })
+
+pub refused_later : (total : ℕ) (places : Places) (ps : List Placed) (r : code_refusal.Refusal) (rest : List Refusal) (all : Option Fault) → ShowsPlaces total places ps
+    → place places r.key ≡ None → all ≡ combined (shown r ∷ rest) ps → all ≡ combined rest ps
+refused_later total places ps r rest all shows none e =
+    by (first_place (key_for r.key).key ps) refl (subst (λ o. ShowsPlace total o (first_place (key_for r.key).key ps)) none (shows r.key))
+  where
+    by : (o : Option ℕ) → first_place (key_for r.key).key ps ≡ o → ShowsPlace total None o → all ≡ combined rest ps
+    by None f is = e ∙ ap (λ x. x or combined rest ps) (misplaced_at (shown r) ps ∙ ap (option_map (λ j. fault (invalid_combination (key_for r.key).key r.context.now) j)) f)
+    by (Some i) f is = absurd is
+
+module _ (strict : Bool) (total : ℕ) (head : code_head.Head) (h : Head) (n : ComponentName) (shows : ShowsHead strict total head h) (named : head.name ≡ Some (names.Component n)) where
+  checks : Checks strict (Some (names.Component n)) total head.modifiers (placed h)
+  checks = subst (λ o. Checks strict o total head.modifiers (placed h)) named shows.modifiers
+
+  pub component_bad : (f : code_fault.Fault) → head.modifiers.fault ≡ Some f → JudgedFault total (component_verdict strict h (Some (row_for n))) f
+  component_bad f e =
+      let b = fault_shown total _ _ f checks.fault e in
+      (b.0, ap (λ x. behind x (made strict h ((row_for n).component (settings strict (row_for n).keys (placed h))))) b.1, b.2)
+
+  good : head.modifiers.fault ≡ None → (r : Result Component Kind) → (row_for n).component head.modifiers.settings ≡ r → component_verdict strict h (Some (row_for n)) ≡ made strict h r
+  good none r e =
+      ap (λ x. behind x (made strict h ((row_for n).component (settings strict (row_for n).keys (placed h))))) (none_shown total _ _ checks.fault none)
+      ∙ ap (made strict h) (ap (row_for n).component (sym (checks.settings none)) ∙ e)
+
+  pub component_missing : (key : Bor (List ℕ)) → head.modifiers.fault ≡ None → (row_for n).component head.modifiers.settings ≡ Err (missing_modifier key.now)
+      → JudgedFault total (component_verdict strict h (Some (row_for n))) (record { kind = kinds.MissingModifier key; remaining = head.remaining })
+  component_missing key none e = (fault (missing_modifier key.now) (name_index h), good none _ e, record { kind = refl; place = shows.place })
+
+  pub places_shown : head.modifiers.fault ≡ None → strict ≡ true → ShowsPlaces total head.modifiers.places (placed h)
+  places_shown none exact = checks.places none exact
+
+  pub component_refused : (c : Component) (f : code_fault.Fault) → head.modifiers.fault ≡ None → (row_for n).component head.modifiers.settings ≡ Ok c
+      → (o : Option code_fault.Fault) → o ≡ Some f → ShowsFault total o (combination strict c (placed h)) → JudgedFault total (component_verdict strict h (Some (row_for n))) f
+  component_refused c f none e o some is =
+      let b = fault_shown total o _ f is some in
+      (b.0, good none (Ok c) e ∙ ap (λ x. unless x (component c)) b.1, b.2)
+
+  pub component_found : (c : Component) → head.modifiers.fault ≡ None → (row_for n).component head.modifiers.settings ≡ Ok c
+      → (o : Option code_fault.Fault) → o ≡ None → ShowsFault total o (combination strict c (placed h)) → component_verdict strict h (Some (row_for n)) ≡ Ok (component c)
+  component_found c none e o free is = good none (Ok c) e ∙ ap (λ x. unless x (component c)) (none_shown total o _ is free)
+
+-- The order of the rules.
+
+abbrev by_tests : Bool → Head → List Part → ℕ → Bool → Bool → Option Row → Result Tree Fault
+by_tests strict h parts place is_optional is_first row =
+    if is_optional then optional_verdict strict h parts place
+    else if is_first then first_verdict strict h parts place
+    else behind (nested_refused parts) (component_verdict strict h row)
+
+abbrev pub by_name : Bool → Head → List Part → ℕ → Option Name → Result Tree Fault
+by_name strict h parts place (Some names.Optional) = optional_verdict strict h parts place
+by_name strict h parts place (Some names.First) = first_verdict strict h parts place
+by_name strict h parts place (Some (names.Component n)) = component_verdict strict h (Some (row_for n))
+by_name strict h parts place None = component_verdict strict h None
+
+named : (strict : Bool) (h : Head) (parts : List Part) (place : ℕ) (name : Option Name) → IsNameOf strict h.name name
+    → by_tests strict h parts place (same strict (codes "optional") h.name) (same strict (codes "first") h.name) (row_of strict h.name)
+    ≡ behind (refused_in name parts) (by_name strict h parts place name)
+named strict h parts place (Some names.Optional) is =
+    ap (λ b. by_tests strict h parts place b (same strict (codes "first") h.name) (row_of strict h.name)) is
+named strict h parts place (Some names.First) is =
+    ap (λ b. by_tests strict h parts place b (same strict (codes "first") h.name) (row_of strict h.name)) is.0
+    ∙ ap (λ b. by_tests strict h parts place false b (row_of strict h.name)) is.1
+named strict h parts place (Some (names.Component n)) is =
+    ap (λ b. by_tests strict h parts place b (same strict (codes "first") h.name) (row_of strict h.name)) is.0
+    ∙ ap (λ b. by_tests strict h parts place false b (row_of strict h.name)) is.1
+    ∙ ap (λ r. by_tests strict h parts place false false r) is.2
+named strict h parts place None is =
+    ap (λ b. by_tests strict h parts place b (same strict (codes "first") h.name) (row_of strict h.name)) is.0
+    ∙ ap (λ b. by_tests strict h parts place false b (row_of strict h.name)) is.1
+    ∙ ap (λ r. by_tests strict h parts place false false r) is.2
+
+behind_both : (a b : Option Fault) (r : Result Tree Fault) → behind a (behind b r) ≡ behind (a or b) r
+behind_both (Some f) b r = refl
+behind_both None b r = refl
+
+by_rules : (strict : Bool) (total place : ℕ) (head : code_head.Head) (h : Head) (parts : List Part) → ShowsHead strict total head h
+    → verdict strict h parts place ≡ behind (placing head.name parts) (by_name strict h parts place head.name)
+by_rules strict total place head h parts shows =
+    ap (behind (touching parts)) (named strict h parts place head.name (subst (λ w. IsNameOf strict w head.name) (sym shows.word) shows.name))
+    ∙ behind_both (touching parts) (refused_in head.name parts) (by_name strict h parts place head.name)
+
+-- a fault of the nested descriptions' places comes first
+pub verdict_misplaced : (strict : Bool) (total place : ℕ) (head : code_head.Head) (h : Head) (parts : List Part) (o : Option code_fault.Fault) (f : code_fault.Fault) → ShowsHead strict total head h
+    → ShowsFault total o (placing head.name parts) → o ≡ Some f → JudgedFault total (verdict strict h parts place) f
+verdict_misplaced strict total place head h parts o f shows is some =
+    let b = fault_shown total o _ f is some in
+    (b.0, by_rules strict total place head h parts shows ∙ ap (λ x. behind x (by_name strict h parts place head.name)) b.1, b.2)
+
+pub verdict_by_name : (strict : Bool) (total place : ℕ) (head : code_head.Head) (h : Head) (parts : List Part) (o : Option code_fault.Fault) (name : Option Name) → ShowsHead strict total head h
+    → ShowsFault total o (placing head.name parts) → o ≡ None → head.name ≡ name → verdict strict h parts place ≡ by_name strict h parts place name
+verdict_by_name strict total place head h parts o name shows is none same_name =
+    by_rules strict total place head h parts shows
+    ∙ ap (λ x. behind x (by_name strict h parts place head.name)) (none_shown total o _ is none)
+    ∙ ap (by_name strict h parts place) same_name
+
+-- where nested descriptions may stand
+
+pub placed_none : (total : ℕ) (name : Option Name) (m : Members) (parts : List Part) → ShowsMembers m parts → no_members m ≡ true → ShowsFault total None (placing name parts)
+placed_none total name m parts shows none = subst (λ ps. ShowsFault total None (placing name ps)) (sym (parts_empty m parts shows none)) (by name)
+  where
+    by : (o : Option Name) → ShowsFault total None (placing o [])
+    by (Some names.Optional) = tt
+    by (Some names.First) = tt
+    by (Some (names.Component n)) = tt
+    by None = tt
+
+pub placed_close : (total : ℕ) (spaced : Bool) (remaining : ℕ) (name : Option Name) (m : Members) (parts : List Part) (f : code_fault.Fault) → ShowsDescriptions total spaced remaining (members_trees m) parts → AreMembers m
+    → no_members m ≡ false → spaced ≡ false → kind_of f.kind ≡ expected_white → f.remaining ≡ remaining → ShowsFault total (Some f) (placing name parts)
+placed_close total spaced remaining name m parts f shows are some close kind at =
+    let t = parts_touch total spaced remaining m parts shows are some close in
+    subst (λ x. ShowsFault total (Some f) (x or refused_in name parts)) (sym t.1) (record { kind = t.2 ∙ sym kind; place = omega (arith, t.3, at) })
+
+pub placed_well : (total : ℕ) (spaced : Bool) (remaining : ℕ) (name : Option Name) (m : Members) (parts : List Part) → ShowsDescriptions total spaced remaining (members_trees m) parts → spaced ≡ true
+    → refused_in name parts ≡ None → ShowsFault total None (placing name parts)
+placed_well total spaced remaining name m parts shows apart free =
+    subst (λ x. ShowsFault total None (x or refused_in name parts)) (sym (parts_apart total spaced remaining m parts shows (λ some. apart)))
+    (subst (ShowsFault total None) (sym free) tt)
+
+pub placed_ill : (total : ℕ) (spaced : Bool) (remaining : ℕ) (name : Option Name) (m : Members) (parts : List Part) (f : code_fault.Fault) → ShowsDescriptions total spaced remaining (members_trees m) parts → AreMembers m
+    → no_members m ≡ false → spaced ≡ true → refused_in name parts ≡ nested_refused parts → kind_of f.kind ≡ nested_here → f.remaining ≡ total → ShowsFault total (Some f) (placing name parts)
+placed_ill total spaced remaining name m parts f shows are some apart refuses kind at =
+    subst (λ x. ShowsFault total (Some f) (x or refused_in name parts)) (sym (parts_apart total spaced remaining m parts shows (λ some. apart)))
+    (subst (ShowsFault total (Some f)) (sym (refuses ∙ parts_refused m parts (members_shown total spaced remaining m parts shows) are some)) (record { kind = sym kind; place = omega (arith, at) }))
+
+-- what a slice of refusals is read as past its end
+abbrev pub no_refusal : code_refusal.Refusal
+no_refusal = record { key = code_key.TheVariants.Padding; context = record { ref_ptr = (0, 0); now = [] } }

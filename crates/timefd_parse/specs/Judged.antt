@@ -1,0 +1,63 @@
+-- How what the code makes of a closed bracket stands to the verdict of the rules.
+use Rattle.std.specs.Prelude.{ℕ, ◌≡◌, ◌+◌, Bool, List, [], ◌∷◌, map, Option, Some, None, Result, Ok, Err, MatchResult}
+use Rattle.timefd_items.specs.declared.component.Component.{Component}
+use Rattle.timefd_items.specs.Faults.{Fault}
+use Rattle.timefd_items.specs.Tree.{Tree, component, pack}
+use Rattle.timefd_parse.specs.declared.fault.Fault as code_fault
+use Rattle.timefd_parse.specs.declared.fault.ReadError as code_error
+use Rattle.timefd_parse.specs.declared.key.Key as code_key
+use Rattle.timefd_parse.specs.declared.members.Members.{Members}
+use Rattle.timefd_parse.specs.declared.piece.Piece.{Piece}
+use Rattle.timefd_parse.specs.declared.places.Places.{Places}
+use Rattle.timefd_parse.specs.declared.verdict.Nested as code_nested
+use Rattle.timefd_parse.specs.Head.{Placed}
+use Rattle.timefd_parse.specs.declared.name.Name.{Name}
+use Rattle.timefd_parse.specs.declared.name.Name.TheVariants as names
+use Rattle.timefd_parse.specs.Verdict.{Part, ◌or◌, touching, nested_refused}
+use Rattle.timefd_parse.specs.Lookup.{key_for}
+use Rattle.timefd_parse.specs.Places.{place}
+use Rattle.timefd_parse.specs.Pieces.{members_trees, piece_tree}
+use Rattle.timefd_parse.specs.Shown.{IsFault, MemoryOr}
+use Rattle.timefd_parse.specs.Checked.{first_place, ShowsPlace}
+
+-- each nested description is packed
+abbrev pub ShowsMembers : Members → List Part → Type 0
+ShowsMembers members parts = members_trees members ≡ map (λ q. pack q.trees) parts
+
+-- the trees of the nested descriptions, and where the first of them stands
+abbrev pub ShowsDescriptions : ℕ → Bool → ℕ → List Tree → List Part → Type 0
+ShowsDescriptions total spaced remaining read [] = read ≡ []
+ShowsDescriptions total spaced remaining read (p ∷ ps) =
+    (p.spaced ≡ spaced) × (p.index + remaining ≡ total) × (read ≡ map (λ q. pack q.trees) (p ∷ ps))
+
+abbrev pub ShowsParts : ℕ → code_nested.Nested → List Part → Type 0
+ShowsParts total n parts = ShowsDescriptions total n.spaced n.remaining (members_trees n.members) parts
+
+-- where the keys stand
+abbrev pub ShowsPlaces : ℕ → Places → List Placed → Type 0
+ShowsPlaces total places ps = (k : code_key.Key) → ShowsPlace total (place places k) (first_place (key_for k).key ps)
+
+abbrev pub JudgedFault : ℕ → Result Tree Fault → code_fault.Fault → Type 0
+JudgedFault total rule f = (g : Fault) × (rule ≡ Err g) × IsFault total f g
+
+-- the tree, or the fault
+abbrev pub Judged : ℕ → Result Piece code_error.ReadError → Result Tree Fault → Type 0
+Judged total r rule = MatchResult r (λ x. rule ≡ Ok (piece_tree x)) (MemoryOr (JudgedFault total rule))
+
+-- the same of what takes no memory
+abbrev pub JudgedAtOnce : ℕ → Result Piece code_fault.Fault → Result Tree Fault → Type 0
+JudgedAtOnce total r rule = MatchResult r (λ x. rule ≡ Ok (piece_tree x)) (JudgedFault total rule)
+
+abbrev pub JudgedComponent : ℕ → Result Component code_fault.Fault → Result Tree Fault → Type 0
+JudgedComponent total r rule = MatchResult r (λ c. rule ≡ Ok (component c)) (JudgedFault total rule)
+
+-- whether nested descriptions may stand in a bracket of this name
+abbrev pub refused_in : Option Name → List Part → Option Fault
+refused_in (Some names.Optional) parts = None
+refused_in (Some names.First) parts = None
+refused_in (Some (names.Component n)) parts = nested_refused parts
+refused_in None parts = nested_refused parts
+
+-- the fault of nested descriptions that stand where they may not
+abbrev pub placing : Option Name → List Part → Option Fault
+placing name parts = touching parts or refused_in name parts
