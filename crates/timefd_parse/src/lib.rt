@@ -2,6 +2,7 @@
 #![tactic(auto)]
 
 mod description_version;
+mod key;
 pub mod laws;
 mod name;
 mod parse;
