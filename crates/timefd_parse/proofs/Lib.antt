@@ -26,3 +26,4 @@ pub mod Relax
 pub mod ModernPieces
 pub mod Words
 pub mod Named
+pub mod Counts

@@ -8,6 +8,7 @@ mod name;
 mod parse;
 mod same;
 mod setting;
+mod value;
 
 pub use description_version::DescriptionVersion;
 pub use parse::{BorrowedOutput, ParseError, parse_borrowed};
