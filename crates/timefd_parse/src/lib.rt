@@ -1,6 +1,7 @@
 //! Reads format descriptions.
 #![tactic(auto)]
 
+mod component;
 mod description_version;
 mod key;
 pub mod laws;
