@@ -1,12 +1,14 @@
 -- What the words of a head stand for.
 use Rattle.std.specs.Prelude.{◌≡◌, Bool, true, false, codes, List, [], ◌∷◌, Option, Some, None}
 use Rattle.timefd_items.specs.Tree.{Text}
+use Rattle.timefd_parse.specs.declared.combination.Refusal as refused_code
 use Rattle.timefd_parse.specs.declared.key.Key as code
 use Rattle.timefd_parse.specs.declared.key.Key.TheVariants as keys
 use Rattle.timefd_parse.specs.declared.name.Name.{Name}
 use Rattle.timefd_parse.specs.Bytes.{same}
 use Rattle.timefd_parse.specs.Values.{Key, padding, trailing_input, hour_repr, count, month_repr, case_sensitive, sign, case, digits, precision, weekday_repr, one_indexed, week_number_repr, year_repr, range, base, format}
 use Rattle.timefd_parse.specs.Names.{row_for, row_of}
+use Rattle.timefd_parse.specs.Combinations.{Refusal, ◌refused◌}
 
 -- what a word names: `optional` and `first` come before the names of components
 abbrev pub IsNameOf : Bool → Text → Option Name → Type 0
@@ -43,3 +45,7 @@ abbrev pub keys_for : Name → List Key
 keys_for Name.Optional = format ∷ []
 keys_for Name.First = []
 keys_for (Name.Component name) = (row_for name).keys
+
+-- the refusal that one of the code is
+abbrev pub refusal_for : refused_code.Refusal → Refusal
+refusal_for r = (key_for r.key).key refused r.context.now

@@ -1,6 +1,7 @@
 //! Reads format descriptions.
 #![tactic(auto)]
 
+mod combination;
 mod component;
 mod description_version;
 mod key;
