@@ -31,3 +31,6 @@ pub mod Named
 pub mod CheckLemmas
 pub mod HeadLemmas
 pub mod VerdictLemmas
+pub mod Counts
+pub mod ReadLemmas
+pub mod NestedLemmas

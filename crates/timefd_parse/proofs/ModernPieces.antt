@@ -10,7 +10,8 @@ use Rattle.timefd_parse.specs.declared.description_version.DescriptionVersion.{D
 use Rattle.timefd_parse.specs.Bytes.{named, same, is_version_three}
 use Rattle.timefd_parse.specs.Head.{Head, head_text, placed}
 use Rattle.timefd_parse.specs.declared.setting.Settings.{Settings}
-use Rattle.timefd_parse.specs.Names.{Row, rows, row_of, ignored}
+use Rattle.timefd_parse.specs.declared.name.ComponentName.{ComponentName}
+use Rattle.timefd_parse.specs.Names.{Row, rows, row_for, row_of, ignored}
 use Rattle.timefd_parse.specs.Verdict.{Part, behind, bad_modifiers, settings, made, touching, nested_refused, is_formatted, only, optional_verdict, first_verdict, component_verdict, verdict}
 use Rattle.timefd_parse.specs.Grammar.{Pieces, no_pieces, run, escape, closing, bracket, Nested, no_nested, nested, spelling, nested_text, items, ArePieces, AreNested, parts_from}
 use Rattle.timefd_parse.specs.Letters.{Flag, Letter, letters, is_one_of, item_in, item_of}
@@ -31,56 +32,28 @@ ignore_modern : (o : Option NonZeroU16) (c : Component) → ignored o ≡ Ok c �
 ignore_modern None c e = absurd cc
 ignore_modern (Some n) c e = made_modern (Component.Ignore (record { count = n })) c e refl
 
+-- the component of a name is modern
+pub name_modern : (n : ComponentName) → IsModernRow (row_for n)
+name_modern ComponentName.Day = λ s c e. made_modern _ c e refl
+name_modern ComponentName.End = λ s c e. made_modern _ c e refl
+name_modern ComponentName.Hour = λ s c e. made_modern _ c e (modern_twice_law (Component.Hour (record { padding = s.padding; is_12_hour_clock = s.is_12_hour_clock })))
+name_modern ComponentName.Ignore = λ s c e. ignore_modern s.count c e
+name_modern ComponentName.Minute = λ s c e. made_modern _ c e refl
+name_modern ComponentName.Month = λ s c e. made_modern _ c e (modern_twice_law (Component.Month (record { padding = s.padding; repr = s.month_repr; case_sensitive = s.case_sensitive })))
+name_modern ComponentName.OffsetHour = λ s c e. made_modern _ c e refl
+name_modern ComponentName.OffsetMinute = λ s c e. made_modern _ c e refl
+name_modern ComponentName.OffsetSecond = λ s c e. made_modern _ c e refl
+name_modern ComponentName.Ordinal = λ s c e. made_modern _ c e refl
+name_modern ComponentName.Period = λ s c e. made_modern _ c e refl
+name_modern ComponentName.Second = λ s c e. made_modern _ c e refl
+name_modern ComponentName.Subsecond = λ s c e. made_modern _ c e refl
+name_modern ComponentName.UnixTimestamp = λ s c e. made_modern _ c e (modern_twice_law (Component.UnixTimestamp (record { precision = s.precision; sign_is_mandatory = s.sign_is_mandatory })))
+name_modern ComponentName.Weekday = λ s c e. made_modern _ c e (modern_twice_law (Component.Weekday (record { repr = s.weekday_repr; one_indexed = s.one_indexed; case_sensitive = s.case_sensitive })))
+name_modern ComponentName.WeekNumber = λ s c e. made_modern _ c e (modern_twice_law (Component.WeekNumber (record { padding = s.padding; repr = s.week_number_repr })))
+name_modern ComponentName.Year = λ s c e. made_modern _ c e (modern_twice_law (Component.Year (record { padding = s.padding; repr = s.year_repr; range = s.range; iso_week_based = s.iso_week_based; sign_is_mandatory = s.sign_is_mandatory })))
+
 rows_modern : Each IsModernRow rows
-rows_modern = (
-  λ s c e. made_modern _ c e refl,
-  (
-    λ s c e. made_modern _ c e refl,
-    (
-      λ s c e. made_modern _ c e (modern_twice_law (Component.Hour (record { padding = s.padding; is_12_hour_clock = s.is_12_hour_clock }))),
-      (
-        λ s c e. ignore_modern s.count c e,
-        (
-          λ s c e. made_modern _ c e refl,
-          (
-            λ s c e. made_modern _ c e (modern_twice_law (Component.Month (record { padding = s.padding; repr = s.month_repr; case_sensitive = s.case_sensitive }))),
-            (
-              λ s c e. made_modern _ c e refl,
-              (
-                λ s c e. made_modern _ c e refl,
-                (
-                  λ s c e. made_modern _ c e refl,
-                  (
-                    λ s c e. made_modern _ c e refl,
-                    (
-                      λ s c e. made_modern _ c e refl,
-                      (
-                        λ s c e. made_modern _ c e refl,
-                        (
-                          λ s c e. made_modern _ c e refl,
-                          (
-                            λ s c e. made_modern _ c e (modern_twice_law (Component.UnixTimestamp (record { precision = s.precision; sign_is_mandatory = s.sign_is_mandatory }))),
-                            (
-                              λ s c e. made_modern _ c e (modern_twice_law (Component.Weekday (record { repr = s.weekday_repr; one_indexed = s.one_indexed; case_sensitive = s.case_sensitive }))),
-                              (
-                                λ s c e. made_modern _ c e (modern_twice_law (Component.WeekNumber (record { padding = s.padding; repr = s.week_number_repr }))),
-                                (λ s c e. made_modern _ c e (modern_twice_law (Component.Year (record { padding = s.padding; repr = s.year_repr; range = s.range; iso_week_based = s.iso_week_based; sign_is_mandatory = s.sign_is_mandatory }))), tt),
-                              ),
-                            ),
-                          ),
-                        ),
-                      ),
-                    ),
-                  ),
-                ),
-              ),
-            ),
-          ),
-        ),
-      ),
-    ),
-  ),
-)
+rows_modern = (name_modern ComponentName.Day, (name_modern ComponentName.End, (name_modern ComponentName.Hour, (name_modern ComponentName.Ignore, (name_modern ComponentName.Minute, (name_modern ComponentName.Month, (name_modern ComponentName.OffsetHour, (name_modern ComponentName.OffsetMinute, (name_modern ComponentName.OffsetSecond, (name_modern ComponentName.Ordinal, (name_modern ComponentName.Period, (name_modern ComponentName.Second, (name_modern ComponentName.Subsecond, (name_modern ComponentName.UnixTimestamp, (name_modern ComponentName.Weekday, (name_modern ComponentName.WeekNumber, (name_modern ComponentName.Year, tt)))))))))))))))))
 
 row_modern : (strict : Bool) (name : Text) (rs : List Row) (r : Row) → Each IsModernRow rs → named (λ x. x.name) strict name rs ≡ Some r → IsModernRow r
 row_modern strict name [] r all e = absurd cc

@@ -25,7 +25,7 @@ use Rattle.timefd_parse.specs.Head.{Head, Placed, placed, name_index}
 use Rattle.timefd_parse.specs.Names.{Row, row_for, row_of}
 use Rattle.timefd_parse.specs.Values.{format}
 use Rattle.timefd_parse.specs.Combinations.{Refusal, refusals}
-use Rattle.timefd_parse.specs.Lookup.{key_for, IsNameOf, shown}
+use Rattle.timefd_parse.specs.Lookup.{key_for, IsNameOf, refusal_for}
 use Rattle.timefd_parse.specs.Places.{place}
 use Rattle.timefd_parse.specs.Verdict.{Part, ◌or◌, unless, behind, refuse, bad_modifiers, settings, component_verdict, combination, combined, misplaced, made, any_modifier, nested_wanted, too_many, is_formatted, only, optional_verdict, first_verdict, touching, nested_refused, verdict}
 use Rattle.timefd_parse.specs.Shown.{IsFault, kind_of}
@@ -195,7 +195,7 @@ exactly strict c ps exact = ap (λ b. if b then combined (refusals c) ps else No
 
 -- the refusals from one on decide
 pub refused_here : (total : ℕ) (places : Places) (ps : List Placed) (r : code_refusal.Refusal) (rest : List Refusal) (remaining : ℕ) (spelling : Bor (List ℕ)) (all : Option Fault) → ShowsPlaces total places ps
-    → place places r.key ≡ Some remaining → spelling.now ≡ (key_for r.key).key → all ≡ combined (shown r ∷ rest) ps
+    → place places r.key ≡ Some remaining → spelling.now ≡ (key_for r.key).key → all ≡ combined (refusal_for r ∷ rest) ps
     → ShowsFault total (Some (record { kind = kinds.InvalidCombination spelling r.context; remaining = remaining })) all
 refused_here total places ps r rest remaining spelling all shows at spelled e =
     by (first_place (key_for r.key).key ps) refl (subst (λ o. ShowsPlace total o (first_place (key_for r.key).key ps)) at (shows r.key))
@@ -206,16 +206,16 @@ refused_here total places ps r rest remaining spelling all shows at spelled e =
     by (Some i) f is =
         let g : Fault = fault (invalid_combination (key_for r.key).key r.context.now) i in
         subst (ShowsFault total (Some (record { kind = kinds.InvalidCombination spelling r.context; remaining = remaining })))
-        (sym (e ∙ ap (λ x. x or combined rest ps) (misplaced_at (shown r) ps ∙ ap (option_map (λ j. fault (invalid_combination (key_for r.key).key r.context.now) j)) f)))
+        (sym (e ∙ ap (λ x. x or combined rest ps) (misplaced_at (refusal_for r) ps ∙ ap (option_map (λ j. fault (invalid_combination (key_for r.key).key r.context.now) j)) f)))
         (record { kind = ap (λ k. invalid_combination k r.context.now) (sym spelled); place = is })
 
 pub refused_later : (total : ℕ) (places : Places) (ps : List Placed) (r : code_refusal.Refusal) (rest : List Refusal) (all : Option Fault) → ShowsPlaces total places ps
-    → place places r.key ≡ None → all ≡ combined (shown r ∷ rest) ps → all ≡ combined rest ps
+    → place places r.key ≡ None → all ≡ combined (refusal_for r ∷ rest) ps → all ≡ combined rest ps
 refused_later total places ps r rest all shows none e =
     by (first_place (key_for r.key).key ps) refl (subst (λ o. ShowsPlace total o (first_place (key_for r.key).key ps)) none (shows r.key))
   where
     by : (o : Option ℕ) → first_place (key_for r.key).key ps ≡ o → ShowsPlace total None o → all ≡ combined rest ps
-    by None f is = e ∙ ap (λ x. x or combined rest ps) (misplaced_at (shown r) ps ∙ ap (option_map (λ j. fault (invalid_combination (key_for r.key).key r.context.now) j)) f)
+    by None f is = e ∙ ap (λ x. x or combined rest ps) (misplaced_at (refusal_for r) ps ∙ ap (option_map (λ j. fault (invalid_combination (key_for r.key).key r.context.now) j)) f)
     by (Some i) f is = absurd is
 
 module _ (strict : Bool) (total : ℕ) (head : code_head.Head) (h : Head) (n : ComponentName) (shows : ShowsHead strict total head h) (named : head.name ≡ Some (names.Component n)) where

@@ -44,10 +44,7 @@ JudgedFault total rule f = (g : Fault) × (rule ≡ Err g) × IsFault total f g
 abbrev pub Judged : ℕ → Result Piece code_error.ReadError → Result Tree Fault → Type 0
 Judged total r rule = MatchResult r (λ x. rule ≡ Ok (piece_tree x)) (MemoryOr (JudgedFault total rule))
 
--- the same of what takes no memory
-abbrev pub JudgedAtOnce : ℕ → Result Piece code_fault.Fault → Result Tree Fault → Type 0
-JudgedAtOnce total r rule = MatchResult r (λ x. rule ≡ Ok (piece_tree x)) (JudgedFault total rule)
-
+-- the same of a component, which takes no memory
 abbrev pub JudgedComponent : ℕ → Result Component code_fault.Fault → Result Tree Fault → Type 0
 JudgedComponent total r rule = MatchResult r (λ c. rule ≡ Ok (component c)) (JudgedFault total rule)
 

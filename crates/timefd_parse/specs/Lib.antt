@@ -1,3 +1,4 @@
+pub mod Versions
 pub mod Bytes
 pub mod Settings
 pub mod Values
@@ -23,5 +24,6 @@ pub mod Heads
 pub mod Strings
 pub mod Pieces
 pub mod Judged
+pub mod Read
 pub mod Answers
 pub mod Laws

@@ -1,14 +1,14 @@
 -- What the words of a head stand for.
 use Rattle.std.specs.Prelude.{◌≡◌, Bool, true, false, codes, List, [], ◌∷◌, Option, Some, None}
 use Rattle.timefd_items.specs.Tree.{Text}
+use Rattle.timefd_parse.specs.declared.combination.Refusal as refused_code
+use Rattle.timefd_parse.specs.declared.key.Key as code
+use Rattle.timefd_parse.specs.declared.key.Key.TheVariants as keys
 use Rattle.timefd_parse.specs.declared.name.Name.{Name}
 use Rattle.timefd_parse.specs.Bytes.{same}
-use Rattle.timefd_parse.specs.Names.{row_for, row_of}
-use Rattle.timefd_parse.specs.declared.key.Key as code_key
-use Rattle.timefd_parse.specs.declared.key.Key.TheVariants as keys
-use Rattle.timefd_parse.specs.declared.combination.Refusal as code_refusal
 use Rattle.timefd_parse.specs.Values.{Key, padding, trailing_input, hour_repr, count, month_repr, case_sensitive, sign, case, digits, precision, weekday_repr, one_indexed, week_number_repr, year_repr, range, base, format}
-use Rattle.timefd_parse.specs.Combinations.{Refusal}
+use Rattle.timefd_parse.specs.Names.{row_for, row_of}
+use Rattle.timefd_parse.specs.Combinations.{Refusal, ◌refused◌}
 
 -- what a word names: `optional` and `first` come before the names of components
 abbrev pub IsNameOf : Bool → Text → Option Name → Type 0
@@ -20,7 +20,8 @@ IsNameOf strict word (Some (Name.Component name)) =
 IsNameOf strict word None =
     (same strict (codes "optional") word ≡ false) × (same strict (codes "first") word ≡ false) × (row_of strict word ≡ None)
 
-abbrev pub key_for : code_key.Key → Key
+-- the key that one of the code is
+abbrev pub key_for : code.Key → Key
 key_for keys.Padding = padding
 key_for keys.TrailingInput = trailing_input
 key_for keys.HourRepr = hour_repr
@@ -39,10 +40,12 @@ key_for keys.Range = range
 key_for keys.Base = base
 key_for keys.Format = format
 
+-- the keys that a bracket of a name takes
 abbrev pub keys_for : Name → List Key
 keys_for Name.Optional = format ∷ []
 keys_for Name.First = []
-keys_for (Name.Component n) = (row_for n).keys
+keys_for (Name.Component name) = (row_for name).keys
 
-abbrev pub shown : code_refusal.Refusal → Refusal
-shown r = record { key = (key_for r.key).key; context = r.context.now }
+-- the refusal that one of the code is
+abbrev pub refusal_for : refused_code.Refusal → Refusal
+refusal_for r = (key_for r.key).key refused r.context.now

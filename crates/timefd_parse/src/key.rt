@@ -1,12 +1,13 @@
 //! The keys of modifiers.
 
-ghost use Rattle.std.specs.Prelude.{◌≡◌, option_map};
+ghost use Rattle.std.specs.Prelude.{◌≡◌, map, option_map};
 ghost use Rattle.timefd_parse.specs.Values.{key_in};
 ghost use Rattle.timefd_parse.specs.Lookup.{key_for, keys_for};
 
-use crate::name::Name;
+use crate::name::{ComponentName, Name};
+use crate::same::same;
 
-/// A key. Keys of one spelling that take other values are several.
+/// The key of a modifier, with what it sets: several components have a key `repr`, each its own.
 #[derive(Clone, Copy)]
 pub enum Key {
     Padding,
@@ -29,15 +30,20 @@ pub enum Key {
 }
 
 impl Key {
+    /// The key as it is written.
+    #[inline]
     pub fn spelling(self) -> &'static str
         ensures { result.now ≡ (key_for self).key }
     {
         match self {
             Key::Padding => "padding",
             Key::TrailingInput => "trailing_input",
-            Key::HourRepr | Key::MonthRepr | Key::WeekdayRepr | Key::WeekNumberRepr
-            | Key::YearRepr => "repr",
             Key::Count => "count",
+            Key::HourRepr
+            | Key::MonthRepr
+            | Key::WeekdayRepr
+            | Key::WeekNumberRepr
+            | Key::YearRepr => "repr",
             Key::CaseSensitive => "case_sensitive",
             Key::Sign => "sign",
             Key::Case => "case",
@@ -51,8 +57,52 @@ impl Key {
     }
 }
 
-pub fn key_of(_name: Name, _strict: bool, _word: &str) -> Option<Key>
-    ensures { option_map key_for result ≡ key_in _strict _word.now (keys_for _name) }
+/// The keys that a bracket of this name takes.
+#[inline]
+fn keys(name: Name) -> &'static [Key]
+    ensures { map key_for result.now ≡ keys_for name }
 {
+    let Name::Component(name) = name else {
+        return match name {
+            Name::Optional => &[Key::Format],
+            _ => &[],
+        };
+    };
+    match name {
+        ComponentName::Day
+        | ComponentName::Minute
+        | ComponentName::OffsetMinute
+        | ComponentName::OffsetSecond
+        | ComponentName::Ordinal
+        | ComponentName::Second => &[Key::Padding],
+        ComponentName::End => &[Key::TrailingInput],
+        ComponentName::Hour => &[Key::Padding, Key::HourRepr],
+        ComponentName::Ignore => &[Key::Count],
+        ComponentName::Month => &[Key::Padding, Key::MonthRepr, Key::CaseSensitive],
+        ComponentName::OffsetHour => &[Key::Sign, Key::Padding],
+        ComponentName::Period => &[Key::Case, Key::CaseSensitive],
+        ComponentName::Subsecond => &[Key::Digits],
+        ComponentName::UnixTimestamp => &[Key::Precision, Key::Sign],
+        ComponentName::Weekday => &[Key::WeekdayRepr, Key::OneIndexed, Key::CaseSensitive],
+        ComponentName::WeekNumber => &[Key::Padding, Key::WeekNumberRepr],
+        ComponentName::Year => &[
+            Key::Padding,
+            Key::YearRepr,
+            Key::Range,
+            Key::Base,
+            Key::Sign,
+        ],
+    }
+}
+
+/// The key that a word is, in a bracket of this name.
+pub fn key_of(name: Name, strict: bool, word: &str) -> Option<Key>
+    ensures { option_map key_for result ≡ key_in strict word.now (keys_for name) }
+{
+    for key in keys(name) {
+        if same(strict, key.spelling(), word) {
+            return Some(*key);
+        }
+    }
     None
 }

@@ -15,6 +15,7 @@ mod name;
 mod parse;
 mod piece;
 mod places;
+mod read;
 mod same;
 mod setting;
 mod text;

@@ -133,7 +133,7 @@ pub fn behind_colon(text: &str) -> Option<&str>
 /// The first byte and the rest, if the first is an ASCII byte that the escapes of versions 2 and 3 stand for.
 #[inline(always)]
 pub fn escaped(text: &str) -> Option<(&str, &str)>
-    ensures { MatchOption result (StopsBefore spec.is_special text.now) (λ x. (b : ℕ) × IsTrue (spec.is_special b) × (x.0.now ≡ b ∷ []) × (text.now ≡ b ∷ x.1.now)) }
+    ensures { MatchOption result (StopsBefore spec.is_special text.now) (λ x. (b : ℕ) × IsTrue (spec.is_special b) × (x.0.now ≡ b ∷ []) × (text.now ≡ b ∷ x.1.now) × IsUtf8 x.1.now) }
 {
     match text.as_bytes() {
         [byte, ..] if is_special(*byte) => Some(text.split_at(1)),

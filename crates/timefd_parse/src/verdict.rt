@@ -11,7 +11,7 @@ ghost use Rattle.timefd_parse.specs.declared.name.Name as spec_name;
 ghost use Rattle.timefd_parse.specs.Checked.{Checks, ShowsFault};
 ghost use Rattle.timefd_parse.specs.Heads.{ShowsHead};
 ghost use Rattle.timefd_parse.specs.Pieces.{AreMembers, IsSound};
-ghost use Rattle.timefd_parse.specs.Judged.{ShowsMembers, ShowsParts, Judged, JudgedAtOnce, JudgedComponent, ShowsPlaces, placing};
+ghost use Rattle.timefd_parse.specs.Judged.{ShowsMembers, ShowsParts, Judged, JudgedComponent, ShowsPlaces, placing};
 
 use crate::combination::refusals;
 use crate::component::component_of;
@@ -46,13 +46,13 @@ fn optional<'a>(
     modifiers: &Modifiers<'a>,
     nested: Nested<'a>,
     span: Span,
-) -> Result<Piece<'a>, Fault<'a>>
+) -> Result<Piece<'a>, ReadError<'a>>
     requires { AreMembers nested.members }
-    ensures tree { (place : ℕ) (h : spec.Head) (parts : List Part) → Checks strict (Some spec_name.Name.Optional) span.start modifiers.now (placed h) → ShowsParts span.start nested.entry parts → place + span.end ≡ span.start → JudgedAtOnce span.start result (rules.optional_verdict strict h parts place) }
+    ensures tree { (place : ℕ) (h : spec.Head) (parts : List Part) → Checks strict (Some spec_name.Name.Optional) span.start modifiers.now (placed h) → ShowsParts span.start nested.entry parts → place + span.end ≡ span.start → Judged span.start result (rules.optional_verdict strict h parts place) }
     ensures sound { IfOk result (IsSound strict) }
 {
     if let Some(fault) = modifiers.fault {
-        return Err(fault);
+        return Err(ReadError::Invalid(fault));
     }
     let Nested {
         spaced: _,
@@ -62,10 +62,10 @@ fn optional<'a>(
     let item = match members {
         Members::Empty => {
             let kind = Kind::Expected("nested format description");
-            return Err(Fault {
+            return Err(ReadError::Invalid(Fault {
                 kind,
                 remaining: span.end,
-            });
+            }));
         }
         Members::One(item) => item,
         Members::Many(_) => {
@@ -73,15 +73,15 @@ fn optional<'a>(
                 "more than one nested format description",
                 "`optional` components",
             );
-            return Err(Fault { kind, remaining });
+            return Err(ReadError::Invalid(Fault { kind, remaining }));
         }
     };
     if !strict {
         let kind = Kind::NotSupported("optional item", "runtime-parsed format descriptions");
-        return Err(Fault {
+        return Err(ReadError::Invalid(Fault {
             kind,
             remaining: span.start,
-        });
+        }));
     }
     let format = modifiers.settings.format;
     Ok(Piece::Optional { format, item })
@@ -196,7 +196,7 @@ pub fn verdict<'a>(
         return Err(ReadError::Invalid(fault));
     }
     match head.name {
-        Some(Name::Optional) => Ok(optional(strict, &head.modifiers, nested, span)?),
+        Some(Name::Optional) => optional(strict, &head.modifiers, nested, span),
         Some(Name::First) => first(alloc, strict, &head.modifiers, nested.members, span),
         Some(Name::Component(name)) => Ok(Piece::Component(component(strict, head, name)?)),
         None => Err(ReadError::Invalid(Fault {

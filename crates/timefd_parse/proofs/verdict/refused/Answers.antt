@@ -1,6 +1,6 @@
 use Rattle.std.proofs.Common.{◌∙◌, ap, get_or, map, refl, sym, arith}
 use Rattle.std.proofs.lemmas.List.{drop_all, drop_more}
-use Rattle.timefd_parse.specs.Lookup.{shown}
+use Rattle.timefd_parse.specs.Lookup.{refusal_for}
 use Rattle.timefd_parse.specs.Verdict.{combined}
 use Rattle.timefd_parse.proofs.VerdictLemmas.{lax_refused, exactly, refused_here, refused_later, none_refused, no_refusal}
 use Rattle.timefd_parse.proofs.verdict.refused.Goals as goal
@@ -15,16 +15,16 @@ pub returns-in-Some : goal.returns-in-Some
 returns-in-Some c = λ total ps shows.
     refused_here total _ ps _ _ _ _ _ (shows c.if-not-strict.false) (sym c.of.ensures ∙ c.in-Some.is) c.spelling.ensures
     (exactly _ _ ps c.if-not-strict.false ∙ c.refusals.invariant total ps (shows c.if-not-strict.false)
-    ∙ ap (λ l. combined (map shown l) ps) (drop_more c.refusals-refusal-items.result.now c.refusals.refusal-index no_refusal c.refusals-test.true))
+    ∙ ap (λ l. combined (map refusal_for l) ps) (drop_more c.refusals-refusal-items.result.now c.refusals.refusal-index no_refusal c.refusals-test.true))
 
 pub refusals-preserved : goal.refusals-preserved
 refusals-preserved c = λ total ps shows.
     refused_later total _ ps (get_or c.refusals-refusal-items.result.now c.refusals.refusal-index no_refusal) _ _ shows (sym c.of.ensures ∙ c.in_default.is)
     (c.refusals.invariant total ps shows
-    ∙ ap (λ l. combined (map shown l) ps) (drop_more c.refusals-refusal-items.result.now c.refusals.refusal-index no_refusal c.refusals-test.true))
+    ∙ ap (λ l. combined (map refusal_for l) ps) (drop_more c.refusals-refusal-items.result.now c.refusals.refusal-index no_refusal c.refusals-test.true))
 
 pub returns : goal.returns
 returns c = λ total ps shows.
     none_refused total _ _ refl
     (exactly _ _ ps c.if-not-strict.false ∙ c.refusals.invariant total ps (shows c.if-not-strict.false)
-    ∙ ap (λ l. combined (map shown l) ps) (drop_all c.refusals.refusal-index c.refusals-refusal-items.result.now (omega (arith, c.refusals-test.false))))
+    ∙ ap (λ l. combined (map refusal_for l) ps) (drop_all c.refusals.refusal-index c.refusals-refusal-items.result.now (omega (arith, c.refusals-test.false))))

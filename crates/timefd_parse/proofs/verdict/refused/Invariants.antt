@@ -1,7 +1,7 @@
 use Rattle.std.proofs.Common.{◌≡◌, ℕ, List, map, drop}
 use Rattle.timefd_parse.specs.Combinations.{refusals}
 use Rattle.timefd_parse.specs.Head.{Placed}
-use Rattle.timefd_parse.specs.Lookup.{shown}
+use Rattle.timefd_parse.specs.Lookup.{refusal_for}
 use Rattle.timefd_parse.specs.Judged.{ShowsPlaces}
 use Rattle.timefd_parse.specs.Verdict.{combined}
 use Rattle.timefd_parse.proofs.verdict.refused.Given as goal
@@ -9,4 +9,4 @@ use Rattle.timefd_parse.proofs.verdict.refused.Given as goal
 -- those that were looked at refuse nothing
 abbrev pub invariant-refusals : goal.invariant-refusals
 invariant-refusals l =
-    (total : ℕ) (ps : List Placed) → ShowsPlaces total l.places ps → combined (refusals l.fn.component) ps ≡ combined (map shown (drop l.refusal-index l.refusal-items)) ps
+    (total : ℕ) (ps : List Placed) → ShowsPlaces total l.places ps → combined (refusals l.fn.component) ps ≡ combined (map refusal_for (drop l.refusal-index l.refusal-items)) ps

@@ -1,0 +1,321 @@
+-- Nested descriptions, read one at a time, and the bracket around them.
+use Rattle.std.proofs.Common.{◌≡◌, ℕ, suc, ◌+◌, ◌<◌, ◌≤◌, Bool, true, false, not, ◌==◌, List, [], ◌∷◌, ◌++◌, length, map, Ok, Err, IsTrue, refl, sym, ap, ◌∙◌, subst, arith, append_assoc, append-nil, length-append}
+use Rattle.std.proofs.lemmas.List.{map-append}
+use Rattle.std.proofs.lemmas.Bool.{true≢false}
+use Rattle.std.proofs.lemmas.Bool.Decides.{nat_tests}
+use Rattle.std.specs.Borrow.{Bor}
+use Rattle.timefd_parse.specs.declared.text.Start.{Start}
+use Rattle.timefd_parse.specs.declared.text.Start.TheVariants as starts
+use Rattle.timefd_parse.specs.declared.description_version.DescriptionVersion.{DescriptionVersion}
+use Rattle.timefd_parse.specs.declared.description_version.DescriptionVersion.TheVariants.{Three}
+use Rattle.timefd_parse.specs.declared.fault.Fault as code_fault
+use Rattle.timefd_parse.specs.declared.fault.ReadError.{ReadError}
+use Rattle.timefd_parse.specs.declared.fault.ReadError.TheVariants as errors
+use Rattle.timefd_parse.specs.declared.head.Head as code_head
+use Rattle.timefd_items.specs.Tree.{Text, Tree, pack}
+use Rattle.timefd_items.specs.Faults.{Fault, fault, unclosed_bracket}
+use Rattle.timefd_parse.specs.Bytes.{left, right, backslash, is_run_byte, is_version_three, is_white, ZeroOrMore, StopsBefore}
+use Rattle.timefd_parse.specs.Fault.{enclosed, too_highly_nested}
+use Rattle.timefd_parse.specs.Head.{Head, head_text, modifiers_text}
+use Rattle.timefd_parse.specs.Verdict.{Part, verdict}
+use Rattle.timefd_parse.specs.Grammar.{Pieces, bracket, Nested, no_nested, nested, ArePieces, AreNested, spelling, nested_text, items, parts_from, is_empty}
+use Rattle.timefd_parse.specs.Broken.{Broken, too_deep, broken_inside, cut_off, unclosed, refused, IsBroken, broken_text, broken_fault, before_inner, IsWholeBefore, is_bracket_byte}
+use Rattle.timefd_parse.specs.Cut.{IsCut, BeginsWith}
+use Rattle.timefd_parse.specs.Shown.{IsFault, IsFaultAt, MemoryOr}
+use Rattle.timefd_parse.specs.Heads.{ShowsHead, BeginsWithHead}
+use Rattle.timefd_parse.specs.Judged.{ShowsDescriptions}
+use Rattle.timefd_parse.specs.Read.{Leads, IsFaultIn, IsEnd, AreItems, IsEnclosed}
+use Rattle.timefd_parse.proofs.ReadLemmas.{memory_or}
+
+add : Nested → Text → Pieces → Nested
+add no_nested white ps = nested white ps no_nested
+add (nested w qs ns) white ps = nested w qs (add ns white ps)
+
+are_more : (v : DescriptionVersion) (limit n : ℕ) (ns : Nested) (white : Text) (ps : Pieces) → AreNested v limit n ns → ZeroOrMore is_white white → n < limit → ArePieces v limit (suc n) ps
+    → AreNested v limit n (add ns white ps)
+unfolding add
+are_more v limit n no_nested white ps are w lt is = (w, lt, is, tt)
+are_more v limit n (nested w0 qs ns) white ps are w lt is = (are.0, are.1, are.2, are_more v limit n ns white ps are.3 w lt is)
+
+text_more : (ns : Nested) (white : Text) (ps : Pieces) → nested_text (add ns white ps) ≡ nested_text ns ++ (white ++ left ∷ spelling ps ++ right ∷ [])
+unfolding add
+text_more no_nested white ps = refl
+text_more (nested w qs ns) white ps = ap (λ t. w ++ left ∷ spelling qs ++ right ∷ t) (text_more ns white ps) ∙ simp append_assoc
+
+part : ℕ → Text → Pieces → Part
+part k white ps = record { spaced = not (is_empty white); index = k + length white; trees = items ps }
+
+parts_more : (k : ℕ) (ns : Nested) (white : Text) (ps : Pieces) → parts_from k (add ns white ps) ≡ parts_from k ns ++ part (k + length (nested_text ns)) white ps ∷ []
+unfolding add part
+parts_more k no_nested white ps = ap (λ j. part j white ps ∷ []) (omega arith)
+parts_more k (nested w qs ns) white ps =
+    let same : k + length w + 1 + length (spelling qs) + 1 + length (nested_text ns) ≡ k + length (nested_text (nested w qs ns)) = simp length-append (omega arith) in
+    ap (λ l. part k w qs ∷ l) (parts_more (k + length w + 1 + length (spelling qs) + 1) ns white ps ∙ ap (λ j. parts_from (k + length w + 1 + length (spelling qs) + 1) ns ++ part j white ps ∷ []) same)
+
+shows_more : (total : ℕ) (spaced : Bool) (remaining : ℕ) (read : List Tree) (ps : List Part) (inner : Tree) (p : Part)
+    → ShowsDescriptions total spaced remaining read ps → (ps ≡ [] → (p.spaced ≡ spaced) × (p.index + remaining ≡ total)) → inner ≡ pack p.trees
+    → ShowsDescriptions total spaced remaining (read ++ inner ∷ []) (ps ++ p ∷ [])
+shows_more total spaced remaining read [] inner p shows first e =
+    let f = first refl in
+    (f.0, f.1, ap (λ l. l ++ inner ∷ []) shows ∙ ap (λ t. t ∷ []) e)
+shows_more total spaced remaining read (q ∷ ps) inner p shows first e =
+    (shows.0, shows.1, ap (λ l. l ++ inner ∷ []) shows.2 ∙ ap (λ t. map (λ (x : Part). pack x.trees) (q ∷ ps) ++ t ∷ []) e ∙ sym (map-append (λ (x : Part). pack x.trees) (q ∷ ps) (p ∷ [])))
+
+abbrev pub IsFirst : Bool → ℕ → Nested → Text → Text → Type 0
+IsFirst spaced remaining no_nested white rest = (not (is_empty white) ≡ spaced) × (remaining ≡ length rest)
+IsFirst spaced remaining (nested w ps ns) white rest = Unit {0}
+
+-- the nested descriptions that were read of a text, white bytes, and the rest
+pub record NestedBefore (v : DescriptionVersion) (limit n : ℕ) (start : Text) (spaced : Bool) (remaining : ℕ) (read : List Tree) (rest : Text) : Type 0 where
+  pub list : Nested
+  pub white : Text
+  pub are : AreNested v limit n list
+  pub all_white : ZeroOrMore is_white white
+  pub stops : StopsBefore is_white rest
+  pub whole : start ≡ nested_text list ++ white ++ rest
+  pub wholly : IsWholeBefore list rest
+  pub first : IsFirst spaced remaining list white rest
+  pub shows : (k total : ℕ) → k + length start ≡ total → ShowsDescriptions total spaced remaining read (parts_from k list)
+
+pub nothing_nested : (v : DescriptionVersion) (limit n : ℕ) (text : Text) (head : code_head.Head) (rest : Text) (h : Head) (spaced : Bool) (remaining : ℕ) → BeginsWithHead (is_version_three v) text head rest h
+    → not (is_empty head.white.now) ≡ spaced → remaining ≡ length rest → NestedBefore v limit n (head.white.now ++ rest) spaced remaining [] rest
+nothing_nested v limit n text head rest h spaced remaining begins s r = record {
+  list = no_nested;
+  white = head.white.now;
+  are = tt;
+  all_white = begins.all_white;
+  stops = begins.stops_white;
+  whole = refl;
+  wholly = begins.stops_word;
+  first = (s, r);
+  shows = λ k total e. refl;
+}
+
+whole_more : (ns : Nested) (white : Text) (ps : Pieces) (rest : Text) → IsWholeBefore (add ns white ps) rest
+unfolding add
+whole_more no_nested white ps rest = tt
+whole_more (nested w qs ns) white ps rest = tt
+
+first_more : (spaced : Bool) (remaining : ℕ) (ns : Nested) (white : Text) (ps : Pieces) (w rest : Text) → IsFirst spaced remaining (add ns white ps) w rest
+unfolding add
+first_more spaced remaining no_nested white ps w rest = tt
+first_more spaced remaining (nested v qs ns) white ps w rest = tt
+
+first_place : (k total : ℕ) (spaced : Bool) (remaining : ℕ) (ns : Nested) (white : Text) (ps : Pieces) (rest : Text) → IsFirst spaced remaining ns white rest → k + length (nested_text ns ++ white ++ rest) ≡ total
+    → parts_from k ns ≡ [] → ((part (k + length (nested_text ns)) white ps).spaced ≡ spaced) × ((part (k + length (nested_text ns)) white ps).index + remaining ≡ total)
+unfolding part
+first_place k total spaced remaining no_nested white ps rest first e none = (first.0, omega (arith, e, first.1, length-append white rest))
+first_place k total spaced remaining (nested w qs ns) white ps rest first e none = absurd (cc)
+
+pub nested_step : (v : DescriptionVersion) (limit n : ℕ) (start : Text) (spaced : Bool) (remaining : ℕ) (read : List Tree) (rest text after white' rest' : Text) (front : Pieces) (inner : Tree)
+    → NestedBefore v limit n start spaced remaining read rest → rest ≡ left ∷ text → n < limit → ArePieces v limit (suc n) front → text ≡ spelling front ++ right ∷ after
+    → IsCut is_white after white' rest' → inner ≡ pack (items front)
+    → NestedBefore v limit n start spaced remaining (read ++ inner ∷ []) rest'
+unfolding part
+nested_step v limit n start spaced remaining read rest text after white' rest' front inner before opening lt are e cut tree = record {
+  list = add before.list before.white front;
+  white = white';
+  are = are_more v limit n before.list before.white front before.are before.all_white lt are;
+  all_white = cut.passes;
+  stops = cut.stops;
+  whole = before.whole ∙ ap (λ t. nested_text before.list ++ before.white ++ t) (opening ∙ ap (λ t. left ∷ t) (e ∙ ap (λ t. spelling front ++ right ∷ t) cut.whole)) ∙ rw (text_more before.list before.white front) (simp append_assoc);
+  wholly = whole_more before.list before.white front rest';
+  first = first_more spaced remaining before.list before.white front white' rest';
+  shows = λ k total f.
+      subst (λ ps. ShowsDescriptions total spaced remaining (read ++ inner ∷ []) ps) (sym (parts_more k before.list before.white front))
+      (shows_more total spaced remaining read (parts_from k before.list) inner (part (k + length (nested_text before.list)) before.white front) (before.shows k total f)
+      (first_place k total spaced remaining before.list before.white front rest before.first (ap (λ t. k + length t) (sym before.whole) ∙ f)) tree);
+}
+
+-- Brackets.
+
+module _ (v : DescriptionVersion) (limit n : ℕ) (inside : Text) (head : code_head.Head) (behind : Text) (h : Head) (spaced : Bool) (remaining : ℕ) (read : List Tree) (rest : Text)
+    (begins : BeginsWithHead (is_version_three v) (left ∷ inside) head behind h) (before : NestedBefore v limit n (head.white.now ++ behind) spaced remaining read rest) where
+  whole : left ∷ inside ≡ head_text h ++ nested_text before.list ++ before.white ++ rest
+  whole =
+      begins.whole ∙ append_assoc (head_text h) head.white.now behind ∙ ap (λ t. head_text h ++ t) before.whole
+      ∙ sym (append_assoc (head_text h) (nested_text before.list ++ before.white) rest) ∙ ap (λ t. t ++ rest) (sym (append_assoc (head_text h) (nested_text before.list) before.white))
+
+  pub place : ℕ
+  place = length (head_text h ++ nested_text before.list ++ before.white)
+
+  pub parts : List Part
+  parts = parts_from (length (head_text h)) before.list
+
+  pub place_of_rest : place + length rest ≡ length inside + 1
+  unfolding place
+  place_of_rest = omega (arith, ap length whole, length-append (head_text h ++ nested_text before.list ++ before.white) rest)
+
+  pub parts_shown : ShowsDescriptions (length inside + 1) spaced remaining read parts
+  unfolding parts
+  parts_shown = before.shows (length (head_text h)) (length inside + 1) (omega (arith, ap length begins.whole, length-append (head_text h ++ head.white.now) behind, length-append (head_text h) head.white.now, length-append head.white.now behind))
+
+  pub bracket_leads : (after : Text) (tree : Tree) → rest ≡ right ∷ after → verdict (is_version_three v) h parts place ≡ Ok tree → Leads v limit n (left ∷ inside) tree after
+  unfolding place parts
+  bracket_leads after tree closing ok = λ front tail are e. (
+    bracket h before.list before.white tree front,
+    (begins.is, before.are, before.all_white, ok, are),
+    whole ∙ ap (λ t. head_text h ++ nested_text before.list ++ before.white ++ t) (closing ∙ ap (λ t. right ∷ t) e) ∙ simp append_assoc,
+    refl,
+  )
+
+  pub bracket_refused : (after : Text) (f : code_fault.Fault) (g : Fault) → rest ≡ right ∷ after → verdict (is_version_three v) h parts place ≡ Err g → IsFault (length inside + 1) f g → IsFaultAt v limit n (left ∷ inside) f
+  unfolding place parts
+  bracket_refused after f g closing refuses is = (
+    refused h before.list before.white g after,
+    (begins.is, before.are, before.all_white, refuses),
+    whole ∙ ap (λ t. head_text h ++ nested_text before.list ++ before.white ++ t) closing,
+    record { kind = is.kind; place = omega (arith, is.place) },
+  )
+
+  pub bracket_unclosed : (f : code_fault.Fault) → StopsBefore is_bracket_byte rest → IsFault (length inside + 1) f (fault unclosed_bracket 0) → IsFaultAt v limit n (left ∷ inside) f
+  bracket_unclosed f stops is = (
+    unclosed h before.list before.white rest,
+    (begins.is, before.are, before.all_white, before.stops, stops, before.wholly),
+    whole,
+    record { kind = is.kind; place = omega (arith, is.place) },
+  )
+
+  pub bracket_too_deep : (f : code_fault.Fault) (text : Text) → rest ≡ left ∷ text → n ≡ limit → IsFault (length rest) f (fault too_highly_nested 0) → IsFaultAt v limit n (left ∷ inside) f
+  bracket_too_deep f text opening at_limit is = (
+    too_deep h before.list before.white text,
+    (begins.is, before.are, before.all_white, at_limit),
+    whole ∙ ap (λ t. head_text h ++ nested_text before.list ++ before.white ++ t) opening ∙ simp append_assoc,
+    record { kind = is.kind; place = omega (arith, is.place, ap length whole, length-append (head_text h ++ nested_text before.list ++ before.white) rest) },
+  )
+
+  pub bracket_cut_off : (f : code_fault.Fault) (text : Text) (front : Pieces) → rest ≡ left ∷ text → n < limit → ArePieces v limit (suc n) front → text ≡ spelling front → IsFault (length inside + 1) f (fault unclosed_bracket 0)
+      → IsFaultAt v limit n (left ∷ inside) f
+  bracket_cut_off f text front opening lt are e is = (
+    cut_off h before.list before.white front,
+    (begins.is, before.are, before.all_white, lt, are),
+    whole ∙ ap (λ t. head_text h ++ nested_text before.list ++ before.white ++ t) (opening ∙ ap (λ t. left ∷ t) e) ∙ simp append_assoc,
+    record { kind = is.kind; place = omega (arith, is.place) },
+  )
+
+  pub bracket_broken : (f : code_fault.Fault) (text : Text) (front : Pieces) (b : Broken) → rest ≡ left ∷ text → n < limit → ArePieces v limit (suc n) front → IsBroken v limit (suc n) b
+      → text ≡ spelling front ++ broken_text b
+      → IsFault (length inside + 1) f (enclosed (broken_fault b).kind (broken_fault b).index (length (before_inner h before.list before.white ++ spelling front)))
+      → IsFaultAt v limit n (left ∷ inside) f
+  bracket_broken f text front b opening lt are broken e is = (
+    broken_inside h before.list before.white front b,
+    (begins.is, before.are, before.all_white, lt, are, broken),
+    whole ∙ ap (λ t. head_text h ++ nested_text before.list ++ before.white ++ t) (opening ∙ ap (λ t. left ∷ t) e) ∙ simp append_assoc,
+    record { kind = is.kind; place = omega (arith, is.place) },
+  )
+
+  pub inner_place : (text : Text) (front : Pieces) (b : Broken) → rest ≡ left ∷ text → text ≡ spelling front ++ broken_text b
+      → length (before_inner h before.list before.white ++ spelling front) + length (broken_text b) ≡ length inside + 1
+  inner_place text front b opening e =
+      let whole_is : left ∷ inside ≡ before_inner h before.list before.white ++ spelling front ++ broken_text b =
+      whole ∙ ap (λ t. head_text h ++ nested_text before.list ++ before.white ++ t) (opening ∙ ap (λ t. left ∷ t) e) ∙ simp append_assoc in
+      omega (arith, ap length whole_is, length-append (before_inner h before.list before.white ++ spelling front) (broken_text b))
+
+-- the head of a bracket and nested descriptions were read, and this is the rest
+pub record BracketBefore (v : DescriptionVersion) (limit n : ℕ) (inside : Text) (head : code_head.Head) (spaced : Bool) (remaining : ℕ) (read : List Tree) (rest : Text) : Type 0 where
+  pub h : Head
+  pub behind : Text
+  pub begins : BeginsWithHead (is_version_three v) (left ∷ inside) head behind h
+  pub before : NestedBefore v limit n (head.white.now ++ behind) spaced remaining read rest
+
+empty_length : (text : Text) → is_empty text ≡ (length text == 0)
+empty_length [] = refl
+empty_length (b ∷ text) = grind (arith, nat_tests)
+
+pub bracket_begins : (v : DescriptionVersion) (limit n : ℕ) (inside : Text) (head : code_head.Head) (behind : Text) (empty : Bool) (h : Head) → BeginsWithHead (is_version_three v) (left ∷ inside) head behind h
+    → empty ≡ (length head.white.now == 0) → BracketBefore v limit n inside head (not empty) (length behind) [] behind
+bracket_begins v limit n inside head behind empty h begins e = record {
+  h = h;
+  behind = behind;
+  begins = begins;
+  before = nothing_nested v limit n (left ∷ inside) head behind h (not empty) (length behind) begins (ap not (empty_length head.white.now ∙ sym e)) refl;
+}
+
+pub behind_within : (strict : Bool) (inside : Text) (head : code_head.Head) (behind : Text) (h : Head) → BeginsWithHead strict (left ∷ inside) head behind h → length behind ≤ length inside
+behind_within strict inside head behind h begins =
+    omega (arith, ap length begins.whole, length-append (head_text h ++ head.white.now) behind, length-append (head_text h) head.white.now, length-append (left ∷ h.white ++ h.name) (modifiers_text h.modifiers), length-append (left ∷ h.white) h.name)
+
+no_bracket_byte : (b : ℕ) → IsTrue (is_run_byte Three b) → is_bracket_byte b ≡ false
+no_bracket_byte b run = grind (arith, nat_tests)
+
+run_byte_is_no_closing : (b : ℕ) → IsTrue (is_run_byte Three b) → b ≡ right → ⊥
+run_byte_is_no_closing b run e = absurd (true≢false (sym run ∙ ap (is_run_byte Three) e))
+
+first_byte : (a b : ℕ) (x y : Text) → a ∷ x ≡ b ∷ y → a ≡ b
+first_byte a b x y e = cc
+
+-- no `[` and no `]`
+pub no_bracket : (s : Start) (rest : Text) → BeginsWith s rest → ((x : Bor (List ℕ)) → s ≡ starts.Opening x → ⊥) → ((x : Bor (List ℕ)) → s ≡ starts.Closing x → ⊥) → StopsBefore is_bracket_byte rest
+no_bracket starts.End rest is opening closing = subst (StopsBefore is_bracket_byte) (sym is) tt
+no_bracket (starts.Opening x) rest is opening closing = absurd (opening x refl)
+no_bracket (starts.Closing x) rest is opening closing = absurd (closing x refl)
+no_bracket (starts.Backslash x) rest is opening closing = subst (StopsBefore is_bracket_byte) (sym is) refl
+no_bracket starts.Other rest is opening closing = subst (StopsBefore is_bracket_byte) (sym is.2) (no_bracket_byte is.0 is.3)
+
+-- the end of a nested description that no `]` follows
+pub no_closing : (n : ℕ) (s : Start) (rest : Text) → BeginsWith s rest → IsEnd n rest → ((x : Bor (List ℕ)) → s ≡ starts.Closing x → ⊥) → rest ≡ []
+no_closing n s [] is end closing = refl
+no_closing n starts.End (b ∷ rest) is end closing = is
+no_closing n (starts.Opening x) (b ∷ rest) is end closing = absurd (omega (arith, first_byte b left rest x.now is, end.0))
+no_closing n (starts.Closing x) (b ∷ rest) is end closing = absurd (closing x refl)
+no_closing n (starts.Backslash x) (b ∷ rest) is end closing = absurd (omega (arith, first_byte b backslash rest x.now is, end.0))
+no_closing n starts.Other (b ∷ rest) is end closing = absurd (omega (arith, first_byte b is.0 rest is.1 is.2, end.0, run_byte_is_no_closing is.0 is.3))
+
+-- The same from what the calls ensure.
+
+module _ (v : DescriptionVersion) (limit n : ℕ) (inside : Text) (head : code_head.Head) (spaced : Bool) (remaining : ℕ) (read : List Tree) (rest : Text) (b : BracketBefore v limit n inside head spaced remaining read rest) where
+  shown : ShowsHead (is_version_three v) (length inside + 1) head b.h
+  shown = let same : length (left ∷ inside) ≡ length inside + 1 = omega arith in subst (λ k. ShowsHead (is_version_three v) k head b.h) same b.begins.shows
+
+  pub accepted : (after : Text) (tree : Tree) → rest ≡ right ∷ after
+      → ((place : ℕ) (h : Head) (parts : List Part) → ShowsHead (is_version_three v) (length inside + 1) head h → ShowsDescriptions (length inside + 1) spaced remaining read parts → place + length rest ≡ length inside + 1 → verdict (is_version_three v) h parts place ≡ Ok tree)
+      → Leads v limit n (left ∷ inside) tree after
+  accepted after tree closing judged =
+      bracket_leads v limit n inside head b.behind b.h spaced remaining read rest b.begins b.before after tree closing
+      (judged _ b.h _ shown (parts_shown v limit n inside head b.behind b.h spaced remaining read rest b.begins b.before) (place_of_rest v limit n inside head b.behind b.h spaced remaining read rest b.begins b.before))
+
+  pub refuses : (after : Text) (e : ReadError) → rest ≡ right ∷ after
+      → ((place : ℕ) (h : Head) (parts : List Part) → ShowsHead (is_version_three v) (length inside + 1) head h → ShowsDescriptions (length inside + 1) spaced remaining read parts → place + length rest ≡ length inside + 1
+      → MemoryOr (λ f. (g : Fault) × (verdict (is_version_three v) h parts place ≡ Err g) × IsFault (length inside + 1) f g) e)
+      → MemoryOr (IsFaultAt v limit n (left ∷ inside)) e
+  refuses after e closing judged =
+      memory_or _ (IsFaultAt v limit n (left ∷ inside)) (λ f is. bracket_refused v limit n inside head b.behind b.h spaced remaining read rest b.begins b.before after f is.0 closing is.1 is.2) e
+      (judged _ b.h _ shown (parts_shown v limit n inside head b.behind b.h spaced remaining read rest b.begins b.before) (place_of_rest v limit n inside head b.behind b.h spaced remaining read rest b.begins b.before))
+
+  pub never_closed : (e : ReadError) → StopsBefore is_bracket_byte rest → MemoryOr (λ f. IsFault (length inside + 1) f (fault unclosed_bracket 0)) e → MemoryOr (IsFaultAt v limit n (left ∷ inside)) e
+  never_closed e stops = memory_or _ (IsFaultAt v limit n (left ∷ inside)) (λ f is. bracket_unclosed v limit n inside head b.behind b.h spaced remaining read rest b.begins b.before f stops is) e
+
+  pub at_limit : (f : code_fault.Fault) (text : Text) → rest ≡ left ∷ text → n ≡ limit → IsFault (length rest) f (fault too_highly_nested 0) → IsFaultAt v limit n (left ∷ inside) f
+  at_limit = bracket_too_deep v limit n inside head b.behind b.h spaced remaining read rest b.begins b.before
+
+  pub inner_fails : (m : ℕ) (text : Text) (e r : ReadError) → m ≡ suc n → rest ≡ left ∷ text → n < limit → MemoryOr (IsFaultIn v limit m text) e → IsEnclosed (length inside + 1) e r → MemoryOr (IsFaultAt v limit n (left ∷ inside)) r
+  inner_fails m text errors.Memory r more opening lt is enclosing = subst (MemoryOr (IsFaultAt v limit n (left ∷ inside))) (sym enclosing) tt
+  inner_fails m text (errors.Invalid f) r more opening lt is enclosing =
+      let in_suc : IsFaultIn v limit (suc n) text f = subst (λ k. IsFaultIn v limit k text f) more is in
+      memory_or _ (IsFaultAt v limit n (left ∷ inside))
+      (λ f' raise. bracket_broken v limit n inside head b.behind b.h spaced remaining read rest b.begins b.before f' text in_suc.0 in_suc.1 opening lt in_suc.2 in_suc.3 in_suc.4
+      (raise (broken_fault in_suc.1) (length (broken_text in_suc.1)) (length (before_inner b.h b.before.list b.before.white ++ spelling in_suc.0)) in_suc.5
+      (inner_place v limit n inside head b.behind b.h spaced remaining read rest b.begins b.before text in_suc.0 in_suc.1 opening in_suc.4)))
+      r enclosing
+
+  pub inner_cut_off : (m : ℕ) (text : Text) (inner : List Tree) (end : Text) (e : ReadError) → m ≡ suc n → rest ≡ left ∷ text → n < limit → AreItems v limit m text inner end → end ≡ []
+      → MemoryOr (λ f. IsFault (length inside + 1) f (fault unclosed_bracket 0)) e → MemoryOr (IsFaultAt v limit n (left ∷ inside)) e
+  inner_cut_off m text inner end e more opening lt is none =
+      let in_suc : AreItems v limit (suc n) text inner end = subst (λ k. AreItems v limit k text inner end) more is in
+      memory_or _ (IsFaultAt v limit n (left ∷ inside))
+      (λ f at_start. bracket_cut_off v limit n inside head b.behind b.h spaced remaining read rest b.begins b.before f text in_suc.0 opening lt in_suc.1
+      (in_suc.2 ∙ ap (λ t. spelling in_suc.0 ++ t) none ∙ append-nil (spelling in_suc.0)) at_start)
+      e
+
+  pub one_more : (m : ℕ) (text : Text) (inner : List Tree) (end after white' rest' : Text) (tree : Tree) → m ≡ suc n → rest ≡ left ∷ text → n < limit → AreItems v limit m text inner end → end ≡ right ∷ after
+      → IsCut is_white after white' rest' → tree ≡ pack inner
+      → BracketBefore v limit n inside head spaced remaining (read ++ tree ∷ []) rest'
+  one_more m text inner end after white' rest' tree more opening lt is closing cut packed =
+      let in_suc : AreItems v limit (suc n) text inner end = subst (λ k. AreItems v limit k text inner end) more is in
+      record {
+        h = b.h;
+        behind = b.behind;
+        begins = b.begins;
+        before = nested_step v limit n (head.white.now ++ b.behind) spaced remaining read rest text after white' rest' in_suc.0 tree b.before opening lt in_suc.1
+            (in_suc.2 ∙ ap (λ t. spelling in_suc.0 ++ t) closing) cut (packed ∙ ap pack (sym in_suc.3));
+      }

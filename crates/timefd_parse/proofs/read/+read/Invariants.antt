@@ -1,0 +1,32 @@
+use Rattle.std.proofs.Common.{length, ◌≤◌, ◌+◌, ◌*◌}
+use denote.Text.{Utf8}
+use denote.Shadow.{shadow}
+use Rattle.timefd_parse.specs.Pieces.{members_trees, AreMembers}
+use Rattle.timefd_parse.proofs.ReadLemmas.{Continues}
+use Rattle.timefd_parse.proofs.NestedLemmas.{BracketBefore}
+use Rattle.timefd_parse.proofs.read.+read.Given as goal
+
+abbrev pub decreases-bracket : goal.decreases-bracket
+decreases-bracket l = 2 * length l.inside.now + 1
+
+abbrev pub decreases-next_piece : goal.decreases-next_piece
+decreases-next_piece l = 2 * length l.text.now
+
+abbrev pub decreases-members : goal.decreases-members
+decreases-members l = 2 * length l.text.now + 1
+
+-- the head, and the nested descriptions so far
+abbrev pub invariant-bracket-nested : goal.invariant-bracket-nested
+invariant-bracket-nested l =
+    shadow (Utf8 l.rest) × (length l.rest ≤ length l.inside) × BracketBefore l.version l.limit l.around l.inside l.head l.spaced l.remaining (members_trees l.descriptions) l.rest × AreMembers l.descriptions
+
+abbrev pub decreases-bracket-nested : goal.decreases-bracket-nested
+decreases-bracket-nested l = length l.rest
+
+-- the pieces so far
+abbrev pub invariant-members-pieces : goal.invariant-members-pieces
+invariant-members-pieces l =
+    shadow (Utf8 l.rest) × (length l.rest ≤ length l.text) × Continues l.version l.limit l.around l.text (members_trees l.members) l.rest × AreMembers l.members
+
+abbrev pub decreases-members-pieces : goal.decreases-members-pieces
+decreases-members-pieces l = length l.rest

@@ -1,0 +1,90 @@
+-- How what is read of a text stands to the grammar.
+use Rattle.std.specs.Prelude.{ℕ, ◌≡◌, ◌+◌, ◌<◌, List, [], ◌∷◌, ◌++◌, length, map, Option, Some, None, Result, MatchResult, IsTrue, ⊤}
+use Rattle.std.specs.Borrow.{Bor}
+use Rattle.std.specs.Str.{IsUtf8}
+use Rattle.std.specs.declared.vec.Vec.{Vec}
+use Rattle.std.specs.declared.alloc.Global.{Global}
+use Rattle.timefd_items.specs.declared.borrowed_format_item.BorrowedFormatItem.{BorrowedFormatItem}
+use Rattle.timefd_items.specs.Faults.{Fault}
+use Rattle.timefd_items.specs.Meaning.{item_tree}
+use Rattle.timefd_items.specs.Tree.{Text, Tree}
+use Rattle.timefd_parse.specs.declared.description_version.DescriptionVersion.{DescriptionVersion}
+use Rattle.timefd_parse.specs.declared.fault.Fault as code_fault
+use Rattle.timefd_parse.specs.declared.fault.ReadError as code_error
+use Rattle.timefd_parse.specs.declared.fault.ReadError.TheVariants as errors
+use Rattle.timefd_parse.specs.declared.members.Members.{Members}
+use Rattle.timefd_parse.specs.declared.piece.Piece.{Piece}
+use Rattle.timefd_parse.specs.Bytes.{right, is_run_byte, is_version_three}
+use Rattle.timefd_parse.specs.Fault.{enclosed}
+use Rattle.timefd_parse.specs.Grammar.{Pieces, ArePieces, spelling, items}
+use Rattle.timefd_parse.specs.Broken.{Broken, IsBroken, broken_text, broken_fault}
+use Rattle.timefd_parse.specs.Pieces.{piece_tree, members_trees, AreMembers, IsSound}
+use Rattle.timefd_parse.specs.Strings.{AreStrings}
+use Rattle.timefd_parse.specs.Shown.{IsFault, IsFaultAt, MemoryOr}
+
+-- the text begins with a byte of a run
+abbrev pub BeginsRun : DescriptionVersion → Text → Type 0
+BeginsRun v text = (b : ℕ) × (rest : Text) × (text ≡ b ∷ rest) × IsTrue (is_run_byte v b)
+
+abbrev pub BeginsClosing : Text → Type 0
+BeginsClosing text = (rest : Text) × (text ≡ right ∷ rest)
+
+-- The text is a piece, which is this tree, and the rest: what the rest begins with, the text begins with behind it.
+abbrev pub Leads : DescriptionVersion → ℕ → ℕ → Text → Tree → Text → Type 0
+Leads v limit n text tree rest =
+    (front : Pieces) (tail : Text) → ArePieces v limit n front → rest ≡ spelling front ++ tail
+    → (whole : Pieces) × ArePieces v limit n whole × (text ≡ spelling whole ++ tail) × (items whole ≡ tree ∷ items front)
+
+-- the same of what the code reads: less text is left
+pub record LeadsOn (v : DescriptionVersion) (limit n : ℕ) (text : Text) (piece : Piece) (rest : Text) : Type 0 where
+  pub leads : Leads v limit n text (piece_tree piece) rest
+  pub sound : IsSound (is_version_three v) piece
+  pub shorter : length rest < length text
+  pub utf8 : IsUtf8 rest
+
+-- a piece and the rest, or the fault of a text that begins as no piece does
+abbrev pub ReadsEscape : DescriptionVersion → ℕ → ℕ → Text → Result (Piece × Bor (List ℕ)) code_fault.Fault → Type 0
+ReadsEscape v limit n text r = MatchResult r (λ x. LeadsOn v limit n text x.0 x.1.now) (IsFaultAt v limit n text)
+
+-- the same of what may want memory
+abbrev pub ReadsPiece : DescriptionVersion → ℕ → ℕ → Text → Result (Piece × Bor (List ℕ)) code_error.ReadError → Type 0
+ReadsPiece v limit n text r = MatchResult r (λ x. LeadsOn v limit n text x.0 x.1.now) (MemoryOr (IsFaultAt v limit n text))
+
+-- the end of the text, or the `]` of a nested description
+abbrev pub IsEnd : ℕ → Text → Type 0
+IsEnd n [] = ⊤
+IsEnd n (b ∷ rest) = (b ≡ right) × (0 < n)
+
+abbrev pub IsNext : DescriptionVersion → ℕ → ℕ → Text → Option (Piece × Bor (List ℕ)) → Type 0
+IsNext v limit n text None = IsEnd n text
+IsNext v limit n text (Some x) = LeadsOn v limit n text x.0 x.1.now
+
+-- the next piece, if there is one
+abbrev pub ReadsNext : DescriptionVersion → ℕ → ℕ → Text → Result (Option (Piece × Bor (List ℕ))) code_error.ReadError → Type 0
+ReadsNext v limit n text r = MatchResult r (IsNext v limit n text) (MemoryOr (IsFaultAt v limit n text))
+
+-- pieces, and a construct that no piece begins with, with its fault
+abbrev pub IsFaultIn : DescriptionVersion → ℕ → ℕ → Text → code_fault.Fault → Type 0
+IsFaultIn v limit n text f =
+    (front : Pieces) × (b : Broken) × ArePieces v limit n front × IsBroken v limit n b
+    × (text ≡ spelling front ++ broken_text b) × IsFault (length (broken_text b)) f (broken_fault b)
+
+-- pieces up to the end, which are these trees
+abbrev pub AreItems : DescriptionVersion → ℕ → ℕ → Text → List Tree → Text → Type 0
+AreItems v limit n text read rest =
+    (front : Pieces) × ArePieces v limit n front × (text ≡ spelling front ++ rest) × (items front ≡ read) × IsEnd n rest
+
+abbrev pub ReadsMembers : DescriptionVersion → ℕ → ℕ → Text → Result (Members × Bor (List ℕ)) code_error.ReadError → Type 0
+ReadsMembers v limit n text r =
+    MatchResult r (λ x. AreItems v limit n text (members_trees x.0) x.1.now × AreMembers x.0) (MemoryOr (IsFaultIn v limit n text))
+
+-- the items of a whole text
+abbrev pub ReadsItems : DescriptionVersion → ℕ → Text → Result (Vec BorrowedFormatItem Global) code_error.ReadError → Type 0
+ReadsItems v limit text r =
+    MatchResult r (λ x. AreItems v limit 0 text (map item_tree x.items) [] × AreStrings x.items) (MemoryOr (IsFaultIn v limit 0 text))
+
+-- The fault of a bracket with this one inside it, which begins a text with so many bytes.
+abbrev pub IsEnclosed : ℕ → code_error.ReadError → code_error.ReadError → Type 0
+IsEnclosed start errors.Memory r = r ≡ errors.Memory
+IsEnclosed start (errors.Invalid f) r =
+    MemoryOr (λ f'. (g : Fault) (total k : ℕ) → IsFault total f g → k + total ≡ start → IsFault start f' (enclosed g.kind g.index k)) r

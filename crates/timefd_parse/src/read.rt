@@ -1,0 +1,231 @@
+//! The pieces of a text, one after another.
+
+ghost use Rattle.std.specs.Prelude.{ℕ, ◌≡◌, ◌≤◌, ◌∷◌, [], IsFalse, MatchOption};
+ghost use Rattle.std.specs.Str.{IsUtf8};
+ghost use Rattle.timefd_parse.specs.declared.description_version.DescriptionVersion as spec_version;
+ghost use Rattle.timefd_parse.specs.Broken.{BeginsNoEscape};
+ghost use Rattle.timefd_parse.specs.Bytes.{is_version_three};
+ghost use Rattle.timefd_parse.specs.Read.{BeginsRun, BeginsClosing, LeadsOn, ReadsEscape, ReadsPiece, ReadsNext, ReadsMembers, ReadsItems, IsEnclosed};
+ghost use Rattle.timefd_parse.specs.Shown.{IsFault, MemoryOr};
+ghost use Rattle.timefd_items.specs.Faults.{fault, unclosed_bracket};
+
+use crate::description_version::DescriptionVersion;
+use crate::fault::{Fault, Kind, ReadError};
+use crate::head::read_head;
+use crate::members::Members;
+use crate::piece::Piece;
+use crate::text::{Class, Start, cut, cut_run, escaped, start_of};
+use crate::verdict::{Nested, Span, verdict};
+use std::alloc::Global;
+use timefd_items::BorrowedFormatItem;
+
+/// The run that a text begins with.
+fn run<'a>(version: DescriptionVersion, text: &'a str) -> (Piece<'a>, &'a str)
+    requires { BeginsRun version text.now }
+    ensures { (limit n : ℕ) → LeadsOn version limit n text.now result.0 result.1.now }
+{
+    let (run, rest) = cut_run(version, text);
+    (Piece::Literal(run), rest)
+}
+
+/// A `]` outside nested descriptions, where version 3 wants an escape.
+fn closing<'a>(
+    version: DescriptionVersion,
+    text: &'a str,
+) -> Result<(Piece<'a>, &'a str), Fault<'a>>
+    requires { BeginsClosing text.now }
+    ensures { (limit : ℕ) → ReadsEscape version limit 0 text.now result }
+{
+    if let DescriptionVersion::Three = version {
+        return Err(Fault {
+            kind: Kind::Expected("right bracket to be escaped"),
+            remaining: text.len(),
+        });
+    }
+    let (bracket, rest) = text.split_at(1);
+    Ok((Piece::Literal(bracket), rest))
+}
+
+/// What a backslash and the text behind it begin with: an escape, or in version 1 a run.
+fn backslash<'a>(
+    version: DescriptionVersion,
+    text: &'a str,
+    after: &'a str,
+) -> Result<(Piece<'a>, &'a str), Fault<'a>>
+    requires { text.now ≡ 92 ∷ after.now }
+    ensures { (limit n : ℕ) → ReadsEscape version limit n text.now result }
+{
+    if let DescriptionVersion::One = version {
+        return Ok(run(version, text));
+    }
+    match escaped(after) {
+        Some((byte, rest)) => Ok((Piece::Literal(byte), rest)),
+        None => {
+            let remaining = if after.is_empty() { 1 } else { after.len() };
+            Err(Fault {
+                kind: Kind::Expected("valid escape sequence"),
+                remaining,
+            })
+        }
+    }
+}
+
+/// In version 1 the second of two opening brackets, and what follows it.
+fn doubled<'a>(version: DescriptionVersion, inside: &'a str) -> Option<(&'a str, &'a str)>
+    ensures { MatchOption result (BeginsNoEscape version inside.now) (λ x. (version ≡ spec_version.DescriptionVersion.One) × (x.0.now ≡ 91 ∷ []) × (inside.now ≡ 91 ∷ x.1.now) × IsUtf8 x.1.now) }
+{
+    if let (DescriptionVersion::One, Start::Opening(_)) = (version, start_of(inside)) {
+        return Some(inside.split_at(1));
+    }
+    None
+}
+
+/// The fault of a bracket with this fault inside it: where something is unclosed, the bracket is.
+fn enclosed<'a>(error: ReadError<'a>, start: usize) -> ReadError<'a>
+    ensures { IsEnclosed start error.entry result }
+{
+    match error {
+        ReadError::Invalid(
+            Fault {
+                kind: Kind::UnclosedBracket,
+                remaining: _,
+            },
+        ) => unclosed(start),
+        error => error,
+    }
+}
+
+fn unclosed<'a>(start: usize) -> ReadError<'a>
+    ensures { MemoryOr (λ f. IsFault start f (fault unclosed_bracket 0)) result }
+{
+    ReadError::Invalid(Fault {
+        kind: Kind::UnclosedBracket,
+        remaining: start,
+    })
+}
+
+/// The next piece of a list of items, or none at the list's end.
+#[cycle(read)]
+fn next_piece<'a>(
+    alloc: Global,
+    version: DescriptionVersion,
+    text: &'a str,
+    limit: u8,
+    around: u8,
+) -> Result<Option<(Piece<'a>, &'a str)>, ReadError<'a>>
+    requires { around ≤ limit }
+    ensures { ReadsNext version limit around text.now result }
+{
+    match start_of(text) {
+        Start::End => Ok(None),
+        Start::Closing(_) if around > 0 => Ok(None),
+        Start::Closing(_) => Ok(Some(closing(version, text)?)),
+        Start::Opening(inside) => match doubled(version, inside) {
+            Some((byte, rest)) => Ok(Some((Piece::Literal(byte), rest))),
+            None => Ok(Some(bracket(alloc, version, inside, limit, around)?)),
+        },
+        Start::Backslash(after) => Ok(Some(backslash(version, text, after)?)),
+        Start::Other => Ok(Some(run(version, text))),
+    }
+}
+
+/// The descriptions that a text begins with, and what stands at their end.
+#[cycle(read)]
+pub fn members<'a>(
+    alloc: Global,
+    version: DescriptionVersion,
+    text: &'a str,
+    limit: u8,
+    around: u8,
+) -> Result<(Members<'a>, &'a str), ReadError<'a>>
+    requires { around ≤ limit }
+    ensures { ReadsMembers version limit around text.now result }
+{
+    let mut members = Members::Empty;
+    let mut rest = text;
+    'pieces: loop {
+        let Some((piece, after)) = next_piece(alloc, version, rest, limit, around)? else {
+            return Ok((members, rest));
+        };
+        members = members.with(alloc, piece.described(alloc)?)?;
+        rest = after;
+    }
+}
+
+/// The bracket that has this inside.
+#[cycle(read)]
+fn bracket<'a>(
+    alloc: Global,
+    version: DescriptionVersion,
+    inside: &'a str,
+    limit: u8,
+    around: u8,
+) -> Result<(Piece<'a>, &'a str), ReadError<'a>>
+    requires within { around ≤ limit }
+    requires begins { BeginsNoEscape version inside.now }
+    ensures { ReadsPiece version limit around (91 ∷ inside.now) result }
+{
+    let start = inside.len() + 1;
+    let strict = version.is_strict();
+    let (head, behind) = read_head(strict, inside)?;
+    let spaced = !head.white.is_empty();
+    let remaining = behind.len();
+    let mut descriptions = Members::Empty;
+    let mut rest = behind;
+    'nested: loop {
+        match start_of(rest) {
+            Start::Opening(text) => {
+                if around == limit {
+                    let kind = Kind::NotSupported("highly-nested format description", "");
+                    return Err(ReadError::Invalid(Fault {
+                        kind,
+                        remaining: rest.len(),
+                    }));
+                }
+                let (inner, end) = match members(alloc, version, text, limit, around + 1) {
+                    Ok(read) => read,
+                    Err(error) => return Err(enclosed(error, start)),
+                };
+                let Start::Closing(after) = start_of(end) else {
+                    return Err(unclosed(start));
+                };
+                descriptions = descriptions.with(alloc, inner.packed(alloc))?;
+                rest = cut(after, Class::White).1;
+            }
+            Start::Closing(after) => {
+                let span = Span {
+                    start,
+                    end: rest.len(),
+                };
+                let nested = Nested {
+                    spaced,
+                    remaining,
+                    members: descriptions,
+                };
+                return Ok((verdict(alloc, strict, &head, nested, span)?, after));
+            }
+            _ => return Err(unclosed(start)),
+        }
+    }
+}
+
+/// The items of a whole text of version 1 or 2.
+pub fn items<'a>(
+    alloc: Global,
+    version: DescriptionVersion,
+    text: &'a str,
+    limit: u8,
+) -> Result<Vec<BorrowedFormatItem<'a>>, ReadError<'a>>
+    requires { IsFalse (is_version_three version) }
+    ensures { ReadsItems version limit text.now result }
+{
+    let mut items = Vec::new(alloc);
+    let mut rest = text;
+    'pieces: loop {
+        let Some((piece, after)) = next_piece(alloc, version, rest, limit, 0)? else {
+            return Ok(items);
+        };
+        items.push(piece.lent())?;
+        rest = after;
+    }
+}
