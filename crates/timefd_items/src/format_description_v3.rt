@@ -4,12 +4,16 @@ ghost use Rattle.std.specs.Prelude.{◌≡◌};
 ghost use Rattle.timefd_items.specs.Meaning.{inner_tree};
 ghost use Rattle.timefd_items.specs.Reserved.{reserve};
 
+pub mod debug;
 pub mod inner;
 pub mod opaque;
+pub mod reserved;
 
 use inner::FormatDescriptionV3Inner;
 
-/// A description of version 3, as a formatter takes it.
+/// A description of version 3, as a formatter takes it: a tree whose reserved bytes a `usize`
+/// counts. `FormatDescriptionV3Inner::into_opaque` makes one. It is the struct of that name of
+/// `time`.
 #[derive(Drop)]
 pub struct FormatDescriptionV3<'a> {
     max_bytes_needed: usize,

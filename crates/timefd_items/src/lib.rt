@@ -1,4 +1,5 @@
-//! Components, items, descriptions and faults.
+//! What a format description is made of: components, the items of versions 1 and 2 and of
+//! strftime, the descriptions of version 3, and the faults of a text that is none.
 #![tactic(auto)]
 
 mod borrowed_format_item;
@@ -6,7 +7,9 @@ mod component;
 mod format_description_v3;
 mod invalid_format_description;
 pub mod laws;
-mod reserved;
+mod modern;
+#[cfg(test)]
+mod tests;
 
 pub use borrowed_format_item::BorrowedFormatItem;
 pub use component::Component;

@@ -19,7 +19,7 @@ pub enum OpaqueCause {
 }
 
 /// The tree that is no description, and why.
-#[derive(Drop)]
+#[derive(Debug, Drop)]
 pub struct NotOpaque<'a> {
     pub tree: FormatDescriptionV3Inner<'a>,
     pub cause: OpaqueCause,
