@@ -22,11 +22,16 @@ pub struct FormatDescriptionV3<'a> {
 }
 
 impl FormatDescriptionV3<'_> {
+    ghost use Rattle.std.specs.Prelude.{◌≤◌, length};
     ghost use Rattle.timefd_items.specs.Description.{description_tree};
+    ghost use Rattle.timefd_items.specs.Texts.{Renders};
+    ghost use Rattle.timefd_items.specs.Tree.{Text};
 
     /// The reserved bytes: how many bytes its longest rendering has.
     pub fn max_bytes_needed(&self) -> usize
-        ensures { result ≡ reserve (description_tree self.now) }
+        ensures reserved { result ≡ reserve (description_tree self.now) }
+        ensures reached { (text : Text) × Renders (description_tree self.now) text × (length text ≡ result) }
+        ensures longest { (text : Text) → Renders (description_tree self.now) text → length text ≤ result }
     {
         self.max_bytes_needed
     }
