@@ -1,1 +1,5 @@
-//! Tests: printed text, and each call that takes memory once with enough of it.
+//! Tests: printed text, worked values, and each call that takes memory once with enough of it.
+
+mod descriptions;
+mod faults;
+mod items;
