@@ -16,38 +16,49 @@ fn owned(alloc: Global) -> Result<FormatDescriptionV3Inner<'static>, AllocError>
         FormatDescriptionV3Inner::OwnedLiteral(String::from_str(alloc, "x")?),
         FormatDescriptionV3Inner::OwnedOptional {
             format: false,
-            item: Box::new(alloc, weekday)?
+            item: Box::new(alloc, weekday)?,
         },
         FormatDescriptionV3Inner::OwnedFirst(alternatives),
     ]?;
     Ok(FormatDescriptionV3Inner::OwnedCompound(members))
 }
 
+/// The same tree, its parts lent by blocks that are never freed.
+fn lent(alloc: Global) -> Result<FormatDescriptionV3Inner<'static>, AllocError> {
+    let weekday = FormatDescriptionV3Inner::WeekdayLong(modifier::WeekdayLong::default());
+    let weekday = Box::leak(Box::new(alloc, weekday)?);
+    let alternatives = vec![in alloc;
+        FormatDescriptionV3Inner::BorrowedLiteral("a"),
+        FormatDescriptionV3Inner::BorrowedLiteral("bcd"),
+    ]?;
+    let members = vec![in alloc;
+        FormatDescriptionV3Inner::BorrowedLiteral("x"),
+        FormatDescriptionV3Inner::BorrowedOptional {
+            format: false,
+            item: weekday,
+        },
+        FormatDescriptionV3Inner::BorrowedFirst(alternatives.leak()),
+    ]?;
+    Ok(FormatDescriptionV3Inner::BorrowedCompound(members.leak()))
+}
+
 const PRINTED: &str =
     "Compound([Literal(\"x\"), Optional { should_format: false, item: WeekdayLong { case_sensitive: true } }, First([Literal(\"a\"), Literal(\"bcd\")])])";
 
 #[test]
-fn printed_descriptions(rt: HostRuntime) -> Result<(), Fail> {
-    let weekday = FormatDescriptionV3Inner::WeekdayLong(modifier::WeekdayLong::default());
-    let alternatives = [
-        FormatDescriptionV3Inner::BorrowedLiteral("a"),
-        FormatDescriptionV3Inner::BorrowedLiteral("bcd"),
-    ];
-    let members = [
-        FormatDescriptionV3Inner::BorrowedLiteral("x"),
-        FormatDescriptionV3Inner::BorrowedOptional {
-            format: false,
-            item: &weekday,
-        },
-        FormatDescriptionV3Inner::BorrowedFirst(&alternatives),
-    ];
-    let lent = FormatDescriptionV3Inner::BorrowedCompound(&members);
+fn lent_parts_print_as_owned_ones(rt: HostRuntime) -> Result<(), Fail> {
+    let lent = lent(rt.alloc())?;
     let printed = format!(in rt.alloc(); "{lent:?}")?;
     assert_eq!(rt; printed.as_str(), PRINTED);
     let owned = owned(rt.alloc())?;
     let printed = format!(in rt.alloc(); "{owned:?}")?;
     assert_eq!(rt; printed.as_str(), PRINTED);
-    match owned.into_opaque(rt.alloc()) {
+    Ok(())
+}
+
+#[test]
+fn a_description_prints_as_its_tree(rt: HostRuntime) -> Result<(), Fail> {
+    match owned(rt.alloc())?.into_opaque(rt.alloc()) {
         Ok(description) => {
             let printed = format!(in rt.alloc(); "{description:?}")?;
             assert_eq!(rt; printed.as_str(), PRINTED);
