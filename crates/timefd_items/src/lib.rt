@@ -4,6 +4,7 @@
 
 mod borrowed_format_item;
 mod component;
+mod different_variant;
 mod format_description_v3;
 mod invalid_format_description;
 pub mod laws;
@@ -11,8 +12,9 @@ mod modern;
 #[cfg(test)]
 mod tests;
 
-pub use borrowed_format_item::BorrowedFormatItem;
+pub use borrowed_format_item::{BorrowedFormatItem, FormatItem, StaticFormatDescription};
 pub use component::Component;
+pub use different_variant::DifferentVariant;
 pub use format_description_v3::FormatDescriptionV3;
 pub use format_description_v3::inner::FormatDescriptionV3Inner;
 pub use format_description_v3::opaque::{NotOpaque, OpaqueCause};
