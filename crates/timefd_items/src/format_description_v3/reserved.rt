@@ -6,7 +6,7 @@ ghost use Rattle.timefd_items.specs.Reserved as spec;
 ghost use Rattle.timefd_items.specs.Reserved.{reserve, reserve_all, within};
 ghost use Rattle.timefd_items.specs.Tree.{trees};
 
-use crate::format_description_v3::inner::FormatDescriptionV3Inner;
+use super::inner::FormatDescriptionV3Inner;
 use timefd_modifier::SubsecondDigits;
 
 fn up_to(bytes: usize, limit: usize) -> Option<usize>

@@ -1,0 +1,177 @@
+//! From a deprecated component to the one that it stands for.
+
+ghost use Rattle.std.specs.Prelude.{◌≡◌};
+ghost use Rattle.timefd_items.specs.Modern as spec;
+
+use crate::component::Component;
+use timefd_modifier as modifier;
+use timefd_modifier::{
+    MonthRepr, UnixTimestampPrecision, WeekNumberRepr, WeekdayRepr, YearRange, YearRepr,
+};
+
+impl Component {
+    /// The component that a deprecated one stands for; any other is itself.
+    pub fn modern(self) -> Component
+        ensures { result ≡ spec.modern self }
+    {
+        match self {
+            Component::Month(month) => modern_month(month),
+            Component::Weekday(weekday) => modern_weekday(weekday),
+            Component::WeekNumber(week) => modern_week_number(week),
+            Component::Hour(hour) => modern_hour(hour),
+            Component::UnixTimestamp(timestamp) => modern_timestamp(timestamp),
+            Component::Year(year) => modern_year(year),
+            component => component,
+        }
+    }
+}
+
+fn modern_month(month: modifier::Month) -> Component
+    ensures { result ≡ spec.modern_month month.repr month }
+{
+    match month.repr {
+        MonthRepr::Numerical => Component::MonthNumerical(modifier::MonthNumerical {
+            padding: month.padding,
+        }),
+        MonthRepr::Long => Component::MonthLong(modifier::MonthLong {
+            case_sensitive: month.case_sensitive,
+        }),
+        MonthRepr::Short => Component::MonthShort(modifier::MonthShort {
+            case_sensitive: month.case_sensitive,
+        }),
+    }
+}
+
+fn modern_weekday(weekday: modifier::Weekday) -> Component
+    ensures { result ≡ spec.modern_weekday weekday.repr weekday }
+{
+    match weekday.repr {
+        WeekdayRepr::Short => Component::WeekdayShort(modifier::WeekdayShort {
+            case_sensitive: weekday.case_sensitive,
+        }),
+        WeekdayRepr::Long => Component::WeekdayLong(modifier::WeekdayLong {
+            case_sensitive: weekday.case_sensitive,
+        }),
+        WeekdayRepr::Sunday => Component::WeekdaySunday(modifier::WeekdaySunday {
+            one_indexed: weekday.one_indexed,
+        }),
+        WeekdayRepr::Monday => Component::WeekdayMonday(modifier::WeekdayMonday {
+            one_indexed: weekday.one_indexed,
+        }),
+    }
+}
+
+fn modern_week_number(week: modifier::WeekNumber) -> Component
+    ensures { result ≡ spec.modern_week_number week.repr week }
+{
+    match week.repr {
+        WeekNumberRepr::Iso => Component::WeekNumberIso(modifier::WeekNumberIso {
+            padding: week.padding,
+        }),
+        WeekNumberRepr::Sunday => Component::WeekNumberSunday(modifier::WeekNumberSunday {
+            padding: week.padding,
+        }),
+        WeekNumberRepr::Monday => Component::WeekNumberMonday(modifier::WeekNumberMonday {
+            padding: week.padding,
+        }),
+    }
+}
+
+fn modern_hour(hour: modifier::Hour) -> Component
+    ensures { result ≡ spec.modern_hour hour.is_12_hour_clock hour }
+{
+    if hour.is_12_hour_clock {
+        Component::Hour12(modifier::Hour12 {
+            padding: hour.padding,
+        })
+    } else {
+        Component::Hour24(modifier::Hour24 {
+            padding: hour.padding,
+        })
+    }
+}
+
+fn modern_timestamp(timestamp: modifier::UnixTimestamp) -> Component
+    ensures { result ≡ spec.modern_timestamp timestamp.precision timestamp }
+{
+    let sign_is_mandatory = timestamp.sign_is_mandatory;
+    match timestamp.precision {
+        UnixTimestampPrecision::Second => Component::UnixTimestampSecond(
+            modifier::UnixTimestampSecond { sign_is_mandatory },
+        ),
+        UnixTimestampPrecision::Millisecond => Component::UnixTimestampMillisecond(
+            modifier::UnixTimestampMillisecond { sign_is_mandatory },
+        ),
+        UnixTimestampPrecision::Microsecond => Component::UnixTimestampMicrosecond(
+            modifier::UnixTimestampMicrosecond { sign_is_mandatory },
+        ),
+        UnixTimestampPrecision::Nanosecond => Component::UnixTimestampNanosecond(
+            modifier::UnixTimestampNanosecond { sign_is_mandatory },
+        ),
+    }
+}
+
+fn modern_year(year: modifier::Year) -> Component
+    ensures { result ≡ spec.modern_year year.iso_week_based year.repr year.range year }
+{
+    let padding = year.padding;
+    let sign_is_mandatory = year.sign_is_mandatory;
+    match (year.iso_week_based, year.repr, year.range) {
+        (false, YearRepr::Full, YearRange::Extended) => Component::CalendarYearFullExtendedRange(
+            modifier::CalendarYearFullExtendedRange {
+                padding,
+                sign_is_mandatory,
+            },
+        ),
+        (false, YearRepr::Full, YearRange::Standard) => Component::CalendarYearFullStandardRange(
+            modifier::CalendarYearFullStandardRange {
+                padding,
+                sign_is_mandatory,
+            },
+        ),
+        (false, YearRepr::Century, YearRange::Extended) =>
+            Component::CalendarYearCenturyExtendedRange(
+                modifier::CalendarYearCenturyExtendedRange {
+                    padding,
+                    sign_is_mandatory,
+                },
+            ),
+        (false, YearRepr::Century, YearRange::Standard) =>
+            Component::CalendarYearCenturyStandardRange(
+                modifier::CalendarYearCenturyStandardRange {
+                    padding,
+                    sign_is_mandatory,
+                },
+            ),
+        (false, YearRepr::LastTwo, _) => Component::CalendarYearLastTwo(
+            modifier::CalendarYearLastTwo { padding },
+        ),
+        (true, YearRepr::Full, YearRange::Extended) => Component::IsoYearFullExtendedRange(
+            modifier::IsoYearFullExtendedRange {
+                padding,
+                sign_is_mandatory,
+            },
+        ),
+        (true, YearRepr::Full, YearRange::Standard) => Component::IsoYearFullStandardRange(
+            modifier::IsoYearFullStandardRange {
+                padding,
+                sign_is_mandatory,
+            },
+        ),
+        (true, YearRepr::Century, YearRange::Extended) => Component::IsoYearCenturyExtendedRange(
+            modifier::IsoYearCenturyExtendedRange {
+                padding,
+                sign_is_mandatory,
+            },
+        ),
+        (true, YearRepr::Century, YearRange::Standard) => Component::IsoYearCenturyStandardRange(
+            modifier::IsoYearCenturyStandardRange {
+                padding,
+                sign_is_mandatory,
+            },
+        ),
+        (true, YearRepr::LastTwo, _) => Component::IsoYearLastTwo(modifier::IsoYearLastTwo {
+            padding,
+        }),
+    }
+}
