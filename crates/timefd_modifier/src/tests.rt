@@ -1,0 +1,125 @@
+//! Defaults and printed forms, against the table of modifiers.
+
+use super::*;
+use std::num::NonZero;
+use std::test::Fail;
+
+/// Compares the default of each type with the text that its `Debug` prints.
+macro_rules! defaults {
+    ($rt:expr; $($kind:ident => $shown:expr,)*) => {
+        $(
+            let shown = format!(in $rt.alloc(); "{:?}", $kind::default())?;
+            assert_eq!($rt; shown.as_str(), $shown);
+        )*
+    };
+}
+
+#[test]
+fn day_and_month_defaults(rt: HostRuntime) -> Result<(), Fail> {
+    defaults!(rt;
+        Day => "Day { padding: Zero }",
+        Ordinal => "Ordinal { padding: Zero }",
+        WeekdayShort => "WeekdayShort { case_sensitive: true }",
+        WeekdayLong => "WeekdayLong { case_sensitive: true }",
+        WeekdaySunday => "WeekdaySunday { one_indexed: true }",
+        WeekdayMonday => "WeekdayMonday { one_indexed: true }",
+        Weekday => "Weekday { repr: Long, one_indexed: true, case_sensitive: true }",
+        MonthShort => "MonthShort { case_sensitive: true }",
+        MonthLong => "MonthLong { case_sensitive: true }",
+        MonthNumerical => "MonthNumerical { padding: Zero }",
+        Month => "Month { padding: Zero, repr: Numerical, case_sensitive: true }",
+        WeekNumberIso => "WeekNumberIso { padding: Zero }",
+        WeekNumberSunday => "WeekNumberSunday { padding: Zero }",
+        WeekNumberMonday => "WeekNumberMonday { padding: Zero }",
+        WeekNumber => "WeekNumber { padding: Zero, repr: Iso }",
+    );
+    Ok(())
+}
+
+#[test]
+fn year_defaults(rt: HostRuntime) -> Result<(), Fail> {
+    defaults!(rt;
+        CalendarYearFullExtendedRange =>
+            "CalendarYearFullExtendedRange { padding: Zero, sign_is_mandatory: false }",
+        CalendarYearFullStandardRange =>
+            "CalendarYearFullStandardRange { padding: Zero, sign_is_mandatory: false }",
+        CalendarYearCenturyExtendedRange =>
+            "CalendarYearCenturyExtendedRange { padding: Zero, sign_is_mandatory: false }",
+        CalendarYearCenturyStandardRange =>
+            "CalendarYearCenturyStandardRange { padding: Zero, sign_is_mandatory: false }",
+        IsoYearFullExtendedRange =>
+            "IsoYearFullExtendedRange { padding: Zero, sign_is_mandatory: false }",
+        IsoYearFullStandardRange =>
+            "IsoYearFullStandardRange { padding: Zero, sign_is_mandatory: false }",
+        IsoYearCenturyExtendedRange =>
+            "IsoYearCenturyExtendedRange { padding: Zero, sign_is_mandatory: false }",
+        IsoYearCenturyStandardRange =>
+            "IsoYearCenturyStandardRange { padding: Zero, sign_is_mandatory: false }",
+        CalendarYearLastTwo => "CalendarYearLastTwo { padding: Zero }",
+        IsoYearLastTwo => "IsoYearLastTwo { padding: Zero }",
+        Year =>
+            "Year { padding: Zero, repr: Full, range: Extended, iso_week_based: false, \
+             sign_is_mandatory: false }",
+    );
+    Ok(())
+}
+
+#[test]
+fn time_defaults(rt: HostRuntime) -> Result<(), Fail> {
+    defaults!(rt;
+        Hour12 => "Hour12 { padding: Zero }",
+        Hour24 => "Hour24 { padding: Zero }",
+        Hour => "Hour { padding: Zero, is_12_hour_clock: false }",
+        Minute => "Minute { padding: Zero }",
+        Second => "Second { padding: Zero }",
+        Period => "Period { is_uppercase: true, case_sensitive: true }",
+        Subsecond => "Subsecond { digits: OneOrMore }",
+        OffsetHour => "OffsetHour { sign_is_mandatory: false, padding: Zero }",
+        OffsetMinute => "OffsetMinute { padding: Zero }",
+        OffsetSecond => "OffsetSecond { padding: Zero }",
+        UnixTimestampSecond => "UnixTimestampSecond { sign_is_mandatory: false }",
+        UnixTimestampMillisecond => "UnixTimestampMillisecond { sign_is_mandatory: false }",
+        UnixTimestampMicrosecond => "UnixTimestampMicrosecond { sign_is_mandatory: false }",
+        UnixTimestampNanosecond => "UnixTimestampNanosecond { sign_is_mandatory: false }",
+        UnixTimestamp => "UnixTimestamp { precision: Second, sign_is_mandatory: false }",
+        End => "End { trailing_input: Prohibit }",
+    );
+    Ok(())
+}
+
+#[test]
+fn value_defaults(rt: HostRuntime) -> Result<(), Fail> {
+    defaults!(rt;
+        Padding => "Zero",
+        MonthRepr => "Numerical",
+        WeekdayRepr => "Long",
+        WeekNumberRepr => "Iso",
+        YearRepr => "Full",
+        YearRange => "Extended",
+        SubsecondDigits => "OneOrMore",
+        UnixTimestampPrecision => "Second",
+        TrailingInput => "Prohibit",
+    );
+    Ok(())
+}
+
+#[test]
+fn one_field_changes(rt: HostRuntime) -> Result<(), Fail> {
+    let year = Year::default().with_range(YearRange::Standard);
+    assert!(rt;
+        year == Year {
+            padding: Padding::Zero,
+            repr: YearRepr::Full,
+            range: YearRange::Standard,
+            iso_week_based: false,
+            sign_is_mandatory: false,
+        }
+    );
+    let five = NonZero::<u16>::new(5).ok_or("five is not zero")?;
+    let seven = NonZero::<u16>::new(7).ok_or("seven is not zero")?;
+    let ignore = Ignore::count(five).with_count(seven);
+    assert!(rt; ignore == Ignore { count: seven });
+    let shown = format!(in rt.alloc(); "{ignore:?}")?;
+    assert_eq!(rt; shown.as_str(), "Ignore { count: 7 }");
+    Ok(())
+}
