@@ -11,6 +11,7 @@ pub mod Broken
 pub mod Front
 pub mod Letters
 pub mod Strftime
+pub mod LetterMeaning
 pub mod Rewritten
 pub mod Recased
 pub mod Relaxed

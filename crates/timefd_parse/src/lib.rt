@@ -4,6 +4,7 @@
 mod description_version;
 pub mod laws;
 mod parse;
+mod strftime;
 
 pub use description_version::DescriptionVersion;
 pub use parse::{BorrowedOutput, ParseError, parse_borrowed};
