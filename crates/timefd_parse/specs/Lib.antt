@@ -12,6 +12,9 @@ pub mod Front
 pub mod Letters
 pub mod Strftime
 pub mod LetterMeaning
+pub mod TreeLists
+pub mod Strings
+pub mod Tables
 pub mod Rewritten
 pub mod Recased
 pub mod Relaxed

@@ -1,3 +1,5 @@
 //! The texts of strftime.
 
+mod item;
 mod letter;
+mod tables;
