@@ -16,6 +16,8 @@ pub mod StartFound
 pub mod LawLemmas
 pub mod Join
 pub mod StrftimeReader
+pub mod PlainCut
+pub mod DirectiveLemmas
 pub mod Limits
 pub mod Lift
 pub mod Lookup

@@ -14,9 +14,11 @@ pub mod Strftime
 pub mod LetterMeaning
 pub mod TreeLists
 pub mod Strings
-pub mod Tables
+pub mod LentLists
+pub mod StrftimeReading
 pub mod Rewritten
 pub mod Recased
 pub mod Relaxed
 pub mod Answers
+pub mod StrftimeAnswers
 pub mod Laws

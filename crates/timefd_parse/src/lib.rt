@@ -8,3 +8,4 @@ mod strftime;
 
 pub use description_version::DescriptionVersion;
 pub use parse::{BorrowedOutput, ParseError, parse_borrowed};
+pub use strftime::{StrftimeTables, parse_strftime_borrowed};

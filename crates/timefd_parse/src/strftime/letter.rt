@@ -1,6 +1,6 @@
 //! The letters of strftime, and what each stands for.
 
-ghost use Rattle.std.specs.Prelude.{◌≡◌};
+ghost use Rattle.std.specs.Prelude.{◌≡◌, ◌<◌, IfSome};
 ghost use Rattle.timefd_items.specs.Tree.{component};
 ghost use Rattle.timefd_parse.specs.Letters as spec;
 ghost use Rattle.timefd_parse.specs.LetterMeaning.{IsLetter, field_tree};
@@ -63,7 +63,8 @@ pub enum Composite {
 /// What a byte in a letter's place stands for.
 #[tactic(auto, unfolding(crate::specs::Letters::item_of))]
 pub fn letter_of(byte: u8) -> Option<Letter>
-    ensures { IsLetter byte result }
+    ensures letter { IsLetter byte result }
+    ensures ascii { IfSome result (λ _. byte < 128) }
 {
     Some(match byte {
         b'%' => Letter::Percent,

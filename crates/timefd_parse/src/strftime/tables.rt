@@ -32,7 +32,7 @@ pub struct StrftimeTables<'a> {
 }
 
 impl<'a> StrftimeTables<'a> {
-    ghost use Rattle.timefd_parse.specs.Tables.{HoldsLists};
+    ghost use Rattle.timefd_parse.specs.LentLists.{HoldsLists};
 
     /// The lists. They take no memory.
     pub fn new() -> Self
