@@ -29,7 +29,9 @@ use timefd_items::{BorrowedFormatItem, InvalidFormatDescription};
 /// Why a text was not read.
 #[derive(Drop)]
 enum Failure<'a> {
+    /// It has this flaw.
     Flawed(PlacedFlaw<'a>),
+    /// Memory ran out.
     Memory,
 }
 
@@ -79,13 +81,13 @@ fn items<'a>(
     let mut items = Vec::new(alloc);
     let mut rest = text;
     'items: loop {
-        let (item, after) = match start_of(rest) {
+        let piece = match start_of(rest) {
             Start::End => return Ok(items),
             Start::Percent(behind) => directive(tables, behind)?,
             Start::Plain => run(rest),
         };
-        items.push(item)?;
-        rest = after;
+        items.push(piece.0)?;
+        rest = piece.1;
     }
 }
 

@@ -33,30 +33,50 @@ pub enum Letter {
 /// A component that a flag pads.
 #[derive(Clone, Copy)]
 pub enum Field {
+    /// The century of a year of any number of digits.
     Century,
+    /// The day of the month.
     Day,
+    /// The hour by a clock of 12 hours.
     Hour12,
+    /// The hour by a clock of 24 hours.
     Hour24,
+    /// The last two digits of an ISO week's year.
     IsoYearLastTwo,
+    /// The minute of the hour.
     Minute,
+    /// The month's number.
     Month,
+    /// The day of the year.
     Ordinal,
+    /// The second of the minute.
     Second,
+    /// The week of an ISO week's year.
     WeekNumberIso,
+    /// The week of the year, from the first Monday on.
     WeekNumberMonday,
+    /// The week of the year, from the first Sunday on.
     WeekNumberSunday,
+    /// The last two digits of the year.
     YearLastTwo,
 }
 
 /// A list of items that one letter stands for.
 #[derive(Clone, Copy)]
 pub enum Composite {
+    /// The date and the time of a day, as `%c`.
     DateAndTime,
+    /// Month, day and year between slashes, as `%D`.
     ShortDate,
+    /// Year, month and day between hyphens, as `%F`.
     IsoDate,
+    /// The time by a clock of 12 hours, as `%r`.
     TimeOf12,
+    /// Hour and minute by a clock of 24 hours, as `%R`.
     HourAndMinute,
+    /// The time by a clock of 24 hours, as `%T`.
     TimeOf24,
+    /// The offset from UTC in hours and minutes, as `%z`.
     Offset,
 }
 

@@ -11,6 +11,7 @@ use timefd_modifier::Padding;
 /// What a text begins with.
 #[derive(Clone, Copy)]
 pub enum Start<'a> {
+    /// Nothing: it is empty.
     End,
     /// A `%`, and what follows it.
     Percent(&'a str),
