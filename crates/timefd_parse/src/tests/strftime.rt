@@ -166,6 +166,7 @@ fn spaced_letters(padding: Padding) -> [(&'static str, Component); 3] {
     ]
 }
 
+/// Expects that each letter stands for its component behind the flag.
 fn expect_each(
     rt: &impl Abort,
     alloc: Global,
@@ -305,31 +306,35 @@ fn offset<'a>() -> [BorrowedFormatItem<'a>; 2] {
     ]
 }
 
+/// Expects that the letter stands for this list as one, whatever the flag.
+fn expect_compound<'a>(
+    rt: &impl Abort,
+    alloc: Global,
+    letter: &str,
+    list: &'a [BorrowedFormatItem<'a>],
+) -> Result<(), Fail> {
+    let compound = BorrowedFormatItem::Compound(list);
+    for flag in ["", "_", "-", "0"] {
+        let text = format!(in alloc; "%{flag}{letter}")?;
+        assert!(rt; gives(alloc, text.as_str(), &[compound]), "{text}");
+    }
+    Ok(())
+}
+
 #[test]
 fn composites(rt: HostRuntime) -> Result<(), Fail> {
     let alloc = rt.alloc();
     let hour_and_minute = [hour(), string(":"), minute()];
     let time_of_24 = [hour(), string(":"), minute(), string(":"), second()];
-    let lists = [
-        ("c", date_and_time().as_slice()),
-        ("D", short_date().as_slice()),
-        ("x", short_date().as_slice()),
-        ("F", iso_date().as_slice()),
-        ("r", time_of_12().as_slice()),
-        ("R", hour_and_minute.as_slice()),
-        ("T", time_of_24.as_slice()),
-        ("X", time_of_24.as_slice()),
-        ("z", offset().as_slice()),
-    ];
-    for (letter, list) in lists {
-        for flag in ["", "_", "-", "0"] {
-            let text = format!(in alloc; "%{flag}{letter}")?;
-            assert!(rt;
-                gives(alloc, text.as_str(), &[BorrowedFormatItem::Compound(list)]),
-                "{text}"
-            );
-        }
-    }
+    expect_compound(&rt, alloc, "c", &date_and_time())?;
+    expect_compound(&rt, alloc, "D", &short_date())?;
+    expect_compound(&rt, alloc, "x", &short_date())?;
+    expect_compound(&rt, alloc, "F", &iso_date())?;
+    expect_compound(&rt, alloc, "r", &time_of_12())?;
+    expect_compound(&rt, alloc, "R", &hour_and_minute)?;
+    expect_compound(&rt, alloc, "T", &time_of_24)?;
+    expect_compound(&rt, alloc, "X", &time_of_24)?;
+    expect_compound(&rt, alloc, "z", &offset())?;
     Ok(())
 }
 
