@@ -10,7 +10,7 @@ ghost use Rattle.timefd_parse.specs.Strings.{AreItems, are_items_once, is_of_str
 use crate::strftime::item::{component_item, literal_item};
 use crate::strftime::letter::{Composite, Field, calendar_year, padded};
 use timefd_items::{BorrowedFormatItem, Component};
-use timefd_modifier::{Day, MonthShort, OffsetHour, OffsetMinute, Padding, Period, WeekdayShort};
+use timefd_modifier::{MonthShort, OffsetHour, OffsetMinute, Padding, Period, WeekdayShort};
 
 /// The lists that the composite letters of strftime stand for, which the items of a text lend.
 #[derive(Drop)]
@@ -22,13 +22,13 @@ pub struct StrftimeTables<'a> {
     hour_and_minute: [BorrowedFormatItem<'a>; 3],
     time_of_24: [BorrowedFormatItem<'a>; 5],
     offset: [BorrowedFormatItem<'a>; 2],
-    ghost dates_and_times: { AreItems date_and_time spec.date_and_time } by { are_items_once date_and_time spec.date_and_time },
-    ghost short_dates: { AreItems short_date spec.short_date } by { are_items_once short_date spec.short_date },
-    ghost iso_dates: { AreItems iso_date spec.iso_date } by { are_items_once iso_date spec.iso_date },
-    ghost times_of_12: { AreItems time_of_12 spec.time_of_12 } by { are_items_once time_of_12 spec.time_of_12 },
-    ghost hours_and_minutes: { AreItems hour_and_minute spec.hour_and_minute } by { are_items_once hour_and_minute spec.hour_and_minute },
-    ghost times_of_24: { AreItems time_of_24 spec.time_of_24 } by { are_items_once time_of_24 spec.time_of_24 },
-    ghost offsets: { AreItems offset spec.offset } by { are_items_once offset spec.offset },
+    ghost dates_and_times: { AreItems date_and_time spec.date_and_time } by { are_items_once _ _ },
+    ghost short_dates: { AreItems short_date spec.short_date } by { are_items_once _ _ },
+    ghost iso_dates: { AreItems iso_date spec.iso_date } by { are_items_once _ _ },
+    ghost times_of_12: { AreItems time_of_12 spec.time_of_12 } by { are_items_once _ _ },
+    ghost hours_and_minutes: { AreItems hour_and_minute spec.hour_and_minute } by { are_items_once _ _ },
+    ghost times_of_24: { AreItems time_of_24 spec.time_of_24 } by { are_items_once _ _ },
+    ghost offsets: { AreItems offset spec.offset } by { are_items_once _ _ },
 }
 
 impl<'a> StrftimeTables<'a> {
