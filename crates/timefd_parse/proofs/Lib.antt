@@ -15,7 +15,9 @@ pub mod Found
 pub mod StartFound
 pub mod LawLemmas
 pub mod Join
-pub mod Strftime
+pub mod StrftimeReader
+pub mod PlainCut
+pub mod DirectiveLemmas
 pub mod Limits
 pub mod Lift
 pub mod Lookup

@@ -20,8 +20,6 @@ use Rattle.timefd_parse.specs.Fault.{expected_escape, expected_closing_escape}
 use Rattle.timefd_parse.specs.Grammar.{Pieces, no_pieces, run, escape, closing, bracket, ArePieces, BeginsNoRun, IsEscape, spelling, items}
 use Rattle.timefd_parse.specs.Broken.{bare_closing, half_escape, broken_fault, escape_index}
 use Rattle.timefd_parse.specs.Cut.{IsCut}
-use Rattle.timefd_items.specs.declared.borrowed_format_item.BorrowedFormatItem.{BorrowedFormatItem}
-use Rattle.timefd_parse.specs.Strings.{IsString, AreStrings}
 use Rattle.timefd_parse.specs.Pieces.{piece_tree, IsSound, IsModernPiece, IsFlatPiece}
 use Rattle.timefd_parse.specs.Shown.{kind_of, IsFault, IsFaultAt, MemoryOr}
 use Rattle.timefd_parse.specs.Read.{Leads, LeadsOn, IsFaultIn, AreItems, IsEnd, BeginsRun}
@@ -225,7 +223,3 @@ pub doubled_leads : (v : DescriptionVersion) (limit n : ℕ) (text inside : Text
     → LeadsOn v limit n text (Literal byte) rest
 doubled_leads v limit n text inside byte rest one s opening doubled utf8 =
     escape_leads v limit n text left left byte rest (subst (λ w. IsEscape w left left) (sym one) (refl, refl)) s (opening ∙ ap (λ t. left ∷ t) doubled) utf8
-
-pub strings_more : (items : List BorrowedFormatItem) (item : BorrowedFormatItem) → AreStrings items → IsString item → AreStrings (items ++ item ∷ [])
-strings_more [] item are is = (is, tt)
-strings_more (x ∷ items) item are is = (are.0, strings_more items item are.1 is)

@@ -11,7 +11,7 @@ use Rattle.timefd_parse.specs.Settings.{defaults, with}
 use Rattle.timefd_parse.specs.Values.{Values, words, numbers, Key}
 use Rattle.timefd_parse.specs.Names.{Row, rows}
 use Rattle.timefd_parse.proofs.Reader.{answer_of}
-use Rattle.timefd_parse.proofs.Strftime.{strftime_answer_of}
+use Rattle.timefd_parse.proofs.StrftimeReader.{strftime_answer_of}
 use native.Mathlib.Nat.{zero-lt-suc}
 use Rattle.timefd_modifier.specs.declared.enums.Padding.{Padding}
 use Rattle.timefd_items.specs.declared.component.Component.TheVariants.{Day, MonthNumerical, MonthLong, Hour24, WeekNumberSunday, CalendarYearFullExtendedRange, CalendarYearFullStandardRange, CalendarYearLastTwo, WeekdayLong, Ignore}

@@ -13,6 +13,11 @@ pub mod Broken
 pub mod Front
 pub mod Letters
 pub mod Strftime
+pub mod LetterMeaning
+pub mod TreeLists
+pub mod Strings
+pub mod LentLists
+pub mod StrftimeReading
 pub mod Rewritten
 pub mod Recased
 pub mod Relaxed
@@ -26,4 +31,5 @@ pub mod Pieces
 pub mod Judged
 pub mod Read
 pub mod Answers
+pub mod StrftimeAnswers
 pub mod Laws

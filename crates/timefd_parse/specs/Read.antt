@@ -19,7 +19,7 @@ use Rattle.timefd_parse.specs.Fault.{enclosed}
 use Rattle.timefd_parse.specs.Grammar.{Pieces, ArePieces, spelling, items}
 use Rattle.timefd_parse.specs.Broken.{Broken, IsBroken, broken_text, broken_fault}
 use Rattle.timefd_parse.specs.Pieces.{piece_tree, members_trees, AreMembers, IsSound}
-use Rattle.timefd_parse.specs.Strings.{AreStrings}
+use Rattle.timefd_parse.specs.Strings.{are_of_strings}
 use Rattle.timefd_parse.specs.Shown.{IsFault, IsFaultAt, MemoryOr}
 
 -- the text begins with a byte of a run
@@ -81,7 +81,7 @@ ReadsMembers v limit n text r =
 -- the items of a whole text
 abbrev pub ReadsItems : DescriptionVersion → ℕ → Text → Result (Vec BorrowedFormatItem Global) code_error.ReadError → Type 0
 ReadsItems v limit text r =
-    MatchResult r (λ x. AreItems v limit 0 text (map item_tree x.items) [] × AreStrings x.items) (MemoryOr (IsFaultIn v limit 0 text))
+    MatchResult r (λ x. AreItems v limit 0 text (map item_tree x.items) [] × IsTrue (are_of_strings x.items)) (MemoryOr (IsFaultIn v limit 0 text))
 
 -- The fault of a bracket with this one inside it, which begins a text with so many bytes.
 abbrev pub IsEnclosed : ℕ → code_error.ReadError → code_error.ReadError → Type 0

@@ -18,9 +18,14 @@ mod places;
 mod read;
 mod same;
 mod setting;
+mod strftime;
 mod text;
 mod value;
 mod verdict;
 
 pub use description_version::DescriptionVersion;
 pub use parse::{BorrowedOutput, ParseError, parse_borrowed};
+pub use strftime::{StrftimeTables, parse_strftime_borrowed};
+
+#[cfg(test)]
+mod tests;

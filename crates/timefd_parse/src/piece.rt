@@ -1,6 +1,6 @@
 //! What a piece of a text is.
 
-ghost use Rattle.std.specs.Prelude.{◌≡◌, IfOk};
+ghost use Rattle.std.specs.Prelude.{◌≡◌, IfOk, IsTrue};
 ghost use Rattle.timefd_items.specs.Meaning.{inner_tree, item_tree};
 
 use std::alloc::{AllocError, Global};
@@ -20,7 +20,7 @@ pub enum Piece<'a> {
 
 impl<'a> Piece<'a> {
     ghost use Rattle.timefd_parse.specs.Pieces.{piece_tree, IsModernPiece, IsFlatPiece};
-    ghost use Rattle.timefd_parse.specs.Strings.{IsString};
+    ghost use Rattle.timefd_parse.specs.Strings.{is_of_strings};
 
     /// The piece as a description of version 3.
     pub fn described(self, alloc: Global) -> Result<FormatDescriptionV3Inner<'a>, AllocError>
@@ -42,7 +42,7 @@ impl<'a> Piece<'a> {
     pub fn lent(self) -> BorrowedFormatItem<'a>
         requires { IsFlatPiece self }
         ensures tree { item_tree result ≡ piece_tree self.entry }
-        ensures string { IsString result }
+        ensures string { IsTrue (is_of_strings result) }
     {
         match self {
             Piece::Literal(text) => BorrowedFormatItem::StringLiteral(text),

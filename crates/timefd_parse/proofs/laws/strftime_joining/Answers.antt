@@ -1,4 +1,4 @@
-use Rattle.timefd_parse.proofs.Strftime.{strftime_joining_law}
+use Rattle.timefd_parse.proofs.StrftimeReader.{strftime_joining_law}
 use Rattle.timefd_parse.proofs.laws.strftime_joining.Goals as goal
 
 pub returns : goal.returns

@@ -1,4 +1,4 @@
-use Rattle.timefd_parse.proofs.Strftime.{strftime_one_cut_law}
+use Rattle.timefd_parse.proofs.StrftimeReader.{strftime_one_cut_law}
 use Rattle.timefd_parse.proofs.laws.strftime_one_cut.Goals as goal
 
 pub returns : goal.returns

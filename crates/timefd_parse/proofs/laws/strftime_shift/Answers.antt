@@ -1,4 +1,4 @@
-use Rattle.timefd_parse.proofs.Strftime.{strftime_shift_law}
+use Rattle.timefd_parse.proofs.StrftimeReader.{strftime_shift_law}
 use Rattle.timefd_parse.proofs.laws.strftime_shift.Goals as goal
 
 pub returns : goal.returns

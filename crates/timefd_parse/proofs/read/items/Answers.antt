@@ -1,8 +1,8 @@
-use Rattle.std.proofs.Common.{◌≡◌, ◌∷◌, ◌++◌, [], map, sym, subst, ap, ◌∙◌}
+use Rattle.std.proofs.Common.{◌≡◌, ◌∷◌, ◌++◌, [], map, IsTrue, sym, subst, ap, ◌∙◌}
 use Rattle.std.proofs.lemmas.List.{map-append}
 use Rattle.std.proofs.lemmas.Result.{err_from_is_err_and}
 use Rattle.timefd_items.specs.Meaning.{item_tree}
-use Rattle.timefd_parse.specs.Strings.{AreStrings}
+use Rattle.timefd_parse.specs.Strings.{are_of_strings}
 use Rattle.timefd_parse.specs.Read.{IsFaultIn, IsNext, AreItems}
 use Rattle.timefd_parse.proofs.ReadLemmas.{Continues, continues_more, items_end, items_fault, memory_or, end_outside, strings_more, sound_flat}
 use Rattle.timefd_parse.proofs.read.items.Goals as goal
@@ -31,5 +31,5 @@ pieces-preserved c =
           (subst (λ done. Continues c.args.version c.args.limit 0 c.args.text.now done c.in-Some.after.now) (sym (map-append item_tree c.pieces.items.items (c.lent.result ∷ [])))
           (subst (λ tree. Continues c.args.version c.args.limit 0 c.args.text.now (map item_tree c.pieces.items.items ++ tree ∷ []) c.in-Some.after.now) (sym c.lent.ensures.tree)
           (continues_more _ _ _ _ _ _ _ _ c.pieces.invariant.before next.leads)));
-      strings = subst AreStrings (sym c.in_ok-push.ensures.items) (strings_more _ _ c.pieces.invariant.strings c.lent.ensures.string);
+      strings = subst (λ items. IsTrue (are_of_strings items)) (sym c.in_ok-push.ensures.items) (strings_more _ _ c.pieces.invariant.strings c.lent.ensures.string);
     }

@@ -1,6 +1,6 @@
-use Rattle.std.proofs.Common.{length, map, IsUtf8}
+use Rattle.std.proofs.Common.{length, map, IsTrue, IsUtf8}
 use Rattle.timefd_items.specs.Meaning.{item_tree}
-use Rattle.timefd_parse.specs.Strings.{AreStrings}
+use Rattle.timefd_parse.specs.Strings.{are_of_strings}
 use Rattle.timefd_parse.proofs.ReadLemmas.{Continues}
 use Rattle.timefd_parse.proofs.read.items.Given as goal
 
@@ -9,7 +9,7 @@ abbrev pub invariant-pieces : goal.invariant-pieces
 invariant-pieces l = record {
   text : IsUtf8 l.rest;
   before : Continues l.version l.limit 0 l.text (map item_tree l.items.items) l.rest;
-  strings : AreStrings l.items.items;
+  strings : IsTrue (are_of_strings l.items.items);
 }
 
 abbrev pub decreases-pieces : goal.decreases-pieces

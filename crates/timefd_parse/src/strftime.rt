@@ -1,0 +1,151 @@
+//! The texts of strftime.
+
+ghost use Rattle.std.specs.Prelude.{◌≡◌, ◌<◌, ◌≤◌, [], List, IfOk, IsOk, IsTrue, MatchResult, length};
+ghost use Rattle.std.specs.Result.{IfErr};
+ghost use Rattle.timefd_items.specs.Faults as spec;
+ghost use Rattle.timefd_items.specs.Meaning.{item_tree, item_trees};
+ghost use Rattle.timefd_items.specs.Tree.{Tree, literal};
+ghost use Rattle.timefd_parse.specs.declared.strftime.text.Start.TheVariants.{Plain};
+ghost use Rattle.timefd_parse.specs.Answers.{IsFaultOrMemory, MemoryAlone};
+ghost use Rattle.timefd_parse.specs.Strftime.{SpellsStrftime, StrftimeFaultOf};
+ghost use Rattle.timefd_parse.specs.StrftimeAnswers.{IsStrftimeFault};
+ghost use Rattle.timefd_parse.specs.StrftimeReading.{BeginsWith, IsFault, IsFlawIn, IsRestOf, Leads, FlawOr};
+ghost use Rattle.timefd_parse.specs.Strings.{are_of_strings, is_of_strings};
+
+mod directive;
+mod item;
+mod letter;
+mod tables;
+mod text;
+
+use crate::parse::ParseError;
+use directive::{Flaw, PlacedFlaw, directive};
+use item::literal_item;
+use std::alloc::{AllocError, AllocFailed, Global};
+pub use tables::StrftimeTables;
+use text::{Start, cut_plain, start_of};
+use timefd_items::{BorrowedFormatItem, InvalidFormatDescription};
+
+/// Why a text was not read.
+#[derive(Drop)]
+enum Failure<'a> {
+    /// It has this flaw.
+    Flawed(PlacedFlaw<'a>),
+    /// Memory ran out.
+    Memory,
+}
+
+/// Reads a text of strftime: `time`'s `parse_strftime_borrowed`. The items of composite letters lend the tables' lists.
+///
+/// It answers `Invalid` for a text that is none, and `Memory` where memory runs out; it has changed nothing then.
+pub fn parse_strftime_borrowed<'a>(
+    alloc: Global,
+    tables: &'a StrftimeTables<'a>,
+    s: &'a str,
+) -> Result<Vec<BorrowedFormatItem<'a>>, ParseError>
+    // What is accepted is spelled so, and what is refused is refused for the fault that the rules assign.
+    ensures found { IfOk result (λ items. SpellsStrftime s.now (item_trees items.items)) }
+    ensures fault { IfErr result (IsStrftimeFault s.now) }
+
+    // What is spelled is accepted, and what has a fault is refused for it, unless memory runs out.
+    ensures spelled { (list : List Tree) → SpellsStrftime s.now list → MatchResult result (λ items. item_trees items.items ≡ list) MemoryAlone }
+    ensures refused { (f : spec.Fault) → StrftimeFaultOf s.now f → MatchResult result (λ _. ⊥) (IsFaultOrMemory f) }
+
+    // No literal is one of bytes, not even in a composite letter's list.
+    ensures strings { IfOk result (λ items. IsTrue (are_of_strings items.items)) }
+
+    // The empty text takes no memory.
+    ensures empty { s.now ≡ [] → IsOk result }
+{
+    match items(alloc, tables, s) {
+        Ok(items) => Ok(items),
+        Err(Failure::Flawed(at)) => match described(alloc, at, s.len()) {
+            Ok(fault) => Err(ParseError::Invalid(fault)),
+            Err(error) => Err(ParseError::Memory(error)),
+        },
+        Err(Failure::Memory) => Err(ParseError::Memory(AllocError)),
+    }
+}
+
+/// The items of a text.
+fn items<'a>(
+    alloc: Global,
+    tables: &'a StrftimeTables<'a>,
+    text: &'a str,
+) -> Result<Vec<BorrowedFormatItem<'a>>, Failure<'a>>
+    ensures found { IfOk result (λ items. SpellsStrftime text.now (item_trees items.items)) }
+    ensures flaw { IfErr result (FlawOr (IsFlawIn text.now)) }
+    ensures strings { IfOk result (λ items. IsTrue (are_of_strings items.items)) }
+    ensures some { IfErr result (λ _. 0 < length text.now) }
+{
+    let mut items = Vec::new(alloc);
+    let mut rest = text;
+    'items: loop {
+        let piece = match start_of(rest) {
+            Start::End => return Ok(items),
+            Start::Percent(behind) => directive(tables, behind)?,
+            Start::Plain => run(rest),
+        };
+        items.push(piece.0)?;
+        rest = piece.1;
+    }
+}
+
+/// The literal before the first `%`, and the rest.
+#[inline(always)]
+fn run<'a>(text: &'a str) -> (BorrowedFormatItem<'a>, &'a str)
+    requires { BeginsWith Plain text.now }
+    ensures leads { Leads text.now (item_tree result.0) result.1.now }
+    ensures rest { IsRestOf text.now result.1.now }
+    ensures strings { IsTrue (is_of_strings result.0) }
+{
+    let (front, rest) = cut_plain(text);
+    (literal_item(front), rest)
+}
+
+/// The fault of a text with so many bytes.
+fn described(
+    alloc: Global,
+    at: PlacedFlaw,
+    len: usize,
+) -> Result<InvalidFormatDescription, AllocError>
+    requires { at.remaining ≤ len }
+    ensures { IfOk result (λ e. (g : spec.Fault) → IsFault len at.entry g → spec.fault_of e ≡ g) }
+{
+    let index = len - at.remaining;
+    Ok(match at.flaw {
+        Flaw::CutShort => InvalidFormatDescription::Expected {
+            what: "valid escape sequence",
+            index,
+        },
+        Flaw::NotSupported(what) => InvalidFormatDescription::NotSupported {
+            what,
+            context: "",
+            index,
+        },
+        Flaw::UnknownLetter(name) => {
+            let name = String::from_str(alloc, name)?;
+            InvalidFormatDescription::InvalidComponentName { name, index }
+        }
+    })
+}
+
+impl<'a> From<PlacedFlaw<'a>> for Failure<'a> {
+    ghost use Rattle.timefd_parse.specs.declared.strftime.Failure.TheVariants.{Flawed};
+
+    ghost from_gives = { λ f e. e ≡ Flawed f };
+
+    fn from(at: PlacedFlaw<'a>) -> Failure<'a> {
+        Failure::Flawed(at)
+    }
+}
+
+impl<'a, T: Drop> From<AllocFailed<T>> for Failure<'a> {
+    ghost use Rattle.timefd_parse.specs.declared.strftime.Failure.TheVariants.{Memory};
+
+    ghost from_gives = { λ _ e. e ≡ Memory };
+
+    fn from(_error: AllocFailed<T>) -> Failure<'a> {
+        Failure::Memory
+    }
+}

@@ -1,0 +1,106 @@
+//! A directive of strftime: `%`, an optional flag and a letter.
+
+ghost use Rattle.std.specs.Prelude.{◌≡◌, ◌+◌, ◌<◌, ◌∷◌, IfOk, IsTrue, length, slice_index};
+ghost use Rattle.timefd_items.specs.Meaning.{item_tree};
+ghost use Rattle.timefd_parse.specs.LetterMeaning.{flag_padding, letter_tree};
+ghost use Rattle.timefd_parse.specs.Letters.{Flag};
+ghost use Rattle.timefd_parse.specs.Strftime.{cut_index, flag_text, percent, unknown_kind};
+ghost use Rattle.timefd_parse.specs.StrftimeReading.{IsRestOf, ReadsDirective, kind_of};
+ghost use Rattle.timefd_parse.specs.Strings.{is_of_strings};
+
+use crate::strftime::item::{component_item, compound_item, literal_item};
+use crate::strftime::letter::{Letter, letter_of, padded};
+use crate::strftime::tables::StrftimeTables;
+use crate::strftime::text::{cut_flag, tail};
+use timefd_items::BorrowedFormatItem;
+use timefd_modifier::Padding;
+
+/// Why what begins with `%` is no directive.
+#[derive(Clone, Copy)]
+pub enum Flaw<'a> {
+    /// The text ends before a letter.
+    CutShort,
+    /// A letter that is known, and not supported, by what it is.
+    NotSupported(&'static str),
+    /// A byte that is no letter, as text.
+    UnknownLetter(&'a str),
+}
+
+/// A flaw, and how many bytes of the text remain from its place on.
+#[derive(Clone, Copy)]
+pub struct PlacedFlaw<'a> {
+    pub flaw: Flaw<'a>,
+    pub remaining: usize,
+}
+
+/// The directive that has this behind its `%`, and what follows it.
+#[inline(always)]
+pub fn directive<'a>(
+    tables: &'a StrftimeTables<'a>,
+    behind: &'a str,
+) -> Result<(BorrowedFormatItem<'a>, &'a str), PlacedFlaw<'a>>
+    ensures item { ReadsDirective (percent ∷ behind.now) result }
+    ensures rest { IfOk result (λ x. IsRestOf behind.now x.1.now) }
+    ensures strings { IfOk result (λ x. IsTrue (is_of_strings x.0)) }
+{
+    let (padding, text) = cut_flag(behind);
+    let [byte, ..] = text.as_bytes() else {
+        return Err(cut_short(padding));
+    };
+    match letter_of(*byte) {
+        Some(letter) => Ok((item(tables, letter, padding), tail(text))),
+        None => Err(PlacedFlaw {
+            flaw: flaw_of(text),
+            remaining: text.len(),
+        }),
+    }
+}
+
+/// The flaw of a text that ends before a letter: it stands at the `%`, or right behind the flag.
+fn cut_short<'a>(padding: Option<Padding>) -> PlacedFlaw<'a>
+    ensures flaw { result.flaw ≡ Flaw.CutShort }
+    ensures place { (f : Flag) → flag_padding f ≡ padding → cut_index f + result.remaining ≡ 1 + length (flag_text f) }
+{
+    let remaining = match padding {
+        Some(_) => 0,
+        None => 1,
+    };
+    PlacedFlaw {
+        flaw: Flaw::CutShort,
+        remaining,
+    }
+}
+
+/// The item of a letter, with the padding that a flag asks for.
+#[inline(always)]
+fn item<'a>(
+    tables: &'a StrftimeTables<'a>,
+    letter: Letter,
+    padding: Option<Padding>,
+) -> BorrowedFormatItem<'a>
+    ensures tree { (f : Flag) → flag_padding f ≡ padding → item_tree result ≡ letter_tree letter f }
+    ensures strings { IsTrue (is_of_strings result) }
+{
+    match letter {
+        Letter::Percent => literal_item("%"),
+        Letter::LineFeed => literal_item("\n"),
+        Letter::Tab => literal_item("\t"),
+        Letter::Plain(component) => component_item(component),
+        Letter::Padded(field, usual) => component_item(padded(field, padding.unwrap_or(usual))),
+        Letter::Composite(composite) => compound_item(tables.list(composite)),
+    }
+}
+
+/// The flaw of a text in a letter's place that begins with none.
+fn flaw_of(text: &str) -> Flaw<'_>
+    requires { 0 < length text.now }
+    ensures { kind_of result ≡ unknown_kind (slice_index text.now 0) }
+{
+    let first = text.as_bytes()[0];
+    match first {
+        b'O' => Flaw::NotSupported("modifier"),
+        b'Z' => Flaw::NotSupported("component"),
+        byte if byte.is_ascii() => Flaw::UnknownLetter(text.split_at(1).0),
+        _ => Flaw::UnknownLetter("\u{FFFD}"),
+    }
+}

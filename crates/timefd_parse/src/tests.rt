@@ -1,0 +1,3 @@
+//! What no contract says: values from outside, and that memory suffices.
+
+mod strftime;
