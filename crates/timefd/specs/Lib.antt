@@ -1,0 +1,3 @@
+pub mod Status
+pub mod Arguments
+pub mod Streams
