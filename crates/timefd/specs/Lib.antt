@@ -1,3 +1,5 @@
 pub mod Status
 pub mod Arguments
 pub mod Streams
+pub mod Line
+pub mod Runs
