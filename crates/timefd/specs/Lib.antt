@@ -2,4 +2,5 @@ pub mod Status
 pub mod Arguments
 pub mod Streams
 pub mod Line
+pub mod Replies
 pub mod Runs

@@ -1,5 +1,5 @@
 -- The line that is said of a text.
-use Rattle.std.specs.Prelude.{ℕ, ◌≡◌, List, [], ◌∷◌, ◌++◌, length, codes, string_bytes, IsUtf8}
+use Rattle.std.specs.Prelude.{ℕ, ◌≡◌, List, [], ◌∷◌, ◌++◌, length, codes, IsUtf8}
 use Rattle.std.specs.Fmt.{decimal}
 use Rattle.timefd_items.specs.Tree.{Text, Tree, pack}
 use Rattle.timefd_items.specs.Reserved.{reserve}
@@ -10,8 +10,6 @@ use Rattle.timefd_parse.specs.Grammar.{Spells}
 use Rattle.timefd_parse.specs.Broken.{FaultOf}
 use Rattle.timefd.specs.declared.kind.Kind.{Kind}
 use Rattle.timefd.specs.declared.kind.Kind.TheVariants.{One, Two, Three}
-use Rattle.timefd.specs.declared.reply.Reply.{Reply}
-use Rattle.timefd.specs.declared.reply.Reply.TheVariants.{Accepted, Refused}
 
 -- The text spells the list in the language of this kind, with at most so many nested descriptions around one another.
 abbrev pub SpellsIn : Kind → ℕ → Text → List Tree → Type 0
@@ -51,8 +49,3 @@ IsOkLine kind limit text line =
 abbrev pub IsFaultLine : Kind → ℕ → Text → Text → Type 0
 IsFaultLine kind limit text line =
     IsUtf8 text × ((f : Fault) × FaultIn kind limit text f × (line ≡ fault_line f))
-
--- What is replied is the line of the text.
-abbrev pub IsReply : Kind → ℕ → Text → Reply → Type 0
-IsReply kind limit text (Accepted line) = IsOkLine kind limit text (string_bytes line)
-IsReply kind limit text (Refused line) = IsFaultLine kind limit text (string_bytes line)

@@ -2,9 +2,10 @@
 
 ghost use Rattle.std.specs.Prelude.{◌≡◌, IfOk, string_bytes};
 ghost use Rattle.timefd_items.specs.Faults.{fault_of};
-ghost use Rattle.timefd.specs.Line.{IsReply};
+ghost use Rattle.timefd.specs.Replies.{IsReply};
 ghost use Rattle.timefd.specs.Line as spec;
 
+use crate::end::RunEnd;
 use crate::kind::Kind;
 use std::alloc::{AllocError, Global};
 use timefd_items::InvalidFormatDescription;
@@ -17,6 +18,29 @@ pub enum Reply {
     Accepted(String),
     /// The text is no description: the sentence of its fault.
     Refused(String),
+}
+
+impl Reply {
+    ghost use Rattle.timefd.specs.Replies.{line_of, end_of};
+
+    /// The line, with its newline.
+    pub fn line(&self) -> &str
+        ensures { result.now ≡ line_of self.now }
+    {
+        match self {
+            Reply::Accepted(line) | Reply::Refused(line) => line,
+        }
+    }
+
+    /// How a run ends that has said so.
+    pub fn end(&self) -> RunEnd
+        ensures { result ≡ end_of self.now }
+    {
+        match self {
+            Reply::Accepted(_) => RunEnd::Accepted,
+            Reply::Refused(_) => RunEnd::Refused,
+        }
+    }
 }
 
 fn items_line(alloc: Global, count: usize) -> Result<String, AllocError>
