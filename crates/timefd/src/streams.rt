@@ -1,7 +1,7 @@
 //! Where the program's bytes come from and go to.
 
-pub mod sink;
-pub mod source;
+mod sink;
+mod source;
 
 pub use sink::{Sink, ToWriter};
 pub use source::{FromReader, Source};

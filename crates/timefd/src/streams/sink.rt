@@ -1,7 +1,7 @@
 //! Writers, each of which fails once and for all.
 
-ghost use Rattle.std.specs.Prelude.{◌≡◌, ◌↔◌, ◌≤◌, ◌<◌, ℕ, Bool, List, Option, length, IfOk, OnOk, IsErr, IsTrue, IsFalse};
-ghost use Rattle.std.specs.Io.KnownBytes.{Keeps, WriteAppends};
+ghost use Rattle.std.specs.Prelude.{◌≡◌, ◌↔◌, ◌≤◌, ◌<◌, ℕ, Bool, List, Option, length, take, IfOk, OnOk, IsErr, IsTrue, IsFalse};
+ghost use Rattle.std.specs.Io.KnownBytes.{Appends, Keeps};
 
 use super::Failed;
 use std::io::Write;
@@ -17,18 +17,18 @@ pub trait Sink {
     /// Whether all that is written is flushed.
     ghost is_flushed: { Self → Bool };
 
-    /// Writes bytes from the front of the buffer, and says how many: none only of an empty buffer.
+    /// Takes bytes from the front of the buffer, and says how many: none only of an empty buffer.
     fn write(&mut self, buf: &[u8]) -> Result<usize, Failed>
         ensures within { IfOk result (λ n. n ≤ length buf.now) }
         ensures some { IfOk result (λ n. 0 < length buf.now → 0 < n) }
-        ensures bytes { WriteAppends (contents self.old) (contents self.new) result buf.now }
+        ensures moves { IfOk result (λ n. Appends (contents self.old) (contents self.new) (take n buf.now)) }
         ensures unflushed { IfOk result (λ n. 0 < n → IsFalse (is_flushed self.new)) }
         ensures fails { IsErr result ↔ IsTrue (has_failed self.new) }
         ensures stays { IsTrue (has_failed self.old) → IsTrue (has_failed self.new) };
 
     /// Passes on all that is written.
     fn flush(&mut self) -> Result<(), Failed>
-        ensures bytes { Keeps (contents self.old) (contents self.new) }
+        ensures kept { OnOk result (Keeps (contents self.old) (contents self.new)) }
         ensures flushed { OnOk result (IsTrue (is_flushed self.new)) }
         ensures fails { IsErr result ↔ IsTrue (has_failed self.new) }
         ensures stays { IsTrue (has_failed self.old) → IsTrue (has_failed self.new) };

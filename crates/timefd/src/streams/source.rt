@@ -1,7 +1,7 @@
 //! Readers, each of which fails once and for all.
 
-ghost use Rattle.std.specs.Prelude.{◌≡◌, ◌↔◌, ◌≤◌, ℕ, Bool, false, List, Option, length, IfOk, IsErr, IsTrue, IsFalse};
-ghost use Rattle.std.specs.Io.KnownBytes.{ReadConsumes};
+ghost use Rattle.std.specs.Prelude.{◌≡◌, ◌↔◌, ◌≤◌, ◌<◌, ℕ, Bool, List, Option, length, take, IfOk, IsErr, IsTrue, IsFalse};
+ghost use Rattle.std.specs.Io.KnownBytes.{Consumes, IsAtEnd};
 
 use super::Failed;
 use std::io::Read;
@@ -14,11 +14,12 @@ pub trait Source {
     /// Whether a call has failed.
     ghost has_failed: { Self → Bool };
 
-    /// Reads bytes into the front of the buffer, and says how many: none only at the end, or where
+    /// Moves bytes into the front of the buffer, and says how many: none only at the end, or where
     /// the buffer has no room.
     fn read(&mut self, buf: &mut [u8]) -> Result<usize, Failed>
         ensures within { IfOk result (λ n. n ≤ length buf.new) }
-        ensures bytes { ReadConsumes (remaining self.old) (remaining self.new) result buf.new }
+        ensures moves { IfOk result (λ n. Consumes (remaining self.old) (remaining self.new) (take n buf.new)) }
+        ensures at_end { IfOk result (λ n. n ≡ 0 → 0 < length buf.new → IsAtEnd (remaining self.new)) }
         ensures fails { IsErr result ↔ IsTrue (has_failed self.new) }
         ensures stays { IsTrue (has_failed self.old) → IsTrue (has_failed self.new) };
 }

@@ -12,4 +12,4 @@ pub writes-preserved : goal.writes-preserved
 writes-preserved g c =
     let inv = c.writes.invariant in
     let more = take c.in_ok-n.n c.writes.rest.now in
-    (inv.0 ++ more, front-grown inv.0 c.writes.rest.now c.args.text.now c.in_ok-n.n inv.1, Appends-trans _ _ _ _ _ inv.2 c.in_ok-n.ensures.bytes)
+    (inv.0 ++ more, front-grown inv.0 c.writes.rest.now c.args.text.now c.in_ok-n.n inv.1, Appends-trans _ _ _ _ _ inv.2 c.in_ok-n.ensures.moves)
