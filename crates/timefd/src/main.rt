@@ -7,6 +7,8 @@ mod kind;
 mod reply;
 mod run;
 mod streams;
+#[cfg(test)]
+mod tests;
 mod transfer;
 
 use kind::arguments;
