@@ -1,0 +1,6 @@
+pub mod Status
+pub mod Arguments
+pub mod Streams
+pub mod Line
+pub mod Replies
+pub mod Runs

@@ -1,0 +1,37 @@
+//! How a run ends, and the exit status that tells it.
+
+ghost use Rattle.std.specs.Prelude.{◌≡◌};
+
+/// How a run ends.
+#[derive(Debug, Clone, Copy, PartialEq, Eq)]
+pub enum RunEnd {
+    /// The text is a description, and the line says how much it holds.
+    Accepted,
+    /// The text is no description, and the line says why.
+    Refused,
+    /// Memory ran out, and nothing is written.
+    Memory,
+    /// The reader failed, and nothing is written.
+    ReadFailed,
+    /// The writer failed, and part of the line may be out.
+    WriteFailed,
+    /// The bytes are no text, and nothing is written.
+    NotUtf8,
+}
+
+impl RunEnd {
+    ghost use Rattle.timefd.specs.Status.{status};
+
+    /// The exit status of the program.
+    pub fn status(self) -> u8
+        ensures { result ≡ status self }
+    {
+        match self {
+            RunEnd::Accepted => 0,
+            RunEnd::Refused => 1,
+            RunEnd::Memory => 3,
+            RunEnd::ReadFailed | RunEnd::WriteFailed => 4,
+            RunEnd::NotUtf8 => 5,
+        }
+    }
+}

@@ -1,0 +1,45 @@
+//! The words after the program's name, and the exit statuses.
+
+use crate::end::RunEnd;
+use crate::kind::{Kind, arguments};
+use std::test::Fail;
+
+#[test]
+fn words(rt: HostRuntime) -> Result<(), Fail> {
+    let cases: [(&[&str], Option<(Kind, u8)>); 11] = [
+        (&["1"], Some((Kind::One, 127))),
+        (&["2"], Some((Kind::Two, 127))),
+        (&["3"], Some((Kind::Three, 127))),
+        (&[], None),
+        (&[""], None),
+        (&["4"], None),
+        (&["01"], None),
+        (&["1 "], None),
+        (&["three"], None),
+        (&["1", ""], None),
+        (&["3", "3", "3"], None),
+    ];
+    for (given, want) in cases {
+        let mut words = Vec::new(rt.alloc());
+        for word in given {
+            words.push(String::from_str(rt.alloc(), word)?)?;
+        }
+        assert_eq!(rt; arguments(&words), want, "{given:?}");
+    }
+    Ok(())
+}
+
+#[test]
+fn statuses(rt: HostRuntime) {
+    let cases = [
+        (RunEnd::Accepted, 0),
+        (RunEnd::Refused, 1),
+        (RunEnd::Memory, 3),
+        (RunEnd::ReadFailed, 4),
+        (RunEnd::WriteFailed, 4),
+        (RunEnd::NotUtf8, 5),
+    ];
+    for (end, status) in cases {
+        assert_eq!(rt; end.status(), status, "{end:?}");
+    }
+}

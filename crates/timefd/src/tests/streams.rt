@@ -1,0 +1,63 @@
+//! The adapters and the transfers, each by itself.
+
+use super::memory::{Countdown, Feed, Log};
+use crate::streams::{Failed, FromReader, Sink, Source, ToWriter};
+use crate::transfer::{ReadError, read_all, write_all};
+use std::test::Fail;
+
+#[test]
+fn flush_reaches_the_writer(rt: HostRuntime) -> Result<(), Fail> {
+    let mut log = Log::new(rt.alloc());
+    let mut sink = ToWriter::new(&mut log);
+    assert_eq!(rt; sink.write(b"day"), Ok(3));
+    assert_eq!(rt; sink.flush(), Ok(()));
+    assert!(rt; log.is_flushed);
+    assert_eq!(rt; log.written.as_slice(), b"day".as_slice());
+    Ok(())
+}
+
+#[test]
+fn failed_reader_is_left_alone(rt: HostRuntime) {
+    let mut feed = Feed::new(b"day");
+    feed.failure = Countdown(Some(0));
+    let mut source = FromReader::new(&mut feed);
+    let mut buf = [0; 8];
+    assert_eq!(rt; source.read(&mut buf), Err(Failed));
+    assert_eq!(rt; source.read(&mut buf), Err(Failed));
+    assert_eq!(rt; feed.left.len(), 3);
+}
+
+#[test]
+fn failed_writer_is_left_alone(rt: HostRuntime) {
+    for stalls in [false, true] {
+        let mut log = Log::new(rt.alloc());
+        log.failure = Countdown(Some(0));
+        log.stalls = stalls;
+        let mut sink = ToWriter::new(&mut log);
+        assert_eq!(rt; sink.write(b"day"), Err(Failed));
+        assert_eq!(rt; sink.write(b"day"), Err(Failed));
+        assert_eq!(rt; sink.flush(), Err(Failed));
+        assert!(rt; log.written.is_empty());
+        assert!(rt; !log.is_flushed);
+    }
+}
+
+#[test]
+fn empty_write_is_no_failure(rt: HostRuntime) {
+    let mut sink = ToWriter::new(Log::new(rt.alloc()));
+    assert_eq!(rt; sink.write(b""), Ok(0));
+    assert_eq!(rt; sink.flush(), Ok(()));
+}
+
+#[test]
+fn whole_transfers(rt: HostRuntime) -> Result<(), Fail> {
+    let text = vec![in rt.alloc(); 7; 20_000]?;
+    let bytes = read_all(rt.alloc(), &mut FromReader::new(Feed::new(&text)))?;
+    assert_eq!(rt; bytes, text);
+    let mut log = Log::new(rt.alloc());
+    log.most = 999;
+    assert_eq!(rt; write_all(&mut ToWriter::new(&mut log), &text), Ok(()));
+    assert_eq!(rt; log.written, text);
+    assert!(rt; log.is_flushed);
+    Ok(())
+}
