@@ -1,6 +1,7 @@
 //! The keys of modifiers.
 
 ghost use Rattle.std.specs.Prelude.{◌≡◌, map, option_map};
+ghost use Rattle.timefd_parse.specs.Names.{row_for};
 ghost use Rattle.timefd_parse.specs.Values.{key_in};
 ghost use Rattle.timefd_parse.specs.Lookup.{key_for, keys_for};
 
@@ -62,12 +63,17 @@ impl Key {
 fn keys(name: Name) -> &'static [Key]
     ensures { map key_for result.now ≡ keys_for name }
 {
-    let Name::Component(name) = name else {
-        return match name {
-            Name::Optional => &[Key::Format],
-            _ => &[],
-        };
-    };
+    match name {
+        Name::Optional => &[Key::Format],
+        Name::First => &[],
+        Name::Component(name) => component_keys(name),
+    }
+}
+
+#[inline]
+fn component_keys(name: ComponentName) -> &'static [Key]
+    ensures { map key_for result.now ≡ (row_for name).keys }
+{
     match name {
         ComponentName::Day
         | ComponentName::Minute
