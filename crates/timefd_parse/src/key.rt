@@ -11,22 +11,39 @@ use crate::same::same;
 /// The key of a modifier, with what it sets: several components have a key `repr`, each its own.
 #[derive(Clone, Copy)]
 pub enum Key {
+    /// How a number is filled on the left.
     Padding,
+    /// What becomes of input behind the description.
     TrailingInput,
+    /// Whether hours are those of a clock of 24 or of 12 hours.
     HourRepr,
+    /// How many bytes are ignored.
     Count,
+    /// How a month is written.
     MonthRepr,
+    /// Whether names are read with their case.
     CaseSensitive,
+    /// Whether a sign always stands.
     Sign,
+    /// Whether `AM` and `PM` are written in upper case.
     Case,
+    /// How many digits of a second are written.
     Digits,
+    /// The unit of a Unix timestamp.
     Precision,
+    /// How a weekday is written.
     WeekdayRepr,
+    /// Whether weekdays are counted from 1.
     OneIndexed,
+    /// How weeks are numbered.
     WeekNumberRepr,
+    /// How much of a year is written.
     YearRepr,
+    /// Which years are meant.
     Range,
+    /// Whether years are those of the calendar or of ISO weeks.
     Base,
+    /// Whether an optional item is formatted.
     Format,
 }
 
