@@ -1,11 +1,11 @@
 -- Looking up names: those of another length than the text need no comparison.
-use Rattle.std.proofs.Common.{ℕ, ◌≡◌, ◌≢◌, ◌==◌, Bool, true, false, List, [], ◌∷◌, map, length, Option, Some, None, refl, sym, ap, subst, ◌∙◌, arith, eq-eqb, ne_eqb}
+use Rattle.std.proofs.Common.{ℕ, ◌≡◌, ◌≢◌, ◌==◌, Bool, true, false, List, [], ◌∷◌, map, length, Option, Some, None, refl, sym, ap, ◌∙◌, eq-eqb}
 use Rattle.std.proofs.lemmas.Bool.{both_ways}
 use Rattle.std.proofs.lemmas.List.{length-map}
 use Rattle.timefd_items.specs.Tree.{Text}
 use Rattle.timefd_parse.specs.declared.name.ComponentName.{ComponentName}
-use Rattle.timefd_parse.specs.Bytes.{lowered, equal, same, named}
-use Rattle.timefd_parse.specs.Names.{Row, row_for, rows, row_of}
+use Rattle.timefd_parse.specs.Bytes.{lowered, same, named}
+use Rattle.timefd_parse.specs.Names.{row_for, rows, row_of}
 use Rattle.timefd_parse.proofs.Lookup.{Each, equal-true}
 
 same-length : (strict : Bool) (a b : Text) → same strict a b ≡ true → length a ≡ length b

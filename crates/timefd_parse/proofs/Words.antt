@@ -1,7 +1,7 @@
 -- Words that are compared.
-use Rattle.std.proofs.Common.{ℕ, ◌≡◌, ◌+◌, ◌==◌, ◌&&◌, Bool, true, false, List, [], ◌∷◌, map, length, nat_le, nat_lt, IsTrue, ◌↔◌, refl, sym, ap, ap₂, ◌∙◌, arith, eqb-true, eq-eqb, cond}
+use Rattle.std.proofs.Common.{ℕ, ◌≡◌, ◌==◌, Bool, true, false, [], ◌∷◌, map, IsTrue, ◌↔◌, refl, sym, ap, ap₂, ◌∙◌, arith, eq-eqb}
 use Rattle.std.specs.Char.{to_ascii_lowercase}
-use Rattle.std.proofs.lemmas.Bool.{and_parts, and_from, cases_Bool}
+use Rattle.std.proofs.lemmas.Bool.{and_from}
 use Rattle.std.proofs.lemmas.Bool.Decides.{nat_tests, same_from_decides}
 use Rattle.timefd_items.specs.Tree.{Text}
 use Rattle.timefd_parse.specs.Bytes.{lowered, equal, same}

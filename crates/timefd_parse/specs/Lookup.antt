@@ -1,8 +1,8 @@
 -- What the words of a head stand for.
 use Rattle.std.specs.Prelude.{◌≡◌, Bool, true, false, codes, List, [], ◌∷◌, Option, Some, None}
 use Rattle.timefd_items.specs.Tree.{Text}
-use Rattle.timefd_parse.specs.declared.combination.Refusal as refused_code
-use Rattle.timefd_parse.specs.declared.key.Key as code
+use Rattle.timefd_parse.specs.declared.combination.Refusal as code_refusal
+use Rattle.timefd_parse.specs.declared.key.Key as code_key
 use Rattle.timefd_parse.specs.declared.key.Key.TheVariants as keys
 use Rattle.timefd_parse.specs.declared.name.Name.{Name}
 use Rattle.timefd_parse.specs.Bytes.{same}
@@ -21,7 +21,7 @@ IsNameOf strict word None =
     (same strict (codes "optional") word ≡ false) × (same strict (codes "first") word ≡ false) × (row_of strict word ≡ None)
 
 -- the key that one of the code is
-abbrev pub key_for : code.Key → Key
+abbrev pub key_for : code_key.Key → Key
 key_for keys.Padding = padding
 key_for keys.TrailingInput = trailing_input
 key_for keys.HourRepr = hour_repr
@@ -47,5 +47,5 @@ keys_for Name.First = []
 keys_for (Name.Component name) = (row_for name).keys
 
 -- the refusal that one of the code is
-abbrev pub refusal_for : refused_code.Refusal → Refusal
+abbrev pub refusal_for : code_refusal.Refusal → Refusal
 refusal_for r = (key_for r.key).key refused r.context.now

@@ -14,6 +14,17 @@ pub struct Refusal {
     pub context: &'static str,
 }
 
+static OF_LAST_TWO: [Refusal; 2] = [
+    Refusal {
+        key: Key::Range,
+        context: "when `repr:last_two` is used",
+    },
+    Refusal {
+        key: Key::Sign,
+        context: "when `repr:last_two` is used",
+    },
+];
+
 /// The keys that are refused with a component, in the order in which they are looked at.
 pub fn refusals(component: Component) -> &'static [Refusal]
     ensures { map refusal_for result.now ≡ spec.refusals component }
@@ -43,16 +54,7 @@ pub fn refusals(component: Component) -> &'static [Refusal]
             key: Key::CaseSensitive,
             context: "for numerical weekday",
         }],
-        Component::CalendarYearLastTwo(_) | Component::IsoYearLastTwo(_) => &[
-            Refusal {
-                key: Key::Range,
-                context: "when `repr:last_two` is used",
-            },
-            Refusal {
-                key: Key::Sign,
-                context: "when `repr:last_two` is used",
-            },
-        ],
+        Component::CalendarYearLastTwo(_) | Component::IsoYearLastTwo(_) => &OF_LAST_TWO,
         _ => &[],
     }
 }

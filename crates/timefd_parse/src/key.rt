@@ -1,6 +1,7 @@
 //! The keys of modifiers.
 
 ghost use Rattle.std.specs.Prelude.{◌≡◌, map, option_map};
+ghost use Rattle.timefd_parse.specs.Names.{row_for};
 ghost use Rattle.timefd_parse.specs.Values.{key_in};
 ghost use Rattle.timefd_parse.specs.Lookup.{key_for, keys_for};
 
@@ -10,22 +11,39 @@ use crate::same::same;
 /// The key of a modifier, with what it sets: several components have a key `repr`, each its own.
 #[derive(Clone, Copy)]
 pub enum Key {
+    /// How a number is filled on the left.
     Padding,
+    /// What becomes of input behind the description.
     TrailingInput,
+    /// Whether hours are those of a clock of 24 or of 12 hours.
     HourRepr,
+    /// How many bytes are ignored.
     Count,
+    /// How a month is written.
     MonthRepr,
+    /// Whether names are read with their case.
     CaseSensitive,
+    /// Whether a sign always stands.
     Sign,
+    /// Whether `AM` and `PM` are written in upper case.
     Case,
+    /// How many digits of a second are written.
     Digits,
+    /// The unit of a Unix timestamp.
     Precision,
+    /// How a weekday is written.
     WeekdayRepr,
+    /// Whether weekdays are counted from 1.
     OneIndexed,
+    /// How weeks are numbered.
     WeekNumberRepr,
+    /// How much of a year is written.
     YearRepr,
+    /// Which years are meant.
     Range,
+    /// Whether years are those of the calendar or of ISO weeks.
     Base,
+    /// Whether an optional item is formatted.
     Format,
 }
 
@@ -62,12 +80,17 @@ impl Key {
 fn keys(name: Name) -> &'static [Key]
     ensures { map key_for result.now ≡ keys_for name }
 {
-    let Name::Component(name) = name else {
-        return match name {
-            Name::Optional => &[Key::Format],
-            _ => &[],
-        };
-    };
+    match name {
+        Name::Optional => &[Key::Format],
+        Name::First => &[],
+        Name::Component(name) => component_keys(name),
+    }
+}
+
+#[inline]
+fn component_keys(name: ComponentName) -> &'static [Key]
+    ensures { map key_for result.now ≡ (row_for name).keys }
+{
     match name {
         ComponentName::Day
         | ComponentName::Minute

@@ -9,7 +9,7 @@ use timefd_modifier::{
     WeekdayRepr, YearRange, YearRepr,
 };
 
-/// What one modifier sets.
+/// What one modifier sets: a field of `Settings`.
 #[derive(Clone, Copy)]
 pub enum Setting {
     Padding(Padding),
@@ -27,18 +27,17 @@ pub enum Setting {
     WeekNumberRepr(WeekNumberRepr),
     YearRepr(YearRepr),
     Range(YearRange),
-    /// Whether years are those of ISO weeks.
     IsoWeekBased(bool),
-    /// Whether an optional item is formatted.
     Format(bool),
 }
 
-/// What all the modifiers of a component set.
+/// What all the modifiers of a bracket set; a component takes what it has a use for.
 #[derive(Clone, Copy)]
 pub struct Settings {
     pub padding: Padding,
     pub trailing_input: TrailingInput,
     pub is_12_hour_clock: bool,
+    /// How many bytes are ignored; there is no default.
     pub count: Option<NonZero<u16>>,
     pub month_repr: MonthRepr,
     pub case_sensitive: bool,
@@ -51,7 +50,9 @@ pub struct Settings {
     pub week_number_repr: WeekNumberRepr,
     pub year_repr: YearRepr,
     pub range: YearRange,
+    /// Whether years are those of ISO weeks.
     pub iso_week_based: bool,
+    /// Whether an optional item is formatted.
     pub format: bool,
 }
 

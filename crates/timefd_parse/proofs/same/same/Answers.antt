@@ -1,4 +1,4 @@
-use Rattle.std.proofs.Common.{◌≡◌, Bool, false, ap, sym, ◌∙◌}
+use Rattle.std.proofs.Common.{Bool, ap, sym, ◌∙◌}
 use Rattle.timefd_parse.specs.Bytes as spec
 use Rattle.timefd_parse.proofs.Words.{same_lowered}
 use Rattle.timefd_parse.proofs.same.same.Goals as goal
