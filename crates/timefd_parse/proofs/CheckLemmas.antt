@@ -248,6 +248,7 @@ place_more total places key j r ps p is_named none at before = by (equal (key_fo
     shows : (o i : Option ℕ) → place (with_place places key r) j ≡ o → first_place (key_for j).key (ps ++ p ∷ []) ≡ i → ShowsPlace total o i
         → ShowsPlace total (place (with_place places key r) j) (first_place (key_for j).key (ps ++ p ∷ []))
     shows o i e d h = subst (λ x. ShowsPlace total x (first_place (key_for j).key (ps ++ p ∷ []))) (sym e) (subst (ShowsPlace total o) (sym d) h)
+
     by : (t : Bool) → equal (key_for key).key (key_for j).key ≡ t → ShowsPlace total (place (with_place places key r) j) (first_place (key_for j).key (ps ++ p ∷ []))
     by true e =
         let same : (key_for key).key ≡ (key_for j).key = equal-true (key_for key).key (key_for j).key e in

@@ -36,3 +36,4 @@ pub mod VerdictLemmas
 pub mod Counts
 pub mod ReadLemmas
 pub mod NestedLemmas
+pub mod ParseLemmas

@@ -83,6 +83,9 @@ misfit_no_key text key behind after value rest f is e v none fault =
 pub misfit_no_value : (text key behind after value rest : Text) (f : code_fault.Fault) → IsCut is_key_byte text key behind → behind ≡ colon ∷ after → IsCut is_word_byte after value rest
     → 0 < length key → length value ≡ 0 → IsFault (length text) f (misfit_fault (no_value key) 0)
     → (word : Text) × (rest : Text) × BeginsWithWord text word rest × IsNoWord word (length text) f
-misfit_no_value text key behind after value rest f is e v some none fault =
-    (key ++ colon ∷ value, rest, word_of_parts text key behind after value rest is e v,
-      (no_value key, one_or_more is_key_byte key some is.passes, ap (λ t. key ++ colon ∷ t) (empty value none), fault))
+misfit_no_value text key behind after value rest f is e v some none fault = (
+  key ++ colon ∷ value,
+  rest,
+  word_of_parts text key behind after value rest is e v,
+  (no_value key, one_or_more is_key_byte key some is.passes, ap (λ t. key ++ colon ∷ t) (empty value none), fault),
+)

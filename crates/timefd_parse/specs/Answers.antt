@@ -1,5 +1,5 @@
 -- How an answer of the public calls stands to a text.
-use Rattle.std.specs.Prelude.{ℕ, ◌≡◌, ◌≤◌, List, map, ⊤}
+use Rattle.std.specs.Prelude.{ℕ, ◌≡◌, ◌≤◌, List, map, IsTrue, ⊤}
 use Rattle.timefd_items.specs.declared.borrowed_format_item.BorrowedFormatItem.{BorrowedFormatItem}
 use Rattle.timefd_items.specs.declared.format_description_v3.FormatDescriptionV3.{FormatDescriptionV3}
 use Rattle.timefd_items.specs.Tree.{Text, Tree, pack}
@@ -9,11 +9,15 @@ use Rattle.timefd_items.specs.Faults.{Fault, fault_of}
 use Rattle.timefd_items.specs.Reserved.{reserve}
 use Rattle.timefd_parse.specs.declared.description_version.DescriptionVersion.{DescriptionVersion}
 use Rattle.timefd_parse.specs.declared.description_version.DescriptionVersion.TheVariants.{One, Two, Three}
-use Rattle.timefd_parse.specs.declared.parse.BorrowedOutput.{BorrowedOutput}
-use Rattle.timefd_parse.specs.declared.parse.BorrowedOutput.TheVariants.{Items, Description}
-use Rattle.timefd_parse.specs.declared.parse.ParseError.{ParseError}
-use Rattle.timefd_parse.specs.declared.parse.ParseError.TheVariants.{Invalid, Memory}
+use Rattle.timefd_parse.specs.declared.parsing.BorrowedOutput.{BorrowedOutput}
+use Rattle.timefd_parse.specs.declared.parsing.BorrowedOutput.TheVariants.{Items, Description}
+use Rattle.timefd_parse.specs.declared.parsing.ParseError.{ParseError}
+use Rattle.timefd_parse.specs.declared.parsing.ParseError.TheVariants.{Invalid, Memory}
 use Rattle.timefd_parse.specs.Broken.{FaultOf}
+use Rattle.timefd_parse.specs.declared.fault.ReadError.{ReadError}
+use Rattle.timefd_parse.specs.declared.fault.ReadError.TheVariants as errors
+use Rattle.timefd_parse.specs.Shown.{IsFault}
+use Rattle.timefd_parse.specs.Strings.{are_of_strings}
 
 -- The items of the list in versions 1 and 2, and in version 3 the description that they are packed to.
 abbrev pub IsOutput : DescriptionVersion → List Tree → BorrowedOutput → Type 0
@@ -43,3 +47,13 @@ IsAssigned v limit text (Memory e) = ⊤
 abbrev pub ReservesAtMost : ℕ → BorrowedOutput → Type 0
 ReservesAtMost most (Items items) = ⊤
 ReservesAtMost most (Description d) = reserve (description_tree d) ≤ most
+
+-- the literals of items are strings
+abbrev pub HasStrings : BorrowedOutput → Type 0
+HasStrings (Items items) = IsTrue (are_of_strings items.items)
+HasStrings (Description d) = ⊤
+
+-- what is told of an error in a text with so many bytes: the fault, or want of memory
+abbrev pub Tells : ℕ → ReadError → ParseError → Type 0
+Tells len errors.Memory told = MemoryAlone told
+Tells len (errors.Invalid f) told = (g : Fault) → IsFault len f g → IsFaultOrMemory g told

@@ -26,7 +26,6 @@ pub mod Shown
 pub mod Places
 pub mod Checked
 pub mod Heads
-pub mod Strings
 pub mod Pieces
 pub mod Judged
 pub mod Read

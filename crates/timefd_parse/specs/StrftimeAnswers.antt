@@ -2,8 +2,8 @@
 use Rattle.std.specs.Prelude.{⊤}
 use Rattle.timefd_items.specs.Faults.{fault_of}
 use Rattle.timefd_items.specs.Tree.{Text}
-use Rattle.timefd_parse.specs.declared.parse.ParseError.{ParseError}
-use Rattle.timefd_parse.specs.declared.parse.ParseError.TheVariants.{Invalid, Memory}
+use Rattle.timefd_parse.specs.declared.parsing.ParseError.{ParseError}
+use Rattle.timefd_parse.specs.declared.parsing.ParseError.TheVariants.{Invalid, Memory}
 use Rattle.timefd_parse.specs.Strftime.{StrftimeFaultOf}
 
 -- a fault that the rules assign to the text, or want of memory

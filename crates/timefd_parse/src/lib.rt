@@ -12,7 +12,7 @@ mod members;
 mod modifier;
 mod modifiers;
 mod name;
-mod parse;
+mod parsing;
 mod piece;
 mod places;
 mod read;
@@ -24,8 +24,9 @@ mod value;
 mod verdict;
 
 pub use description_version::DescriptionVersion;
-pub use parse::{BorrowedOutput, ParseError, parse_borrowed};
+pub use parsing::{BorrowedOutput, ParseError, parse, parse_borrowed};
 pub use strftime::{StrftimeTables, parse_strftime_borrowed};
+pub use timefd_items;
 
 #[cfg(test)]
 mod tests;

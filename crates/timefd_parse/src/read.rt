@@ -1,6 +1,7 @@
 //! The pieces of a text, one after another.
 
-ghost use Rattle.std.specs.Prelude.{ℕ, ◌≡◌, ◌≤◌, ◌∷◌, [], IsFalse, MatchOption};
+ghost use Rattle.std.specs.Prelude.{ℕ, ◌≡◌, ◌≤◌, ◌<◌, ◌∷◌, [], length, IsFalse, MatchOption};
+ghost use Rattle.std.specs.Result.{IfErr};
 ghost use Rattle.std.specs.Str.{IsUtf8};
 ghost use Rattle.timefd_parse.specs.declared.description_version.DescriptionVersion as spec_version;
 ghost use Rattle.timefd_parse.specs.Broken.{BeginsNoEscape};
@@ -114,7 +115,8 @@ fn next_piece<'a>(
     around: u8,
 ) -> Result<Option<(Piece<'a>, &'a str)>, ReadError<'a>>
     requires { around ≤ limit }
-    ensures { ReadsNext version limit around text.now result }
+    ensures next { ReadsNext version limit around text.now result }
+    ensures some { IfErr result (λ _. 0 < length text.now) }
 {
     match start_of(text) {
         Start::End => Ok(None),
@@ -139,7 +141,8 @@ pub fn members<'a>(
     around: u8,
 ) -> Result<(Members<'a>, &'a str), ReadError<'a>>
     requires { around ≤ limit }
-    ensures { ReadsMembers version limit around text.now result }
+    ensures members { ReadsMembers version limit around text.now result }
+    ensures some { IfErr result (λ _. 0 < length text.now) }
 {
     let mut members = Members::Empty;
     let mut rest = text;
@@ -217,7 +220,8 @@ pub fn items<'a>(
     limit: u8,
 ) -> Result<Vec<BorrowedFormatItem<'a>>, ReadError<'a>>
     requires { IsFalse (is_version_three version) }
-    ensures { ReadsItems version limit text.now result }
+    ensures items { ReadsItems version limit text.now result }
+    ensures some { IfErr result (λ _. 0 < length text.now) }
 {
     let mut items = Vec::new(alloc);
     let mut rest = text;

@@ -18,7 +18,7 @@ mod letter;
 mod tables;
 mod text;
 
-use crate::parse::ParseError;
+use crate::parsing::ParseError;
 use directive::{Flaw, PlacedFlaw, directive};
 use item::literal_item;
 use std::alloc::{AllocError, AllocFailed, Global};

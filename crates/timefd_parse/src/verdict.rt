@@ -134,11 +134,7 @@ fn refused(strict: bool, component: Component, places: &Places) -> Option<Fault<
     None
 }
 
-fn component<'a>(
-    strict: bool,
-    head: &Head<'a>,
-    name: ComponentName,
-) -> Result<Component, Fault<'a>>
+fn component<'a>(strict: bool, head: &Head<'a>, name: ComponentName) -> Result<Component, Fault<'a>>
     ensures tree { (total : ℕ) (h : spec.Head) → ShowsHead strict total head.now h → head.now.name ≡ Some (spec_name.Name.Component name) → JudgedComponent total result (rules.component_verdict strict h (Some (row_for name))) }
     ensures modern { IfOk result (λ c. modern c ≡ c) }
 {

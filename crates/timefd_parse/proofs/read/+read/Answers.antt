@@ -24,20 +24,20 @@ bracket-returns-then-around-limit t c =
 
 pub bracket-returns-in-Err : goal.bracket-returns-in-Err
 bracket-returns-in-Err t c =
-    inner_fails _ _ _ _ _ _ _ _ _ c.nested.invariant.2 _ _ _ _ (omega arith) c.in-Opening.ensures (omega (arith, c.if-around-limit.false, c.requires)) c.in-Err.ensures c.enclosed.ensures
+    inner_fails _ _ _ _ _ _ _ _ _ c.nested.invariant.2 _ _ _ _ (omega arith) c.in-Opening.ensures (omega (arith, c.if-around-limit.false, c.requires)) c.in-Err.ensures.members c.enclosed.ensures
 
 pub bracket-returns-in_default-start_of : goal.bracket-returns-in_default-start_of
 bracket-returns-in_default-start_of t c =
-    inner_cut_off _ _ _ _ _ _ _ _ _ c.nested.invariant.2 _ _ _ _ _ (omega arith) c.in-Opening.ensures (omega (arith, c.if-around-limit.false, c.requires)) c.in-Ok.ensures.0
-    (no_closing _ _ _ c.start_of-in-Opening.ensures c.in-Ok.ensures.0.4 c.in_default-start_of.not-Closing) c.unclosed.ensures
+    inner_cut_off _ _ _ _ _ _ _ _ _ c.nested.invariant.2 _ _ _ _ _ (omega arith) c.in-Opening.ensures (omega (arith, c.if-around-limit.false, c.requires)) c.in-Ok.ensures.members.0
+    (no_closing _ _ _ c.start_of-in-Opening.ensures c.in-Ok.ensures.members.0.4 c.in_default-start_of.not-Closing) c.unclosed.ensures
 
 pub bracket-nested-preserved : goal.bracket-nested-preserved
 bracket-nested-preserved t c =
     let lt : c.args.around < c.args.limit = omega (arith, c.if-around-limit.false, c.requires) in (
       c.cut.ensures.utf8,
-      omega (arith, c.nested.invariant.1, ap length c.in-Opening.ensures, items_shorter _ _ _ _ _ _ c.in-Ok.ensures.0, ap length c.in-Closing-start_of.ensures, cut_shorter _ _ _ _ c.cut.ensures.parts),
+      omega (arith, c.nested.invariant.1, ap length c.in-Opening.ensures, items_shorter _ _ _ _ _ _ c.in-Ok.ensures.members.0, ap length c.in-Closing-start_of.ensures, cut_shorter _ _ _ _ c.cut.ensures.parts),
       subst (λ read. BracketBefore c.args.version c.args.limit c.args.around c.args.inside.now c.in_ok-head.head (not c.is_empty-spaced.result) (length c.in_ok-head.behind.now) read c.cut.result.1.now) (sym c.in_ok-descriptions-in-Opening.ensures.trees)
-          (one_more _ _ _ _ _ _ _ _ _ c.nested.invariant.2 _ _ _ _ _ _ _ _ (omega arith) c.in-Opening.ensures lt c.in-Ok.ensures.0 c.in-Closing-start_of.ensures c.cut.ensures.parts c.packed.ensures),
+          (one_more _ _ _ _ _ _ _ _ _ c.nested.invariant.2 _ _ _ _ _ _ _ _ (omega arith) c.in-Opening.ensures lt c.in-Ok.ensures.members.0 c.in-Closing-start_of.ensures c.cut.ensures.parts c.packed.ensures),
       c.in_ok-descriptions-in-Opening.ensures.count,
     )
 
@@ -72,22 +72,24 @@ bracket-returns-in_default t c =
 pub members-returns-in_err-piece : goal.members-returns-in_err-piece
 members-returns-in_err-piece t c =
     let p = err_from_is_err_and c.from_residual.result c.from_residual.ensures.1 in
-    rw (p.1, p.2)
-    (memory_or _ (IsFaultIn c.args.version c.args.limit c.args.around c.args.text.now) (λ f is. items_fault _ _ _ _ c.pieces.rest.now _ f c.pieces.invariant.2 is) c.in_err-piece.field-0.0 c.in_err-piece.ensures)
+    rw (p.1, p.2) (record {
+      members = memory_or _ (IsFaultIn c.args.version c.args.limit c.args.around c.args.text.now) (λ f is. items_fault _ _ _ _ c.pieces.rest.now _ f c.pieces.invariant.2 is) c.in_err-piece.field-0.0 c.in_err-piece.ensures.next;
+      some = omega (arith, c.in_err-piece.ensures.some, c.pieces.invariant.1);
+    })
 
 pub members-returns-in_default : goal.members-returns-in_default
 members-returns-in_default t c =
-    let end = subst (IsNext c.args.version c.args.limit c.args.around c.pieces.rest.now) c.in_default.is c.in_ok-piece.ensures in
-    (items_end _ _ _ _ _ _ c.pieces.invariant.2 end, c.pieces.invariant.3)
+    let end = subst (IsNext c.args.version c.args.limit c.args.around c.pieces.rest.now) c.in_default.is c.in_ok-piece.ensures.next in
+    record { members = (items_end _ _ _ _ _ _ c.pieces.invariant.2 end, c.pieces.invariant.3); some = tt }
 
 pub members-described-requires : goal.members-described-requires
 members-described-requires t c =
-    let next = subst (IsNext c.args.version c.args.limit c.args.around c.pieces.rest.now) c.in-Some.is c.in_ok-piece.ensures in
+    let next = subst (IsNext c.args.version c.args.limit c.args.around c.pieces.rest.now) c.in-Some.is c.in_ok-piece.ensures.next in
     sound_modern _ _ next.sound
 
 pub members-pieces-preserved : goal.members-pieces-preserved
 members-pieces-preserved t c =
-    let next = subst (IsNext c.args.version c.args.limit c.args.around c.pieces.rest.now) c.in-Some.is c.in_ok-piece.ensures in (
+    let next = subst (IsNext c.args.version c.args.limit c.args.around c.pieces.rest.now) c.in-Some.is c.in_ok-piece.ensures.next in (
       next.utf8,
       omega (arith, next.shorter, c.pieces.invariant.1),
       subst (λ done. Continues c.args.version c.args.limit c.args.around c.args.text.now done c.in-Some.after.now) (sym c.in_ok-members.ensures.trees)
@@ -99,18 +101,23 @@ members-pieces-preserved t c =
 pub next_piece-returns-in_err-closing-in-Closing-2 : goal.next_piece-returns-in_err-closing-in-Closing-2
 next_piece-returns-in_err-closing-in-Closing-2 t c =
     let p = err_from_is_err_and c.from_residual.result c.from_residual.ensures.1 in
-    rw (p.1, p.2) (fault_outside _ _ _ _ _ (omega (arith, c.if-around-gt0.false)) (c.in_err-closing-in-Closing-2.ensures c.args.limit))
+    rw (p.1, p.2) (record {
+      next = fault_outside _ _ _ _ _ (omega (arith, c.if-around-gt0.false)) (c.in_err-closing-in-Closing-2.ensures c.args.limit);
+      some = omega (arith, ap length c.in-Closing.ensures);
+    })
 
 pub next_piece-returns-in_ok-closing-in-Closing-2 : goal.next_piece-returns-in_ok-closing-in-Closing-2
-next_piece-returns-in_ok-closing-in-Closing-2 t c =
-    closing_outside _ _ _ _ _ _ (omega (arith, c.if-around-gt0.false)) (c.in_ok-closing-in-Closing-2.ensures c.args.limit)
+next_piece-returns-in_ok-closing-in-Closing-2 t c = record {
+  next = closing_outside _ _ _ _ _ _ (omega (arith, c.if-around-gt0.false)) (c.in_ok-closing-in-Closing-2.ensures c.args.limit);
+  some = tt;
+}
 
 pub next_piece-returns-in-Some : goal.next_piece-returns-in-Some
 next_piece-returns-in-Some t c =
-    let e = c.in-Some.ensures in doubled_leads _ _ _ _ _ _ _ e.0 e.1 c.in-Opening.ensures e.2 e.3
+    let e = c.in-Some.ensures in record { next = doubled_leads _ _ _ _ _ _ _ e.0 e.1 c.in-Opening.ensures e.2 e.3; some = tt }
 
 pub next_piece-returns-in_ok-backslash-in-Backslash : goal.next_piece-returns-in_ok-backslash-in-Backslash
-next_piece-returns-in_ok-backslash-in-Backslash t c = c.in_ok-backslash-in-Backslash.ensures c.args.limit c.args.around
+next_piece-returns-in_ok-backslash-in-Backslash t c = record { next = c.in_ok-backslash-in-Backslash.ensures c.args.limit c.args.around; some = tt }
 
 pub next_piece-returns-in-Other : goal.next_piece-returns-in-Other
-next_piece-returns-in-Other t c = c.run.ensures c.args.limit c.args.around
+next_piece-returns-in-Other t c = record { next = c.run.ensures c.args.limit c.args.around; some = tt }

@@ -1,0 +1,92 @@
+-- What was read of a whole text.
+use Rattle.std.proofs.Common.{◌≡◌, ℕ, ◌+◌, ◌≤◌, List, [], ◌∷◌, ◌++◌, length, IsFalse, refl, sym, ap, ◌∙◌, subst, arith, append-nil, length-append}
+use Rattle.std.specs.declared.vec.Vec.{Vec}
+use Rattle.std.specs.declared.alloc.Global.{Global}
+use Rattle.std.proofs.lemmas.Bool.{true≢false}
+use Rattle.timefd_items.specs.Faults.{Fault, fault_of}
+use Rattle.timefd_items.specs.Reserved.{reserve}
+use Rattle.timefd_items.specs.Tree.{Text, Tree, pack}
+use Rattle.timefd_items.specs.declared.borrowed_format_item.BorrowedFormatItem.{BorrowedFormatItem}
+use Rattle.timefd_parse.specs.declared.description_version.DescriptionVersion.{DescriptionVersion}
+use Rattle.timefd_parse.specs.declared.description_version.DescriptionVersion.TheVariants.{One, Two, Three}
+use Rattle.timefd_parse.specs.declared.fault.Fault as code_fault
+use Rattle.timefd_parse.specs.declared.fault.ReadError.{ReadError}
+use Rattle.timefd_parse.specs.declared.fault.ReadError.TheVariants as errors
+use Rattle.timefd_parse.specs.declared.parsing.BorrowedOutput.TheVariants.{Items}
+use Rattle.timefd_parse.specs.declared.parsing.ParseError.{ParseError}
+use Rattle.timefd_parse.specs.declared.parsing.ParseError.TheVariants.{Invalid, Memory}
+use Rattle.timefd_parse.specs.Bytes.{is_version_three}
+use Rattle.timefd_parse.specs.Fault.{raised}
+use Rattle.timefd_parse.specs.Grammar.{Spells, spelling}
+use Rattle.timefd_parse.specs.Broken.{FaultOf, broken_text, broken_fault}
+use Rattle.timefd_parse.specs.Shown.{IsFault, MemoryOr}
+use Rattle.timefd_parse.specs.Read.{IsFaultIn, AreItems, IsEnd}
+use Rattle.timefd_parse.specs.Strings.{AreItems as AreTheItems}
+use Rattle.timefd_parse.specs.Answers.{IsOutput, IsAssigned, IsFaultOrMemory, MemoryAlone, Tells}
+use Rattle.timefd_parse.specs.Laws.{HasOneAnswer}
+use Rattle.timefd_parse.proofs.LawLemmas.{one_answer_law}
+use Rattle.timefd_parse.proofs.Reserved.{reserves_within_law}
+use Rattle.timefd_parse.proofs.ReadLemmas.{end_outside}
+
+pub one : (v : DescriptionVersion) (limit : ℕ) (text : Text) → HasOneAnswer v limit text
+one v limit text = (one_answer_law v limit text).1
+
+pub items_spelled : (v : DescriptionVersion) (limit : ℕ) (text : Text) (read : List Tree) (rest : Text) → AreItems v limit 0 text read rest → Spells v limit 0 text read
+items_spelled v limit text read rest are =
+    (are.0, are.1, are.2 ∙ ap (λ t. spelling are.0 ++ t) (end_outside rest are.4) ∙ append-nil (spelling are.0), sym are.3)
+
+pub same_list : (v : DescriptionVersion) (limit : ℕ) (text : Text) (read : List Tree) (rest : Text) (list : List Tree) → AreItems v limit 0 text read rest → Spells v limit 0 text list → read ≡ list
+same_list v limit text read rest list are s = (one v limit text).one_list read list (items_spelled v limit text read rest are) s
+
+pub no_fault_in : (v : DescriptionVersion) (limit : ℕ) (text : Text) (read : List Tree) (rest : Text) (f : Fault) → AreItems v limit 0 text read rest → FaultOf v limit text f → ⊥
+no_fault_in v limit text read rest f are h = (one v limit text).not_both read f (items_spelled v limit text read rest are) h
+
+-- Faults.
+
+record WholeFault (v : DescriptionVersion) (limit : ℕ) (text : Text) (f : code_fault.Fault) : Type 0 where
+  pub g : Fault
+  pub assigned : FaultOf v limit text g
+  pub is : IsFault (length text) f g
+
+whole_fault : (v : DescriptionVersion) (limit : ℕ) (text : Text) (f : code_fault.Fault) → IsFaultIn v limit 0 text f → WholeFault v limit text f
+whole_fault v limit text f h = record {
+  g = raised (broken_fault h.1) (length (spelling h.0));
+  assigned = (h.0, h.1, h.2, h.3, h.4, refl);
+  is = record { kind = h.5.kind; place = omega (arith, h.5.place, ap length h.4, length-append (spelling h.0) (broken_text h.1)) };
+}
+
+pub remaining_within : (v : DescriptionVersion) (limit : ℕ) (text : Text) (e : ReadError) → MemoryOr (IsFaultIn v limit 0 text) e → MemoryOr (λ f. f.remaining ≤ length text) e
+remaining_within v limit text errors.Memory h = tt
+remaining_within v limit text (errors.Invalid f) h = omega (arith, h.5.place, ap length h.4, length-append (spelling h.0) (broken_text h.1))
+
+pub told_assigned : (v : DescriptionVersion) (limit : ℕ) (text : Text) (e : ReadError) (r : ParseError) → MemoryOr (IsFaultIn v limit 0 text) e → Tells (length text) e r → IsAssigned v limit text r
+told_assigned v limit text e (Memory m) h told = tt
+told_assigned v limit text errors.Memory (Invalid x) h told = absurd told
+told_assigned v limit text (errors.Invalid f) (Invalid x) h told =
+    let w = whole_fault v limit text f h in
+    subst (FaultOf v limit text) (sym (told w.g w.is)) w.assigned
+
+pub told_spelled : (v : DescriptionVersion) (limit : ℕ) (text : Text) (e : ReadError) (r : ParseError) (list : List Tree) → MemoryOr (IsFaultIn v limit 0 text) e → Tells (length text) e r → Spells v limit 0 text list → MemoryAlone r
+told_spelled v limit text e (Memory m) list h told s = tt
+told_spelled v limit text errors.Memory (Invalid x) list h told s = told
+told_spelled v limit text (errors.Invalid f) (Invalid x) list h told s =
+    let w = whole_fault v limit text f h in
+    (one v limit text).not_both list w.g s w.assigned
+
+pub told_refused : (v : DescriptionVersion) (limit : ℕ) (text : Text) (e : ReadError) (r : ParseError) (f : Fault) → MemoryOr (IsFaultIn v limit 0 text) e → Tells (length text) e r → FaultOf v limit text f → IsFaultOrMemory f r
+told_refused v limit text e (Memory m) f h told is = tt
+told_refused v limit text errors.Memory (Invalid x) f h told is = absurd told
+told_refused v limit text (errors.Invalid g) (Invalid x) f h told is =
+    let w = whole_fault v limit text g h in
+    told w.g w.is ∙ (one v limit text).one_fault w.g f w.assigned is
+
+-- Outputs.
+
+pub items_output : (v : DescriptionVersion) (items : Vec BorrowedFormatItem Global) (list : List Tree) → IsFalse (is_version_three v) → AreTheItems items.items list → IsOutput v list (Items items)
+items_output One items list lax are = are.0
+items_output Two items list lax are = are.0
+items_output Three items list lax are = absurd (true≢false lax)
+
+pub reserves_at_most : (limit : ℕ) (text : Text) (read : List Tree) (rest : Text) (tree : Tree) → AreItems Three limit 0 text read rest → tree ≡ pack read → reserve tree ≤ length text
+reserves_at_most limit text read rest tree are e =
+    subst (λ t. reserve t ≤ length text) (sym e) (reserves_within_law limit 0 text read (items_spelled Three limit text read rest are)).0

@@ -1,0 +1,32 @@
+use Rattle.std.proofs.Common.{List, refl, sym, subst}
+use Rattle.timefd_items.specs.Faults.{Fault}
+use Rattle.timefd_items.specs.Tree.{Tree}
+use Rattle.timefd_parse.specs.Answers.{IsFaultOrMemory, MemoryAlone}
+use Rattle.timefd_parse.specs.Broken.{FaultOf}
+use Rattle.timefd_parse.specs.Grammar.{Spells}
+use Rattle.timefd_parse.proofs.ParseLemmas.{items_output}
+use Rattle.timefd_parse.proofs.ReadLemmas.{not_three}
+use Rattle.timefd_parse.proofs.parsing.parse_borrowed.Goals as goal
+
+pub returns-in-Ok-clause-refused : goal.returns-in-Ok-clause-refused
+returns-in-Ok-clause-refused c = subst (λ v. (f : Fault) → FaultOf v 127 c.args.s.now f → ⊥) (sym c.in-Three.is) c.in-Ok.ensures.refused
+
+pub returns-in-Err-clause-spelled : goal.returns-in-Err-clause-spelled
+returns-in-Err-clause-spelled c = subst (λ v. (list : List Tree) → Spells v 127 0 c.args.s.now list → MemoryAlone c.in-Err.error) (sym c.in-Three.is) c.in-Err.ensures.spelled
+
+pub returns-in-Err-clause-refused : goal.returns-in-Err-clause-refused
+returns-in-Err-clause-refused c = subst (λ v. (f : Fault) → FaultOf v 127 c.args.s.now f → IsFaultOrMemory f c.in-Err.error) (sym c.in-Three.is) c.in-Err.ensures.refused
+
+pub returns-in-Ok-parse_items : goal.returns-in-Ok-parse_items
+returns-in-Ok-parse_items c =
+    let lax = not_three _ c.in_default.not-Three in
+    let found = c.in-Ok-parse_items.ensures.found in
+    record {
+      found = (found.0, found.1, items_output _ _ _ lax found.2);
+      fault = tt;
+      spelled = λ list s. items_output _ _ list lax (c.in-Ok-parse_items.ensures.spelled list s);
+      refused = c.in-Ok-parse_items.ensures.refused;
+      strings = found.2.1;
+      reserved = tt;
+      empty = λ e. refl;
+    }
