@@ -10,7 +10,10 @@ fn opaque<'a>(
     alloc: Global,
     tree: FormatDescriptionV3Inner<'a>,
 ) -> Result<FormatDescriptionV3<'a>, AllocError> {
-    tree.into_opaque(alloc).map_err(|_| AllocError)
+    match tree.into_opaque(alloc) {
+        Ok(description) => Ok(description),
+        Err(_) => Err(AllocError),
+    }
 }
 
 #[test]

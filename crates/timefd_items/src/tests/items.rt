@@ -1,6 +1,6 @@
 //! How items and components print.
 
-use crate::{BorrowedFormatItem, Component, DifferentVariant};
+use crate::{BorrowedFormatItem, Component, DifferentVariant, FormatItem, StaticFormatDescription};
 use std::test::Fail;
 use timefd_modifier as modifier;
 
@@ -47,15 +47,22 @@ fn printed_items(rt: HostRuntime) -> Result<(), Fail> {
     Ok(())
 }
 
+/// The items, lent by a block that is never freed.
+fn lend(items: Vec<FormatItem<'static>>) -> StaticFormatDescription {
+    items.leak()
+}
+
 #[test]
 fn equal_items(rt: HostRuntime) -> Result<(), Fail> {
+    let alloc = rt.alloc();
     let month = BorrowedFormatItem::Component(Component::Month(modifier::Month::default()));
     let modern = modifier::MonthNumerical::default();
     let modern = BorrowedFormatItem::Component(Component::MonthNumerical(modern));
-    let bytes = [BorrowedFormatItem::Literal(b"a")];
-    let text = [BorrowedFormatItem::StringLiteral("a")];
-    let more = [BorrowedFormatItem::StringLiteral("a"), month];
-    let rows = [
+    let bytes = lend(vec![in alloc; BorrowedFormatItem::Literal(b"a")]?);
+    let text = lend(vec![in alloc; BorrowedFormatItem::StringLiteral("a")]?);
+    let more = lend(vec![in alloc; BorrowedFormatItem::StringLiteral("a"), month]?);
+    let member: &'static FormatItem<'static> = Box::leak(Box::new(alloc, month)?);
+    let rows: [(FormatItem<'static>, FormatItem<'static>, bool); 10] = [
         (
             BorrowedFormatItem::Literal(b"ab"),
             BorrowedFormatItem::StringLiteral("ab"),
@@ -72,31 +79,31 @@ fn equal_items(rt: HostRuntime) -> Result<(), Fail> {
             false,
         ),
         (
-            BorrowedFormatItem::Compound(&bytes),
-            BorrowedFormatItem::Compound(&text),
+            BorrowedFormatItem::Compound(bytes),
+            BorrowedFormatItem::Compound(text),
             true,
         ),
         (
-            BorrowedFormatItem::Compound(&text),
-            BorrowedFormatItem::Compound(&more),
+            BorrowedFormatItem::Compound(text),
+            BorrowedFormatItem::Compound(more),
             false,
         ),
         (
-            BorrowedFormatItem::Compound(&text),
+            BorrowedFormatItem::Compound(text),
             BorrowedFormatItem::StringLiteral("a"),
             false,
         ),
         (
-            BorrowedFormatItem::First(&bytes),
-            BorrowedFormatItem::First(&text),
+            BorrowedFormatItem::First(bytes),
+            BorrowedFormatItem::First(text),
             true,
         ),
         (
-            BorrowedFormatItem::Optional(&month),
-            BorrowedFormatItem::Optional(&month),
+            BorrowedFormatItem::Optional(member),
+            BorrowedFormatItem::Optional(member),
             true,
         ),
-        (BorrowedFormatItem::Optional(&month), month, false),
+        (BorrowedFormatItem::Optional(member), month, false),
         (month, modern, false),
     ];
     for at in 0..rows.len() {
