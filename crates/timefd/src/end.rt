@@ -1,6 +1,7 @@
 //! How a run ends, and the exit status that tells it.
 
 ghost use Rattle.std.specs.Prelude.{◌≡◌};
+ghost use Rattle.timefd.specs.Status.{status};
 
 /// How a run ends.
 #[derive(Debug, Clone, Copy, PartialEq, Eq)]
@@ -20,8 +21,6 @@ pub enum RunEnd {
 }
 
 impl RunEnd {
-    ghost use Rattle.timefd.specs.Status.{status};
-
     /// The exit status of the program.
     pub fn status(self) -> u8
         ensures { result ≡ status self }

@@ -1,6 +1,7 @@
 //! The languages that the program reads, and the arguments that name them.
 
 ghost use Rattle.std.specs.Prelude.{◌≡◌, map, string_bytes};
+ghost use Rattle.timefd.specs.Arguments as spec;
 
 /// The language of a text.
 #[derive(Debug, Clone, Copy, PartialEq, Eq)]
@@ -17,11 +18,9 @@ pub enum Kind {
 const DEFAULT_LIMIT: u8 = 127;
 
 impl Kind {
-    ghost use Rattle.timefd.specs.Arguments.{kind_named};
-
     // The kind that an argument names.
     fn named(word: &str) -> Option<Kind>
-        ensures { result ≡ kind_named word.now }
+        ensures { result ≡ spec.kind_named word.now }
     {
         match word {
             "1" => Some(Kind::One),
@@ -31,8 +30,6 @@ impl Kind {
         }
     }
 }
-
-ghost use Rattle.timefd.specs.Arguments as spec;
 
 /// The kind, and how many nested descriptions there may be around one another, which the words
 /// after the program's name give: `None` where they are no arguments of the program.

@@ -2,7 +2,7 @@
 
 ghost use Rattle.std.specs.Prelude.{◌≡◌, IfOk, string_bytes};
 ghost use Rattle.timefd_items.specs.Faults.{fault_of};
-ghost use Rattle.timefd.specs.Replies.{IsReply};
+ghost use Rattle.timefd.specs.Replies.{IsReply, line_of, end_of};
 ghost use Rattle.timefd.specs.Line as spec;
 
 use crate::end::RunEnd;
@@ -21,8 +21,6 @@ pub enum Reply {
 }
 
 impl Reply {
-    ghost use Rattle.timefd.specs.Replies.{line_of, end_of};
-
     /// The line, with its newline.
     pub fn line(&self) -> &str
         ensures { result.now ≡ line_of self.now }
