@@ -1,6 +1,5 @@
 -- Directives, read one at a time.
-use Rattle.std.proofs.Common.{◌≡◌, ℕ, ◌+◌, ◌<◌, true, append-nil, append_assoc, List, [], ◌∷◌, ◌++◌, Option, Some, None, length, map, get_or, drop, refl, sym, ap, ◌∙◌, subst, arith, length-append, drop-cons, IsTrue}
-use Rattle.std.specs.List.{list_all}
+use Rattle.std.proofs.Common.{◌≡◌, ℕ, ◌+◌, ◌<◌, true, append-nil, append_assoc, List, [], ◌∷◌, ◌++◌, Option, Some, None, length, map, get_or, drop, refl, sym, ap, ◌∙◌, subst, arith, length-append, IsTrue}
 use Rattle.std.proofs.lemmas.Bool.{and_from, and_parts, both_ways}
 use Rattle.std.proofs.lemmas.List.{map-append}
 use Rattle.std.proofs.lemmas.Bool.Decides.{nat_tests}
@@ -14,7 +13,7 @@ use Rattle.timefd_items.specs.Tree.{Text, Tree, literal}
 use Rattle.timefd_parse.specs.Bytes.{OneOrMore, StopsBefore}
 use Rattle.timefd_parse.specs.Letters.{Flag, unflagged, flagged, item_of}
 use Rattle.timefd_parse.specs.LetterMeaning.{flag_padding}
-use Rattle.timefd_parse.specs.Strftime.{percent, is_flag, is_plain, flag_text, Directives, no_directives, plain, directive, directives_text, directive_items, BeginsNoPlain, IsBehind, AreDirectives, SpellsStrftime, cut_short, unknown, cut_index, ill_text, unknown_kind, ill_fault, StrftimeFaultOf}
+use Rattle.timefd_parse.specs.Strftime.{percent, is_flag, is_plain, flag_text, Directives, no_directives, plain, directive, directives_text, directive_items, IsBehind, AreDirectives, SpellsStrftime, cut_short, unknown, cut_index, ill_text, unknown_kind, ill_fault, StrftimeFaultOf}
 use Rattle.timefd_parse.specs.Strings.{is_of_strings, are_of_strings}
 use Rattle.timefd_parse.specs.Laws.{HasOneStrftimeAnswer}
 use Rattle.timefd_parse.specs.declared.strftime.directive.PlacedFlaw.{PlacedFlaw}

@@ -1,11 +1,10 @@
-use Rattle.std.proofs.Common.{ℕ, ◌≡◌, ◌∷◌, ◌++◌, [], List, length, map, sym, subst, ap, arith, IsTrue}
-use Rattle.std.specs.Borrow.{Bor}
+use Rattle.std.proofs.Common.{List, map, sym, subst, arith, IsTrue}
 use Rattle.std.proofs.lemmas.Result.{err_from_is_err_and}
 use Rattle.timefd_items.specs.declared.borrowed_format_item.BorrowedFormatItem.{BorrowedFormatItem}
 use Rattle.timefd_items.specs.Meaning.{item_tree}
 use Rattle.timefd_items.specs.Tree.{Text}
-use Rattle.timefd_parse.specs.StrftimeReading.{IsFlawAt, IsRestOf, Leads}
-use Rattle.timefd_parse.specs.Strings.{are_of_strings, is_of_strings}
+use Rattle.timefd_parse.specs.StrftimeReading.{IsFlawAt, IsRestOf}
+use Rattle.timefd_parse.specs.Strings.{are_of_strings}
 use Rattle.timefd_parse.proofs.DirectiveLemmas.{Continues, IsPiece, all_read, continues_more, flaw_behind, more_strings, piece_at}
 use Rattle.timefd_parse.proofs.strftime.items.Goals as goal
 use Rattle.timefd_parse.proofs.strftime.items.Goals.{in-Percent+in_ok-piece-in-Percent, in-Plain}

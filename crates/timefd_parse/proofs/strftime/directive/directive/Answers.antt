@@ -1,4 +1,4 @@
-use Rattle.std.proofs.Common.{◌≡◌, ◌<◌, ◌∷◌, Some, None, length, get_or, ap, sym, ◌∙◌, subst, arith, refl}
+use Rattle.std.proofs.Common.{Some, None, get_or, ap, subst, arith, refl}
 use Rattle.timefd_items.specs.Tree.{Text}
 use Rattle.timefd_parse.specs.LetterMeaning.{IsLetter, letter_tree}
 use Rattle.timefd_parse.specs.StrftimeReading.{kind_of}
