@@ -1,5 +1,5 @@
 -- Modifiers, taken one at a time.
-use Rattle.std.proofs.Common.{◌≡◌, ℕ, ◌+◌, ◌==◌, Bool, true, false, not, ◌&&◌, ◌||◌, if◌then◌else◌, List, [], ◌∷◌, ◌++◌, Option, Some, None, is_some, option_map, Ok, IsTrue, refl, sym, ap, ◌∙◌, subst, append_assoc, append-nil, eqb-true}
+use Rattle.std.proofs.Common.{◌≡◌, ℕ, ◌+◌, Bool, true, false, not, ◌&&◌, ◌||◌, if◌then◌else◌, List, [], ◌∷◌, ◌++◌, Option, Some, None, is_some, option_map, Ok, refl, sym, ap, ◌∙◌, subst, append_assoc, append-nil}
 use Rattle.std.specs.Borrow.{Bor}
 use Rattle.std.specs.Bool.{⊤}
 use Rattle.std.proofs.lemmas.Bool.{true≢false}
@@ -15,7 +15,7 @@ use Rattle.timefd_parse.specs.declared.name.Name.{Name}
 use Rattle.timefd_parse.specs.declared.places.Places.{Places}
 use Rattle.timefd_parse.specs.declared.setting.Setting.{Setting}
 use Rattle.timefd_parse.specs.declared.setting.Settings.{Settings}
-use Rattle.timefd_parse.specs.Bytes.{equal, named}
+use Rattle.timefd_parse.specs.Bytes.{equal}
 use Rattle.timefd_parse.specs.Settings.{with}
 use Rattle.timefd_parse.specs.Head.{Placed}
 use Rattle.timefd_parse.specs.Values.{Key, key_in, setting_in}

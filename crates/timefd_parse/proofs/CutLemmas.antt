@@ -1,5 +1,5 @@
 -- A longest front whose bytes pass, by its length, and where it ends.
-use Rattle.std.proofs.Common.{◌≡◌, ℕ, zero, suc, ◌+◌, ◌<◌, Bool, true, false, List, [], ◌∷◌, length, get_or, take, drop, IsUtf8, refl, sym, subst, inl, inr, arith, add-one, take-append-drop}
+use Rattle.std.proofs.Common.{◌≡◌, ℕ, zero, suc, ◌+◌, ◌<◌, Bool, true, false, List, [], ◌∷◌, length, take, drop, IsUtf8, refl, sym, subst, inl, inr, arith, add-one, take-append-drop}
 use Rattle.std.proofs.lemmas.Bool.{cases_lt, cases_Bool, and_from}
 use Rattle.std.proofs.lemmas.Bool.Decides.{nat_tests}
 use Rattle.std.proofs.lemmas.List.Sums.{prefix_len-le-length, prefix_len_passes, prefix_len_stops}
@@ -62,7 +62,3 @@ utf8_behind class text rest n e utf8 r = rw (r, e) (IsUtf8-drop text (prefix_len
 
 pub special_ascii : (b : ℕ) → is_special b ≡ true → b < 128
 special_ascii b e = grind (arith, nat_tests)
-
-pub first_alone : (text : Text) → 0 < length text → take 1 text ≡ get_or text 0 0 ∷ []
-first_alone [] some = absurd (omega arith)
-first_alone (b ∷ text) some = refl

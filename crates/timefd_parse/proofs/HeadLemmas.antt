@@ -1,5 +1,5 @@
 -- Heads, read a modifier at a time.
-use Rattle.std.proofs.Common.{◌≡◌, ℕ, ◌+◌, ◌<◌, Bool, true, false, List, [], ◌∷◌, ◌++◌, length, Option, refl, sym, ap, ◌∙◌, subst, arith, append_assoc, append-nil, length-append}
+use Rattle.std.proofs.Common.{◌≡◌, ℕ, ◌+◌, ◌<◌, Bool, List, [], ◌∷◌, ◌++◌, length, Option, refl, sym, ap, ◌∙◌, subst, arith, append_assoc, append-nil, length-append}
 use Rattle.std.specs.List.{list_all}
 use Rattle.std.proofs.lemmas.Bool.{and_parts, true≢false}
 use Rattle.timefd_items.specs.Tree.{Text}
@@ -10,7 +10,7 @@ use Rattle.timefd_parse.specs.declared.head.Head as code_head
 use Rattle.timefd_parse.specs.declared.name.Name.{Name}
 use Rattle.timefd_parse.specs.declared.fault.Fault as code_fault
 use Rattle.timefd_parse.specs.declared.fault.Kind.TheVariants as kinds
-use Rattle.timefd_parse.specs.Bytes.{colon, left, is_white, is_word_byte, is_key_byte, ZeroOrMore, OneOrMore, StopsBefore}
+use Rattle.timefd_parse.specs.Bytes.{left, is_white, is_word_byte, OneOrMore, StopsBefore}
 use Rattle.timefd_parse.specs.Head.{Modifier, IsModifier, AreModifiers, modifier_text, modifiers_text, Head, IsHead, Placed, placed_at, placed_from}
 use Rattle.timefd_parse.specs.Broken.{Misfit, no_colon, no_key, no_value, misfit_fault, nameless, ill_modified, name_wanted_index, BeginsNoEscape}
 use Rattle.timefd_parse.specs.Cut.{IsCut}

@@ -1,9 +1,9 @@
 -- What was read of a whole text.
-use Rattle.std.proofs.Common.{◌≡◌, ℕ, ◌+◌, ◌≤◌, List, [], ◌∷◌, ◌++◌, length, IsFalse, refl, sym, ap, ◌∙◌, subst, arith, append-nil, length-append}
+use Rattle.std.proofs.Common.{◌≡◌, ℕ, ◌≤◌, List, ◌++◌, length, IsFalse, refl, sym, ap, ◌∙◌, subst, arith, append-nil, length-append}
 use Rattle.std.specs.declared.vec.Vec.{Vec}
 use Rattle.std.specs.declared.alloc.Global.{Global}
 use Rattle.std.proofs.lemmas.Bool.{true≢false}
-use Rattle.timefd_items.specs.Faults.{Fault, fault_of}
+use Rattle.timefd_items.specs.Faults.{Fault}
 use Rattle.timefd_items.specs.Reserved.{reserve}
 use Rattle.timefd_items.specs.Tree.{Text, Tree, pack}
 use Rattle.timefd_items.specs.declared.borrowed_format_item.BorrowedFormatItem.{BorrowedFormatItem}
@@ -20,7 +20,7 @@ use Rattle.timefd_parse.specs.Fault.{raised}
 use Rattle.timefd_parse.specs.Grammar.{Spells, spelling}
 use Rattle.timefd_parse.specs.Broken.{FaultOf, broken_text, broken_fault}
 use Rattle.timefd_parse.specs.Shown.{IsFault, MemoryOr}
-use Rattle.timefd_parse.specs.Read.{IsFaultIn, AreItems, IsEnd}
+use Rattle.timefd_parse.specs.Read.{IsFaultIn, AreItems}
 use Rattle.timefd_parse.specs.Strings.{AreItems as AreTheItems}
 use Rattle.timefd_parse.specs.Answers.{IsOutput, IsAssigned, IsFaultOrMemory, MemoryAlone, Tells}
 use Rattle.timefd_parse.specs.Laws.{HasOneAnswer}
@@ -54,10 +54,6 @@ whole_fault v limit text f h = record {
   assigned = (h.0, h.1, h.2, h.3, h.4, refl);
   is = record { kind = h.5.kind; place = omega (arith, h.5.place, ap length h.4, length-append (spelling h.0) (broken_text h.1)) };
 }
-
-pub remaining_within : (v : DescriptionVersion) (limit : ℕ) (text : Text) (e : ReadError) → MemoryOr (IsFaultIn v limit 0 text) e → MemoryOr (λ f. f.remaining ≤ length text) e
-remaining_within v limit text errors.Memory h = tt
-remaining_within v limit text (errors.Invalid f) h = omega (arith, h.5.place, ap length h.4, length-append (spelling h.0) (broken_text h.1))
 
 pub told_assigned : (v : DescriptionVersion) (limit : ℕ) (text : Text) (e : ReadError) (r : ParseError) → MemoryOr (IsFaultIn v limit 0 text) e → Tells (length text) e r → IsAssigned v limit text r
 told_assigned v limit text e (Memory m) h told = tt

@@ -1,9 +1,8 @@
 -- Pieces, read one at a time.
-use Rattle.std.proofs.Common.{◌≡◌, ℕ, ◌+◌, ◌<◌, ◌≤◌, ◌==◌, Bool, true, false, not, ◌&&◌, ◌||◌, List, [], ◌∷◌, ◌++◌, length, get_or, take, drop, IsTrue, IsFalse, IsUtf8, refl, sym, ap, ◌∙◌, subst, arith, append_assoc, append-nil, length-append, length-drop, drop-cons}
+use Rattle.std.proofs.Common.{◌≡◌, ℕ, ◌+◌, ◌<◌, ◌≤◌, Bool, true, false, List, [], ◌∷◌, ◌++◌, length, get_or, take, drop, IsTrue, IsFalse, IsUtf8, refl, sym, ap, ◌∙◌, subst, arith, append_assoc, append-nil, length-append}
 use Rattle.std.specs.Borrow.{Bor}
 use Rattle.std.specs.List.{list_all}
 use Rattle.std.proofs.lemmas.Bool.{and_parts, true≢false}
-use Rattle.std.proofs.lemmas.Bool.Decides.{nat_tests}
 use Rattle.std.proofs.lemmas.Str.{IsUtf8-drop, IsCharBoundary-after_ascii}
 use Rattle.std.specs.Str.{IsCharBoundary}
 use Rattle.timefd_parse.specs.declared.description_version.DescriptionVersion.{DescriptionVersion}
@@ -20,7 +19,7 @@ use Rattle.timefd_parse.specs.Fault.{expected_escape, expected_closing_escape}
 use Rattle.timefd_parse.specs.Grammar.{Pieces, no_pieces, run, escape, closing, bracket, ArePieces, BeginsNoRun, IsEscape, spelling, items}
 use Rattle.timefd_parse.specs.Broken.{bare_closing, half_escape, broken_fault, escape_index}
 use Rattle.timefd_parse.specs.Cut.{IsCut}
-use Rattle.timefd_parse.specs.Pieces.{piece_tree, IsSound, IsModernPiece, IsFlatPiece}
+use Rattle.timefd_parse.specs.Pieces.{IsSound, IsModernPiece}
 use Rattle.timefd_parse.specs.Shown.{kind_of, IsFault, IsFaultAt, MemoryOr}
 use Rattle.timefd_parse.specs.Read.{Leads, LeadsOn, IsFaultIn, AreItems, IsEnd, BeginsRun}
 
@@ -61,18 +60,6 @@ run_leads v limit n text bytes rest is begins utf8 =
       shorter = omega (arith, ap length is.whole, length-append bytes.now rest, some_length (is_run_byte v) bytes.now some);
       utf8 = utf8;
     }
-
-run_byte_any : (v : DescriptionVersion) (b : ℕ) → IsTrue (is_run_byte Three b) → IsTrue (is_run_byte v b)
-run_byte_any One b is = grind (arith, nat_tests)
-run_byte_any Two b is = is
-run_byte_any Three b is = is
-
--- what begins a run in version 3 does in each
-pub begins_run : (v : DescriptionVersion) (text : Text) → BeginsRun Three text → BeginsRun v text
-begins_run v text begins = (begins.0, begins.1, begins.2, run_byte_any v begins.0 begins.3)
-
-pub backslash_run : (text after : Text) → text ≡ backslash ∷ after → BeginsRun One text
-backslash_run text after e = (backslash, after, e, refl)
 
 -- Versions.
 
@@ -140,10 +127,6 @@ pub sound_modern : (strict : Bool) (piece : Piece) → IsSound strict piece → 
 sound_modern true piece is = is
 sound_modern false piece is = is.0
 
-pub sound_flat : (strict : Bool) (piece : Piece) → IsFalse strict → IsSound strict piece → IsFlatPiece piece
-sound_flat true piece lax is = absurd (true≢false lax)
-sound_flat false piece lax is = is.1
-
 -- cutting behind a first byte that is ASCII
 
 pub behind_first : (text : Text) (b : ℕ) (rest : Text) → text ≡ b ∷ rest → b < 128 → IsUtf8 text → IsCharBoundary text 1
@@ -187,22 +170,13 @@ items_fault v limit n text rest done f before bad =
     let w = before no_pieces rest tt refl in
     (w.0, bad.0, w.1, bad.1, w.2 ∙ ap (λ t. spelling w.0 ++ t) bad.2, subst (λ t. IsFault (length t) f (broken_fault bad.0)) bad.2 bad.3)
 
-pub end_of_text : (n : ℕ) (rest : Text) → rest ≡ [] → IsEnd n rest
-end_of_text n rest e = subst (IsEnd n) (sym e) tt
-
 pub end_outside : (rest : Text) → IsEnd 0 rest → rest ≡ []
 end_outside [] end = refl
 end_outside (b ∷ rest) end = absurd (omega (arith, end.1))
 
-pub end_at_closing : (n : ℕ) (rest more : Text) → rest ≡ right ∷ more → 0 < n → IsEnd n rest
-end_at_closing n rest more e some = subst (IsEnd n) (sym e) (refl, some)
-
 pub memory_or : (P Q : code_fault.Fault → Type 0) → ((f : code_fault.Fault) → P f → Q f) → (e : ReadError) → MemoryOr P e → MemoryOr Q e
 memory_or P Q more (errors.Invalid f) is = more f is
 memory_or P Q more errors.Memory is = tt
-
-pub leads_at : (v : DescriptionVersion) (limit n : ℕ) (text same : Text) (piece : Piece) (rest : Text) → text ≡ same → LeadsOn v limit n same piece rest → LeadsOn v limit n text piece rest
-leads_at v limit n text same piece rest e leads = subst (λ t. LeadsOn v limit n t piece rest) (sym e) leads
 
 pub cut_shorter : (test : ℕ → Bool) (text front rest : Text) → IsCut test text front rest → length rest ≤ length text
 cut_shorter test text front rest is = omega (arith, ap length is.whole, length-append front rest)

@@ -1,11 +1,11 @@
 -- The verdict, rule by rule.
-use Rattle.std.proofs.Common.{◌≡◌, ℕ, ◌+◌, ◌<◌, Bool, true, false, not, if◌then◌else◌, codes, List, [], ◌∷◌, length, map, drop, get_or, Option, Some, None, option_map, Result, Ok, Err, IsTrue, refl, sym, ap, ◌∙◌, subst, arith}
+use Rattle.std.proofs.Common.{◌≡◌, ℕ, ◌+◌, Bool, true, false, not, if◌then◌else◌, codes, List, [], ◌∷◌, length, map, Option, Some, None, option_map, Result, Ok, Err, refl, sym, ap, ◌∙◌, subst, arith}
 use Rattle.std.proofs.lemmas.Bool.{true≢false}
 use Rattle.std.proofs.lemmas.List.{length-map}
 use Rattle.std.specs.Borrow.{Bor}
 use Rattle.timefd_items.specs.declared.component.Component.{Component}
-use Rattle.timefd_items.specs.Faults.{Kind, Fault, fault, invalid_name, missing_modifier, invalid_combination}
-use Rattle.timefd_items.specs.Tree.{Text, Tree, component, optional, first, trees, pack}
+use Rattle.timefd_items.specs.Faults.{Kind, Fault, fault, missing_modifier, invalid_combination}
+use Rattle.timefd_items.specs.Tree.{Tree, component, optional, first, trees, pack}
 use Rattle.timefd_items.specs.Meaning.{inner_tree}
 use Rattle.timefd_parse.specs.declared.fault.Fault as code_fault
 use Rattle.timefd_parse.specs.declared.fault.Kind.TheVariants as kinds
@@ -18,9 +18,8 @@ use Rattle.timefd_parse.specs.declared.name.Name.TheVariants as names
 use Rattle.timefd_parse.specs.declared.places.Places.{Places}
 use Rattle.timefd_parse.specs.declared.combination.Refusal as code_refusal
 use Rattle.timefd_parse.specs.declared.key.Key as code_key
-use Rattle.timefd_parse.specs.declared.setting.Settings.{Settings}
 use Rattle.timefd_parse.specs.Bytes.{equal, same}
-use Rattle.timefd_parse.specs.Fault.{expected_white, expected_nested, expected_alternative, many_nested, optional_item, first_item, nested_here}
+use Rattle.timefd_parse.specs.Fault.{expected_nested, expected_alternative, many_nested, optional_item, first_item}
 use Rattle.timefd_parse.specs.Head.{Head, Placed, placed, name_index}
 use Rattle.timefd_parse.specs.Names.{Row, row_for, row_of}
 use Rattle.timefd_parse.specs.Values.{format}
@@ -28,7 +27,7 @@ use Rattle.timefd_parse.specs.Combinations.{Refusal, refusals}
 use Rattle.timefd_parse.specs.Lookup.{key_for, IsNameOf, refusal_for}
 use Rattle.timefd_parse.specs.Places.{place}
 use Rattle.timefd_parse.specs.Verdict.{Part, ◌or◌, unless, behind, refuse, bad_modifiers, settings, component_verdict, combination, combined, misplaced, made, any_modifier, nested_wanted, too_many, is_formatted, only, optional_verdict, first_verdict, touching, nested_refused, verdict}
-use Rattle.timefd_parse.specs.Shown.{IsFault, kind_of}
+use Rattle.timefd_parse.specs.Shown.{IsFault}
 use Rattle.timefd_parse.specs.Checked.{Checks, ShowsFault, ShowsPlace, first_place}
 use Rattle.timefd_parse.specs.Heads.{ShowsHead}
 use Rattle.timefd_parse.specs.Pieces.{members_trees, no_members, AreMembers}
@@ -53,11 +52,6 @@ some_members (Many items) some are e = absurd (omega (arith, are, ap length (not
 pub parts_none : (m : Members) (parts : List Part) → ShowsMembers m parts → m ≡ Empty → parts ≡ []
 parts_none m parts shows e = nothing_mapped _ parts (sym shows ∙ ap members_trees e)
 
-pub parts_empty : (m : Members) (parts : List Part) → ShowsMembers m parts → no_members m ≡ true → parts ≡ []
-parts_empty Empty parts shows e = parts_none Empty parts shows refl
-parts_empty (One item) parts shows e = absurd (true≢false (sym e))
-parts_empty (Many items) parts shows e = absurd (true≢false (sym e))
-
 pub parts_many : (total : ℕ) (spaced : Bool) (remaining : ℕ) (m : Members) (parts : List Part) → ShowsDescriptions total spaced remaining (members_trees m) parts → AreMembers m
     → no_members m ≡ false → ((item : _) → m ≡ One item → ⊥)
     → (f : Fault) × (too_many parts ≡ Some f) × (f.kind ≡ many_nested) × (f.index + remaining ≡ total)
@@ -68,24 +62,6 @@ parts_many total spaced remaining (Many items) (p ∷ []) shows are some many =
     let one = simp length-map at (ap length shows.2) in
     absurd (omega (arith, one, are))
 parts_many total spaced remaining (Many items) (p ∷ q ∷ ps) shows are some many = (fault many_nested p.index, refl, refl, shows.1)
-
-pub parts_touch : (total : ℕ) (spaced : Bool) (remaining : ℕ) (m : Members) (parts : List Part) → ShowsDescriptions total spaced remaining (members_trees m) parts → AreMembers m
-    → no_members m ≡ false → spaced ≡ false
-    → (f : Fault) × (touching parts ≡ Some f) × (f.kind ≡ expected_white) × (f.index + remaining ≡ total)
-parts_touch total spaced remaining m [] shows are some close = absurd (some_members m some are shows)
-parts_touch total spaced remaining m (p ∷ ps) shows are some close =
-    (fault expected_white p.index, ap (λ b. refuse (not b) expected_white p.index) (shows.0 ∙ close), refl, shows.1)
-
-pub parts_apart : (total : ℕ) (spaced : Bool) (remaining : ℕ) (m : Members) (parts : List Part) → ShowsDescriptions total spaced remaining (members_trees m) parts
-    → (no_members m ≡ false → spaced ≡ true) → touching parts ≡ None
-parts_apart total spaced remaining m [] shows apart = refl
-parts_apart total spaced remaining Empty (p ∷ ps) shows apart = let e = shows.2 in absurd cc
-parts_apart total spaced remaining (One item) (p ∷ ps) shows apart = ap (λ b. refuse (not b) expected_white p.index) (shows.0 ∙ apart refl)
-parts_apart total spaced remaining (Many items) (p ∷ ps) shows apart = ap (λ b. refuse (not b) expected_white p.index) (shows.0 ∙ apart refl)
-
-pub parts_refused : (m : Members) (parts : List Part) → ShowsMembers m parts → AreMembers m → no_members m ≡ false → nested_refused parts ≡ Some (fault nested_here 0)
-parts_refused m [] shows are some = absurd (some_members m some are shows)
-parts_refused m (p ∷ ps) shows are some = refl
 
 -- What modifiers come to.
 
@@ -122,25 +98,11 @@ optional_lax strict place h x parts bad lax one =
     (subst (λ a. unless (a or None or None or refuse (not strict) optional_item 0) (optional (is_formatted strict (placed h)) (only (only_one.0 ∷ []))) ≡ Err (fault optional_item 0)) (sym bad)
     (subst (λ b. unless (None or None or None or refuse (not b) optional_item 0) (optional (is_formatted strict (placed h)) (only (only_one.0 ∷ []))) ≡ Err (fault optional_item 0)) (sym lax) refl))
 
-pub optional_one : (strict : Bool) (place : ℕ) (h : Head) (x : Tree) (parts : List Part) (settings' : Settings) → bad_modifiers strict (format ∷ []) [] (placed h) ≡ None → strict ≡ true
-    → settings' ≡ settings strict (format ∷ []) (placed h)
-    → x ∷ [] ≡ map (λ (q : Part). pack q.trees) parts → optional_verdict strict h parts place ≡ Ok (optional settings'.format x)
-optional_one strict place h x parts settings' bad exact set one =
-    let only_one = one_part x parts one in
-    subst (λ ps. optional_verdict strict h ps place ≡ Ok (optional settings'.format x)) (sym only_one.1)
-    (subst (λ a. unless (a or None or None or refuse (not strict) optional_item 0) (optional (is_formatted strict (placed h)) (only (only_one.0 ∷ []))) ≡ Ok (optional settings'.format x)) (sym bad)
-    (subst (λ b. unless (None or None or None or refuse (not b) optional_item 0) (optional (is_formatted strict (placed h)) (only (only_one.0 ∷ []))) ≡ Ok (optional settings'.format x)) (sym exact)
-    (ap (λ (s : Settings). Ok (optional s.format (pack only_one.0.trees))) (sym set) ∙ ap (λ t. Ok (optional settings'.format t)) (sym only_one.2))))
-
 -- `first`
 
 any_is_bad : (strict : Bool) (ps : List Placed) → any_modifier ps ≡ bad_modifiers strict [] [] ps
 any_is_bad strict [] = refl
 any_is_bad strict (p ∷ ps) = refl
-
-pub first_bad : (strict : Bool) (place : ℕ) (h : Head) (parts : List Part) (g : Fault) → bad_modifiers strict [] [] (placed h) ≡ Some g → first_verdict strict h parts place ≡ Err g
-first_bad strict place h parts g bad =
-    subst (λ a. unless (a or (if strict then nested_wanted expected_alternative parts place else Some (fault first_item 0))) (first (trees (map (λ (p : Part). pack p.trees) parts))) ≡ Err g) (sym (any_is_bad strict (placed h) ∙ bad)) refl
 
 pub first_lax : (strict : Bool) (place : ℕ) (h : Head) (parts : List Part) → bad_modifiers strict [] [] (placed h) ≡ None → strict ≡ false
     → first_verdict strict h parts place ≡ Err (fault first_item 0)
@@ -154,21 +116,6 @@ first_empty strict place h parts bad exact none =
     subst (λ a. unless (a or (if strict then nested_wanted expected_alternative parts place else Some (fault first_item 0))) (first (trees (map (λ (p : Part). pack p.trees) parts))) ≡ Err (fault expected_alternative place)) (sym (any_is_bad strict (placed h) ∙ bad))
     (subst (λ b. unless (None or (if b then nested_wanted expected_alternative parts place else Some (fault first_item 0))) (first (trees (map (λ (p : Part). pack p.trees) parts))) ≡ Err (fault expected_alternative place)) (sym exact)
     (subst (λ ps. unless (nested_wanted expected_alternative ps place) (first (trees (map (λ (p : Part). pack p.trees) ps))) ≡ Err (fault expected_alternative place)) (sym none) refl))
-
-some_wanted : (m : Members) (parts : List Part) (place : ℕ) → ShowsMembers m parts → AreMembers m → (m ≡ Empty → ⊥) → nested_wanted expected_alternative parts place ≡ None
-some_wanted Empty parts place shows are some = absurd (some refl)
-some_wanted (One item) [] place shows are some = absurd (some_members (One item) refl are shows)
-some_wanted (Many items) [] place shows are some = absurd (some_members (Many items) refl are shows)
-some_wanted (One item) (p ∷ ps) place shows are some = refl
-some_wanted (Many items) (p ∷ ps) place shows are some = refl
-
-pub first_found : (strict : Bool) (place : ℕ) (h : Head) (m : Members) (parts : List Part) (list : List Tree) → bad_modifiers strict [] [] (placed h) ≡ None → strict ≡ true
-    → ShowsMembers m parts → AreMembers m → (m ≡ Empty → ⊥) → list ≡ members_trees m → first_verdict strict h parts place ≡ Ok (first (trees list))
-first_found strict place h m parts list bad exact shows are some made =
-    subst (λ a. unless (a or (if strict then nested_wanted expected_alternative parts place else Some (fault first_item 0))) (first (trees (map (λ (p : Part). pack p.trees) parts))) ≡ Ok (first (trees list))) (sym (any_is_bad strict (placed h) ∙ bad))
-    (subst (λ b. unless (None or (if b then nested_wanted expected_alternative parts place else Some (fault first_item 0))) (first (trees (map (λ (p : Part). pack p.trees) parts))) ≡ Ok (first (trees list))) (sym exact)
-    (subst (λ a. unless a (first (trees (map (λ (p : Part). pack p.trees) parts))) ≡ Ok (first (trees list))) (sym (some_wanted m parts place shows are some))
-    (ap (λ ts. Ok (first (trees ts))) (sym (made ∙ shows)))))
 
 -- Components.
 
@@ -303,35 +250,6 @@ verdict_by_name strict total place head h parts o name shows is none same_name =
     by_rules strict total place head h parts shows
     ∙ ap (λ x. behind x (by_name strict h parts place head.name)) (none_shown total o _ is none)
     ∙ ap (by_name strict h parts place) same_name
-
--- where nested descriptions may stand
-
-pub placed_none : (total : ℕ) (name : Option Name) (m : Members) (parts : List Part) → ShowsMembers m parts → no_members m ≡ true → ShowsFault total None (placing name parts)
-placed_none total name m parts shows none = subst (λ ps. ShowsFault total None (placing name ps)) (sym (parts_empty m parts shows none)) (by name)
-  where
-    by : (o : Option Name) → ShowsFault total None (placing o [])
-    by (Some names.Optional) = tt
-    by (Some names.First) = tt
-    by (Some (names.Component n)) = tt
-    by None = tt
-
-pub placed_close : (total : ℕ) (spaced : Bool) (remaining : ℕ) (name : Option Name) (m : Members) (parts : List Part) (f : code_fault.Fault) → ShowsDescriptions total spaced remaining (members_trees m) parts → AreMembers m
-    → no_members m ≡ false → spaced ≡ false → kind_of f.kind ≡ expected_white → f.remaining ≡ remaining → ShowsFault total (Some f) (placing name parts)
-placed_close total spaced remaining name m parts f shows are some close kind at =
-    let t = parts_touch total spaced remaining m parts shows are some close in
-    subst (λ x. ShowsFault total (Some f) (x or refused_in name parts)) (sym t.1) (record { kind = t.2 ∙ sym kind; place = omega (arith, t.3, at) })
-
-pub placed_well : (total : ℕ) (spaced : Bool) (remaining : ℕ) (name : Option Name) (m : Members) (parts : List Part) → ShowsDescriptions total spaced remaining (members_trees m) parts → spaced ≡ true
-    → refused_in name parts ≡ None → ShowsFault total None (placing name parts)
-placed_well total spaced remaining name m parts shows apart free =
-    subst (λ x. ShowsFault total None (x or refused_in name parts)) (sym (parts_apart total spaced remaining m parts shows (λ some. apart)))
-    (subst (ShowsFault total None) (sym free) tt)
-
-pub placed_ill : (total : ℕ) (spaced : Bool) (remaining : ℕ) (name : Option Name) (m : Members) (parts : List Part) (f : code_fault.Fault) → ShowsDescriptions total spaced remaining (members_trees m) parts → AreMembers m
-    → no_members m ≡ false → spaced ≡ true → refused_in name parts ≡ nested_refused parts → kind_of f.kind ≡ nested_here → f.remaining ≡ total → ShowsFault total (Some f) (placing name parts)
-placed_ill total spaced remaining name m parts f shows are some apart refuses kind at =
-    subst (λ x. ShowsFault total (Some f) (x or refused_in name parts)) (sym (parts_apart total spaced remaining m parts shows (λ some. apart)))
-    (subst (ShowsFault total (Some f)) (sym (refuses ∙ parts_refused m parts (members_shown total spaced remaining m parts shows) are some)) (record { kind = sym kind; place = omega (arith, at) }))
 
 -- what a slice of refusals is read as past its end
 abbrev pub no_refusal : code_refusal.Refusal

@@ -7,6 +7,7 @@ ghost use Rattle.timefd_parse.specs.declared.description_version.DescriptionVers
 ghost use Rattle.timefd_parse.specs.Broken.{BeginsNoEscape};
 ghost use Rattle.timefd_parse.specs.Bytes.{is_version_three};
 ghost use Rattle.timefd_parse.specs.Read.{BeginsRun, BeginsClosing, LeadsOn, ReadsEscape, ReadsPiece, ReadsNext, ReadsMembers, ReadsItems, IsEnclosed};
+ghost use Rattle.timefd_parse.specs.Fault.{too_highly_nested};
 ghost use Rattle.timefd_parse.specs.Shown.{IsFault, MemoryOr};
 ghost use Rattle.timefd_items.specs.Faults.{fault, unclosed_bracket};
 
@@ -105,6 +106,15 @@ fn unclosed<'a>(start: usize) -> ReadError<'a>
     })
 }
 
+fn too_deep<'a>(remaining: usize) -> ReadError<'a>
+    ensures { MemoryOr (λ f. IsFault remaining f (fault too_highly_nested 0)) result }
+{
+    ReadError::Invalid(Fault {
+        kind: Kind::NotSupported("highly-nested format description", ""),
+        remaining,
+    })
+}
+
 /// The next piece of a list of items, or none at the list's end.
 #[cycle(read)]
 fn next_piece<'a>(
@@ -179,11 +189,7 @@ fn bracket<'a>(
         match start_of(rest) {
             Start::Opening(text) => {
                 if around == limit {
-                    let kind = Kind::NotSupported("highly-nested format description", "");
-                    return Err(ReadError::Invalid(Fault {
-                        kind,
-                        remaining: rest.len(),
-                    }));
+                    return Err(too_deep(rest.len()));
                 }
                 let (inner, end) = match members(alloc, version, text, limit, around + 1) {
                     Ok(read) => read,

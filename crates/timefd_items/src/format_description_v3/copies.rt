@@ -3,7 +3,7 @@
 ghost use Rattle.std.specs.Prelude.{◌≡◌, IfOk, IfSome, map};
 ghost use Rattle.timefd_items.specs.Meaning.{inner_tree};
 ghost use Rattle.timefd_items.specs.Modern.{modern};
-ghost use Rattle.timefd_items.specs.Tree.{component_in};
+ghost use Rattle.timefd_items.specs.Tree.{component_in, optional};
 
 use super::inner::FormatDescriptionV3Inner;
 use crate::component::Component;
@@ -39,11 +39,11 @@ impl<'a> FormatDescriptionV3Inner<'a> {
                 Ok(FormatDescriptionV3Inner::OwnedCompound(Self::clone_all(items, alloc)?))
             }
             FormatDescriptionV3Inner::OwnedOptional { format, item } => {
-                let item = FormatDescriptionV3Inner::clone(item, alloc)?;
-                Ok(FormatDescriptionV3Inner::OwnedOptional {
-                    format: *format,
-                    item: Box::new(alloc, item)?,
-                })
+                owned_optional(
+                    alloc,
+                    *format,
+                    FormatDescriptionV3Inner::clone(item, alloc)?,
+                )
             }
             FormatDescriptionV3Inner::OwnedFirst(items) => {
                 Ok(FormatDescriptionV3Inner::OwnedFirst(Self::clone_all(items, alloc)?))
@@ -89,18 +89,10 @@ impl<'a> FormatDescriptionV3Inner<'a> {
                 Ok(FormatDescriptionV3Inner::OwnedCompound(Self::all_owned(items, alloc)?))
             }
             &FormatDescriptionV3Inner::BorrowedOptional { format, item } => {
-                let item = item.owned(alloc)?;
-                Ok(FormatDescriptionV3Inner::OwnedOptional {
-                    format,
-                    item: Box::new(alloc, item)?,
-                })
+                owned_optional(alloc, format, item.owned(alloc)?)
             }
             FormatDescriptionV3Inner::OwnedOptional { format, item } => {
-                let item = item.owned(alloc)?;
-                Ok(FormatDescriptionV3Inner::OwnedOptional {
-                    format: *format,
-                    item: Box::new(alloc, item)?,
-                })
+                owned_optional(alloc, *format, item.owned(alloc)?)
             }
             &FormatDescriptionV3Inner::BorrowedFirst(items) => {
                 Ok(FormatDescriptionV3Inner::OwnedFirst(Self::all_owned(items, alloc)?))
@@ -219,4 +211,17 @@ impl<'a> FormatDescriptionV3Inner<'a> {
             _ => None,
         }
     }
+}
+
+fn owned_optional(
+    alloc: Global,
+    format: bool,
+    item: FormatDescriptionV3Inner<'_>,
+) -> Result<FormatDescriptionV3Inner<'_>, AllocError>
+    ensures { IfOk result (λ made. inner_tree made ≡ optional format (inner_tree item.entry)) }
+{
+    Ok(FormatDescriptionV3Inner::OwnedOptional {
+        format,
+        item: Box::new(alloc, item)?,
+    })
 }

@@ -1,4 +1,4 @@
-use Rattle.std.proofs.Common.{◌∙◌, ◌≤◌, length, ap, sym, arith}
+use Rattle.std.proofs.Common.{◌∙◌, ◌≤◌, length, ap, arith}
 use Rattle.timefd_items.specs.Meaning.{inner_tree}
 use Rattle.timefd_items.specs.Reserved.{reserve}
 use Rattle.timefd_items.specs.Tree.{pack}

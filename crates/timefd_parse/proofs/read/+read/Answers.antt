@@ -1,4 +1,4 @@
-use Rattle.std.proofs.Common.{ℕ, List, ◌≡◌, ◌+◌, ◌<◌, not, length, refl, sym, ap, subst, arith, lit<, [], ◌∷◌, ◌++◌, Ok}
+use Rattle.std.proofs.Common.{ℕ, List, ◌≡◌, ◌+◌, ◌<◌, not, length, sym, ap, subst, arith, lit<, [], ◌∷◌, ◌++◌, Ok}
 use Rattle.std.proofs.lemmas.Result.{err_from_is_err_and}
 use Rattle.timefd_parse.specs.Bytes.{left}
 use Rattle.timefd_parse.specs.Head.{Head}
@@ -6,7 +6,7 @@ use Rattle.timefd_parse.specs.Verdict.{Part, verdict}
 use Rattle.timefd_parse.specs.Heads.{ShowsHead, BeginsWithHead}
 use Rattle.timefd_parse.specs.Judged.{ShowsDescriptions, JudgedFault}
 use Rattle.timefd_parse.specs.Pieces.{piece_tree, members_trees, IsSound}
-use Rattle.timefd_parse.specs.Shown.{MemoryOr}
+use Rattle.timefd_parse.specs.Shown.{IsFaultAt, MemoryOr}
 use Rattle.timefd_parse.specs.Read.{IsFaultIn, IsNext}
 use Rattle.timefd_parse.proofs.ReadLemmas.{Continues, continues_more, items_end, items_fault, memory_or, sound_modern, closing_outside, fault_outside, doubled_leads, utf8_after, cut_shorter, items_shorter}
 use Rattle.timefd_parse.proofs.NestedLemmas.{BracketBefore, bracket_begins, behind_within, no_bracket, no_closing, accepted, refuses, never_closed, at_limit, inner_fails, inner_cut_off, one_more}
@@ -20,7 +20,8 @@ bracket-nested-init t c =
 
 pub bracket-returns-then-around-limit : goal.bracket-returns-then-around-limit
 bracket-returns-then-around-limit t c =
-    at_limit _ _ _ _ _ _ _ _ _ c.nested.invariant.2 _ _ c.in-Opening.ensures c.if-around-limit.true (record { kind = refl; place = omega arith })
+    memory_or _ (IsFaultAt c.args.version c.args.limit c.args.around (left ∷ c.args.inside.now))
+    (λ f is. at_limit _ _ _ _ _ _ _ _ _ c.nested.invariant.2 f _ c.in-Opening.ensures c.if-around-limit.true is) _ c.too_deep.ensures
 
 pub bracket-returns-in-Err : goal.bracket-returns-in-Err
 bracket-returns-in-Err t c =
