@@ -12,6 +12,8 @@ pub enum Kind {
     Two,
     /// Version 3 of the format descriptions.
     Three,
+    /// The conversion specifications of C's `strftime`.
+    Strftime,
 }
 
 /// The most nested descriptions around one another, where no argument says otherwise.
@@ -26,6 +28,7 @@ impl Kind {
             "1" => Some(Kind::One),
             "2" => Some(Kind::Two),
             "3" => Some(Kind::Three),
+            "strftime" => Some(Kind::Strftime),
             _ => None,
         }
     }

@@ -2,6 +2,7 @@
 
 ghost use Rattle.std.specs.Prelude.{◌≡◌, IfOk, string_bytes};
 ghost use Rattle.timefd_items.specs.Faults.{fault_of};
+ghost use Rattle.timefd.specs.declared.kind.Kind.{Kind};
 ghost use Rattle.timefd.specs.Replies.{IsReply, line_of, end_of};
 ghost use Rattle.timefd.specs.Line as spec;
 
@@ -9,7 +10,10 @@ use crate::end::RunEnd;
 use crate::kind::Kind;
 use std::alloc::{AllocError, Global};
 use timefd_items::InvalidFormatDescription;
-use timefd_parse::{BorrowedOutput, DescriptionVersion, ParseError, parse_borrowed};
+use timefd_parse::{
+    BorrowedOutput, DescriptionVersion, ParseError, StrftimeTables, parse_borrowed,
+    parse_strftime_borrowed,
+};
 
 /// The line that is said of a text.
 #[derive(Debug, Drop)]
@@ -67,6 +71,7 @@ pub fn reply_to(alloc: Global, kind: Kind, text: &str) -> Result<Reply, AllocErr
         Kind::One => DescriptionVersion::One,
         Kind::Two => DescriptionVersion::Two,
         Kind::Three => DescriptionVersion::Three,
+        Kind::Strftime => return strftime_reply_to(alloc, text),
     };
     match parse_borrowed(alloc, version, text) {
         Ok(BorrowedOutput::Items(items)) => Ok(Reply::Accepted(items_line(alloc, items.len())?)),
@@ -74,6 +79,18 @@ pub fn reply_to(alloc: Global, kind: Kind, text: &str) -> Result<Reply, AllocErr
             let reserved = description.max_bytes_needed();
             Ok(Reply::Accepted(bytes_line(alloc, reserved)?))
         }
+        Err(ParseError::Invalid(fault)) => Ok(Reply::Refused(fault_line(alloc, &fault)?)),
+        Err(ParseError::Memory(error)) => Err(error),
+    }
+}
+
+// The line of the text as one of strftime.
+fn strftime_reply_to(alloc: Global, text: &str) -> Result<Reply, AllocError>
+    ensures { IfOk result (IsReply Kind.Strftime 127 text.now) }
+{
+    let tables = StrftimeTables::new();
+    match parse_strftime_borrowed(alloc, &tables, text) {
+        Ok(items) => Ok(Reply::Accepted(items_line(alloc, items.len())?)),
         Err(ParseError::Invalid(fault)) => Ok(Reply::Refused(fault_line(alloc, &fault)?)),
         Err(ParseError::Memory(error)) => Err(error),
     }

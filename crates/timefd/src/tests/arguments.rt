@@ -6,16 +6,19 @@ use std::test::Fail;
 
 #[test]
 fn words(rt: HostRuntime) -> Result<(), Fail> {
-    let cases: [(&[&str], Option<(Kind, u8)>); 11] = [
+    let cases: [(&[&str], Option<(Kind, u8)>); 14] = [
         (&["1"], Some((Kind::One, 127))),
         (&["2"], Some((Kind::Two, 127))),
         (&["3"], Some((Kind::Three, 127))),
+        (&["strftime"], Some((Kind::Strftime, 127))),
         (&[], None),
         (&[""], None),
         (&["4"], None),
         (&["01"], None),
         (&["1 "], None),
         (&["three"], None),
+        (&["Strftime"], None),
+        (&["strftime "], None),
         (&["1", ""], None),
         (&["3", "3", "3"], None),
     ];

@@ -13,7 +13,7 @@ pub struct Row {
     pub end: RunEnd,
 }
 
-pub const ROWS: [Row; 4] = [
+pub const ROWS: [Row; 5] = [
     Row {
         kind: Kind::Three,
         text: "due [day]",
@@ -38,9 +38,15 @@ pub const ROWS: [Row; 4] = [
         line: "ok items 0\n",
         end: RunEnd::Accepted,
     },
+    Row {
+        kind: Kind::Strftime,
+        text: "%F\n",
+        line: "ok items 2\n",
+        end: RunEnd::Accepted,
+    },
 ];
 
-pub const KINDS: [Kind; 3] = [Kind::One, Kind::Two, Kind::Three];
+pub const KINDS: [Kind; 4] = [Kind::One, Kind::Two, Kind::Three, Kind::Strftime];
 
 #[test]
 fn lines(rt: HostRuntime) -> Result<(), Fail> {
