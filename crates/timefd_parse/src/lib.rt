@@ -1,4 +1,5 @@
-//! Reads format descriptions.
+//! Reads format descriptions: the texts of versions 1, 2 and 3, and of strftime. What a text
+//! spells, and which fault another has, is defined in `specs/`; `laws` has what holds of that.
 #![tactic(auto)]
 
 mod combination;

@@ -65,6 +65,7 @@ impl<'a> Members<'a> {
         }
     }
 
+    /// The same as a list.
     pub fn into_items(self, alloc: Global) -> Result<Vec<FormatDescriptionV3Inner<'a>>, AllocError>
         ensures { IfOk result (λ v. map inner_tree v.items ≡ members_trees self.entry) }
     {

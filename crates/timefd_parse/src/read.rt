@@ -97,6 +97,7 @@ fn enclosed<'a>(error: ReadError<'a>, start: usize) -> ReadError<'a>
     }
 }
 
+/// The fault of a bracket that is never closed.
 fn unclosed<'a>(start: usize) -> ReadError<'a>
     ensures { MemoryOr (λ f. IsFault start f (fault unclosed_bracket 0)) result }
 {
@@ -106,6 +107,7 @@ fn unclosed<'a>(start: usize) -> ReadError<'a>
     })
 }
 
+/// The fault of an opening bracket inside as many nested descriptions as there may be.
 fn too_deep<'a>(remaining: usize) -> ReadError<'a>
     ensures { MemoryOr (λ f. IsFault remaining f (fault too_highly_nested 0)) result }
 {

@@ -106,6 +106,7 @@ fn tail(text: &str) -> &str
     &text[1..]
 }
 
+/// What a text begins with.
 #[inline(always)]
 pub fn start_of(text: &str) -> Start<'_>
     ensures { BeginsWith result text.now }

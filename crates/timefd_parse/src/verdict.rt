@@ -41,6 +41,7 @@ pub struct Span {
     pub end: usize,
 }
 
+/// The optional description of a bracket named `optional`.
 fn optional<'a>(
     strict: bool,
     modifiers: &Modifiers<'a>,
@@ -87,6 +88,7 @@ fn optional<'a>(
     Ok(Piece::Optional { format, item })
 }
 
+/// The alternatives of a bracket named `first`.
 fn first<'a>(
     alloc: Global,
     strict: bool,
@@ -134,6 +136,7 @@ fn refused(strict: bool, component: Component, places: &Places) -> Option<Fault<
     None
 }
 
+/// The component of a bracket named for one.
 fn component<'a>(strict: bool, head: &Head<'a>, name: ComponentName) -> Result<Component, Fault<'a>>
     ensures tree { (total : ℕ) (h : spec.Head) → ShowsHead strict total head.now h → head.now.name ≡ Some (spec_name.Name.Component name) → JudgedComponent total result (rules.component_verdict strict h (Some (row_for name))) }
     ensures modern { IfOk result (λ c. modern c ≡ c) }
