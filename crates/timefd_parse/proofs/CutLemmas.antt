@@ -8,7 +8,7 @@ use Rattle.std.specs.List.{prefix_len}
 use Rattle.std.specs.Str.{IsCharBoundary}
 use Rattle.timefd_parse.specs.declared.description_version.DescriptionVersion.TheVariants.{One, Three}
 use Rattle.timefd_parse.specs.declared.text.Class.{Class}
-use Rattle.timefd_parse.specs.declared.text.Class.TheVariants.{White, Word, Key, Run, RunOfOne}
+use Rattle.timefd_parse.specs.declared.text.Class.TheVariants.{White, Word, Key, Run, RunWithBackslash}
 use Rattle.timefd_items.specs.Tree.{Text}
 use Rattle.timefd_parse.specs.Bytes.{is_white, is_special, is_word_byte, is_key_byte, is_run_byte, ZeroOrMore, StopsBefore}
 use Rattle.timefd_parse.specs.Cut.{class_test, IsCut}
@@ -35,7 +35,7 @@ boundary White bs utf8 = ascii_run is_white bs utf8 (λ c e. grind (arith, nat_t
 boundary Word bs utf8 = wide_run is_word_byte bs (λ c e. grind (arith, nat_tests))
 boundary Key bs utf8 = wide_run is_key_byte bs (λ c e. grind (arith, nat_tests))
 boundary Run bs utf8 = wide_run (is_run_byte Three) bs (λ c e. grind (arith, nat_tests))
-boundary RunOfOne bs utf8 = wide_run (is_run_byte One) bs (λ c e. grind (arith, nat_tests))
+boundary RunWithBackslash bs utf8 = wide_run (is_run_byte One) bs (λ c e. grind (arith, nat_tests))
 
 front_passes : (p : ℕ → Bool) (bs : Text) → ZeroOrMore p (take (prefix_len p bs) bs)
 front_passes p [] = refl

@@ -162,7 +162,7 @@ pub fn members<'a>(
         let Some((piece, after)) = next_piece(alloc, version, rest, limit, around)? else {
             return Ok((members, rest));
         };
-        members = members.with(alloc, piece.described(alloc)?)?;
+        members = members.with(alloc, piece.into_description(alloc)?)?;
         rest = after;
     }
 }
@@ -237,7 +237,7 @@ pub fn items<'a>(
         let Some((piece, after)) = next_piece(alloc, version, rest, limit, 0)? else {
             return Ok(items);
         };
-        items.push(piece.lent())?;
+        items.push(piece.into_item())?;
         rest = after;
     }
 }

@@ -21,7 +21,7 @@ pub enum Class {
     /// Bytes of a literal in versions 2 and 3.
     Run,
     /// Bytes of a literal in version 1, where a backslash stands for itself.
-    RunOfOne,
+    RunWithBackslash,
 }
 
 /// What a text begins with, and what follows it.
@@ -57,7 +57,7 @@ fn is_in(class: Class, byte: u8) -> bool
         Class::Word => !is_special(byte) && !is_white(byte),
         Class::Key => byte != b':' && !is_special(byte) && !is_white(byte),
         Class::Run => !is_special(byte),
-        Class::RunOfOne => !is_special(byte) || byte == b'\\',
+        Class::RunWithBackslash => !is_special(byte) || byte == b'\\',
     }
 }
 
@@ -91,7 +91,7 @@ pub fn cut_run(version: DescriptionVersion, text: &str) -> (&str, &str)
     ensures utf8 { IsUtf8 result.1.now }
 {
     match version {
-        DescriptionVersion::One => cut(text, Class::RunOfOne),
+        DescriptionVersion::One => cut(text, Class::RunWithBackslash),
         DescriptionVersion::Two | DescriptionVersion::Three => cut(text, Class::Run),
     }
 }

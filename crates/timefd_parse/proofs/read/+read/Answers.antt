@@ -83,8 +83,8 @@ members-returns-in_default t c =
     let end = subst (IsNext c.args.version c.args.limit c.args.around c.pieces.rest.now) c.in_default.is c.in_ok-piece.ensures.next in
     record { members = (items_end _ _ _ _ _ _ c.pieces.invariant.2 end, c.pieces.invariant.3); some = tt }
 
-pub members-described-requires : goal.members-described-requires
-members-described-requires t c =
+pub members-into_description-requires : goal.members-into_description-requires
+members-into_description-requires t c =
     let next = subst (IsNext c.args.version c.args.limit c.args.around c.pieces.rest.now) c.in-Some.is c.in_ok-piece.ensures.next in
     sound_modern _ _ next.sound
 
@@ -94,7 +94,7 @@ members-pieces-preserved t c =
       next.utf8,
       omega (arith, next.shorter, c.pieces.invariant.1),
       subst (λ done. Continues c.args.version c.args.limit c.args.around c.args.text.now done c.in-Some.after.now) (sym c.in_ok-members.ensures.trees)
-          (subst (λ tree. Continues c.args.version c.args.limit c.args.around c.args.text.now (members_trees c.pieces.members ++ tree ∷ []) c.in-Some.after.now) (sym c.in_ok-described.ensures)
+          (subst (λ tree. Continues c.args.version c.args.limit c.args.around c.args.text.now (members_trees c.pieces.members ++ tree ∷ []) c.in-Some.after.now) (sym c.in_ok-into_description.ensures)
           (continues_more _ _ _ _ _ _ _ _ c.pieces.invariant.2 next.leads)),
       c.in_ok-members.ensures.count,
     )

@@ -35,8 +35,8 @@ pieces-preserved c =
       within = omega (arith, next.shorter, c.pieces.invariant.within);
       before =
           subst (λ items. Continues c.args.version c.args.limit 0 c.args.text.now (map item_tree items) c.in-Some.after.now) (sym c.in_ok-push.ensures.items)
-          (subst (λ done. Continues c.args.version c.args.limit 0 c.args.text.now done c.in-Some.after.now) (sym (map-append item_tree c.pieces.items.items (c.lent.result ∷ [])))
-          (subst (λ tree. Continues c.args.version c.args.limit 0 c.args.text.now (map item_tree c.pieces.items.items ++ tree ∷ []) c.in-Some.after.now) (sym c.lent.ensures.tree)
+          (subst (λ done. Continues c.args.version c.args.limit 0 c.args.text.now done c.in-Some.after.now) (sym (map-append item_tree c.pieces.items.items (c.into_item.result ∷ [])))
+          (subst (λ tree. Continues c.args.version c.args.limit 0 c.args.text.now (map item_tree c.pieces.items.items ++ tree ∷ []) c.in-Some.after.now) (sym c.into_item.ensures.tree)
           (continues_more _ _ _ _ _ _ _ _ c.pieces.invariant.before next.leads)));
-      strings = subst (λ items. IsTrue (are_of_strings items)) (sym c.in_ok-push.ensures.items) (more_strings _ _ c.pieces.invariant.strings c.lent.ensures.string);
+      strings = subst (λ items. IsTrue (are_of_strings items)) (sym c.in_ok-push.ensures.items) (more_strings _ _ c.pieces.invariant.strings c.into_item.ensures.string);
     }
