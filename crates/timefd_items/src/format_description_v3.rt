@@ -4,11 +4,11 @@ ghost use Rattle.std.specs.Prelude.{◌≡◌};
 ghost use Rattle.timefd_items.specs.Meaning.{inner_tree};
 ghost use Rattle.timefd_items.specs.Reserved.{reserve};
 
-pub mod copies;
-pub mod debug;
+mod copies;
+mod debug;
 pub mod inner;
 pub mod opaque;
-pub mod reserved;
+mod reserved;
 
 use inner::FormatDescriptionV3Inner;
 use std::alloc::{AllocError, Global};

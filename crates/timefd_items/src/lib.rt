@@ -19,3 +19,4 @@ pub use format_description_v3::FormatDescriptionV3;
 pub use format_description_v3::inner::FormatDescriptionV3Inner;
 pub use format_description_v3::opaque::{NotOpaque, OpaqueCause};
 pub use invalid_format_description::InvalidFormatDescription;
+pub use timefd_modifier as modifier;
