@@ -13,6 +13,7 @@ use Rattle.timefd.specs.declared.kind.Kind.{Kind}
 use Rattle.timefd.specs.declared.kind.Kind.TheVariants.{One, Two, Three, Strftime}
 
 -- The text spells the list in the language of this kind, with at most so many nested descriptions around one another.
+-- Strftime nests none.
 abbrev pub SpellsIn : Kind → ℕ → Text → List Tree → Type 0
 SpellsIn One limit text list = Spells DescriptionVersion.One limit 0 text list
 SpellsIn Two limit text list = Spells DescriptionVersion.Two limit 0 text list

@@ -1,5 +1,5 @@
-//! Reads a format description from the standard input, and says on the standard output what it
-//! holds, or why it is none.
+//! `timefd KIND`, with `1`, `2`, `3` or `strftime` as the kind: reads a format description of that
+//! kind from the standard input, and says on the standard output what it holds, or why it is none.
 #![tactic(auto)]
 
 mod end;

@@ -63,7 +63,8 @@ fn fault_line(alloc: Global, fault: &InvalidFormatDescription) -> Result<String,
     format!(in alloc; "{fault}\n")
 }
 
-/// The line of the text as a description of this kind. An `Err` says nothing of the text.
+/// The line of the text as a description of this kind. An `Err` says that memory ran out, and
+/// nothing of the text.
 pub fn reply_to(alloc: Global, kind: Kind, text: &str) -> Result<Reply, AllocError>
     ensures { IfOk result (IsReply kind 127 text.now) }
 {

@@ -41,7 +41,7 @@ impl From<AllocError> for ReadError {
     }
 }
 
-/// All bytes that the source has left.
+/// All bytes that the source has left. It fails where a read does, or memory runs out.
 pub fn read_all<R: Source>(alloc: Global, source: &mut R) -> Result<Vec<u8>, ReadError>
     ensures bytes { IfOk result (λ all. ReadsAll (R.remaining source.old) (R.remaining source.new) all.items) }
     ensures works { OnOk result (IsFalse (R.has_failed source.new)) }
@@ -58,7 +58,7 @@ pub fn read_all<R: Source>(alloc: Global, source: &mut R) -> Result<Vec<u8>, Rea
     }
 }
 
-/// Writes all of the text, and flushes the sink.
+/// Writes all of the text, and flushes the sink. It fails where a write or the flush does.
 pub fn write_all<W: Sink>(sink: &mut W, text: &[u8]) -> Result<(), Failed>
     ensures bytes { OnOk result (Appends (W.contents sink.old) (W.contents sink.new) text.now) }
     ensures flushed { OnOk result (IsTrue (W.is_flushed sink.new)) }
