@@ -1,5 +1,5 @@
 -- `==` of faults.
-use Rattle.std.proofs.Common.{Bool, true, false, ◌≡◌, ◌&&◌, ◌∙◌, refl, ap, eqb-true, eq-eqb, nat_eq, ℕ, subst, string_bytes, sym}
+use Rattle.std.proofs.Common.{true, ◌≡◌, ◌&&◌, ◌∙◌, ap, eqb-true, eq-eqb, nat_eq, ℕ, subst, string_bytes}
 use Rattle.std.specs.Cmp.Lexicographic.{pointwise}
 use Rattle.std.proofs.lemmas.Bool.{and_parts, and_from, false≢true}
 use Rattle.timefd_items.specs.declared.invalid_format_description.InvalidFormatDescription.{InvalidFormatDescription}
