@@ -1,0 +1,39 @@
+-- How a verdict stands to bytes.
+use Rattle.std.specs.Prelude.{ℕ, ◌≡◌, Option, None, List, IsSome, IsUtf8, ⊤}
+use Rattle.timefd_items.specs.Tree.{Text, Tree}
+use Rattle.timefd_items.specs.Faults.{Fault, fault_of}
+use Rattle.timefd_c.specs.declared.kind.Kind.{Kind}
+use Rattle.timefd_c.specs.declared.verdict.Verdict.{Verdict}
+use Rattle.timefd_c.specs.declared.verdict.Verdict.TheVariants.{Accepted, Refused, NotUtf8, NoMemory, UnknownKind}
+use Rattle.timefd_c.specs.Languages.{SpellsIn, FaultIn, amount}
+
+-- What the verdict says of the text in the language is so. Want of memory says nothing.
+abbrev pub Says : Option Kind → Text → Verdict → Type 0
+Says kind bytes (Accepted value) = IsUtf8 bytes × ((list : List Tree) × SpellsIn kind bytes list × (value ≡ amount kind list))
+Says kind bytes (Refused f) = IsUtf8 bytes × FaultIn kind bytes (fault_of f)
+Says kind bytes NotUtf8 = IsSome kind × ¬ (IsUtf8 bytes)
+Says kind bytes NoMemory = ⊤
+Says kind bytes UnknownKind = kind ≡ None
+
+-- accepted with so many, or want of memory
+abbrev pub Accepts : ℕ → Verdict → Type 0
+Accepts count (Accepted value) = value ≡ count
+Accepts count NoMemory = ⊤
+Accepts count (Refused f) = ⊥
+Accepts count NotUtf8 = ⊥
+Accepts count UnknownKind = ⊥
+
+-- refused for this fault, or want of memory
+abbrev pub Refuses : Fault → Verdict → Type 0
+Refuses f (Refused g) = fault_of g ≡ f
+Refuses f NoMemory = ⊤
+Refuses f (Accepted value) = ⊥
+Refuses f NotUtf8 = ⊥
+Refuses f UnknownKind = ⊥
+
+abbrev pub IsAccepted : Verdict → Type 0
+IsAccepted (Accepted value) = ⊤
+IsAccepted (Refused f) = ⊥
+IsAccepted NotUtf8 = ⊥
+IsAccepted NoMemory = ⊥
+IsAccepted UnknownKind = ⊥

@@ -1,0 +1,48 @@
+//! What is answered to C.
+
+ghost use Rattle.std.specs.Prelude.{◌≡◌};
+
+/// The status of a text that is a description. The value counts its items, or in version 3 the
+/// bytes that it reserves.
+pub const ACCEPTED: u32 = 0;
+
+/// The status of a text that is no description. The value is the index of its fault, in bytes from
+/// the text's start.
+pub const REFUSED: u32 = 1;
+
+/// The status of bytes that are no UTF-8. The value is 0.
+pub const NOT_UTF8: u32 = 2;
+
+/// The status where memory ran out, which says nothing of the text. The value is 0.
+pub const NO_MEMORY: u32 = 3;
+
+/// The status where the number is that of no language. The value is 0.
+pub const UNKNOWN_KIND: u32 = 4;
+
+/// What is said of a text.
+#[repr(C)]
+#[derive(Debug, Clone, Copy, PartialEq, Eq)]
+pub struct Answer {
+    /// One of the five statuses.
+    pub status: u32,
+    /// What the status counts: items, reserved bytes, or the bytes before the fault.
+    pub value: usize,
+    /// How many bytes the whole sentence of the fault has, where one was to be written, or else 0.
+    pub sentence_len: usize,
+    /// How many bytes of the sentence were written.
+    pub written: usize,
+}
+
+impl Answer {
+    /// The answer with this status and value, and with no sentence.
+    pub(crate) fn plain(status: u32, value: usize) -> Answer
+        ensures { result ≡ record { status = status; value = value; sentence_len = 0; written = 0 } }
+    {
+        Answer {
+            status,
+            value,
+            sentence_len: 0,
+            written: 0,
+        }
+    }
+}

@@ -1,0 +1,14 @@
+//! The readers for C, and for Rust outside of this workspace: two functions that say of the bytes
+//! of a text what they are in a language, which a number names. `examples/timefd.h` declares them.
+#![tactic(auto)]
+
+mod answer;
+mod exports;
+mod kind;
+mod sentence;
+#[cfg(test)]
+mod tests;
+mod verdict;
+
+pub use answer::{ACCEPTED, Answer, NO_MEMORY, NOT_UTF8, REFUSED, UNKNOWN_KIND};
+pub use exports::{timefd_check, timefd_judge};

@@ -1,0 +1,4 @@
+//! What the exports answer to texts whose answers are known.
+
+mod answers;
+mod buffers;

@@ -1,0 +1,130 @@
+//! Prints what a few texts are. `../run.sh` builds and runs it.
+
+mod timefd {
+    //! The static library, in safe words. `../timefd.h` says what each number means.
+
+    pub const VERSION_1: u32 = 1;
+    pub const VERSION_2: u32 = 2;
+    pub const VERSION_3: u32 = 3;
+    pub const STRFTIME: u32 = 4;
+
+    pub const ACCEPTED: u32 = 0;
+    pub const REFUSED: u32 = 1;
+    pub const NOT_UTF8: u32 = 2;
+    pub const NO_MEMORY: u32 = 3;
+
+    #[repr(C)]
+    pub struct Answer {
+        pub status: u32,
+        pub value: usize,
+        pub sentence_len: usize,
+        pub written: usize,
+    }
+
+    unsafe extern "C" {
+        fn timefd_judge(kind: u32, text: *const u8, len: usize) -> Answer;
+        fn timefd_check(
+            kind: u32,
+            text: *const u8,
+            len: usize,
+            sentence: *mut u8,
+            room: usize,
+        ) -> Answer;
+    }
+
+    /// What the bytes are in a language.
+    pub fn judge(kind: u32, text: &[u8]) -> Answer {
+        // SAFETY: the pointer and the length are those of a slice that is borrowed for the call.
+        unsafe { timefd_judge(kind, text.as_ptr(), text.len()) }
+    }
+
+    /// The same, with the front of the sentence of the fault in the buffer.
+    pub fn check(kind: u32, text: &[u8], sentence: &mut [u8]) -> Answer {
+        // SAFETY: these are the pointers and lengths of two slices that are borrowed for the call, and the second is
+        // borrowed by nobody else.
+        unsafe {
+            timefd_check(
+                kind,
+                text.as_ptr(),
+                text.len(),
+                sentence.as_mut_ptr(),
+                sentence.len(),
+            )
+        }
+    }
+}
+
+use timefd::{STRFTIME, VERSION_1, VERSION_2, VERSION_3};
+
+const MOST_ROOM: usize = 64;
+
+/// A text with its language, and the room for the sentence of its fault in bytes.
+struct Sample {
+    kind: u32,
+    text: &'static [u8],
+    room: usize,
+}
+
+const fn sample(kind: u32, text: &'static [u8], room: usize) -> Sample {
+    Sample { kind, text, room }
+}
+
+const SAMPLES: [Sample; 16] = [
+    sample(VERSION_1, b"", MOST_ROOM),
+    sample(VERSION_1, b"[[[day]", MOST_ROOM),
+    sample(VERSION_1, b"[foo bar", MOST_ROOM),
+    sample(VERSION_2, b"\\[[day]]", MOST_ROOM),
+    sample(VERSION_2, b"[day][foo]", MOST_ROOM),
+    sample(VERSION_3, b"due [day]", MOST_ROOM),
+    sample(VERSION_3, b"[year]-[month]-[day]", MOST_ROOM),
+    sample(VERSION_3, b"due [day", MOST_ROOM),
+    sample(VERSION_3, b"due [day", 16),
+    sample(VERSION_3, b"due [day", 0),
+    sample(VERSION_3, b"[\xc3\xa9]", MOST_ROOM),
+    sample(VERSION_3, b"[\xc3\xa9]", 25),
+    sample(STRFTIME, b"%Y-%m-%d", MOST_ROOM),
+    sample(STRFTIME, b"%O", MOST_ROOM),
+    sample(STRFTIME, b"\xff", MOST_ROOM),
+    sample(5, b"[day]", MOST_ROOM),
+];
+
+/// The sentence of a refused text, as far as there is room for it.
+fn print_sentence(sample: &Sample) {
+    let mut buffer = [0; MOST_ROOM];
+    let answer = timefd::check(sample.kind, sample.text, &mut buffer[..sample.room]);
+    if answer.status != timefd::REFUSED {
+        println!("out of memory");
+        return;
+    }
+    let written = &buffer[..answer.written];
+    let sentence = std::str::from_utf8(written).expect("a sentence is cut between two characters");
+    println!(
+        "refused at {}, \"{sentence}\", {} of {} bytes",
+        answer.value, answer.written, answer.sentence_len
+    );
+}
+
+fn print_sample(sample: &Sample) {
+    let answer = timefd::judge(sample.kind, sample.text);
+    print!("{}: ", sample.kind);
+    match answer.status {
+        timefd::ACCEPTED => {
+            let counted = if sample.kind == VERSION_3 {
+                "bytes"
+            } else {
+                "items"
+            };
+            println!("accepted, {} {counted}", answer.value);
+        }
+        timefd::REFUSED => print_sentence(sample),
+        timefd::NOT_UTF8 => println!("no UTF-8"),
+        timefd::NO_MEMORY => println!("out of memory"),
+        _ => println!("unknown kind"),
+    }
+}
+
+fn main() {
+    for sample in &SAMPLES {
+        print_sample(sample);
+    }
+}
