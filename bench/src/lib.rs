@@ -1,0 +1,72 @@
+//! Times the readers of format descriptions through their static library, beside the limits of the machine on the same
+//! bytes and beside other readers that a caller hands in.
+
+mod descriptions;
+mod flatness;
+mod goals;
+mod kind;
+mod library;
+mod measured;
+mod peer;
+mod sampling;
+mod tables;
+mod text;
+
+pub use kind::Kind;
+pub use peer::Peer;
+
+use measured::Measured;
+use sampling::{Task, Work, sample};
+use std::time::Duration;
+use text::Text;
+
+/// How long the samples take all together.
+const FULL: Duration = Duration::from_secs(16);
+const QUICK: Duration = Duration::from_millis(1500);
+
+/// Measures all descriptions and prints what came of it. The argument `--quick` takes fewer samples.
+pub fn run(peers: &[Peer]) {
+    let quick = std::env::args().any(|argument| argument == "--quick");
+    let texts = descriptions::texts();
+    verify(&texts);
+    let mut tasks = tasks(&texts, peers);
+    let rounds = sample(&mut tasks, if quick { QUICK } else { FULL });
+    let measured = Measured::new(&texts, peers, &tasks);
+    println!("{} texts, {} rows, medians of {rounds} interleaved rounds", texts.len(), tasks.len());
+    tables::print(&measured);
+    flatness::print(&measured);
+    goals::print(&measured);
+}
+
+/// Every text has to be a description in each language that it is measured in.
+fn verify(texts: &[Text]) {
+    for text in texts {
+        for &kind in text.kinds {
+            assert!(
+                library::judge(kind, &text.text).is_accepted(),
+                "{} does not accept \"{}\": {:?}",
+                kind.label(),
+                text.name,
+                text.text
+            );
+        }
+    }
+}
+
+/// Each text in each of its languages, in each peer that takes it, and at the limits of the machine.
+fn tasks<'a>(texts: &'a [Text], peers: &'a [Peer]) -> Vec<Task<'a>> {
+    let mut tasks = Vec::new();
+    for text in texts {
+        for &kind in text.kinds {
+            tasks.push(Task::new(text, Work::Judge(kind)));
+        }
+        for peer in peers {
+            if text.kinds.contains(&peer.kind) && (peer.read)(&text.text).is_some() {
+                tasks.push(Task::new(text, Work::Peer(peer)));
+            }
+        }
+        tasks.push(Task::new(text, Work::Copy));
+        tasks.push(Task::new(text, Work::Count));
+    }
+    tasks
+}

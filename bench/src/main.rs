@@ -1,0 +1,5 @@
+//! Times the readers alone.
+
+fn main() {
+    timefd_bench::run(&[]);
+}
