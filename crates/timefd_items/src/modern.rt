@@ -11,6 +11,7 @@ use timefd_modifier::{
 
 impl Component {
     /// The component that a deprecated one stands for; any other is itself.
+    #[inline(always)]
     pub fn modern(self) -> Component
         ensures { result ≡ spec.modern self }
     {
@@ -26,6 +27,7 @@ impl Component {
     }
 }
 
+#[inline(always)]
 fn modern_month(month: modifier::Month) -> Component
     ensures { result ≡ spec.modern_month month.repr month }
 {
@@ -42,6 +44,7 @@ fn modern_month(month: modifier::Month) -> Component
     }
 }
 
+#[inline(always)]
 fn modern_weekday(weekday: modifier::Weekday) -> Component
     ensures { result ≡ spec.modern_weekday weekday.repr weekday }
 {
@@ -61,6 +64,7 @@ fn modern_weekday(weekday: modifier::Weekday) -> Component
     }
 }
 
+#[inline(always)]
 fn modern_week_number(week: modifier::WeekNumber) -> Component
     ensures { result ≡ spec.modern_week_number week.repr week }
 {
@@ -77,6 +81,7 @@ fn modern_week_number(week: modifier::WeekNumber) -> Component
     }
 }
 
+#[inline(always)]
 fn modern_hour(hour: modifier::Hour) -> Component
     ensures { result ≡ spec.modern_hour hour.is_12_hour_clock hour }
 {
@@ -91,6 +96,7 @@ fn modern_hour(hour: modifier::Hour) -> Component
     }
 }
 
+#[inline(always)]
 fn modern_timestamp(timestamp: modifier::UnixTimestamp) -> Component
     ensures { result ≡ spec.modern_timestamp timestamp.precision timestamp }
 {
@@ -111,6 +117,7 @@ fn modern_timestamp(timestamp: modifier::UnixTimestamp) -> Component
     }
 }
 
+#[inline(always)]
 fn modern_year(year: modifier::Year) -> Component
     ensures { result ≡ spec.modern_year year.iso_week_based year.repr year.range year }
 {

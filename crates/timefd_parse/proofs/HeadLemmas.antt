@@ -98,13 +98,13 @@ unfolding head_of
 is_head inside white named name after ms w u some are =
     record { white = w.passes; name = one_or_more is_word_byte name some u.passes; modifiers = are }
 
-pub head_found : (strict : Bool) (inside white named word start : Text) (rest after : Text) (head : code_head.Head)
-    → IsCut is_white inside white named → IsCut is_word_byte named word start → 0 < length word → ModifiersBefore strict head.name start head.modifiers rest
+pub head_found : (strict : Bool) (inside white named word start : Text) (rest after : Text) (head : code_head.Head) (modifiers : code_modifiers.Modifiers)
+    → IsCut is_white inside white named → IsCut is_word_byte named word start → 0 < length word → ModifiersBefore strict head.name start modifiers rest
     → IsCut is_white rest head.white.now after → StopsBefore is_word_byte after
     → head.word.now ≡ word → head.remaining ≡ length named → IsNameOf strict head.word.now head.name
-    → (h : Head) × BeginsWithHead strict (left ∷ inside) head after h
+    → (h : Head) × BeginsWithHead strict (left ∷ inside) head modifiers after h
 unfolding head_of
-head_found strict inside white named word start rest after head w u some before w' stops word_is remaining_is name_is =
+head_found strict inside white named word start rest after head modifiers w u some before w' stops word_is remaining_is name_is =
     let a : length inside ≡ length white + length named = ap length w.whole ∙ length-append white named in
     let b : length named ≡ length word + length start = ap length u.whole ∙ length-append word start in (
       head_of white word before.list,
@@ -118,7 +118,7 @@ head_found strict inside white named word start rest after head w u some before 
           word = sym word_is;
           place = omega (arith, remaining_is);
           name = name_is;
-          modifiers = before.checks _ _ (omega arith);
+          checks = before.checks _ _ (omega arith);
         };
       },
     )

@@ -34,6 +34,7 @@ pub mod CheckLemmas
 pub mod HeadLemmas
 pub mod VerdictLemmas
 pub mod Counts
+pub mod BareLemmas
 pub mod ReadLemmas
 pub mod NestedLemmas
 pub mod ParseLemmas

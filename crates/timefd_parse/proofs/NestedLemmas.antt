@@ -12,6 +12,7 @@ use Rattle.timefd_parse.specs.declared.fault.Fault as code_fault
 use Rattle.timefd_parse.specs.declared.fault.ReadError.{ReadError}
 use Rattle.timefd_parse.specs.declared.fault.ReadError.TheVariants as errors
 use Rattle.timefd_parse.specs.declared.head.Head as code_head
+use Rattle.timefd_parse.specs.declared.modifiers.Modifiers as code_modifiers
 use Rattle.timefd_items.specs.Tree.{Text, Tree, pack}
 use Rattle.timefd_items.specs.Faults.{Fault, fault, unclosed_bracket}
 use Rattle.timefd_parse.specs.Bytes.{left, right, backslash, is_run_byte, is_version_three, is_white, ZeroOrMore, StopsBefore}
@@ -77,9 +78,9 @@ pub record NestedBefore (v : DescriptionVersion) (limit n : ℕ) (start : Text) 
   pub first : IsFirst spaced remaining list white rest
   pub shows : (k total : ℕ) → k + length start ≡ total → ShowsDescriptions total spaced remaining read (parts_from k list)
 
-pub nothing_nested : (v : DescriptionVersion) (limit n : ℕ) (text : Text) (head : code_head.Head) (rest : Text) (h : Head) (spaced : Bool) (remaining : ℕ) → BeginsWithHead (is_version_three v) text head rest h
+pub nothing_nested : (v : DescriptionVersion) (limit n : ℕ) (text : Text) (head : code_head.Head) (modifiers : code_modifiers.Modifiers) (rest : Text) (h : Head) (spaced : Bool) (remaining : ℕ) → BeginsWithHead (is_version_three v) text head modifiers rest h
     → not (is_empty head.white.now) ≡ spaced → remaining ≡ length rest → NestedBefore v limit n (head.white.now ++ rest) spaced remaining [] rest
-nothing_nested v limit n text head rest h spaced remaining begins s r = record {
+nothing_nested v limit n text head modifiers rest h spaced remaining begins s r = record {
   list = no_nested;
   white = head.white.now;
   are = tt;
@@ -129,8 +130,8 @@ nested_step v limit n start spaced remaining read rest text after white' rest' f
 
 -- Brackets.
 
-module _ (v : DescriptionVersion) (limit n : ℕ) (inside : Text) (head : code_head.Head) (behind : Text) (h : Head) (spaced : Bool) (remaining : ℕ) (read : List Tree) (rest : Text)
-    (begins : BeginsWithHead (is_version_three v) (left ∷ inside) head behind h) (before : NestedBefore v limit n (head.white.now ++ behind) spaced remaining read rest) where
+module _ (v : DescriptionVersion) (limit n : ℕ) (inside : Text) (head : code_head.Head) (modifiers : code_modifiers.Modifiers) (behind : Text) (h : Head) (spaced : Bool) (remaining : ℕ) (read : List Tree) (rest : Text)
+    (begins : BeginsWithHead (is_version_three v) (left ∷ inside) head modifiers behind h) (before : NestedBefore v limit n (head.white.now ++ behind) spaced remaining read rest) where
   whole : left ∷ inside ≡ head_text h ++ nested_text before.list ++ before.white ++ rest
   whole =
       begins.whole ∙ append_assoc (head_text h) head.white.now behind ∙ ap (λ t. head_text h ++ t) before.whole
@@ -212,27 +213,27 @@ module _ (v : DescriptionVersion) (limit n : ℕ) (inside : Text) (head : code_h
       omega (arith, ap length whole_is, length-append (before_inner h before.list before.white ++ spelling front) (broken_text b))
 
 -- the head of a bracket and nested descriptions were read, and this is the rest
-pub record BracketBefore (v : DescriptionVersion) (limit n : ℕ) (inside : Text) (head : code_head.Head) (spaced : Bool) (remaining : ℕ) (read : List Tree) (rest : Text) : Type 0 where
+pub record BracketBefore (v : DescriptionVersion) (limit n : ℕ) (inside : Text) (head : code_head.Head) (modifiers : code_modifiers.Modifiers) (spaced : Bool) (remaining : ℕ) (read : List Tree) (rest : Text) : Type 0 where
   pub h : Head
   pub behind : Text
-  pub begins : BeginsWithHead (is_version_three v) (left ∷ inside) head behind h
+  pub begins : BeginsWithHead (is_version_three v) (left ∷ inside) head modifiers behind h
   pub before : NestedBefore v limit n (head.white.now ++ behind) spaced remaining read rest
 
 empty_length : (text : Text) → is_empty text ≡ (length text == 0)
 empty_length [] = refl
 empty_length (b ∷ text) = grind (arith, nat_tests)
 
-pub bracket_begins : (v : DescriptionVersion) (limit n : ℕ) (inside : Text) (head : code_head.Head) (behind : Text) (empty : Bool) (h : Head) → BeginsWithHead (is_version_three v) (left ∷ inside) head behind h
-    → empty ≡ (length head.white.now == 0) → BracketBefore v limit n inside head (not empty) (length behind) [] behind
-bracket_begins v limit n inside head behind empty h begins e = record {
+pub bracket_begins : (v : DescriptionVersion) (limit n : ℕ) (inside : Text) (head : code_head.Head) (modifiers : code_modifiers.Modifiers) (behind : Text) (empty : Bool) (h : Head) → BeginsWithHead (is_version_three v) (left ∷ inside) head modifiers behind h
+    → empty ≡ (length head.white.now == 0) → BracketBefore v limit n inside head modifiers (not empty) (length behind) [] behind
+bracket_begins v limit n inside head modifiers behind empty h begins e = record {
   h = h;
   behind = behind;
   begins = begins;
-  before = nothing_nested v limit n (left ∷ inside) head behind h (not empty) (length behind) begins (ap not (empty_length head.white.now ∙ sym e)) refl;
+  before = nothing_nested v limit n (left ∷ inside) head modifiers behind h (not empty) (length behind) begins (ap not (empty_length head.white.now ∙ sym e)) refl;
 }
 
-pub behind_within : (strict : Bool) (inside : Text) (head : code_head.Head) (behind : Text) (h : Head) → BeginsWithHead strict (left ∷ inside) head behind h → length behind ≤ length inside
-behind_within strict inside head behind h begins =
+pub behind_within : (strict : Bool) (inside : Text) (head : code_head.Head) (modifiers : code_modifiers.Modifiers) (behind : Text) (h : Head) → BeginsWithHead strict (left ∷ inside) head modifiers behind h → length behind ≤ length inside
+behind_within strict inside head modifiers behind h begins =
     omega (arith, ap length begins.whole, length-append (head_text h ++ head.white.now) behind, length-append (head_text h) head.white.now, length-append (left ∷ h.white ++ h.name) (modifiers_text h.modifiers), length-append (left ∷ h.white) h.name)
 
 no_bracket_byte : (b : ℕ) → IsTrue (is_run_byte Three b) → is_bracket_byte b ≡ false
@@ -263,39 +264,39 @@ no_closing n starts.Other (b ∷ rest) is end closing = absurd (omega (arith, fi
 
 -- The same from what the calls ensure.
 
-module _ (v : DescriptionVersion) (limit n : ℕ) (inside : Text) (head : code_head.Head) (spaced : Bool) (remaining : ℕ) (read : List Tree) (rest : Text) (b : BracketBefore v limit n inside head spaced remaining read rest) where
-  shown : ShowsHead (is_version_three v) (length inside + 1) head b.h
-  shown = let same : length (left ∷ inside) ≡ length inside + 1 = omega arith in subst (λ k. ShowsHead (is_version_three v) k head b.h) same b.begins.shows
+module _ (v : DescriptionVersion) (limit n : ℕ) (inside : Text) (head : code_head.Head) (modifiers : code_modifiers.Modifiers) (spaced : Bool) (remaining : ℕ) (read : List Tree) (rest : Text) (b : BracketBefore v limit n inside head modifiers spaced remaining read rest) where
+  shown : ShowsHead (is_version_three v) (length inside + 1) head modifiers b.h
+  shown = let same : length (left ∷ inside) ≡ length inside + 1 = omega arith in subst (λ k. ShowsHead (is_version_three v) k head modifiers b.h) same b.begins.shows
 
   pub accepted : (after : Text) (tree : Tree) → rest ≡ right ∷ after
-      → ((place : ℕ) (h : Head) (parts : List Part) → ShowsHead (is_version_three v) (length inside + 1) head h → ShowsDescriptions (length inside + 1) spaced remaining read parts → place + length rest ≡ length inside + 1 → verdict (is_version_three v) h parts place ≡ Ok tree)
+      → ((place : ℕ) (h : Head) (parts : List Part) → ShowsHead (is_version_three v) (length inside + 1) head modifiers h → ShowsDescriptions (length inside + 1) spaced remaining read parts → place + length rest ≡ length inside + 1 → verdict (is_version_three v) h parts place ≡ Ok tree)
       → Leads v limit n (left ∷ inside) tree after
   accepted after tree closing judged =
-      bracket_leads v limit n inside head b.behind b.h spaced remaining read rest b.begins b.before after tree closing
-      (judged _ b.h _ shown (parts_shown v limit n inside head b.behind b.h spaced remaining read rest b.begins b.before) (place_of_rest v limit n inside head b.behind b.h spaced remaining read rest b.begins b.before))
+      bracket_leads v limit n inside head modifiers b.behind b.h spaced remaining read rest b.begins b.before after tree closing
+      (judged _ b.h _ shown (parts_shown v limit n inside head modifiers b.behind b.h spaced remaining read rest b.begins b.before) (place_of_rest v limit n inside head modifiers b.behind b.h spaced remaining read rest b.begins b.before))
 
   pub refuses : (after : Text) (e : ReadError) → rest ≡ right ∷ after
-      → ((place : ℕ) (h : Head) (parts : List Part) → ShowsHead (is_version_three v) (length inside + 1) head h → ShowsDescriptions (length inside + 1) spaced remaining read parts → place + length rest ≡ length inside + 1
+      → ((place : ℕ) (h : Head) (parts : List Part) → ShowsHead (is_version_three v) (length inside + 1) head modifiers h → ShowsDescriptions (length inside + 1) spaced remaining read parts → place + length rest ≡ length inside + 1
       → MemoryOr (λ f. (g : Fault) × (verdict (is_version_three v) h parts place ≡ Err g) × IsFault (length inside + 1) f g) e)
       → MemoryOr (IsFaultAt v limit n (left ∷ inside)) e
   refuses after e closing judged =
-      memory_or _ (IsFaultAt v limit n (left ∷ inside)) (λ f is. bracket_refused v limit n inside head b.behind b.h spaced remaining read rest b.begins b.before after f is.0 closing is.1 is.2) e
-      (judged _ b.h _ shown (parts_shown v limit n inside head b.behind b.h spaced remaining read rest b.begins b.before) (place_of_rest v limit n inside head b.behind b.h spaced remaining read rest b.begins b.before))
+      memory_or _ (IsFaultAt v limit n (left ∷ inside)) (λ f is. bracket_refused v limit n inside head modifiers b.behind b.h spaced remaining read rest b.begins b.before after f is.0 closing is.1 is.2) e
+      (judged _ b.h _ shown (parts_shown v limit n inside head modifiers b.behind b.h spaced remaining read rest b.begins b.before) (place_of_rest v limit n inside head modifiers b.behind b.h spaced remaining read rest b.begins b.before))
 
   pub never_closed : (e : ReadError) → StopsBefore is_bracket_byte rest → MemoryOr (λ f. IsFault (length inside + 1) f (fault unclosed_bracket 0)) e → MemoryOr (IsFaultAt v limit n (left ∷ inside)) e
-  never_closed e stops = memory_or _ (IsFaultAt v limit n (left ∷ inside)) (λ f is. bracket_unclosed v limit n inside head b.behind b.h spaced remaining read rest b.begins b.before f stops is) e
+  never_closed e stops = memory_or _ (IsFaultAt v limit n (left ∷ inside)) (λ f is. bracket_unclosed v limit n inside head modifiers b.behind b.h spaced remaining read rest b.begins b.before f stops is) e
 
   pub at_limit : (f : code_fault.Fault) (text : Text) → rest ≡ left ∷ text → n ≡ limit → IsFault (length rest) f (fault too_highly_nested 0) → IsFaultAt v limit n (left ∷ inside) f
-  at_limit = bracket_too_deep v limit n inside head b.behind b.h spaced remaining read rest b.begins b.before
+  at_limit = bracket_too_deep v limit n inside head modifiers b.behind b.h spaced remaining read rest b.begins b.before
 
   pub inner_fails : (m : ℕ) (text : Text) (e r : ReadError) → m ≡ suc n → rest ≡ left ∷ text → n < limit → MemoryOr (IsFaultIn v limit m text) e → IsEnclosed (length inside + 1) e r → MemoryOr (IsFaultAt v limit n (left ∷ inside)) r
   inner_fails m text errors.Memory r more opening lt is enclosing = subst (MemoryOr (IsFaultAt v limit n (left ∷ inside))) (sym enclosing) tt
   inner_fails m text (errors.Invalid f) r more opening lt is enclosing =
       let in_suc : IsFaultIn v limit (suc n) text f = subst (λ k. IsFaultIn v limit k text f) more is in
       memory_or _ (IsFaultAt v limit n (left ∷ inside))
-      (λ f' raise. bracket_broken v limit n inside head b.behind b.h spaced remaining read rest b.begins b.before f' text in_suc.0 in_suc.1 opening lt in_suc.2 in_suc.3 in_suc.4
+      (λ f' raise. bracket_broken v limit n inside head modifiers b.behind b.h spaced remaining read rest b.begins b.before f' text in_suc.0 in_suc.1 opening lt in_suc.2 in_suc.3 in_suc.4
       (raise (broken_fault in_suc.1) (length (broken_text in_suc.1)) (length (before_inner b.h b.before.list b.before.white ++ spelling in_suc.0)) in_suc.5
-      (inner_place v limit n inside head b.behind b.h spaced remaining read rest b.begins b.before text in_suc.0 in_suc.1 opening in_suc.4)))
+      (inner_place v limit n inside head modifiers b.behind b.h spaced remaining read rest b.begins b.before text in_suc.0 in_suc.1 opening in_suc.4)))
       r enclosing
 
   pub inner_cut_off : (m : ℕ) (text : Text) (inner : List Tree) (end : Text) (e : ReadError) → m ≡ suc n → rest ≡ left ∷ text → n < limit → AreItems v limit m text inner end → end ≡ []
@@ -303,13 +304,13 @@ module _ (v : DescriptionVersion) (limit n : ℕ) (inside : Text) (head : code_h
   inner_cut_off m text inner end e more opening lt is none =
       let in_suc : AreItems v limit (suc n) text inner end = subst (λ k. AreItems v limit k text inner end) more is in
       memory_or _ (IsFaultAt v limit n (left ∷ inside))
-      (λ f at_start. bracket_cut_off v limit n inside head b.behind b.h spaced remaining read rest b.begins b.before f text in_suc.0 opening lt in_suc.1
+      (λ f at_start. bracket_cut_off v limit n inside head modifiers b.behind b.h spaced remaining read rest b.begins b.before f text in_suc.0 opening lt in_suc.1
       (in_suc.2 ∙ ap (λ t. spelling in_suc.0 ++ t) none ∙ append-nil (spelling in_suc.0)) at_start)
       e
 
   pub one_more : (m : ℕ) (text : Text) (inner : List Tree) (end after white' rest' : Text) (tree : Tree) → m ≡ suc n → rest ≡ left ∷ text → n < limit → AreItems v limit m text inner end → end ≡ right ∷ after
       → IsCut is_white after white' rest' → tree ≡ pack inner
-      → BracketBefore v limit n inside head spaced remaining (read ++ tree ∷ []) rest'
+      → BracketBefore v limit n inside head modifiers spaced remaining (read ++ tree ∷ []) rest'
   one_more m text inner end after white' rest' tree more opening lt is closing cut packed =
       let in_suc : AreItems v limit (suc n) text inner end = subst (λ k. AreItems v limit k text inner end) more is in
       record {

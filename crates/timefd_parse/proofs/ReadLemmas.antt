@@ -197,3 +197,7 @@ pub doubled_leads : (v : DescriptionVersion) (limit n : ℕ) (text inside : Text
     → LeadsOn v limit n text (Literal byte) rest
 doubled_leads v limit n text inside byte rest one s opening doubled utf8 =
     escape_leads v limit n text left left byte rest (subst (λ w. IsEscape w left left) (sym one) (refl, refl)) s (opening ∙ ap (λ t. left ∷ t) doubled) utf8
+
+-- a bracket that is read by what it has inside
+pub opening_leads : (v : DescriptionVersion) (limit n : ℕ) (text inside : Text) (piece : Piece) (rest : Text) → text ≡ left ∷ inside → LeadsOn v limit n (left ∷ inside) piece rest → LeadsOn v limit n text piece rest
+opening_leads v limit n text inside piece rest opening leads = subst (λ t. LeadsOn v limit n t piece rest) (sym opening) leads

@@ -10,6 +10,7 @@ use Rattle.timefd_items.specs.Meaning.{inner_tree}
 use Rattle.timefd_parse.specs.declared.fault.Fault as code_fault
 use Rattle.timefd_parse.specs.declared.fault.Kind.TheVariants as kinds
 use Rattle.timefd_parse.specs.declared.head.Head as code_head
+use Rattle.timefd_parse.specs.declared.modifiers.Modifiers as code_modifiers
 use Rattle.timefd_parse.specs.declared.members.Members.{Members}
 use Rattle.timefd_parse.specs.declared.members.Members.TheVariants.{Empty, One, Many}
 use Rattle.timefd_parse.specs.declared.name.ComponentName.{ComponentName}
@@ -165,34 +166,34 @@ refused_later total places ps r rest all shows none e =
     by None f is = e ∙ ap (λ x. x or combined rest ps) (misplaced_at (refusal_for r) ps ∙ ap (option_map (λ j. fault (invalid_combination (key_for r.key).key r.context.now) j)) f)
     by (Some i) f is = absurd is
 
-module _ (strict : Bool) (total : ℕ) (head : code_head.Head) (h : Head) (n : ComponentName) (shows : ShowsHead strict total head h) (named : head.name ≡ Some (names.Component n)) where
-  checks : Checks strict (Some (names.Component n)) total head.modifiers (placed h)
-  checks = subst (λ o. Checks strict o total head.modifiers (placed h)) named shows.modifiers
+module _ (strict : Bool) (total : ℕ) (head : code_head.Head) (modifiers : code_modifiers.Modifiers) (h : Head) (n : ComponentName) (shows : ShowsHead strict total head modifiers h) (named : head.name ≡ Some (names.Component n)) where
+  checks : Checks strict (Some (names.Component n)) total modifiers (placed h)
+  checks = subst (λ o. Checks strict o total modifiers (placed h)) named shows.checks
 
-  pub component_bad : (f : code_fault.Fault) → head.modifiers.fault ≡ Some f → JudgedFault total (component_verdict strict h (Some (row_for n))) f
+  pub component_bad : (f : code_fault.Fault) → modifiers.fault ≡ Some f → JudgedFault total (component_verdict strict h (Some (row_for n))) f
   component_bad f e =
       let b = fault_shown total _ _ f checks.fault e in
       (b.0, ap (λ x. behind x (made strict h ((row_for n).component (settings strict (row_for n).keys (placed h))))) b.1, b.2)
 
-  good : head.modifiers.fault ≡ None → (r : Result Component Kind) → (row_for n).component head.modifiers.settings ≡ r → component_verdict strict h (Some (row_for n)) ≡ made strict h r
+  good : modifiers.fault ≡ None → (r : Result Component Kind) → (row_for n).component modifiers.settings ≡ r → component_verdict strict h (Some (row_for n)) ≡ made strict h r
   good none r e =
       ap (λ x. behind x (made strict h ((row_for n).component (settings strict (row_for n).keys (placed h))))) (none_shown total _ _ checks.fault none)
       ∙ ap (made strict h) (ap (row_for n).component (sym (checks.settings none)) ∙ e)
 
-  pub component_missing : (key : Bor (List ℕ)) → head.modifiers.fault ≡ None → (row_for n).component head.modifiers.settings ≡ Err (missing_modifier key.now)
+  pub component_missing : (key : Bor (List ℕ)) → modifiers.fault ≡ None → (row_for n).component modifiers.settings ≡ Err (missing_modifier key.now)
       → JudgedFault total (component_verdict strict h (Some (row_for n))) (record { kind = kinds.MissingModifier key; remaining = head.remaining })
   component_missing key none e = (fault (missing_modifier key.now) (name_index h), good none _ e, record { kind = refl; place = shows.place })
 
-  pub places_shown : head.modifiers.fault ≡ None → strict ≡ true → ShowsPlaces total head.modifiers.places (placed h)
+  pub places_shown : modifiers.fault ≡ None → strict ≡ true → ShowsPlaces total modifiers.places (placed h)
   places_shown none exact = checks.places none exact
 
-  pub component_refused : (c : Component) (f : code_fault.Fault) → head.modifiers.fault ≡ None → (row_for n).component head.modifiers.settings ≡ Ok c
+  pub component_refused : (c : Component) (f : code_fault.Fault) → modifiers.fault ≡ None → (row_for n).component modifiers.settings ≡ Ok c
       → (o : Option code_fault.Fault) → o ≡ Some f → ShowsFault total o (combination strict c (placed h)) → JudgedFault total (component_verdict strict h (Some (row_for n))) f
   component_refused c f none e o some is =
       let b = fault_shown total o _ f is some in
       (b.0, good none (Ok c) e ∙ ap (λ x. unless x (component c)) b.1, b.2)
 
-  pub component_found : (c : Component) → head.modifiers.fault ≡ None → (row_for n).component head.modifiers.settings ≡ Ok c
+  pub component_found : (c : Component) → modifiers.fault ≡ None → (row_for n).component modifiers.settings ≡ Ok c
       → (o : Option code_fault.Fault) → o ≡ None → ShowsFault total o (combination strict c (placed h)) → component_verdict strict h (Some (row_for n)) ≡ Ok (component c)
   component_found c none e o free is = good none (Ok c) e ∙ ap (λ x. unless x (component c)) (none_shown total o _ is free)
 
@@ -231,23 +232,23 @@ behind_both : (a b : Option Fault) (r : Result Tree Fault) → behind a (behind 
 behind_both (Some f) b r = refl
 behind_both None b r = refl
 
-by_rules : (strict : Bool) (total place : ℕ) (head : code_head.Head) (h : Head) (parts : List Part) → ShowsHead strict total head h
+by_rules : (strict : Bool) (total place : ℕ) (head : code_head.Head) (modifiers : code_modifiers.Modifiers) (h : Head) (parts : List Part) → ShowsHead strict total head modifiers h
     → verdict strict h parts place ≡ behind (placing head.name parts) (by_name strict h parts place head.name)
-by_rules strict total place head h parts shows =
+by_rules strict total place head modifiers h parts shows =
     ap (behind (touching parts)) (named strict h parts place head.name (subst (λ w. IsNameOf strict w head.name) (sym shows.word) shows.name))
     ∙ behind_both (touching parts) (refused_in head.name parts) (by_name strict h parts place head.name)
 
 -- a fault of the nested descriptions' places comes first
-pub verdict_misplaced : (strict : Bool) (total place : ℕ) (head : code_head.Head) (h : Head) (parts : List Part) (o : Option code_fault.Fault) (f : code_fault.Fault) → ShowsHead strict total head h
+pub verdict_misplaced : (strict : Bool) (total place : ℕ) (head : code_head.Head) (modifiers : code_modifiers.Modifiers) (h : Head) (parts : List Part) (o : Option code_fault.Fault) (f : code_fault.Fault) → ShowsHead strict total head modifiers h
     → ShowsFault total o (placing head.name parts) → o ≡ Some f → JudgedFault total (verdict strict h parts place) f
-verdict_misplaced strict total place head h parts o f shows is some =
+verdict_misplaced strict total place head modifiers h parts o f shows is some =
     let b = fault_shown total o _ f is some in
-    (b.0, by_rules strict total place head h parts shows ∙ ap (λ x. behind x (by_name strict h parts place head.name)) b.1, b.2)
+    (b.0, by_rules strict total place head modifiers h parts shows ∙ ap (λ x. behind x (by_name strict h parts place head.name)) b.1, b.2)
 
-pub verdict_by_name : (strict : Bool) (total place : ℕ) (head : code_head.Head) (h : Head) (parts : List Part) (o : Option code_fault.Fault) (name : Option Name) → ShowsHead strict total head h
+pub verdict_by_name : (strict : Bool) (total place : ℕ) (head : code_head.Head) (modifiers : code_modifiers.Modifiers) (h : Head) (parts : List Part) (o : Option code_fault.Fault) (name : Option Name) → ShowsHead strict total head modifiers h
     → ShowsFault total o (placing head.name parts) → o ≡ None → head.name ≡ name → verdict strict h parts place ≡ by_name strict h parts place name
-verdict_by_name strict total place head h parts o name shows is none same_name =
-    by_rules strict total place head h parts shows
+verdict_by_name strict total place head modifiers h parts o name shows is none same_name =
+    by_rules strict total place head modifiers h parts shows
     ∙ ap (λ x. behind x (by_name strict h parts place head.name)) (none_shown total o _ is none)
     ∙ ap (by_name strict h parts place) same_name
 

@@ -1,6 +1,7 @@
 -- Words that are compared.
-use Rattle.std.proofs.Common.{ℕ, ◌≡◌, ◌==◌, Bool, true, false, [], ◌∷◌, map, IsTrue, ◌↔◌, refl, sym, ap, ap₂, ◌∙◌, arith, eq-eqb}
+use Rattle.std.proofs.Common.{ℕ, ◌≡◌, ◌==◌, Bool, true, false, [], ◌∷◌, map, IsTrue, ◌&&◌, ◌↔◌, refl, sym, ap, ap₂, ◌∙◌, arith, eq-eqb}
 use Rattle.std.specs.Char.{to_ascii_lowercase}
+use Rattle.std.specs.Cmp.Lexicographic.{pointwise}
 use Rattle.std.proofs.lemmas.Bool.{and_from}
 use Rattle.std.proofs.lemmas.Bool.Decides.{nat_tests, same_from_decides}
 use Rattle.timefd_items.specs.Tree.{Text}
@@ -28,3 +29,15 @@ same_lowered r a b test =
       λ e. sym (all_lowered-is a) ∙ equal-true (map lowered a) (map lowered b) e ∙ all_lowered-is b,
       λ e. equal-from (map lowered a) (map lowered b) (all_lowered-is a ∙ e ∙ sym (all_lowered-is b)),
     )
+
+-- what `==` says
+pub same_bytes : (a b : Text) → pointwise ◌==◌ a b ≡ equal a b
+same_bytes [] [] = refl
+same_bytes [] (b ∷ y) = refl
+same_bytes (a ∷ x) [] = refl
+same_bytes (a ∷ x) (b ∷ y) = ap (λ t. (a == b) && t) (same_bytes x y)
+
+-- a word that is found byte for byte is found without case too
+pub same_at_once : (strict : Bool) (a b : Text) → equal a b ≡ true → same strict a b ≡ true
+same_at_once true a b e = e
+same_at_once false a b e = equal-from (map lowered a) (map lowered b) (ap (map lowered) (equal-true a b e))

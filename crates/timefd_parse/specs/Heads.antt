@@ -6,6 +6,7 @@ use Rattle.timefd_items.specs.Tree.{Text}
 use Rattle.timefd_parse.specs.declared.description_version.DescriptionVersion.{DescriptionVersion}
 use Rattle.timefd_parse.specs.declared.fault.Fault as code_fault
 use Rattle.timefd_parse.specs.declared.head.Head as code_head
+use Rattle.timefd_parse.specs.declared.modifiers.Modifiers as code_modifiers
 use Rattle.timefd_parse.specs.Bytes.{left, is_white, is_word_byte, ZeroOrMore, StopsBefore}
 use Rattle.timefd_parse.specs.Head.{Head, IsHead, head_text, name_index, placed}
 use Rattle.timefd_parse.specs.Lookup.{IsNameOf}
@@ -13,25 +14,25 @@ use Rattle.timefd_parse.specs.Checked.{Checks}
 use Rattle.timefd_parse.specs.Broken.{BeginsNoEscape}
 use Rattle.timefd_parse.specs.Shown.{IsFaultAt}
 
--- the head, as the code has it, of a text with so many bytes
-pub record ShowsHead (strict : Bool) (total : ℕ) (head : code_head.Head) (h : Head) : Type 0 where
+-- the head and its modifiers, as the code has them, of a text with so many bytes
+pub record ShowsHead (strict : Bool) (total : ℕ) (head : code_head.Head) (modifiers : code_modifiers.Modifiers) (h : Head) : Type 0 where
   pub word : h.name ≡ head.word.now
   pub place : name_index h + head.remaining ≡ total
   pub name : IsNameOf strict head.word.now head.name
-  pub modifiers : Checks strict head.name total head.modifiers (placed h)
+  pub checks : Checks strict head.name total modifiers (placed h)
 
 -- the text begins with this head and white bytes
-pub record BeginsWithHead (strict : Bool) (text : Text) (head : code_head.Head) (rest : Text) (h : Head) : Type 0 where
+pub record BeginsWithHead (strict : Bool) (text : Text) (head : code_head.Head) (modifiers : code_modifiers.Modifiers) (rest : Text) (h : Head) : Type 0 where
   pub is : IsHead h
-  pub shows : ShowsHead strict (length text) head h
+  pub shows : ShowsHead strict (length text) head modifiers h
   pub whole : text ≡ head_text h ++ head.white.now ++ rest
   pub all_white : ZeroOrMore is_white head.white.now
   pub stops_white : StopsBefore is_white rest
   pub stops_word : StopsBefore is_word_byte rest
 
 -- a head, or the fault of a bracket that has none; where `[[` is an escape the inside begins with no `[`
-abbrev pub ReadsHead : Bool → Text → Result (code_head.Head × Bor (List ℕ)) code_fault.Fault → Type 0
-ReadsHead strict inside r =
+abbrev pub ReadsHead : Bool → Text → code_modifiers.Modifiers → Result (code_head.Head × Bor (List ℕ)) code_fault.Fault → Type 0
+ReadsHead strict inside modifiers r =
     MatchResult r
-    (λ x. ((h : Head) × BeginsWithHead strict (left ∷ inside) x.0 x.1.now h) × IsUtf8 x.1.now)
+    (λ x. ((h : Head) × BeginsWithHead strict (left ∷ inside) x.0 modifiers x.1.now h) × IsUtf8 x.1.now)
     (λ f. (v : DescriptionVersion) (limit n : ℕ) → BeginsNoEscape v inside → IsFaultAt v limit n (left ∷ inside) f)

@@ -26,6 +26,7 @@ pub mod Shown
 pub mod Places
 pub mod Checked
 pub mod Heads
+pub mod Invalid
 pub mod Pieces
 pub mod Judged
 pub mod Read

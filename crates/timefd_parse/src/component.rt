@@ -11,6 +11,7 @@ use timefd_items::Component;
 use timefd_modifier as modifier;
 
 /// The component of a name with these settings; none only for `ignore` without a count.
+#[inline(always)]
 pub fn component_of(name: ComponentName, settings: Settings) -> Option<Component>
     ensures { MatchOption result ((row_for name).component settings ≡ Err (missing_modifier (codes "count"))) (λ c. (row_for name).component settings ≡ Ok c) }
 {
@@ -42,6 +43,7 @@ pub fn component_of(name: ComponentName, settings: Settings) -> Option<Component
     Some(component)
 }
 
+#[inline(always)]
 fn hour(settings: Settings) -> Component
     ensures { result ≡ spec.hour settings }
 {
@@ -52,6 +54,7 @@ fn hour(settings: Settings) -> Component
     Component::Hour(hour).modern()
 }
 
+#[inline(always)]
 fn month(settings: Settings) -> Component
     ensures { result ≡ spec.month settings }
 {
@@ -63,6 +66,7 @@ fn month(settings: Settings) -> Component
     Component::Month(month).modern()
 }
 
+#[inline(always)]
 fn offset_hour(settings: Settings) -> Component
     ensures { result ≡ spec.offset_hour settings }
 {
@@ -72,6 +76,7 @@ fn offset_hour(settings: Settings) -> Component
     })
 }
 
+#[inline(always)]
 fn period(settings: Settings) -> Component
     ensures { result ≡ spec.period settings }
 {
@@ -81,6 +86,7 @@ fn period(settings: Settings) -> Component
     })
 }
 
+#[inline(always)]
 fn unix_timestamp(settings: Settings) -> Component
     ensures { result ≡ spec.unix_timestamp settings }
 {
@@ -91,6 +97,7 @@ fn unix_timestamp(settings: Settings) -> Component
     Component::UnixTimestamp(timestamp).modern()
 }
 
+#[inline(always)]
 fn weekday(settings: Settings) -> Component
     ensures { result ≡ spec.weekday settings }
 {
@@ -102,6 +109,7 @@ fn weekday(settings: Settings) -> Component
     Component::Weekday(weekday).modern()
 }
 
+#[inline(always)]
 fn week_number(settings: Settings) -> Component
     ensures { result ≡ spec.week_number settings }
 {
@@ -112,6 +120,7 @@ fn week_number(settings: Settings) -> Component
     Component::WeekNumber(week_number).modern()
 }
 
+#[inline(always)]
 fn year(settings: Settings) -> Component
     ensures { result ≡ spec.year settings }
 {

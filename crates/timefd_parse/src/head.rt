@@ -1,8 +1,9 @@
 //! The head of a bracket: its name and its modifiers.
 
-ghost use Rattle.std.specs.Prelude.{ℕ, ◌≡◌, ◌∷◌, MatchResult};
+ghost use Rattle.std.specs.Prelude.{ℕ, ◌≡◌, ◌∷◌, [], MatchResult, Option};
 ghost use Rattle.timefd_items.specs.Tree.{Text};
 ghost use Rattle.timefd_parse.specs.Bytes.{is_version_three};
+ghost use Rattle.timefd_parse.specs.Checked.{Checks};
 ghost use Rattle.timefd_parse.specs.Heads.{ReadsHead};
 
 use crate::fault::{Fault, Kind};
@@ -19,14 +20,19 @@ pub struct Head<'a> {
     pub remaining: usize,
     /// What the word names.
     pub name: Option<Name>,
-    pub modifiers: Modifiers<'a>,
     /// The white bytes behind all that.
     pub white: &'a str,
 }
 
-/// The head of the bracket that has this inside, and the rest.
-pub fn read_head<'a>(strict: bool, inside: &'a str) -> Result<(Head<'a>, &'a str), Fault<'a>>
-    ensures { ReadsHead strict inside.now result }
+/// The head of the bracket that has this inside, and the rest; its modifiers are added to these, of
+/// which there are none yet.
+pub fn read_head<'a>(
+    strict: bool,
+    inside: &'a str,
+    modifiers: &mut Modifiers<'a>,
+) -> Result<(Head<'a>, &'a str), Fault<'a>>
+    requires { (name : Option Name) (total : ℕ) → Checks strict name total modifiers.old [] }
+    ensures { ReadsHead strict inside.now modifiers.new result }
 {
     let (white, named) = cut(inside, Class::White);
     let (word, after_word) = cut(named, Class::Word);
@@ -42,7 +48,6 @@ pub fn read_head<'a>(strict: bool, inside: &'a str) -> Result<(Head<'a>, &'a str
         });
     }
     let name = name_of(strict, word);
-    let mut modifiers = Modifiers::new(strict);
     let mut rest = after_word;
     'modifiers: loop {
         let (white, after) = cut(rest, Class::White);
@@ -51,7 +56,6 @@ pub fn read_head<'a>(strict: bool, inside: &'a str) -> Result<(Head<'a>, &'a str
                 word,
                 remaining: named.len(),
                 name,
-                modifiers,
                 white,
             };
             return Ok((head, after));

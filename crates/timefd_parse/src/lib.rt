@@ -2,6 +2,7 @@
 //! spells, and which fault another has, is defined in `specs/`; `laws` has what holds of that.
 #![tactic(auto)]
 
+mod bare;
 mod combination;
 mod component;
 mod description_version;

@@ -15,6 +15,12 @@ pub enum Members<'a> {
     Many(Vec<FormatDescriptionV3Inner<'a>>),
 }
 
+/// Room for the descriptions inside of a bracket, of which there are few.
+pub const FEW: usize = 4;
+
+/// Room for the pieces of a whole text of usual length.
+pub const USUAL: usize = 12;
+
 impl<'a> Members<'a> {
     ghost use Rattle.timefd_parse.specs.Pieces.{members_trees, no_members, AreMembers};
 
@@ -28,11 +34,35 @@ impl<'a> Members<'a> {
         }
     }
 
+    /// Adds one more, with room for so many if it is the second. Where there is no memory for it,
+    /// those that were there are gone too.
+    #[inline(always)]
+    pub fn add(
+        &mut self,
+        alloc: Global,
+        item: FormatDescriptionV3Inner<'a>,
+        room: usize,
+    ) -> Result<(), AllocError>
+        requires { AreMembers self.old }
+        ensures trees { IfOk result (λ _. members_trees self.new ≡ members_trees self.old ++ inner_tree item.entry ∷ []) }
+        ensures count { IfOk result (λ _. AreMembers self.new) }
+    {
+        match self {
+            Members::Many(items) => items.push(item)?,
+            Members::Empty | Members::One(_) => {
+                let before = std::mem::replace(self, Members::Empty);
+                *self = before.with(alloc, item, room)?;
+            }
+        }
+        Ok(())
+    }
+
     /// These and one more.
-    pub fn with(
+    fn with(
         self,
         alloc: Global,
         item: FormatDescriptionV3Inner<'a>,
+        room: usize,
     ) -> Result<Members<'a>, AllocError>
         requires { AreMembers self }
         ensures trees { IfOk result (λ m. members_trees m ≡ members_trees self.entry ++ inner_tree item.entry ∷ []) }
@@ -41,7 +71,7 @@ impl<'a> Members<'a> {
         match self {
             Members::Empty => Ok(Members::One(item)),
             Members::One(first) => {
-                let mut items = Vec::with_capacity(alloc, 4)?;
+                let mut items = Vec::with_capacity(alloc, room)?;
                 items.push(first)?;
                 items.push(item)?;
                 Ok(Members::Many(items))

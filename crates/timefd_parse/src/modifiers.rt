@@ -39,6 +39,7 @@ impl<'a> Modifiers<'a> {
     }
 
     /// Takes the next modifier of a bracket with this name.
+    #[inline(never)]
     pub fn take(&mut self, strict: bool, name: Option<Name>, modifier: Modifier<'a>)
         ensures { (total : ℕ) (ps : List Placed) (p : Placed) → Checks strict name total self.old ps → IsPlaced total modifier.entry p → Checks strict name total self.new (ps ++ p ∷ []) }
     {
@@ -47,7 +48,7 @@ impl<'a> Modifiers<'a> {
         }
         match self.check(strict, name, modifier) {
             Ok((key, setting)) => {
-                self.settings = self.settings.with(setting);
+                self.settings.set(setting);
                 self.places.set(key, modifier.key_remaining);
             }
             Err(fault) => self.fault = Some(fault),

@@ -23,6 +23,7 @@ impl<'a> Piece<'a> {
     ghost use Rattle.timefd_parse.specs.Strings.{is_of_strings};
 
     /// The piece as a description of version 3.
+    #[inline(always)]
     pub fn into_description(self, alloc: Global) -> Result<FormatDescriptionV3Inner<'a>, AllocError>
         requires { IsModernPiece self }
         ensures { IfOk result (λ x. inner_tree x ≡ piece_tree self.entry) }
@@ -39,6 +40,7 @@ impl<'a> Piece<'a> {
     }
 
     /// The piece as an item of versions 1 and 2.
+    #[inline(always)]
     pub fn into_item(self) -> BorrowedFormatItem<'a>
         requires { IsFlatPiece self }
         ensures tree { item_tree result ≡ piece_tree self.entry }

@@ -8,13 +8,16 @@ ghost use Rattle.timefd_parse.specs.Broken.{BeginsNoEscape};
 ghost use Rattle.timefd_parse.specs.Bytes.{is_version_three};
 ghost use Rattle.timefd_parse.specs.Read.{BeginsRun, BeginsClosing, LeadsOn, ReadsEscape, ReadsPiece, ReadsNext, ReadsMembers, ReadsItems, IsEnclosed};
 ghost use Rattle.timefd_parse.specs.Fault.{too_highly_nested};
+ghost use Rattle.timefd_parse.specs.Invalid.{IsInvalid};
 ghost use Rattle.timefd_parse.specs.Shown.{IsFault, MemoryOr};
 ghost use Rattle.timefd_items.specs.Faults.{fault, unclosed_bracket};
 
+use crate::bare::bare;
 use crate::description_version::DescriptionVersion;
 use crate::fault::{Fault, Kind, ReadError};
 use crate::head::read_head;
-use crate::members::Members;
+use crate::members::{FEW, Members, USUAL};
+use crate::modifiers::Modifiers;
 use crate::piece::Piece;
 use crate::text::{Class, Start, cut, cut_run, escaped, start_of};
 use crate::verdict::{Nested, Span, verdict};
@@ -22,6 +25,7 @@ use std::alloc::Global;
 use timefd_items::BorrowedFormatItem;
 
 /// The run that a text begins with.
+#[inline(always)]
 fn run<'a>(version: DescriptionVersion, text: &'a str) -> (Piece<'a>, &'a str)
     requires { BeginsRun version text.now }
     ensures { (limit n : ℕ) → LeadsOn version limit n text.now result.0 result.1.now }
@@ -84,7 +88,8 @@ fn doubled<'a>(version: DescriptionVersion, inside: &'a str) -> Option<(&'a str,
 
 /// The fault of a bracket with this fault inside it: where something is unclosed, the bracket is.
 fn enclosed<'a>(error: ReadError<'a>, start: usize) -> ReadError<'a>
-    ensures { IsEnclosed start error.entry result }
+    ensures fault { IsEnclosed start error.entry result }
+    ensures invalid { IsInvalid error.entry → IsInvalid result }
 {
     match error {
         ReadError::Invalid(
@@ -99,7 +104,8 @@ fn enclosed<'a>(error: ReadError<'a>, start: usize) -> ReadError<'a>
 
 /// The fault of a bracket that is never closed.
 fn unclosed<'a>(start: usize) -> ReadError<'a>
-    ensures { MemoryOr (λ f. IsFault start f (fault unclosed_bracket 0)) result }
+    ensures fault { MemoryOr (λ f. IsFault start f (fault unclosed_bracket 0)) result }
+    ensures invalid { IsInvalid result }
 {
     ReadError::Invalid(Fault {
         kind: Kind::UnclosedBracket,
@@ -109,7 +115,8 @@ fn unclosed<'a>(start: usize) -> ReadError<'a>
 
 /// The fault of an opening bracket inside as many nested descriptions as there may be.
 fn too_deep<'a>(remaining: usize) -> ReadError<'a>
-    ensures { MemoryOr (λ f. IsFault remaining f (fault too_highly_nested 0)) result }
+    ensures fault { MemoryOr (λ f. IsFault remaining f (fault too_highly_nested 0)) result }
+    ensures invalid { IsInvalid result }
 {
     ReadError::Invalid(Fault {
         kind: Kind::NotSupported("highly-nested format description", ""),
@@ -118,6 +125,7 @@ fn too_deep<'a>(remaining: usize) -> ReadError<'a>
 }
 
 /// The next piece of a list of items, or none at the list's end.
+#[inline(always)]
 #[cycle(read)]
 fn next_piece<'a>(
     alloc: Global,
@@ -134,10 +142,15 @@ fn next_piece<'a>(
         Start::End => Ok(None),
         Start::Closing(_) if around > 0 => Ok(None),
         Start::Closing(_) => Ok(Some(closing(version, text)?)),
-        Start::Opening(inside) => match doubled(version, inside) {
-            Some((byte, rest)) => Ok(Some((Piece::Literal(byte), rest))),
-            None => Ok(Some(bracket(alloc, version, inside, limit, around)?)),
-        },
+        Start::Opening(inside) => {
+            if let Some((component, rest)) = bare(version, inside) {
+                return Ok(Some((Piece::Component(component), rest)));
+            }
+            match doubled(version, inside) {
+                Some((byte, rest)) => Ok(Some((Piece::Literal(byte), rest))),
+                None => Ok(Some(bracket(alloc, version, inside, limit, around)?)),
+            }
+        }
         Start::Backslash(after) => Ok(Some(backslash(version, text, after)?)),
         Start::Other => Ok(Some(run(version, text))),
     }
@@ -156,13 +169,14 @@ pub fn members<'a>(
     ensures members { ReadsMembers version limit around text.now result }
     ensures some { IfErr result (λ _. 0 < length text.now) }
 {
+    let room = if around == 0 { USUAL } else { FEW };
     let mut members = Members::Empty;
     let mut rest = text;
     'pieces: loop {
         let Some((piece, after)) = next_piece(alloc, version, rest, limit, around)? else {
             return Ok((members, rest));
         };
-        members = members.with(alloc, piece.into_description(alloc)?)?;
+        members.add(alloc, piece.into_description(alloc)?, room)?;
         rest = after;
     }
 }
@@ -182,7 +196,8 @@ fn bracket<'a>(
 {
     let start = inside.len() + 1;
     let strict = version.is_strict();
-    let (head, behind) = read_head(strict, inside)?;
+    let mut modifiers = Modifiers::new(strict);
+    let (head, behind) = read_head(strict, inside, &mut modifiers)?;
     let spaced = !head.white.is_empty();
     let remaining = behind.len();
     let mut descriptions = Members::Empty;
@@ -200,7 +215,7 @@ fn bracket<'a>(
                 let Start::Closing(after) = start_of(end) else {
                     return Err(unclosed(start));
                 };
-                descriptions = descriptions.with(alloc, inner.packed(alloc))?;
+                descriptions.add(alloc, inner.packed(alloc), FEW)?;
                 rest = cut(after, Class::White).1;
             }
             Start::Closing(after) => {
@@ -213,11 +228,22 @@ fn bracket<'a>(
                     remaining,
                     members: descriptions,
                 };
-                return Ok((verdict(alloc, strict, &head, nested, span)?, after));
+                return Ok((
+                    verdict(alloc, strict, &head, &modifiers, nested, span)?,
+                    after,
+                ));
             }
             _ => return Err(unclosed(start)),
         }
     }
+}
+
+/// Room for the items of a text of usual length, of which one has three bytes or more on average.
+#[inline(always)]
+fn first_room(text: &str) -> usize
+    ensures { text.now ≡ [] → result ≡ 0 }
+{
+    text.len().div_ceil(4).min(16)
 }
 
 /// The items of a whole text of version 1 or 2.
@@ -231,7 +257,7 @@ pub fn items<'a>(
     ensures items { ReadsItems version limit text.now result }
     ensures some { IfErr result (λ _. 0 < length text.now) }
 {
-    let mut items = Vec::new(alloc);
+    let mut items = Vec::with_capacity(alloc, first_room(text))?;
     let mut rest = text;
     'pieces: loop {
         let Some((piece, after)) = next_piece(alloc, version, rest, limit, 0)? else {

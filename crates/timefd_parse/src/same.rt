@@ -8,9 +8,11 @@ ghost use Rattle.timefd_parse.specs.Bytes as spec;
 pub fn same(strict: bool, word: &str, text: &str) -> bool
     ensures { result ≡ spec.same strict word.now text.now }
 {
-    if strict {
-        word == text
-    } else {
-        word.eq_ignore_ascii_case(text)
+    if word == text {
+        return true;
     }
+    if strict {
+        return false;
+    }
+    word.eq_ignore_ascii_case(text)
 }

@@ -58,6 +58,7 @@ pub struct Settings {
 
 impl Settings {
     /// What holds where no modifier stands. The range of years depends on the version.
+    #[inline(always)]
     pub fn new(strict: bool) -> Self
         ensures { result ≡ spec.defaults strict }
     {
@@ -82,10 +83,10 @@ impl Settings {
         }
     }
 
-    /// With one more setting, which replaces an earlier one.
+    /// Sets one more, which replaces an earlier one.
     #[inline]
-    pub fn with(mut self, setting: Setting) -> Self
-        ensures { result ≡ spec.with self setting }
+    pub fn set(&mut self, setting: Setting)
+        ensures { self.new ≡ spec.with self.old setting }
     {
         match setting {
             Setting::Padding(padding) => self.padding = padding,
@@ -106,7 +107,6 @@ impl Settings {
             Setting::IsoWeekBased(iso_week_based) => self.iso_week_based = iso_week_based,
             Setting::Format(format) => self.format = format,
         }
-        self
     }
 }
 

@@ -78,7 +78,7 @@ fn items<'a>(
     ensures strings { IfOk result (λ items. IsTrue (are_of_strings items.items)) }
     ensures some { IfErr result (λ _. 0 < length text.now) }
 {
-    let mut items = Vec::new(alloc);
+    let mut items = Vec::with_capacity(alloc, first_room(text))?;
     let mut rest = text;
     'items: loop {
         let piece = match start_of(rest) {
@@ -89,6 +89,14 @@ fn items<'a>(
         items.push(piece.0)?;
         rest = piece.1;
     }
+}
+
+/// Room for the items of a text of usual length, of which one has a byte or two.
+#[inline(always)]
+fn first_room(text: &str) -> usize
+    ensures { text.now ≡ [] → result ≡ 0 }
+{
+    text.len().min(16)
 }
 
 /// The literal before the first `%`, and the rest.
@@ -146,6 +154,16 @@ impl<'a, T: Drop> From<AllocFailed<T>> for Failure<'a> {
     ghost from_gives = { λ _ e. e ≡ Memory };
 
     fn from(_error: AllocFailed<T>) -> Failure<'a> {
+        Failure::Memory
+    }
+}
+
+impl<'a> From<AllocError> for Failure<'a> {
+    ghost use Rattle.timefd_parse.specs.declared.strftime.Failure.TheVariants.{Memory};
+
+    ghost from_gives = { λ _ e. e ≡ Memory };
+
+    fn from(_error: AllocError) -> Failure<'a> {
         Failure::Memory
     }
 }

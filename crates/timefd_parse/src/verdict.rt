@@ -1,6 +1,7 @@
 //! What a closed bracket is, or the fault of the first rule that it breaks.
 
 ghost use Rattle.std.specs.Prelude.{ℕ, ◌≡◌, ◌+◌, List, Option, Some, None, IfOk, IsTrue};
+ghost use Rattle.std.specs.Result.{IfErr};
 ghost use Rattle.timefd_items.specs.Modern.{modern};
 ghost use Rattle.timefd_parse.specs.Head as spec;
 ghost use Rattle.timefd_parse.specs.Head.{Placed, placed};
@@ -10,6 +11,7 @@ ghost use Rattle.timefd_parse.specs.Verdict.{Part};
 ghost use Rattle.timefd_parse.specs.declared.name.Name as spec_name;
 ghost use Rattle.timefd_parse.specs.Checked.{Checks, ShowsFault};
 ghost use Rattle.timefd_parse.specs.Heads.{ShowsHead};
+ghost use Rattle.timefd_parse.specs.Invalid.{IsInvalid};
 ghost use Rattle.timefd_parse.specs.Pieces.{AreMembers, IsSound};
 ghost use Rattle.timefd_parse.specs.Judged.{ShowsMembers, ShowsParts, Judged, JudgedComponent, ShowsPlaces, placing};
 
@@ -51,6 +53,7 @@ fn optional<'a>(
     requires { AreMembers nested.members }
     ensures tree { (place : ℕ) (h : spec.Head) (parts : List Part) → Checks strict (Some spec_name.Name.Optional) span.start modifiers.now (placed h) → ShowsParts span.start nested.entry parts → place + span.end ≡ span.start → Judged span.start result (rules.optional_verdict strict h parts place) }
     ensures sound { IfOk result (IsSound strict) }
+    ensures invalid { IfErr result IsInvalid }
 {
     if let Some(fault) = modifiers.fault {
         return Err(ReadError::Invalid(fault));
@@ -137,20 +140,25 @@ fn refused(strict: bool, component: Component, places: &Places) -> Option<Fault<
 }
 
 /// The component of a bracket named for one.
-fn component<'a>(strict: bool, head: &Head<'a>, name: ComponentName) -> Result<Component, Fault<'a>>
-    ensures tree { (total : ℕ) (h : spec.Head) → ShowsHead strict total head.now h → head.now.name ≡ Some (spec_name.Name.Component name) → JudgedComponent total result (rules.component_verdict strict h (Some (row_for name))) }
+fn component<'a>(
+    strict: bool,
+    head: &Head<'a>,
+    modifiers: &Modifiers<'a>,
+    name: ComponentName,
+) -> Result<Component, Fault<'a>>
+    ensures tree { (total : ℕ) (h : spec.Head) → ShowsHead strict total head.now modifiers.now h → head.now.name ≡ Some (spec_name.Name.Component name) → JudgedComponent total result (rules.component_verdict strict h (Some (row_for name))) }
     ensures modern { IfOk result (λ c. modern c ≡ c) }
 {
-    if let Some(fault) = head.modifiers.fault {
+    if let Some(fault) = modifiers.fault {
         return Err(fault);
     }
-    let Some(component) = component_of(name, head.modifiers.settings) else {
+    let Some(component) = component_of(name, modifiers.settings) else {
         return Err(Fault {
             kind: Kind::MissingModifier("count"),
             remaining: head.remaining,
         });
     };
-    match refused(strict, component, &head.modifiers.places) {
+    match refused(strict, component, &modifiers.places) {
         Some(fault) => Err(fault),
         None => Ok(component),
     }
@@ -184,20 +192,23 @@ pub fn verdict<'a>(
     alloc: Global,
     strict: bool,
     head: &Head<'a>,
+    modifiers: &Modifiers<'a>,
     nested: Nested<'a>,
     span: Span,
 ) -> Result<Piece<'a>, ReadError<'a>>
     requires { AreMembers nested.members }
-    ensures tree { (place : ℕ) (h : spec.Head) (parts : List Part) → ShowsHead strict span.start head.now h → ShowsParts span.start nested.entry parts → place + span.end ≡ span.start → Judged span.start result (rules.verdict strict h parts place) }
+    ensures tree { (place : ℕ) (h : spec.Head) (parts : List Part) → ShowsHead strict span.start head.now modifiers.now h → ShowsParts span.start nested.entry parts → place + span.end ≡ span.start → Judged span.start result (rules.verdict strict h parts place) }
     ensures sound { IfOk result (IsSound strict) }
 {
     if let Some(fault) = misplaced(head, &nested, span) {
         return Err(ReadError::Invalid(fault));
     }
     match head.name {
-        Some(Name::Optional) => optional(strict, &head.modifiers, nested, span),
-        Some(Name::First) => first(alloc, strict, &head.modifiers, nested.members, span),
-        Some(Name::Component(name)) => Ok(Piece::Component(component(strict, head, name)?)),
+        Some(Name::Optional) => optional(strict, modifiers, nested, span),
+        Some(Name::First) => first(alloc, strict, modifiers, nested.members, span),
+        Some(Name::Component(name)) => Ok(Piece::Component(component(
+            strict, head, modifiers, name,
+        )?)),
         None => Err(ReadError::Invalid(Fault {
             kind: Kind::InvalidName(head.word),
             remaining: head.remaining,

@@ -6,6 +6,7 @@ ghost use Rattle.std.specs.Str.{IsUtf8};
 ghost use Rattle.timefd_parse.specs.Strftime.{is_plain};
 ghost use Rattle.timefd_parse.specs.StrftimeReading.{BeginsWith, BeginsWithFlag, IsPlainCut};
 
+use crate::text::{NEAR, len_before};
 use timefd_modifier::Padding;
 
 /// What a text begins with.
@@ -26,6 +27,9 @@ fn plain_len(bytes: &[u8]) -> usize
     ensures within { result ≤ length bytes.now }
 {
     for (at, byte) in bytes.iter().enumerate() {
+        if at == NEAR {
+            return at + len_before(&bytes[at..], b'%', b'%', b'%');
+        }
         if *byte == b'%' {
             return at;
         }

@@ -16,7 +16,7 @@ returns-then-is_empty c = λ v limit n none.
     nameless_fault v limit n _ _ _ _ _ _ none c.cut.ensures.parts c.cut-2.ensures.parts (eqb-true _ 0 (sym c.if-is_empty.ensures)) place
 
 pub modifiers-init : goal.modifiers-init
-modifiers-init c = record { text = c.cut-2.ensures.utf8; before = no_modifiers _ _ _ _ c.cut-2.ensures.parts.stops c.new-modifiers.ensures }
+modifiers-init c = record { text = c.cut-2.ensures.utf8; before = no_modifiers _ _ _ _ c.cut-2.ensures.parts.stops c.requires }
 
 pub returns-in_err-modifier : goal.returns-in_err-modifier
 returns-in_err-modifier c =
@@ -29,7 +29,7 @@ pub returns-in_default : goal.returns-in_default
 returns-in_default c =
     let none = subst (ReadsWord c.cut-in-modifiers.result.1.now) c.in_default.is c.in_ok-modifier.ensures in
     let some : 0 < length c.cut-2.result.0.now = omega (arith, false-eqb _ 0 c.if-is_empty.ensures) in (
-      head_found _ _ _ _ _ _ _ _ _ c.cut.ensures.parts c.cut-2.ensures.parts some c.modifiers.invariant.before c.cut-in-modifiers.ensures.parts none refl refl c.name_of-name.ensures,
+      head_found _ _ _ _ _ _ _ _ _ _ c.cut.ensures.parts c.cut-2.ensures.parts some c.modifiers.invariant.before c.cut-in-modifiers.ensures.parts none refl refl c.name_of-name.ensures,
       c.cut-in-modifiers.ensures.utf8,
     )
 

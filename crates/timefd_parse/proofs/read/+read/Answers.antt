@@ -8,38 +8,38 @@ use Rattle.timefd_parse.specs.Judged.{ShowsDescriptions, JudgedFault}
 use Rattle.timefd_parse.specs.Pieces.{piece_tree, members_trees, IsSound}
 use Rattle.timefd_parse.specs.Shown.{IsFaultAt, MemoryOr}
 use Rattle.timefd_parse.specs.Read.{IsFaultIn, IsNext}
-use Rattle.timefd_parse.proofs.ReadLemmas.{Continues, continues_more, items_end, items_fault, memory_or, sound_modern, closing_outside, fault_outside, doubled_leads, utf8_after, cut_shorter, items_shorter}
+use Rattle.timefd_parse.proofs.ReadLemmas.{Continues, continues_more, items_end, items_fault, memory_or, sound_modern, closing_outside, fault_outside, doubled_leads, opening_leads, utf8_after, cut_shorter, items_shorter}
 use Rattle.timefd_parse.proofs.NestedLemmas.{BracketBefore, bracket_begins, behind_within, no_bracket, no_closing, accepted, refuses, never_closed, at_limit, inner_fails, inner_cut_off, one_more}
 use Rattle.timefd_parse.proofs.read.+read.Goals as goal
 
 pub bracket-nested-init : goal.bracket-nested-init
 bracket-nested-init t c =
     let e = c.in_ok-head.ensures in
-    let begins = subst (λ s. BeginsWithHead s (left ∷ c.args.inside.now) c.in_ok-head.head c.in_ok-head.behind.now e.0.0) c.is_strict-strict.ensures e.0.1 in
-    (e.1, behind_within _ _ _ _ _ begins, bracket_begins _ _ _ _ _ _ _ _ begins c.is_empty-spaced.ensures, tt)
+    let begins = subst (λ s. BeginsWithHead s (left ∷ c.args.inside.now) c.in_ok-head.head c.read_head.new.modifiers c.in_ok-head.behind.now e.0.0) c.is_strict-strict.ensures e.0.1 in
+    (e.1, behind_within _ _ _ _ _ _ begins, bracket_begins _ _ _ _ _ _ _ _ _ begins c.is_empty-spaced.ensures, tt)
 
 pub bracket-returns-then-around-limit : goal.bracket-returns-then-around-limit
 bracket-returns-then-around-limit t c =
     memory_or _ (IsFaultAt c.args.version c.args.limit c.args.around (left ∷ c.args.inside.now))
-    (λ f is. at_limit _ _ _ _ _ _ _ _ _ c.nested.invariant.2 f _ c.in-Opening.ensures c.if-around-limit.true is) _ c.too_deep.ensures
+    (λ f is. at_limit _ _ _ _ _ _ _ _ _ _ c.nested.invariant.2 f _ c.in-Opening.ensures c.if-around-limit.true is) _ c.too_deep.ensures.fault
 
 pub bracket-returns-in-Err : goal.bracket-returns-in-Err
 bracket-returns-in-Err t c =
-    inner_fails _ _ _ _ _ _ _ _ _ c.nested.invariant.2 _ _ _ _ (omega arith) c.in-Opening.ensures (omega (arith, c.if-around-limit.false, c.requires)) c.in-Err.ensures.members c.enclosed.ensures
+    inner_fails _ _ _ _ _ _ _ _ _ _ c.nested.invariant.2 _ _ _ _ (omega arith) c.in-Opening.ensures (omega (arith, c.if-around-limit.false, c.requires)) c.in-Err.ensures.members c.enclosed.ensures.fault
 
 pub bracket-returns-in_default-start_of : goal.bracket-returns-in_default-start_of
 bracket-returns-in_default-start_of t c =
-    inner_cut_off _ _ _ _ _ _ _ _ _ c.nested.invariant.2 _ _ _ _ _ (omega arith) c.in-Opening.ensures (omega (arith, c.if-around-limit.false, c.requires)) c.in-Ok.ensures.members.0
-    (no_closing _ _ _ c.start_of-in-Opening.ensures c.in-Ok.ensures.members.0.4 c.in_default-start_of.not-Closing) c.unclosed.ensures
+    inner_cut_off _ _ _ _ _ _ _ _ _ _ c.nested.invariant.2 _ _ _ _ _ (omega arith) c.in-Opening.ensures (omega (arith, c.if-around-limit.false, c.requires)) c.in-Ok.ensures.members.0
+    (no_closing _ _ _ c.start_of-in-Opening.ensures c.in-Ok.ensures.members.0.4 c.in_default-start_of.not-Closing) c.unclosed.ensures.fault
 
 pub bracket-nested-preserved : goal.bracket-nested-preserved
 bracket-nested-preserved t c =
     let lt : c.args.around < c.args.limit = omega (arith, c.if-around-limit.false, c.requires) in (
       c.cut.ensures.utf8,
       omega (arith, c.nested.invariant.1, ap length c.in-Opening.ensures, items_shorter _ _ _ _ _ _ c.in-Ok.ensures.members.0, ap length c.in-Closing-start_of.ensures, cut_shorter _ _ _ _ c.cut.ensures.parts),
-      subst (λ read. BracketBefore c.args.version c.args.limit c.args.around c.args.inside.now c.in_ok-head.head (not c.is_empty-spaced.result) (length c.in_ok-head.behind.now) read c.cut.result.1.now) (sym c.in_ok-descriptions-in-Opening.ensures.trees)
-          (one_more _ _ _ _ _ _ _ _ _ c.nested.invariant.2 _ _ _ _ _ _ _ _ (omega arith) c.in-Opening.ensures lt c.in-Ok.ensures.members.0 c.in-Closing-start_of.ensures c.cut.ensures.parts c.packed.ensures),
-      c.in_ok-descriptions-in-Opening.ensures.count,
+      subst (λ read. BracketBefore c.args.version c.args.limit c.args.around c.args.inside.now c.in_ok-head.head c.read_head.new.modifiers (not c.is_empty-spaced.result) (length c.in_ok-head.behind.now) read c.cut.result.1.now) (sym c.in_ok-add-in-Opening.ensures.trees)
+          (one_more _ _ _ _ _ _ _ _ _ _ c.nested.invariant.2 _ _ _ _ _ _ _ _ (omega arith) c.in-Opening.ensures lt c.in-Ok.ensures.members.0 c.in-Closing-start_of.ensures c.cut.ensures.parts c.packed.ensures),
+      c.in_ok-add-in-Opening.ensures.count,
     )
 
 pub bracket-returns-in_err-verdict-in-Closing : goal.bracket-returns-in_err-verdict-in-Closing
@@ -47,20 +47,20 @@ bracket-returns-in_err-verdict-in-Closing t c =
     let p = err_from_is_err_and c.from_residual-in_err-verdict-in-Closing.result c.from_residual-in_err-verdict-in-Closing.ensures.1 in
     let total : ℕ = length c.args.inside.now + 1 in
     let judged = subst
-    (λ s. (place : ℕ) (h : Head) (parts : List Part) → ShowsHead s total c.in_ok-head.head h → ShowsDescriptions total (not c.is_empty-spaced.result) (length c.in_ok-head.behind.now) (members_trees c.nested.descriptions) parts
+    (λ s. (place : ℕ) (h : Head) (parts : List Part) → ShowsHead s total c.in_ok-head.head c.read_head.new.modifiers h → ShowsDescriptions total (not c.is_empty-spaced.result) (length c.in_ok-head.behind.now) (members_trees c.nested.descriptions) parts
     → place + length c.nested.rest.now ≡ total → MemoryOr (JudgedFault total (verdict s h parts place)) c.in_err-verdict-in-Closing.field-0.0)
     c.is_strict-strict.ensures c.in_err-verdict-in-Closing.ensures.tree in
-    rw (p.1, p.2) (refuses _ _ _ _ _ _ _ _ _ c.nested.invariant.2 _ _ c.in-Closing.ensures judged)
+    rw (p.1, p.2) (refuses _ _ _ _ _ _ _ _ _ _ c.nested.invariant.2 _ _ c.in-Closing.ensures judged)
 
 pub bracket-returns-in-Closing : goal.bracket-returns-in-Closing
 bracket-returns-in-Closing t c =
     let total : ℕ = length c.args.inside.now + 1 in
     let judged = subst
-    (λ s. (place : ℕ) (h : Head) (parts : List Part) → ShowsHead s total c.in_ok-head.head h → ShowsDescriptions total (not c.is_empty-spaced.result) (length c.in_ok-head.behind.now) (members_trees c.nested.descriptions) parts
+    (λ s. (place : ℕ) (h : Head) (parts : List Part) → ShowsHead s total c.in_ok-head.head c.read_head.new.modifiers h → ShowsDescriptions total (not c.is_empty-spaced.result) (length c.in_ok-head.behind.now) (members_trees c.nested.descriptions) parts
     → place + length c.nested.rest.now ≡ total → verdict s h parts place ≡ Ok (piece_tree c.in_ok-verdict-in-Closing.field-0))
     c.is_strict-strict.ensures c.in_ok-verdict-in-Closing.ensures.tree in
     record {
-      leads = accepted _ _ _ _ _ _ _ _ _ c.nested.invariant.2 _ _ c.in-Closing.ensures judged;
+      leads = accepted _ _ _ _ _ _ _ _ _ _ c.nested.invariant.2 _ _ c.in-Closing.ensures judged;
       sound = subst (λ s. IsSound s c.in_ok-verdict-in-Closing.field-0) c.is_strict-strict.ensures c.in_ok-verdict-in-Closing.ensures.sound;
       shorter = omega (arith, c.nested.invariant.1, ap length c.in-Closing.ensures);
       utf8 = utf8_after _ _ _ c.in-Closing.ensures (lit< tt) c.nested.invariant.0;
@@ -68,7 +68,7 @@ bracket-returns-in-Closing t c =
 
 pub bracket-returns-in_default : goal.bracket-returns-in_default
 bracket-returns-in_default t c =
-    never_closed _ _ _ _ _ _ _ _ _ c.nested.invariant.2 _ (no_bracket _ _ c.start_of.ensures c.in_default.not-Opening c.in_default.not-Closing) c.unclosed-in_default.ensures
+    never_closed _ _ _ _ _ _ _ _ _ _ c.nested.invariant.2 _ (no_bracket _ _ c.start_of.ensures c.in_default.not-Opening c.in_default.not-Closing) c.unclosed-in_default.ensures.fault
 
 pub members-returns-in_err-piece : goal.members-returns-in_err-piece
 members-returns-in_err-piece t c =
@@ -93,10 +93,10 @@ members-pieces-preserved t c =
     let next = subst (IsNext c.args.version c.args.limit c.args.around c.pieces.rest.now) c.in-Some.is c.in_ok-piece.ensures.next in (
       next.utf8,
       omega (arith, next.shorter, c.pieces.invariant.1),
-      subst (λ done. Continues c.args.version c.args.limit c.args.around c.args.text.now done c.in-Some.after.now) (sym c.in_ok-members.ensures.trees)
+      subst (λ done. Continues c.args.version c.args.limit c.args.around c.args.text.now done c.in-Some.after.now) (sym c.in_ok-add.ensures.trees)
           (subst (λ tree. Continues c.args.version c.args.limit c.args.around c.args.text.now (members_trees c.pieces.members ++ tree ∷ []) c.in-Some.after.now) (sym c.in_ok-into_description.ensures)
           (continues_more _ _ _ _ _ _ _ _ c.pieces.invariant.2 next.leads)),
-      c.in_ok-members.ensures.count,
+      c.in_ok-add.ensures.count,
     )
 
 pub next_piece-returns-in_err-closing-in-Closing-2 : goal.next_piece-returns-in_err-closing-in-Closing-2
@@ -114,8 +114,11 @@ next_piece-returns-in_ok-closing-in-Closing-2 t c = record {
 }
 
 pub next_piece-returns-in-Some : goal.next_piece-returns-in-Some
-next_piece-returns-in-Some t c =
-    let e = c.in-Some.ensures in record { next = doubled_leads _ _ _ _ _ _ _ e.0 e.1 c.in-Opening.ensures e.2 e.3; some = tt }
+next_piece-returns-in-Some t c = record { next = opening_leads _ _ _ _ _ _ _ c.in-Opening.ensures (c.in-Some.ensures c.args.limit c.args.around); some = tt }
+
+pub next_piece-returns-in-Some-doubled : goal.next_piece-returns-in-Some-doubled
+next_piece-returns-in-Some-doubled t c =
+    let e = c.in-Some-doubled.ensures in record { next = doubled_leads _ _ _ _ _ _ _ e.0 e.1 c.in-Opening.ensures e.2 e.3; some = tt }
 
 pub next_piece-returns-in_ok-backslash-in-Backslash : goal.next_piece-returns-in_ok-backslash-in-Backslash
 next_piece-returns-in_ok-backslash-in-Backslash t c = record { next = c.in_ok-backslash-in-Backslash.ensures c.args.limit c.args.around; some = tt }

@@ -18,7 +18,7 @@ decreases-members l = 2 * length l.text.now + 1
 -- the head, and the nested descriptions so far
 abbrev pub invariant-bracket-nested : goal.invariant-bracket-nested
 invariant-bracket-nested l =
-    shadow (Utf8 l.rest) × (length l.rest ≤ length l.inside) × BracketBefore l.version l.limit l.around l.inside l.head l.spaced l.remaining (members_trees l.descriptions) l.rest × AreMembers l.descriptions
+    shadow (Utf8 l.rest) × (length l.rest ≤ length l.inside) × BracketBefore l.version l.limit l.around l.inside l.head l.modifiers l.spaced l.remaining (members_trees l.descriptions) l.rest × AreMembers l.descriptions
 
 abbrev pub decreases-bracket-nested : goal.decreases-bracket-nested
 decreases-bracket-nested l = length l.rest

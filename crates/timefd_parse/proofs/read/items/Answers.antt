@@ -10,7 +10,7 @@ use Rattle.timefd_parse.proofs.read.items.Goals as goal
 
 pub returns-in_err-piece : goal.returns-in_err-piece
 returns-in_err-piece c =
-    let p = err_from_is_err_and c.from_residual.result c.from_residual.ensures.1 in
+    let p = err_from_is_err_and c.from_residual-in_err-piece.result c.from_residual-in_err-piece.ensures.1 in
     rw (p.1, p.2) (record {
       items = memory_or _ (IsFaultIn c.args.version c.args.limit 0 c.args.text.now) (λ f is. items_fault _ _ _ _ c.pieces.rest.now _ f c.pieces.invariant.before is) c.in_err-piece.field-0.0 c.in_err-piece.ensures.next;
       some = omega (arith, c.in_err-piece.ensures.some, c.pieces.invariant.within);

@@ -14,7 +14,7 @@ returns-in-End-clause-found c = all_read _ _ _ c.items.invariant.2 c.in-End.ensu
 
 pub returns-in_err-piece-in-Percent-clause-flaw : goal.returns-in_err-piece-in-Percent-clause-flaw
 returns-in_err-piece-in-Percent-clause-flaw c =
-    let p = err_from_is_err_and c.from_residual.result c.from_residual.ensures.1 in
+    let p = err_from_is_err_and c.from_residual-in_err-piece-in-Percent.result c.from_residual-in_err-piece-in-Percent.ensures.1 in
     rw (p.1, p.2)
     (flaw_behind _ c.items.rest.now _ _ c.items.invariant.2
     (subst (λ (t : Text). IsFlawAt t c.in_err-piece-in-Percent.field-0.0) (sym c.in-Percent.ensures) c.in_err-piece-in-Percent.ensures.item))
