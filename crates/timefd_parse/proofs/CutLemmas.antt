@@ -9,9 +9,10 @@ use Rattle.memchr.specs.Find.{IsFirstByte}
 use Rattle.std.specs.Str.{IsCharBoundary}
 use Rattle.timefd_parse.specs.declared.description_version.DescriptionVersion.TheVariants.{One, Three}
 use Rattle.timefd_parse.specs.declared.text.Class.{Class}
-use Rattle.timefd_parse.specs.declared.text.Class.TheVariants.{White, Word, Key, Run, RunWithBackslash}
+use Rattle.timefd_parse.specs.declared.text.Class.TheVariants.{White, Word, Key, Run, RunWithBackslash, Plain}
 use Rattle.timefd_items.specs.Tree.{Text}
 use Rattle.timefd_parse.specs.Bytes.{is_white, is_special, is_word_byte, is_key_byte, is_run_byte, ZeroOrMore, StopsBefore}
+use Rattle.timefd_parse.specs.Strftime.{is_plain}
 use Rattle.timefd_parse.specs.Cut.{class_test, IsCut}
 
 after_ascii_run : (p : ℕ → Bool) (bs : List ℕ) (n : ℕ) → prefix_len p bs ≡ n → IsUtf8 bs → ((c : ℕ) → p c ≡ true → c < 128) → IsCharBoundary bs n
@@ -37,6 +38,7 @@ boundary Word bs utf8 = wide_run is_word_byte bs (λ c e. grind (arith, nat_test
 boundary Key bs utf8 = wide_run is_key_byte bs (λ c e. grind (arith, nat_tests))
 boundary Run bs utf8 = wide_run (is_run_byte Three) bs (λ c e. grind (arith, nat_tests))
 boundary RunWithBackslash bs utf8 = wide_run (is_run_byte One) bs (λ c e. grind (arith, nat_tests))
+boundary Plain bs utf8 = wide_run is_plain bs (λ c e. grind (arith, nat_tests))
 
 front_passes : (p : ℕ → Bool) (bs : Text) → ZeroOrMore p (take (prefix_len p bs) bs)
 front_passes p [] = refl

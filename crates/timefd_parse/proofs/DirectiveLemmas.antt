@@ -18,7 +18,8 @@ use Rattle.timefd_parse.specs.Strings.{is_of_strings, are_of_strings}
 use Rattle.timefd_parse.specs.Laws.{HasOneStrftimeAnswer}
 use Rattle.timefd_parse.specs.declared.strftime.directive.PlacedFlaw.{PlacedFlaw}
 use Rattle.timefd_parse.specs.Fault.{raised, expected_escape}
-use Rattle.timefd_parse.specs.StrftimeReading.{IsPlainCut, MayFollow, BeginsWithFlag, Leads, kind_of, IsFault, IsFlawAt, IsFlawIn, IsRestOf}
+use Rattle.timefd_parse.specs.Cut.{IsCut}
+use Rattle.timefd_parse.specs.StrftimeReading.{MayFollow, BeginsWithFlag, Leads, kind_of, IsFault, IsFlawAt, IsFlawIn, IsRestOf}
 use Rattle.timefd_parse.proofs.StrftimeReader.{directive_regrouped, begins_no_plain, strftime_one_answer_law}
 
 pub ascii_below : (b : ℕ) → is_ascii b ≡ true → b < 128
@@ -68,11 +69,11 @@ directive_cut_short behind rest padding flaw h none kind place = (
 
 -- Runs.
 
-run_some : (text front rest : Text) (b : ℕ) (more : Text) → IsPlainCut text front rest → text ≡ b ∷ more → IsTrue (is_plain b) → OneOrMore is_plain front
+run_some : (text front rest : Text) (b : ℕ) (more : Text) → IsCut is_plain text front rest → text ≡ b ∷ more → IsTrue (is_plain b) → OneOrMore is_plain front
 run_some text [] rest b more is e passes = absurd (both_ways (is_plain b) (subst (StopsBefore is_plain) (sym is.whole ∙ e) is.stops) passes)
 run_some text (c ∷ front) rest b more is e passes = is.passes
 
-pub run_leads : (text front rest : Text) (b : ℕ) (more : Text) → IsPlainCut text front rest → text ≡ b ∷ more → IsTrue (is_plain b) → Leads text (literal front) rest
+pub run_leads : (text front rest : Text) (b : ℕ) (more : Text) → IsCut is_plain text front rest → text ≡ b ∷ more → IsTrue (is_plain b) → Leads text (literal front) rest
 run_leads text bytes rest b more is e passes = λ front tail are f. (
   plain bytes front,
   (run_some text bytes rest b more is e passes, begins_no_plain front tail are (subst (StopsBefore is_plain) f is.stops), are),

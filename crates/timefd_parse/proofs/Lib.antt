@@ -16,7 +16,6 @@ pub mod StartFound
 pub mod LawLemmas
 pub mod Join
 pub mod StrftimeReader
-pub mod PlainCut
 pub mod DirectiveLemmas
 pub mod Limits
 pub mod Lift

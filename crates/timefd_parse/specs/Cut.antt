@@ -2,10 +2,11 @@
 use Rattle.std.specs.Prelude.{ℕ, ◌≡◌, Bool, [], ◌∷◌, ◌++◌, IsTrue}
 use Rattle.timefd_parse.specs.declared.description_version.DescriptionVersion.TheVariants.{One, Three}
 use Rattle.timefd_parse.specs.declared.text.Class.{Class}
-use Rattle.timefd_parse.specs.declared.text.Class.TheVariants.{White, Word, Key, Run, RunWithBackslash}
+use Rattle.timefd_parse.specs.declared.text.Class.TheVariants.{White, Word, Key, Run, RunWithBackslash, Plain}
 use Rattle.timefd_parse.specs.declared.text.Start.{Start}
 use Rattle.timefd_parse.specs.declared.text.Start.TheVariants.{End, Opening, Closing, Backslash, Other}
 use Rattle.timefd_items.specs.Tree.{Text}
+use Rattle.timefd_parse.specs.Strftime.{is_plain}
 use Rattle.timefd_parse.specs.Bytes.{left, right, backslash, is_white, is_word_byte, is_key_byte, is_run_byte, ZeroOrMore, StopsBefore}
 
 abbrev pub class_test : Class → ℕ → Bool
@@ -14,6 +15,7 @@ class_test Word = is_word_byte
 class_test Key = is_key_byte
 class_test Run = is_run_byte Three
 class_test RunWithBackslash = is_run_byte One
+class_test Plain = is_plain
 
 -- the text is cut behind its longest front whose bytes pass
 pub record IsCut (test : ℕ → Bool) (text front rest : Text) : Type 0 where

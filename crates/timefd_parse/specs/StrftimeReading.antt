@@ -14,19 +14,13 @@ use Rattle.timefd_parse.specs.declared.strftime.directive.Flaw.TheVariants.{CutS
 use Rattle.timefd_parse.specs.declared.strftime.directive.PlacedFlaw.{PlacedFlaw}
 use Rattle.timefd_parse.specs.declared.strftime.Failure.{Failure}
 use Rattle.timefd_parse.specs.declared.strftime.Failure.TheVariants.{Flawed, Memory}
-use Rattle.timefd_parse.specs.Bytes.{ZeroOrMore, StopsBefore}
+use Rattle.timefd_parse.specs.Bytes.{StopsBefore}
 use Rattle.timefd_parse.specs.Fault.{expected_escape}
 use Rattle.timefd_parse.specs.Letters.{Flag, unflagged, flagged}
 use Rattle.timefd_parse.specs.LetterMeaning.{flag_padding}
 use Rattle.timefd_parse.specs.Strftime.{percent, is_flag, is_plain, flag_text, IsFlag, Directives, AreDirectives, directives_text, directive_items, IllDirective, ill_text, ill_fault, IsIll}
 
 -- Steps.
-
--- the text is cut before its first `%`
-pub record IsPlainCut (text front rest : Text) : Type 0 where
-  pub whole : text ≡ front ++ rest
-  pub passes : ZeroOrMore is_plain front
-  pub stops : StopsBefore is_plain rest
 
 abbrev pub BeginsWith : Start → Text → Type 0
 BeginsWith End text = text ≡ []

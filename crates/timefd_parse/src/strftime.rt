@@ -19,11 +19,12 @@ mod tables;
 mod text;
 
 use crate::parsing::ParseError;
+use crate::text::{Class, cut};
 use directive::{Flaw, PlacedFlaw, directive};
 use item::literal_item;
 use std::alloc::{AllocError, AllocFailed, Global};
 pub use tables::StrftimeTables;
-use text::{Start, cut_plain, start_of};
+use text::{Start, start_of};
 use timefd_items::{BorrowedFormatItem, InvalidFormatDescription};
 
 /// Why a text was not read.
@@ -107,7 +108,7 @@ fn run<'a>(text: &'a str) -> (BorrowedFormatItem<'a>, &'a str)
     ensures rest { IsRestOf text.now result.1.now }
     ensures strings { IsTrue (is_of_strings result.0) }
 {
-    let (front, rest) = cut_plain(text);
+    let (front, rest) = cut(text, Class::Plain);
     (literal_item(front), rest)
 }
 

@@ -24,6 +24,8 @@ pub enum Class {
     Run,
     /// Bytes of a literal in version 1, where a backslash stands for itself.
     RunWithBackslash,
+    /// Bytes of a literal of strftime.
+    Plain,
 }
 
 /// What a text begins with, and what follows it.
@@ -60,14 +62,15 @@ fn is_in(class: Class, byte: u8) -> bool
         Class::Key => byte != b':' && !is_special(byte) && !is_white(byte),
         Class::Run => !is_special(byte),
         Class::RunWithBackslash => !is_special(byte) || byte == b'\\',
+        Class::Plain => byte != b'%',
     }
 }
 
-/// How many bytes one looks at singly: longer stretches are literals.
-pub const NEAR: usize = 8;
+/// How many bytes are looked at one by one: a stretch that is longer is a literal.
+const NEAR: usize = 8;
 
 /// How many bytes stand before the first of these three, where many are looked at at once.
-pub fn len_before(bytes: &[u8], first: u8, second: u8, third: u8) -> usize
+fn len_before(bytes: &[u8], first: u8, second: u8, third: u8) -> usize
     ensures len { (test : ℕ → Bool) → ((b : ℕ) → test b ≡ not (is_byte3 first second third b)) → result ≡ prefix_len test bytes.now }
     ensures within { result ≤ length bytes.now }
 {
@@ -85,6 +88,7 @@ fn literal_len(bytes: &[u8], class: Class) -> Option<usize>
     match class {
         Class::Run => Some(len_before(bytes, b'[', b']', b'\\')),
         Class::RunWithBackslash => Some(len_before(bytes, b'[', b']', b'[')),
+        Class::Plain => Some(len_before(bytes, b'%', b'%', b'%')),
         Class::White | Class::Word | Class::Key => None,
     }
 }
@@ -131,10 +135,11 @@ pub fn cut_run(version: DescriptionVersion, text: &str) -> (&str, &str)
 
 /// What follows the first byte, which is ASCII.
 #[inline(always)]
-fn tail(text: &str) -> &str
+pub fn tail(text: &str) -> &str
     requires there { 0 < length text.now }
     requires ascii { slice_index text.now 0 < 128 }
-    ensures { text.now ≡ slice_index text.now 0 ∷ result.now }
+    ensures rest { text.now ≡ slice_index text.now 0 ∷ result.now }
+    ensures utf8 { IsUtf8 result.now }
 {
     &text[1..]
 }

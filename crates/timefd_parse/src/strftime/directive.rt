@@ -11,7 +11,8 @@ ghost use Rattle.timefd_parse.specs.Strings.{is_of_strings};
 use crate::strftime::item::{component_item, compound_item, literal_item};
 use crate::strftime::letter::{Letter, letter_of, padded};
 use crate::strftime::tables::StrftimeTables;
-use crate::strftime::text::{cut_flag, tail};
+use crate::strftime::text::cut_flag;
+use crate::text::tail;
 use timefd_items::BorrowedFormatItem;
 use timefd_modifier::Padding;
 
