@@ -1,5 +1,5 @@
 #!/bin/sh
-# Builds the static library, links a C and a Rust program with it, and compares what they print with expected.txt.
+# Builds the static library, links the C and the Rust programs with it, and compares what they print with what they have to.
 set -eu
 
 cd "$(dirname "$0")"
@@ -13,17 +13,22 @@ fail() {
     exit 1
 }
 
+# Builds c/NAME.c and rust/NAME.rs, and compares what both print with a file.
+build_and_compare() {
+    cc -std=c11 -Wall -Wextra -Werror -O2 -o "out/$1_c" "c/$1.c" "$library" "$libc"
+    rustc --edition 2024 -D warnings -O -o "out/$1_rust" "rust/$1.rs" \
+        -C link-arg="$library" -C link-arg="$libc"
+    compare "$1_c" "$2"
+    compare "$1_rust" "$2"
+}
+
 compare() {
     "out/$1" > "out/$1.txt" || fail "out/$1 ended with status $?"
-    diff -u expected.txt "out/$1.txt" || fail "out/$1 printed something else than expected.txt"
+    diff -u "$2" "out/$1.txt" || fail "out/$1 printed something else than $2"
     echo "run.sh: out/$1 printed what is expected"
 }
 
 (cd ../crates/timefd_c && rt lib) || fail "the library was not built"
 
-cc -std=c11 -Wall -Wextra -Werror -O2 -o out/check_c c/check.c "$library" "$libc"
-rustc --edition 2024 -D warnings -O -o out/check_rust rust/check.rs \
-    -C link-arg="$library" -C link-arg="$libc"
-
-compare check_c
-compare check_rust
+build_and_compare first expected_first.txt
+build_and_compare check expected.txt

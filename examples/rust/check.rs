@@ -1,58 +1,6 @@
 //! Prints what a few texts are. `../run.sh` builds and runs it.
 
-mod timefd {
-    //! The static library, in safe words. `../timefd.h` says what each number means.
-
-    pub const VERSION_1: u32 = 1;
-    pub const VERSION_2: u32 = 2;
-    pub const VERSION_3: u32 = 3;
-    pub const STRFTIME: u32 = 4;
-
-    pub const ACCEPTED: u32 = 0;
-    pub const REFUSED: u32 = 1;
-    pub const NOT_UTF8: u32 = 2;
-    pub const NO_MEMORY: u32 = 3;
-
-    #[repr(C)]
-    pub struct Answer {
-        pub status: u32,
-        pub value: usize,
-        pub sentence_len: usize,
-        pub written: usize,
-    }
-
-    unsafe extern "C" {
-        fn timefd_judge(kind: u32, text: *const u8, len: usize) -> Answer;
-        fn timefd_check(
-            kind: u32,
-            text: *const u8,
-            len: usize,
-            sentence: *mut u8,
-            room: usize,
-        ) -> Answer;
-    }
-
-    /// What the bytes are in a language.
-    pub fn judge(kind: u32, text: &[u8]) -> Answer {
-        // SAFETY: the pointer and the length are those of a slice that is borrowed for the call.
-        unsafe { timefd_judge(kind, text.as_ptr(), text.len()) }
-    }
-
-    /// The same, with the front of the sentence of the fault in the buffer.
-    pub fn check(kind: u32, text: &[u8], sentence: &mut [u8]) -> Answer {
-        // SAFETY: these are the pointers and lengths of two slices that are borrowed for the call, and the second is
-        // borrowed by nobody else.
-        unsafe {
-            timefd_check(
-                kind,
-                text.as_ptr(),
-                text.len(),
-                sentence.as_mut_ptr(),
-                sentence.len(),
-            )
-        }
-    }
-}
+mod timefd;
 
 use timefd::{STRFTIME, VERSION_1, VERSION_2, VERSION_3};
 
