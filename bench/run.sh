@@ -1,6 +1,6 @@
 #!/bin/sh
 # Builds the static library and times its readers, beside the crates `time` and `chrono` where Debian's packages of them
-# are installed. It takes about twenty seconds of samples; with `--quick` about two, which are less exact.
+# are installed. It takes samples for 16 seconds; with `--quick` for 1.5, which are less exact.
 set -eu
 cd "$(dirname "$0")/.."
 
