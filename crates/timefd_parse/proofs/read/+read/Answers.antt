@@ -16,20 +16,20 @@ pub bracket-nested-init : goal.bracket-nested-init
 bracket-nested-init t c =
     let e = c.in_ok-head.ensures in
     let begins = subst (λ s. BeginsWithHead s (left ∷ c.args.inside.now) c.in_ok-head.head c.read_head.new.modifiers c.in_ok-head.behind.now e.0.0) c.is_strict-strict.ensures e.0.1 in
-    (e.1, behind_within _ _ _ _ _ _ begins, bracket_begins _ _ _ _ _ _ _ _ _ begins c.is_empty-spaced.ensures, tt)
+    (e.1, behind_within begins, bracket_begins begins c.is_empty-spaced.ensures, tt)
 
 pub bracket-returns-then-around-limit : goal.bracket-returns-then-around-limit
 bracket-returns-then-around-limit t c =
     memory_or _ (IsFaultAt c.args.version c.args.limit c.args.around (left ∷ c.args.inside.now))
-    (λ f is. at_limit _ _ _ _ _ _ _ _ _ _ c.nested.invariant.2 f _ c.in-Opening.ensures c.if-around-limit.true is) _ c.too_deep.ensures.fault
+    (λ f is. at_limit c.nested.invariant.2 f _ c.in-Opening.ensures c.if-around-limit.true is) _ c.too_deep.ensures.fault
 
 pub bracket-returns-in-Err : goal.bracket-returns-in-Err
 bracket-returns-in-Err t c =
-    inner_fails _ _ _ _ _ _ _ _ _ _ c.nested.invariant.2 _ _ _ _ (omega arith) c.in-Opening.ensures (omega (arith, c.if-around-limit.false, c.requires)) c.in-Err.ensures.members c.enclosed.ensures.fault
+    inner_fails c.nested.invariant.2 _ _ _ _ (omega arith) c.in-Opening.ensures (omega (arith, c.if-around-limit.false, c.requires)) c.in-Err.ensures.members c.enclosed.ensures.fault
 
 pub bracket-returns-in_default-start_of : goal.bracket-returns-in_default-start_of
 bracket-returns-in_default-start_of t c =
-    inner_cut_off _ _ _ _ _ _ _ _ _ _ c.nested.invariant.2 _ _ _ _ _ (omega arith) c.in-Opening.ensures (omega (arith, c.if-around-limit.false, c.requires)) c.in-Ok.ensures.members.0
+    inner_cut_off c.nested.invariant.2 _ _ _ _ _ (omega arith) c.in-Opening.ensures (omega (arith, c.if-around-limit.false, c.requires)) c.in-Ok.ensures.members.0
     (no_closing _ _ _ c.start_of-in-Opening.ensures c.in-Ok.ensures.members.0.4 c.in_default-start_of.not-Closing) c.unclosed.ensures.fault
 
 pub bracket-nested-preserved : goal.bracket-nested-preserved
@@ -38,7 +38,7 @@ bracket-nested-preserved t c =
       c.cut.ensures.utf8,
       omega (arith, c.nested.invariant.1, ap length c.in-Opening.ensures, items_shorter _ _ _ _ _ _ c.in-Ok.ensures.members.0, ap length c.in-Closing-start_of.ensures, cut_shorter _ _ _ _ c.cut.ensures.parts),
       subst (λ read. BracketBefore c.args.version c.args.limit c.args.around c.args.inside.now c.in_ok-head.head c.read_head.new.modifiers (not c.is_empty-spaced.result) (length c.in_ok-head.behind.now) read c.cut.result.1.now) (sym c.in_ok-add-in-Opening.ensures.trees)
-          (one_more _ _ _ _ _ _ _ _ _ _ c.nested.invariant.2 _ _ _ _ _ _ _ _ (omega arith) c.in-Opening.ensures lt c.in-Ok.ensures.members.0 c.in-Closing-start_of.ensures c.cut.ensures.parts c.packed.ensures),
+          (one_more c.nested.invariant.2 _ _ _ _ _ _ _ _ (omega arith) c.in-Opening.ensures lt c.in-Ok.ensures.members.0 c.in-Closing-start_of.ensures c.cut.ensures.parts c.packed.ensures),
       c.in_ok-add-in-Opening.ensures.count,
     )
 
@@ -50,7 +50,7 @@ bracket-returns-in_err-verdict-in-Closing t c =
     (λ s. (place : ℕ) (h : Head) (parts : List Part) → ShowsHead s total c.in_ok-head.head c.read_head.new.modifiers h → ShowsDescriptions total (not c.is_empty-spaced.result) (length c.in_ok-head.behind.now) (members_trees c.nested.descriptions) parts
     → place + length c.nested.rest.now ≡ total → MemoryOr (JudgedFault total (verdict s h parts place)) c.in_err-verdict-in-Closing.field-0.0)
     c.is_strict-strict.ensures c.in_err-verdict-in-Closing.ensures.tree in
-    rw (p.1, p.2) (refuses _ _ _ _ _ _ _ _ _ _ c.nested.invariant.2 _ _ c.in-Closing.ensures judged)
+    rw (p.1, p.2) (refuses c.nested.invariant.2 _ _ c.in-Closing.ensures judged)
 
 pub bracket-returns-in-Closing : goal.bracket-returns-in-Closing
 bracket-returns-in-Closing t c =
@@ -60,7 +60,7 @@ bracket-returns-in-Closing t c =
     → place + length c.nested.rest.now ≡ total → verdict s h parts place ≡ Ok (piece_tree c.in_ok-verdict-in-Closing.field-0))
     c.is_strict-strict.ensures c.in_ok-verdict-in-Closing.ensures.tree in
     record {
-      leads = accepted _ _ _ _ _ _ _ _ _ _ c.nested.invariant.2 _ _ c.in-Closing.ensures judged;
+      leads = accepted c.nested.invariant.2 _ _ c.in-Closing.ensures judged;
       sound = subst (λ s. IsSound s c.in_ok-verdict-in-Closing.field-0) c.is_strict-strict.ensures c.in_ok-verdict-in-Closing.ensures.sound;
       shorter = omega (arith, c.nested.invariant.1, ap length c.in-Closing.ensures);
       utf8 = utf8_after _ _ _ c.in-Closing.ensures (lit< tt) c.nested.invariant.0;
@@ -68,7 +68,7 @@ bracket-returns-in-Closing t c =
 
 pub bracket-returns-in_default : goal.bracket-returns-in_default
 bracket-returns-in_default t c =
-    never_closed _ _ _ _ _ _ _ _ _ _ c.nested.invariant.2 _ (no_bracket _ _ c.start_of.ensures c.in_default.not-Opening c.in_default.not-Closing) c.unclosed-in_default.ensures.fault
+    never_closed c.nested.invariant.2 _ (no_bracket _ _ c.start_of.ensures c.in_default.not-Opening c.in_default.not-Closing) c.unclosed-in_default.ensures.fault
 
 pub members-returns-in_err-piece : goal.members-returns-in_err-piece
 members-returns-in_err-piece t c =
