@@ -1,5 +1,5 @@
 -- Nested descriptions, read one at a time, and the bracket around them.
-use Rattle.std.proofs.Common.{◌≡◌, ℕ, suc, ◌+◌, ◌<◌, ◌≤◌, Bool, false, not, ◌==◌, List, [], ◌∷◌, ◌++◌, length, map, Ok, Err, IsTrue, refl, sym, ap, ◌∙◌, subst, arith, append_assoc, append-nil, length-append}
+use Rattle.std.proofs.Common.{inl, inr, ◌≡◌, ℕ, suc, ◌+◌, ◌<◌, ◌≤◌, Bool, false, not, ◌==◌, List, [], ◌∷◌, ◌++◌, length, map, Ok, Err, IsTrue, refl, sym, ap, ◌∙◌, subst, arith, append_assoc, append-nil, length-append}
 use Rattle.std.proofs.lemmas.List.{map-append}
 use Rattle.std.proofs.lemmas.Bool.{true≢false}
 use Rattle.std.proofs.lemmas.Bool.Decides.{nat_tests}
@@ -25,7 +25,7 @@ use Rattle.timefd_parse.specs.Cut.{IsCut, BeginsWith}
 use Rattle.timefd_parse.specs.Shown.{IsFault, IsFaultAt, MemoryOr}
 use Rattle.timefd_parse.specs.Heads.{ShowsHead, BeginsWithHead}
 use Rattle.timefd_parse.specs.Judged.{ShowsDescriptions}
-use Rattle.timefd_parse.specs.Read.{Leads, IsFaultIn, IsEnd, AreItems, IsEnclosed}
+use Rattle.timefd_parse.specs.Read.{Leads, IsFaultIn, IsEnd, AreItems, IsEnclosed, IsNested, IsNestedFault}
 use Rattle.timefd_parse.proofs.ReadLemmas.{memory_or}
 
 add : Nested → Text → Pieces → Nested
@@ -127,6 +127,37 @@ nested_step v limit n start spaced remaining read rest text after white' rest' f
       (shows_more total spaced remaining read (parts_from k before.list) inner (part (k + length (nested_text before.list)) before.white front) (before.shows k total f)
       (first_place k total spaced remaining before.list before.white front rest before.first (ap (λ t. k + length t) (sym before.whole) ∙ f)) tree);
 }
+
+-- A nested description, from what the calls ensure.
+
+module _ (v : DescriptionVersion) (limit n start : ℕ) (text : Text) where
+  pub at_limit : (e : ReadError) → n ≡ limit → MemoryOr (λ f. IsFault (length text + 1) f (fault too_highly_nested 0)) e → MemoryOr (IsNestedFault v limit n start text) e
+  at_limit e at is = memory_or _ (IsNestedFault v limit n start text) (λ f d. inl (at, d)) e is
+
+  pub inner_fails : (m : ℕ) (e r : ReadError) → m ≡ suc n → n < limit → MemoryOr (IsFaultIn v limit m text) e → IsEnclosed start e r → MemoryOr (IsNestedFault v limit n start text) r
+  inner_fails m errors.Memory r more lt is enclosing = subst (MemoryOr (IsNestedFault v limit n start text)) (sym enclosing) tt
+  inner_fails m (errors.Invalid f) r more lt is enclosing =
+      let in_suc : IsFaultIn v limit (suc n) text f = subst (λ k. IsFaultIn v limit k text f) more is in
+      memory_or _ (IsNestedFault v limit n start text)
+      (λ f' raise. inr (inr (in_suc.0, in_suc.1, lt, in_suc.2, in_suc.3, in_suc.4, λ k e. raise (broken_fault in_suc.1) (length (broken_text in_suc.1)) k in_suc.5 e)))
+      r enclosing
+
+  pub inner_cut_off : (m : ℕ) (inner : List Tree) (end : Text) (e : ReadError) → m ≡ suc n → n < limit → AreItems v limit m text inner end → end ≡ []
+      → MemoryOr (λ f. IsFault start f (fault unclosed_bracket 0)) e → MemoryOr (IsNestedFault v limit n start text) e
+  inner_cut_off m inner end e more lt is none at_start =
+      let in_suc : AreItems v limit (suc n) text inner end = subst (λ k. AreItems v limit k text inner end) more is in
+      memory_or _ (IsNestedFault v limit n start text)
+      (λ f c. inr (inl (in_suc.0, lt, in_suc.1, in_suc.2 ∙ ap (λ t. spelling in_suc.0 ++ t) none ∙ append-nil (spelling in_suc.0), c)))
+      e at_start
+
+module _ {v : DescriptionVersion} {limit n : ℕ} {text : Text} where
+  pub inner_read : (m : ℕ) (inner : List Tree) (end after : Text) (tree : Tree) → m ≡ suc n → n < limit → AreItems v limit m text inner end → end ≡ right ∷ after → tree ≡ pack inner → IsNested v limit n text tree after
+  inner_read m inner end after tree more lt is closing packed =
+      let in_suc : AreItems v limit (suc n) text inner end = subst (λ k. AreItems v limit k text inner end) more is in
+      (in_suc.0, lt, in_suc.1, in_suc.2 ∙ ap (λ t. spelling in_suc.0 ++ t) closing, packed ∙ ap pack (sym in_suc.3))
+
+  pub nested_shorter : (tree : Tree) (after : Text) → IsNested v limit n text tree after → length after < length text
+  nested_shorter tree after is = omega (arith, ap length is.3, length-append (spelling is.0) (right ∷ after))
 
 -- Brackets.
 
@@ -284,37 +315,23 @@ module _ {v : DescriptionVersion} {limit n : ℕ} {inside : Text} {head : code_h
   pub never_closed : (e : ReadError) → StopsBefore is_bracket_byte rest → MemoryOr (λ f. IsFault (length inside + 1) f (fault unclosed_bracket 0)) e → MemoryOr (IsFaultAt v limit n (left ∷ inside)) e
   never_closed e stops = memory_or _ (IsFaultAt v limit n (left ∷ inside)) (λ f is. bracket_unclosed f stops is) e
 
-  pub at_limit : (f : code_fault.Fault) (text : Text) → rest ≡ left ∷ text → n ≡ limit → IsFault (length rest) f (fault too_highly_nested 0) → IsFaultAt v limit n (left ∷ inside) f
-  at_limit = bracket_too_deep
+  pub nested_fault : (text : Text) (e : ReadError) → rest ≡ left ∷ text → MemoryOr (IsNestedFault v limit n (length inside + 1) text) e → MemoryOr (IsFaultAt v limit n (left ∷ inside)) e
+  nested_fault text e opening is = memory_or _ (IsFaultAt v limit n (left ∷ inside)) by e is
+    where
+      by : (f : code_fault.Fault) → IsNestedFault v limit n (length inside + 1) text f → IsFaultAt v limit n (left ∷ inside) f
+      by f (inl d) =
+          let whole_rest : length text + 1 ≡ length rest = omega (arith, ap length opening) in
+          bracket_too_deep f text opening d.0 (subst (λ k. IsFault k f (fault too_highly_nested 0)) whole_rest d.1)
+      by f (inr (inl c)) = bracket_cut_off f text c.0 opening c.1 c.2 c.3 c.4
+      by f (inr (inr k)) =
+          bracket_broken f text k.0 k.1 opening k.2 k.3 k.4 k.5
+          (k.6 (length (before_inner b.h b.before.list b.before.white ++ spelling k.0)) (inner_place text k.0 k.1 opening k.5))
 
-  pub inner_fails : (m : ℕ) (text : Text) (e r : ReadError) → m ≡ suc n → rest ≡ left ∷ text → n < limit → MemoryOr (IsFaultIn v limit m text) e → IsEnclosed (length inside + 1) e r → MemoryOr (IsFaultAt v limit n (left ∷ inside)) r
-  inner_fails m text errors.Memory r more opening lt is enclosing = subst (MemoryOr (IsFaultAt v limit n (left ∷ inside))) (sym enclosing) tt
-  inner_fails m text (errors.Invalid f) r more opening lt is enclosing =
-      let in_suc : IsFaultIn v limit (suc n) text f = subst (λ k. IsFaultIn v limit k text f) more is in
-      memory_or _ (IsFaultAt v limit n (left ∷ inside))
-      (λ f' raise. bracket_broken f' text in_suc.0 in_suc.1 opening lt in_suc.2 in_suc.3 in_suc.4
-      (raise (broken_fault in_suc.1) (length (broken_text in_suc.1)) (length (before_inner b.h b.before.list b.before.white ++ spelling in_suc.0)) in_suc.5
-      (inner_place text in_suc.0 in_suc.1 opening in_suc.4)))
-      r enclosing
-
-  pub inner_cut_off : (m : ℕ) (text : Text) (inner : List Tree) (end : Text) (e : ReadError) → m ≡ suc n → rest ≡ left ∷ text → n < limit → AreItems v limit m text inner end → end ≡ []
-      → MemoryOr (λ f. IsFault (length inside + 1) f (fault unclosed_bracket 0)) e → MemoryOr (IsFaultAt v limit n (left ∷ inside)) e
-  inner_cut_off m text inner end e more opening lt is none =
-      let in_suc : AreItems v limit (suc n) text inner end = subst (λ k. AreItems v limit k text inner end) more is in
-      memory_or _ (IsFaultAt v limit n (left ∷ inside))
-      (λ f at_start. bracket_cut_off f text in_suc.0 opening lt in_suc.1
-      (in_suc.2 ∙ ap (λ t. spelling in_suc.0 ++ t) none ∙ append-nil (spelling in_suc.0)) at_start)
-      e
-
-  pub one_more : (m : ℕ) (text : Text) (inner : List Tree) (end after white' rest' : Text) (tree : Tree) → m ≡ suc n → rest ≡ left ∷ text → n < limit → AreItems v limit m text inner end → end ≡ right ∷ after
-      → IsCut is_white after white' rest' → tree ≡ pack inner
+  pub one_more : {text after white' rest' : Text} {tree : Tree} → rest ≡ left ∷ text → IsNested v limit n text tree after → IsCut is_white after white' rest'
       → BracketBefore v limit n inside head modifiers spaced remaining (read ++ tree ∷ []) rest'
-  one_more m text inner end after white' rest' tree more opening lt is closing cut packed =
-      let in_suc : AreItems v limit (suc n) text inner end = subst (λ k. AreItems v limit k text inner end) more is in
-      record {
-        h = b.h;
-        behind = b.behind;
-        begins = b.begins;
-        before = nested_step v limit n (head.white.now ++ b.behind) spaced remaining read rest text after white' rest' in_suc.0 tree b.before opening lt in_suc.1
-            (in_suc.2 ∙ ap (λ t. spelling in_suc.0 ++ t) closing) cut (packed ∙ ap pack (sym in_suc.3));
-      }
+  one_more {text} {after} {white'} {rest'} {tree} opening is cut = record {
+    h = b.h;
+    behind = b.behind;
+    begins = b.begins;
+    before = nested_step v limit n (head.white.now ++ b.behind) spaced remaining read rest text after white' rest' is.0 tree b.before opening is.1 is.2 is.3 cut is.4;
+  }

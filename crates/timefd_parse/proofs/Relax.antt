@@ -31,7 +31,7 @@ use Rattle.timefd_parse.specs.declared.name.ComponentName.{ComponentName}
 use Rattle.timefd_parse.specs.Names.{Row, rows, row_of, row_for, component_names, ignored, day, end, hour, minute, month, offset_hour, offset_minute, offset_second, ordinal, period, second, subsecond, unix_timestamp, weekday, week_number, year}
 use Rattle.timefd_parse.specs.Verdict.{refuse, bad_value, bad_modifier, bad_modifiers, is_set, setting_of, with_option, settings_from, settings, made, any_modifier, is_formatted, only, optional_verdict, first_verdict, component_verdict, verdict}
 use Rattle.timefd_parse.specs.Grammar.{Pieces, no_pieces, run, escape, closing, bracket, no_nested, nested, nested_text, spelling, ArePieces, BeginsNoRun}
-use Rattle.timefd_parse.specs.Relaxed.{IsFlat, widened, relaxed_tree, relaxed}
+use Rattle.timefd_parse.specs.Relaxed.{IsFlat, IsStandard, IsStandardIn, AreStandard, widened, relaxed_tree, relaxed}
 use Rattle.timefd_parse.specs.Laws.{Relaxing}
 use Rattle.timefd_parse.proofs.Lookup.{Each, each-map, each-passes, IsLowered, equal-true, named-found, named-lowered, count_of-sets}
 use Rattle.timefd_parse.proofs.Roomy.{behind_ok, made_ok}
@@ -95,54 +95,61 @@ word_names key (v ∷ vs) all = (all.0.0, word_names key vs all.1)
 
 -- Components.
 
-month_same : (r : MonthRepr) (m : Month) → modern_month r m ≡ widened (modern_month r m)
-month_same MonthRepr.Short m = refl
-month_same MonthRepr.Long m = refl
-month_same MonthRepr.Numerical m = refl
+-- no year of a range
+abbrev IsKept : Component → Type 0
+IsKept c = (c ≡ widened c) × IsStandard c
 
-weekday_same : (r : WeekdayRepr) (w : Weekday) → modern_weekday r w ≡ widened (modern_weekday r w)
-weekday_same WeekdayRepr.Short w = refl
-weekday_same WeekdayRepr.Long w = refl
-weekday_same WeekdayRepr.Sunday w = refl
-weekday_same WeekdayRepr.Monday w = refl
+month_same : (r : MonthRepr) (m : Month) → IsKept (modern_month r m)
+month_same MonthRepr.Short m = (refl, tt)
+month_same MonthRepr.Long m = (refl, tt)
+month_same MonthRepr.Numerical m = (refl, tt)
 
-week_same : (r : WeekNumberRepr) (w : WeekNumber) → modern_week_number r w ≡ widened (modern_week_number r w)
-week_same WeekNumberRepr.Iso w = refl
-week_same WeekNumberRepr.Sunday w = refl
-week_same WeekNumberRepr.Monday w = refl
+weekday_same : (r : WeekdayRepr) (w : Weekday) → IsKept (modern_weekday r w)
+weekday_same WeekdayRepr.Short w = (refl, tt)
+weekday_same WeekdayRepr.Long w = (refl, tt)
+weekday_same WeekdayRepr.Sunday w = (refl, tt)
+weekday_same WeekdayRepr.Monday w = (refl, tt)
 
-hour_same : (b : Bool) (h : Hour) → modern_hour b h ≡ widened (modern_hour b h)
-hour_same true h = refl
-hour_same false h = refl
+week_same : (r : WeekNumberRepr) (w : WeekNumber) → IsKept (modern_week_number r w)
+week_same WeekNumberRepr.Iso w = (refl, tt)
+week_same WeekNumberRepr.Sunday w = (refl, tt)
+week_same WeekNumberRepr.Monday w = (refl, tt)
 
-timestamp_same : (p : UnixTimestampPrecision) (t : UnixTimestamp) → modern_timestamp p t ≡ widened (modern_timestamp p t)
-timestamp_same UnixTimestampPrecision.Second t = refl
-timestamp_same UnixTimestampPrecision.Millisecond t = refl
-timestamp_same UnixTimestampPrecision.Microsecond t = refl
-timestamp_same UnixTimestampPrecision.Nanosecond t = refl
+hour_same : (b : Bool) (h : Hour) → IsKept (modern_hour b h)
+hour_same true h = (refl, tt)
+hour_same false h = (refl, tt)
+
+timestamp_same : (p : UnixTimestampPrecision) (t : UnixTimestamp) → IsKept (modern_timestamp p t)
+timestamp_same UnixTimestampPrecision.Second t = (refl, tt)
+timestamp_same UnixTimestampPrecision.Millisecond t = (refl, tt)
+timestamp_same UnixTimestampPrecision.Microsecond t = (refl, tt)
+timestamp_same UnixTimestampPrecision.Nanosecond t = (refl, tt)
 
 abbrev year_with : Bool → YearRepr → YearRange → Padding → Bool → Component
 year_with iso repr range padding sign =
     modern_year iso repr range (record { padding = padding; repr = repr; range = range; iso_week_based = iso; sign_is_mandatory = sign })
 
-year_widened : (iso : Bool) (k : YearRepr) (p : Padding) (s : Bool) → year_with iso k YearRange.Extended p s ≡ widened (year_with iso k YearRange.Standard p s)
-year_widened true YearRepr.Full p s = refl
-year_widened true YearRepr.Century p s = refl
-year_widened true YearRepr.LastTwo p s = refl
-year_widened false YearRepr.Full p s = refl
-year_widened false YearRepr.Century p s = refl
-year_widened false YearRepr.LastTwo p s = refl
+year_widened : (iso : Bool) (k : YearRepr) (p : Padding) (s : Bool)
+    → (year_with iso k YearRange.Extended p s ≡ widened (year_with iso k YearRange.Standard p s)) × IsStandard (year_with iso k YearRange.Standard p s)
+year_widened true YearRepr.Full p s = (refl, tt)
+year_widened true YearRepr.Century p s = (refl, tt)
+year_widened true YearRepr.LastTwo p s = (refl, tt)
+year_widened false YearRepr.Full p s = (refl, tt)
+year_widened false YearRepr.Century p s = (refl, tt)
+year_widened false YearRepr.LastTwo p s = (refl, tt)
 
-ignore_same : (o : Option NonZeroU16) (c : Component) → ignored o ≡ Ok c → ignored o ≡ Ok (widened c)
+ignore_same : (o : Option NonZeroU16) (c : Component) → ignored o ≡ Ok c → (ignored o ≡ Ok (widened c)) × IsStandard c
 ignore_same None c e = absurd cc
-ignore_same (Some n) c e = let is : Component.Ignore (record { count = n }) ≡ c = cc in ap Ok (ap widened is)
+ignore_same (Some n) c e =
+    let is : Component.Ignore (record { count = n }) ≡ c = cc in (ap Ok (ap widened is), subst IsStandard is tt)
 
 abbrev in_range : YearRange → Settings → Settings
 in_range r s = record s { range = r }
 
--- what a component is in the extended range, it is widened in the standard range
+-- a component of the standard range, which in the extended range is that one widened
 abbrev Widens : (Settings → Result Component Kind) → Type 0
-Widens f = (s : Settings) (c : Component) → f (in_range YearRange.Standard s) ≡ Ok c → f (in_range YearRange.Extended s) ≡ Ok (widened c)
+Widens f =
+    (s : Settings) (c : Component) → f (in_range YearRange.Standard s) ≡ Ok c → (f (in_range YearRange.Extended s) ≡ Ok (widened c)) × IsStandard c
 
 is_plain_row : Row → Bool
 is_plain_row r = is_lowered r.name && (not (equal (codes "optional") r.name) && (not (equal (codes "first") r.name) && list_all is_plain r.keys))
@@ -169,23 +176,26 @@ plain_row r e widens =
       component = widens;
     }
 
-by_form : (f : Settings → Component) → ((s : Settings) → f (in_range YearRange.Extended s) ≡ widened (f (in_range YearRange.Standard s))) → Widens (λ s. Ok (f s))
-by_form f widens s c e = let is : f (in_range YearRange.Standard s) ≡ c = cc in ap Ok (widens s ∙ ap widened is)
+by_form : (f : Settings → Component)
+    → ((s : Settings) → (f (in_range YearRange.Extended s) ≡ widened (f (in_range YearRange.Standard s))) × IsStandard (f (in_range YearRange.Standard s)))
+    → Widens (λ s. Ok (f s))
+by_form f widens s c e =
+    let is : f (in_range YearRange.Standard s) ≡ c = cc in (ap Ok ((widens s).0 ∙ ap widened is), subst IsStandard is (widens s).1)
 
 name_widens : (n : ComponentName) → Widens (row_for n).component
-name_widens ComponentName.Day = by_form day (λ s. refl)
-name_widens ComponentName.End = by_form end (λ s. refl)
+name_widens ComponentName.Day = by_form day (λ s. (refl, tt))
+name_widens ComponentName.End = by_form end (λ s. (refl, tt))
 name_widens ComponentName.Hour = by_form hour (λ s. hour_same s.is_12_hour_clock _)
 name_widens ComponentName.Ignore = λ s c e. ignore_same s.count c e
-name_widens ComponentName.Minute = by_form minute (λ s. refl)
+name_widens ComponentName.Minute = by_form minute (λ s. (refl, tt))
 name_widens ComponentName.Month = by_form month (λ s. month_same s.month_repr _)
-name_widens ComponentName.OffsetHour = by_form offset_hour (λ s. refl)
-name_widens ComponentName.OffsetMinute = by_form offset_minute (λ s. refl)
-name_widens ComponentName.OffsetSecond = by_form offset_second (λ s. refl)
-name_widens ComponentName.Ordinal = by_form ordinal (λ s. refl)
-name_widens ComponentName.Period = by_form period (λ s. refl)
-name_widens ComponentName.Second = by_form second (λ s. refl)
-name_widens ComponentName.Subsecond = by_form subsecond (λ s. refl)
+name_widens ComponentName.OffsetHour = by_form offset_hour (λ s. (refl, tt))
+name_widens ComponentName.OffsetMinute = by_form offset_minute (λ s. (refl, tt))
+name_widens ComponentName.OffsetSecond = by_form offset_second (λ s. (refl, tt))
+name_widens ComponentName.Ordinal = by_form ordinal (λ s. (refl, tt))
+name_widens ComponentName.Period = by_form period (λ s. (refl, tt))
+name_widens ComponentName.Second = by_form second (λ s. (refl, tt))
+name_widens ComponentName.Subsecond = by_form subsecond (λ s. (refl, tt))
 name_widens ComponentName.UnixTimestamp = by_form unix_timestamp (λ s. timestamp_same s.precision _)
 name_widens ComponentName.Weekday = by_form weekday (λ s. weekday_same s.weekday_repr _)
 name_widens ComponentName.WeekNumber = by_form week_number (λ s. week_same s.week_number_repr _)
@@ -331,18 +341,18 @@ ranged keys r s (m ∷ ms) f =
 
 -- Brackets.
 
-component_relaxed : (h : Head) (r : Row) (tree : Tree) → IsPlainRow r → component_verdict true h (Some r) ≡ Ok tree → component_verdict false h (Some r) ≡ Ok (relaxed_tree h tree)
-component_relaxed h r tree plain e =
-    none_behind (bad_modifiers false r.keys [] (placed h)) (made false h (r.component (settings false r.keys (placed h)))) (good_modifiers r.keys [] (placed h) found)
-    ∙ ap (made false h) (by (is_set true (codes "range") (placed h)) refl)
-    ∙ ap (λ t. Ok (relaxed_tree h t)) leaf.1
+component_relaxed : (h : Head) (r : Row) (tree : Tree) → IsPlainRow r → component_verdict true h (Some r) ≡ Ok tree
+    → (component_verdict false h (Some r) ≡ Ok (relaxed_tree h tree)) × IsStandardIn h tree
+component_relaxed h r tree plain e = (
+  none_behind (bad_modifiers false r.keys [] (placed h)) (made false h (r.component (settings false r.keys (placed h)))) (good_modifiers r.keys [] (placed h) found)
+      ∙ ap (made false h) (by (is_set true (codes "range") (placed h)) refl)
+      ∙ ap (λ t. Ok (relaxed_tree h t)) leaf.1,
+  subst (IsStandardIn h) leaf.1 (λ n. (standard n).1),
+)
   where
     found : Each (IsFound r.keys) (placed h)
     found = all_found r.keys (placed h) plain.keys
         (all_good r.keys [] (placed h) (behind_none (bad_modifiers true r.keys [] (placed h)) (made true h (r.component (settings true r.keys (placed h)))) tree e))
-
-    set : Settings
-    set = settings true r.keys (placed h)
 
     leaf : (c : Component) × (component c ≡ tree) × (r.component (settings true r.keys (placed h)) ≡ Ok c)
     leaf = made_ok true h (r.component (settings true r.keys (placed h))) tree
@@ -354,25 +364,32 @@ component_relaxed h r tree plain e =
     strict : settings true r.keys (placed h) ≡ cond (is_set true (codes "range") (placed h)) (settings true r.keys (placed h)) (in_range YearRange.Standard (settings true r.keys (placed h)))
     strict = ranged r.keys YearRange.Standard (defaults true) (placed h) found
 
+    standard : is_set true (codes "range") (placed h) ≡ false
+        → (r.component (in_range YearRange.Extended (settings true r.keys (placed h))) ≡ Ok (widened leaf.0)) × IsStandard leaf.0
+    standard n = plain.component (settings true r.keys (placed h)) leaf.0 (sym (ap r.component (strict ∙ rw n refl)) ∙ leaf.2)
+
     by : (t : Bool) → is_set true (codes "range") (placed h) ≡ t
         → r.component (settings false r.keys (placed h)) ≡ Ok (cond (is_set true (codes "range") (placed h)) leaf.0 (widened leaf.0))
     by true n = rw n (ap r.component (loose ∙ rw n refl) ∙ leaf.2)
     by false n =
-        rw n
-        (ap r.component (loose ∙ rw n refl)
-        ∙ plain.component (settings true r.keys (placed h)) leaf.0 (sym (ap r.component (strict ∙ rw n refl)) ∙ leaf.2))
+        rw n (ap r.component (loose ∙ rw n refl) ∙ (standard n).0)
 
 named_relaxed : (h : Head) (close : ℕ) (tree : Tree) (o : Option Row) → row_of true h.name ≡ o → component_verdict true h o ≡ Ok tree
-    → verdict false h [] close ≡ Ok (relaxed_tree h tree)
+    → (verdict false h [] close ≡ Ok (relaxed_tree h tree)) × IsStandardIn h tree
 named_relaxed h close tree None known e = absurd cc
-named_relaxed h close tree (Some r) known e =
-    ap₂ (λ x y. cond x (optional_verdict false h [] close) (cond y (first_verdict false h [] close) (component_verdict false h (row_of false h.name))))
-    (ap (equal (codes "optional")) low ∙ no_optional) (ap (equal (codes "first")) low ∙ no_first)
-    ∙ ap (component_verdict false h) (named-lowered (λ x. x.name) h.name rows (row_names rows all_plain) low ∙ known)
-    ∙ component_relaxed h r tree found.0 e
+named_relaxed h close tree (Some r) known e = (
+  ap₂ (λ x y. cond x (optional_verdict false h [] close) (cond y (first_verdict false h [] close) (component_verdict false h (row_of false h.name))))
+      (ap (equal (codes "optional")) low ∙ no_optional) (ap (equal (codes "first")) low ∙ no_first)
+      ∙ ap (component_verdict false h) (named-lowered (λ x. x.name) h.name rows (row_names rows all_plain) low ∙ known)
+      ∙ relaxes.0,
+  relaxes.1,
+)
   where
     found : IsPlainRow r × (r.name ≡ h.name)
     found = named-found (λ x. x.name) IsPlainRow h.name rows r all_plain known
+
+    relaxes : (component_verdict false h (Some r) ≡ Ok (relaxed_tree h tree)) × IsStandardIn h tree
+    relaxes = component_relaxed h r tree found.0 e
 
     low : IsLowered h.name
     low = subst IsLowered found.1 found.0.name
@@ -383,11 +400,11 @@ named_relaxed h close tree (Some r) known e =
     no_first : equal (codes "first") h.name ≡ false
     no_first = subst (λ x. equal (codes "first") x ≡ false) found.1 found.0.no_first
 
-verdict_relaxed : (h : Head) (close : ℕ) (tree : Tree) → verdict true h [] close ≡ Ok tree → verdict false h [] close ≡ Ok (relaxed_tree h tree)
+verdict_relaxed : (h : Head) (close : ℕ) (tree : Tree) → verdict true h [] close ≡ Ok tree → (verdict false h [] close ≡ Ok (relaxed_tree h tree)) × IsStandardIn h tree
 verdict_relaxed h close tree e = by (same true (codes "optional") h.name) (same true (codes "first") h.name) e
   where
     by : (t u : Bool) → cond t (optional_verdict true h [] close) (cond u (first_verdict true h [] close) (component_verdict true h (row_of true h.name))) ≡ Ok tree
-        → verdict false h [] close ≡ Ok (relaxed_tree h tree)
+        → (verdict false h [] close ≡ Ok (relaxed_tree h tree)) × IsStandardIn h tree
     by true u c = absurd (unless_two (bad_modifiers true (format ∷ []) [] (placed h)) None (fault expected_nested close) (optional (is_formatted true (placed h)) (only [])) tree c)
     by false true c = absurd (unless_one (any_modifier (placed h)) (fault expected_alternative close) (first (trees [])) tree c)
     by false false c = named_relaxed h close tree (row_of true h.name) refl c
@@ -407,8 +424,16 @@ relaxed_are limit (run bytes rest) are flat = (are.0, relaxed_begins rest are.1,
 relaxed_are limit (escape a b rest) are flat = (are.0, relaxed_are limit rest are.1 flat)
 relaxed_are limit (closing rest) are flat = absurd (false≢true (sym are.0))
 relaxed_are limit (bracket h no_nested white tree rest) are flat =
-    (are.0, tt, are.2, verdict_relaxed h _ tree are.3, relaxed_are limit rest are.4 flat.1)
+    (are.0, tt, are.2, (verdict_relaxed h _ tree are.3).0, relaxed_are limit rest are.4 flat.1)
 relaxed_are limit (bracket h (nested w ps ns) white tree rest) are flat = absurd flat.0
+
+standard_are : (limit : ℕ) (ps : Pieces) → ArePieces Three limit 0 ps → IsFlat ps → AreStandard ps
+standard_are limit no_pieces are flat = tt
+standard_are limit (run bytes rest) are flat = standard_are limit rest are.2 flat
+standard_are limit (escape a b rest) are flat = standard_are limit rest are.1 flat
+standard_are limit (closing rest) are flat = absurd (false≢true (sym are.0))
+standard_are limit (bracket h no_nested white tree rest) are flat = ((verdict_relaxed h _ tree are.3).1, standard_are limit rest are.4 flat.1)
+standard_are limit (bracket h (nested w ps ns) white tree rest) are flat = absurd flat.0
 
 pub relaxed_spelling : (ps : Pieces) → spelling (relaxed ps) ≡ spelling ps
 relaxed_spelling no_pieces = refl
@@ -418,4 +443,4 @@ relaxed_spelling (closing rest) = ap (λ x. right ∷ x) (relaxed_spelling rest)
 relaxed_spelling (bracket h ns white tree rest) = ap (λ x. head_text h ++ nested_text ns ++ white ++ right ∷ x) (relaxed_spelling rest)
 
 pub relaxing_law : Relaxing
-relaxing_law limit ps are flat = (relaxed_are limit ps are flat, relaxed_spelling ps)
+relaxing_law limit ps are flat = (relaxed_are limit ps are flat, relaxed_spelling ps, standard_are limit ps are flat)
