@@ -1,5 +1,5 @@
 pub mod Reader
-pub mod Rows
+pub mod Defaults
 pub mod ValueRows
 pub mod LetterRows
 pub mod RefusalRows

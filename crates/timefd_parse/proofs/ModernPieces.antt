@@ -11,13 +11,13 @@ use Rattle.timefd_parse.specs.Bytes.{named, same, is_version_three}
 use Rattle.timefd_parse.specs.Head.{Head, head_text, placed}
 use Rattle.timefd_parse.specs.declared.setting.Settings.{Settings}
 use Rattle.timefd_parse.specs.declared.name.ComponentName.{ComponentName}
-use Rattle.timefd_parse.specs.Names.{Row, rows, row_for, row_of, ignored}
+use Rattle.timefd_parse.specs.Names.{Row, rows, row_for, row_of, component_names, ignored}
 use Rattle.timefd_parse.specs.Verdict.{Part, behind, bad_modifiers, settings, made, touching, nested_refused, is_formatted, only, optional_verdict, first_verdict, component_verdict, verdict}
 use Rattle.timefd_parse.specs.Grammar.{Pieces, no_pieces, run, escape, closing, bracket, Nested, no_nested, nested, spelling, nested_text, items, ArePieces, AreNested, parts_from}
 use Rattle.timefd_parse.specs.Letters.{Flag, Letter, letters, is_one_of, item_in, item_of}
 use Rattle.timefd_parse.specs.Strftime.{Directives, no_directives, plain, directive, directive_items, AreDirectives}
 use Rattle.timefd_parse.specs.Laws.{Modernity, StrftimeModernity}
-use Rattle.timefd_parse.proofs.Lookup.{Each}
+use Rattle.timefd_parse.proofs.Lookup.{Each, each-map}
 use Rattle.timefd_parse.proofs.Roomy.{unless_ok, behind_ok, made_ok}
 
 -- Rows.
@@ -53,7 +53,7 @@ name_modern ComponentName.WeekNumber = λ s c e. made_modern _ c e (modern_twice
 name_modern ComponentName.Year = λ s c e. made_modern _ c e (modern_twice_law (Component.Year (record { padding = s.padding; repr = s.year_repr; range = s.range; iso_week_based = s.iso_week_based; sign_is_mandatory = s.sign_is_mandatory })))
 
 rows_modern : Each IsModernRow rows
-rows_modern = (name_modern ComponentName.Day, (name_modern ComponentName.End, (name_modern ComponentName.Hour, (name_modern ComponentName.Ignore, (name_modern ComponentName.Minute, (name_modern ComponentName.Month, (name_modern ComponentName.OffsetHour, (name_modern ComponentName.OffsetMinute, (name_modern ComponentName.OffsetSecond, (name_modern ComponentName.Ordinal, (name_modern ComponentName.Period, (name_modern ComponentName.Second, (name_modern ComponentName.Subsecond, (name_modern ComponentName.UnixTimestamp, (name_modern ComponentName.Weekday, (name_modern ComponentName.WeekNumber, (name_modern ComponentName.Year, tt)))))))))))))))))
+rows_modern = each-map row_for IsModernRow component_names name_modern
 
 row_modern : (strict : Bool) (name : Text) (rs : List Row) (r : Row) → Each IsModernRow rs → named (λ x. x.name) strict name rs ≡ Some r → IsModernRow r
 row_modern strict name [] r all e = absurd cc

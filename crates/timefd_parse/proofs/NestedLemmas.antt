@@ -1,5 +1,5 @@
 -- Nested descriptions, read one at a time, and the bracket around them.
-use Rattle.std.proofs.Common.{◌≡◌, ℕ, suc, ◌+◌, ◌<◌, ◌≤◌, Bool, false, not, ◌==◌, List, [], ◌∷◌, ◌++◌, length, map, Ok, Err, IsTrue, refl, sym, ap, ◌∙◌, subst, arith, append_assoc, append-nil, length-append}
+use Rattle.std.proofs.Common.{inl, inr, ◌≡◌, ℕ, suc, ◌+◌, ◌<◌, ◌≤◌, Bool, false, not, ◌==◌, List, [], ◌∷◌, ◌++◌, length, map, Ok, Err, IsTrue, refl, sym, ap, ◌∙◌, subst, arith, append_assoc, append-nil, length-append}
 use Rattle.std.proofs.lemmas.List.{map-append}
 use Rattle.std.proofs.lemmas.Bool.{true≢false}
 use Rattle.std.proofs.lemmas.Bool.Decides.{nat_tests}
@@ -25,7 +25,7 @@ use Rattle.timefd_parse.specs.Cut.{IsCut, BeginsWith}
 use Rattle.timefd_parse.specs.Shown.{IsFault, IsFaultAt, MemoryOr}
 use Rattle.timefd_parse.specs.Heads.{ShowsHead, BeginsWithHead}
 use Rattle.timefd_parse.specs.Judged.{ShowsDescriptions}
-use Rattle.timefd_parse.specs.Read.{Leads, IsFaultIn, IsEnd, AreItems, IsEnclosed}
+use Rattle.timefd_parse.specs.Read.{Leads, IsFaultIn, IsEnd, AreItems, IsEnclosed, IsNested, IsNestedFault}
 use Rattle.timefd_parse.proofs.ReadLemmas.{memory_or}
 
 add : Nested → Text → Pieces → Nested
@@ -128,89 +128,38 @@ nested_step v limit n start spaced remaining read rest text after white' rest' f
       (first_place k total spaced remaining before.list before.white front rest before.first (ap (λ t. k + length t) (sym before.whole) ∙ f)) tree);
 }
 
+-- A nested description, from what the calls ensure.
+
+module _ (v : DescriptionVersion) (limit n start : ℕ) (text : Text) where
+  pub at_limit : (e : ReadError) → n ≡ limit → MemoryOr (λ f. IsFault (length text + 1) f (fault too_highly_nested 0)) e → MemoryOr (IsNestedFault v limit n start text) e
+  at_limit e at is = memory_or _ (IsNestedFault v limit n start text) (λ f d. inl (at, d)) e is
+
+  pub inner_fails : (m : ℕ) (e r : ReadError) → m ≡ suc n → n < limit → MemoryOr (IsFaultIn v limit m text) e → IsEnclosed start e r → MemoryOr (IsNestedFault v limit n start text) r
+  inner_fails m errors.Memory r more lt is enclosing = subst (MemoryOr (IsNestedFault v limit n start text)) (sym enclosing) tt
+  inner_fails m (errors.Invalid f) r more lt is enclosing =
+      let in_suc : IsFaultIn v limit (suc n) text f = subst (λ k. IsFaultIn v limit k text f) more is in
+      memory_or _ (IsNestedFault v limit n start text)
+      (λ f' raise. inr (inr (in_suc.0, in_suc.1, lt, in_suc.2, in_suc.3, in_suc.4, λ k e. raise (broken_fault in_suc.1) (length (broken_text in_suc.1)) k in_suc.5 e)))
+      r enclosing
+
+  pub inner_cut_off : (m : ℕ) (inner : List Tree) (end : Text) (e : ReadError) → m ≡ suc n → n < limit → AreItems v limit m text inner end → end ≡ []
+      → MemoryOr (λ f. IsFault start f (fault unclosed_bracket 0)) e → MemoryOr (IsNestedFault v limit n start text) e
+  inner_cut_off m inner end e more lt is none at_start =
+      let in_suc : AreItems v limit (suc n) text inner end = subst (λ k. AreItems v limit k text inner end) more is in
+      memory_or _ (IsNestedFault v limit n start text)
+      (λ f c. inr (inl (in_suc.0, lt, in_suc.1, in_suc.2 ∙ ap (λ t. spelling in_suc.0 ++ t) none ∙ append-nil (spelling in_suc.0), c)))
+      e at_start
+
+module _ {v : DescriptionVersion} {limit n : ℕ} {text : Text} where
+  pub inner_read : (m : ℕ) (inner : List Tree) (end after : Text) (tree : Tree) → m ≡ suc n → n < limit → AreItems v limit m text inner end → end ≡ right ∷ after → tree ≡ pack inner → IsNested v limit n text tree after
+  inner_read m inner end after tree more lt is closing packed =
+      let in_suc : AreItems v limit (suc n) text inner end = subst (λ k. AreItems v limit k text inner end) more is in
+      (in_suc.0, lt, in_suc.1, in_suc.2 ∙ ap (λ t. spelling in_suc.0 ++ t) closing, packed ∙ ap pack (sym in_suc.3))
+
+  pub nested_shorter : (tree : Tree) (after : Text) → IsNested v limit n text tree after → length after < length text
+  nested_shorter tree after is = omega (arith, ap length is.3, length-append (spelling is.0) (right ∷ after))
+
 -- Brackets.
-
-module _ (v : DescriptionVersion) (limit n : ℕ) (inside : Text) (head : code_head.Head) (modifiers : code_modifiers.Modifiers) (behind : Text) (h : Head) (spaced : Bool) (remaining : ℕ) (read : List Tree) (rest : Text)
-    (begins : BeginsWithHead (is_version_three v) (left ∷ inside) head modifiers behind h) (before : NestedBefore v limit n (head.white.now ++ behind) spaced remaining read rest) where
-  whole : left ∷ inside ≡ head_text h ++ nested_text before.list ++ before.white ++ rest
-  whole =
-      begins.whole ∙ append_assoc (head_text h) head.white.now behind ∙ ap (λ t. head_text h ++ t) before.whole
-      ∙ sym (append_assoc (head_text h) (nested_text before.list ++ before.white) rest) ∙ ap (λ t. t ++ rest) (sym (append_assoc (head_text h) (nested_text before.list) before.white))
-
-  pub place : ℕ
-  place = length (head_text h ++ nested_text before.list ++ before.white)
-
-  pub parts : List Part
-  parts = parts_from (length (head_text h)) before.list
-
-  pub place_of_rest : place + length rest ≡ length inside + 1
-  unfolding place
-  place_of_rest = omega (arith, ap length whole, length-append (head_text h ++ nested_text before.list ++ before.white) rest)
-
-  pub parts_shown : ShowsDescriptions (length inside + 1) spaced remaining read parts
-  unfolding parts
-  parts_shown = before.shows (length (head_text h)) (length inside + 1) (omega (arith, ap length begins.whole, length-append (head_text h ++ head.white.now) behind, length-append (head_text h) head.white.now, length-append head.white.now behind))
-
-  pub bracket_leads : (after : Text) (tree : Tree) → rest ≡ right ∷ after → verdict (is_version_three v) h parts place ≡ Ok tree → Leads v limit n (left ∷ inside) tree after
-  unfolding place parts
-  bracket_leads after tree closing ok = λ front tail are e. (
-    bracket h before.list before.white tree front,
-    (begins.is, before.are, before.all_white, ok, are),
-    whole ∙ ap (λ t. head_text h ++ nested_text before.list ++ before.white ++ t) (closing ∙ ap (λ t. right ∷ t) e) ∙ simp append_assoc,
-    refl,
-  )
-
-  pub bracket_refused : (after : Text) (f : code_fault.Fault) (g : Fault) → rest ≡ right ∷ after → verdict (is_version_three v) h parts place ≡ Err g → IsFault (length inside + 1) f g → IsFaultAt v limit n (left ∷ inside) f
-  unfolding place parts
-  bracket_refused after f g closing refuses is = (
-    refused h before.list before.white g after,
-    (begins.is, before.are, before.all_white, refuses),
-    whole ∙ ap (λ t. head_text h ++ nested_text before.list ++ before.white ++ t) closing,
-    record { kind = is.kind; place = omega (arith, is.place) },
-  )
-
-  pub bracket_unclosed : (f : code_fault.Fault) → StopsBefore is_bracket_byte rest → IsFault (length inside + 1) f (fault unclosed_bracket 0) → IsFaultAt v limit n (left ∷ inside) f
-  bracket_unclosed f stops is = (
-    unclosed h before.list before.white rest,
-    (begins.is, before.are, before.all_white, before.stops, stops, before.wholly),
-    whole,
-    record { kind = is.kind; place = omega (arith, is.place) },
-  )
-
-  pub bracket_too_deep : (f : code_fault.Fault) (text : Text) → rest ≡ left ∷ text → n ≡ limit → IsFault (length rest) f (fault too_highly_nested 0) → IsFaultAt v limit n (left ∷ inside) f
-  bracket_too_deep f text opening at_limit is = (
-    too_deep h before.list before.white text,
-    (begins.is, before.are, before.all_white, at_limit),
-    whole ∙ ap (λ t. head_text h ++ nested_text before.list ++ before.white ++ t) opening ∙ simp append_assoc,
-    record { kind = is.kind; place = omega (arith, is.place, ap length whole, length-append (head_text h ++ nested_text before.list ++ before.white) rest) },
-  )
-
-  pub bracket_cut_off : (f : code_fault.Fault) (text : Text) (front : Pieces) → rest ≡ left ∷ text → n < limit → ArePieces v limit (suc n) front → text ≡ spelling front → IsFault (length inside + 1) f (fault unclosed_bracket 0)
-      → IsFaultAt v limit n (left ∷ inside) f
-  bracket_cut_off f text front opening lt are e is = (
-    cut_off h before.list before.white front,
-    (begins.is, before.are, before.all_white, lt, are),
-    whole ∙ ap (λ t. head_text h ++ nested_text before.list ++ before.white ++ t) (opening ∙ ap (λ t. left ∷ t) e) ∙ simp append_assoc,
-    record { kind = is.kind; place = omega (arith, is.place) },
-  )
-
-  pub bracket_broken : (f : code_fault.Fault) (text : Text) (front : Pieces) (b : Broken) → rest ≡ left ∷ text → n < limit → ArePieces v limit (suc n) front → IsBroken v limit (suc n) b
-      → text ≡ spelling front ++ broken_text b
-      → IsFault (length inside + 1) f (enclosed (broken_fault b).kind (broken_fault b).index (length (before_inner h before.list before.white ++ spelling front)))
-      → IsFaultAt v limit n (left ∷ inside) f
-  bracket_broken f text front b opening lt are broken e is = (
-    broken_inside h before.list before.white front b,
-    (begins.is, before.are, before.all_white, lt, are, broken),
-    whole ∙ ap (λ t. head_text h ++ nested_text before.list ++ before.white ++ t) (opening ∙ ap (λ t. left ∷ t) e) ∙ simp append_assoc,
-    record { kind = is.kind; place = omega (arith, is.place) },
-  )
-
-  pub inner_place : (text : Text) (front : Pieces) (b : Broken) → rest ≡ left ∷ text → text ≡ spelling front ++ broken_text b
-      → length (before_inner h before.list before.white ++ spelling front) + length (broken_text b) ≡ length inside + 1
-  inner_place text front b opening e =
-      let whole_is : left ∷ inside ≡ before_inner h before.list before.white ++ spelling front ++ broken_text b =
-      whole ∙ ap (λ t. head_text h ++ nested_text before.list ++ before.white ++ t) (opening ∙ ap (λ t. left ∷ t) e) ∙ simp append_assoc in
-      omega (arith, ap length whole_is, length-append (before_inner h before.list before.white ++ spelling front) (broken_text b))
 
 -- the head of a bracket and nested descriptions were read, and this is the rest
 pub record BracketBefore (v : DescriptionVersion) (limit n : ℕ) (inside : Text) (head : code_head.Head) (modifiers : code_modifiers.Modifiers) (spaced : Bool) (remaining : ℕ) (read : List Tree) (rest : Text) : Type 0 where
@@ -223,17 +172,17 @@ empty_length : (text : Text) → is_empty text ≡ (length text == 0)
 empty_length [] = refl
 empty_length (b ∷ text) = grind (arith, nat_tests)
 
-pub bracket_begins : (v : DescriptionVersion) (limit n : ℕ) (inside : Text) (head : code_head.Head) (modifiers : code_modifiers.Modifiers) (behind : Text) (empty : Bool) (h : Head) → BeginsWithHead (is_version_three v) (left ∷ inside) head modifiers behind h
+pub bracket_begins : {v : DescriptionVersion} {limit n : ℕ} {inside : Text} {head : code_head.Head} {modifiers : code_modifiers.Modifiers} {behind : Text} {empty : Bool} {h : Head} → BeginsWithHead (is_version_three v) (left ∷ inside) head modifiers behind h
     → empty ≡ (length head.white.now == 0) → BracketBefore v limit n inside head modifiers (not empty) (length behind) [] behind
-bracket_begins v limit n inside head modifiers behind empty h begins e = record {
+bracket_begins {v} {limit} {n} {inside} {head} {modifiers} {behind} {empty} {h} begins e = record {
   h = h;
   behind = behind;
   begins = begins;
   before = nothing_nested v limit n (left ∷ inside) head modifiers behind h (not empty) (length behind) begins (ap not (empty_length head.white.now ∙ sym e)) refl;
 }
 
-pub behind_within : (strict : Bool) (inside : Text) (head : code_head.Head) (modifiers : code_modifiers.Modifiers) (behind : Text) (h : Head) → BeginsWithHead strict (left ∷ inside) head modifiers behind h → length behind ≤ length inside
-behind_within strict inside head modifiers behind h begins =
+pub behind_within : {strict : Bool} {inside : Text} {head : code_head.Head} {modifiers : code_modifiers.Modifiers} {behind : Text} {h : Head} → BeginsWithHead strict (left ∷ inside) head modifiers behind h → length behind ≤ length inside
+behind_within {strict} {inside} {head} {modifiers} {behind} {h} begins =
     omega (arith, ap length begins.whole, length-append (head_text h ++ head.white.now) behind, length-append (head_text h) head.white.now, length-append (left ∷ h.white ++ h.name) (modifiers_text h.modifiers), length-append (left ∷ h.white) h.name)
 
 no_bracket_byte : (b : ℕ) → IsTrue (is_run_byte Three b) → is_bracket_byte b ≡ false
@@ -262,9 +211,89 @@ no_closing n (starts.Closing x) (b ∷ rest) is end closing = absurd (closing x 
 no_closing n (starts.Backslash x) (b ∷ rest) is end closing = absurd (omega (arith, first_byte b backslash rest x.now is, end.0))
 no_closing n starts.Other (b ∷ rest) is end closing = absurd (omega (arith, first_byte b is.0 rest is.1 is.2, end.0, run_byte_is_no_closing is.0 is.3))
 
--- The same from what the calls ensure.
+module _ {v : DescriptionVersion} {limit n : ℕ} {inside : Text} {head : code_head.Head} {modifiers : code_modifiers.Modifiers} {spaced : Bool} {remaining : ℕ} {read : List Tree} {rest : Text} (b : BracketBefore v limit n inside head modifiers spaced remaining read rest) where
+  whole : left ∷ inside ≡ head_text b.h ++ nested_text b.before.list ++ b.before.white ++ rest
+  whole =
+      b.begins.whole ∙ append_assoc (head_text b.h) head.white.now b.behind ∙ ap (λ t. head_text b.h ++ t) b.before.whole
+      ∙ sym (append_assoc (head_text b.h) (nested_text b.before.list ++ b.before.white) rest) ∙ ap (λ t. t ++ rest) (sym (append_assoc (head_text b.h) (nested_text b.before.list) b.before.white))
 
-module _ (v : DescriptionVersion) (limit n : ℕ) (inside : Text) (head : code_head.Head) (modifiers : code_modifiers.Modifiers) (spaced : Bool) (remaining : ℕ) (read : List Tree) (rest : Text) (b : BracketBefore v limit n inside head modifiers spaced remaining read rest) where
+  pub place : ℕ
+  place = length (head_text b.h ++ nested_text b.before.list ++ b.before.white)
+
+  pub parts : List Part
+  parts = parts_from (length (head_text b.h)) b.before.list
+
+  pub place_of_rest : place + length rest ≡ length inside + 1
+  unfolding place
+  place_of_rest = omega (arith, ap length whole, length-append (head_text b.h ++ nested_text b.before.list ++ b.before.white) rest)
+
+  pub parts_shown : ShowsDescriptions (length inside + 1) spaced remaining read parts
+  unfolding parts
+  parts_shown = b.before.shows (length (head_text b.h)) (length inside + 1) (omega (arith, ap length b.begins.whole, length-append (head_text b.h ++ head.white.now) b.behind, length-append (head_text b.h) head.white.now, length-append head.white.now b.behind))
+
+  pub bracket_leads : (after : Text) (tree : Tree) → rest ≡ right ∷ after → verdict (is_version_three v) b.h parts place ≡ Ok tree → Leads v limit n (left ∷ inside) tree after
+  unfolding place parts
+  bracket_leads after tree closing ok = λ front tail are e. (
+    bracket b.h b.before.list b.before.white tree front,
+    (b.begins.is, b.before.are, b.before.all_white, ok, are),
+    whole ∙ ap (λ t. head_text b.h ++ nested_text b.before.list ++ b.before.white ++ t) (closing ∙ ap (λ t. right ∷ t) e) ∙ simp append_assoc,
+    refl,
+  )
+
+  pub bracket_refused : (after : Text) (f : code_fault.Fault) (g : Fault) → rest ≡ right ∷ after → verdict (is_version_three v) b.h parts place ≡ Err g → IsFault (length inside + 1) f g → IsFaultAt v limit n (left ∷ inside) f
+  unfolding place parts
+  bracket_refused after f g closing refuses is = (
+    refused b.h b.before.list b.before.white g after,
+    (b.begins.is, b.before.are, b.before.all_white, refuses),
+    whole ∙ ap (λ t. head_text b.h ++ nested_text b.before.list ++ b.before.white ++ t) closing,
+    record { kind = is.kind; place = omega (arith, is.place) },
+  )
+
+  pub bracket_unclosed : (f : code_fault.Fault) → StopsBefore is_bracket_byte rest → IsFault (length inside + 1) f (fault unclosed_bracket 0) → IsFaultAt v limit n (left ∷ inside) f
+  bracket_unclosed f stops is = (
+    unclosed b.h b.before.list b.before.white rest,
+    (b.begins.is, b.before.are, b.before.all_white, b.before.stops, stops, b.before.wholly),
+    whole,
+    record { kind = is.kind; place = omega (arith, is.place) },
+  )
+
+  pub bracket_too_deep : (f : code_fault.Fault) (text : Text) → rest ≡ left ∷ text → n ≡ limit → IsFault (length rest) f (fault too_highly_nested 0) → IsFaultAt v limit n (left ∷ inside) f
+  bracket_too_deep f text opening at_limit is = (
+    too_deep b.h b.before.list b.before.white text,
+    (b.begins.is, b.before.are, b.before.all_white, at_limit),
+    whole ∙ ap (λ t. head_text b.h ++ nested_text b.before.list ++ b.before.white ++ t) opening ∙ simp append_assoc,
+    record { kind = is.kind; place = omega (arith, is.place, ap length whole, length-append (head_text b.h ++ nested_text b.before.list ++ b.before.white) rest) },
+  )
+
+  pub bracket_cut_off : (f : code_fault.Fault) (text : Text) (front : Pieces) → rest ≡ left ∷ text → n < limit → ArePieces v limit (suc n) front → text ≡ spelling front → IsFault (length inside + 1) f (fault unclosed_bracket 0)
+      → IsFaultAt v limit n (left ∷ inside) f
+  bracket_cut_off f text front opening lt are e is = (
+    cut_off b.h b.before.list b.before.white front,
+    (b.begins.is, b.before.are, b.before.all_white, lt, are),
+    whole ∙ ap (λ t. head_text b.h ++ nested_text b.before.list ++ b.before.white ++ t) (opening ∙ ap (λ t. left ∷ t) e) ∙ simp append_assoc,
+    record { kind = is.kind; place = omega (arith, is.place) },
+  )
+
+  pub bracket_broken : (f : code_fault.Fault) (text : Text) (front : Pieces) (c : Broken) → rest ≡ left ∷ text → n < limit → ArePieces v limit (suc n) front → IsBroken v limit (suc n) c
+      → text ≡ spelling front ++ broken_text c
+      → IsFault (length inside + 1) f (enclosed (broken_fault c).kind (broken_fault c).index (length (before_inner b.h b.before.list b.before.white ++ spelling front)))
+      → IsFaultAt v limit n (left ∷ inside) f
+  bracket_broken f text front c opening lt are broken e is = (
+    broken_inside b.h b.before.list b.before.white front c,
+    (b.begins.is, b.before.are, b.before.all_white, lt, are, broken),
+    whole ∙ ap (λ t. head_text b.h ++ nested_text b.before.list ++ b.before.white ++ t) (opening ∙ ap (λ t. left ∷ t) e) ∙ simp append_assoc,
+    record { kind = is.kind; place = omega (arith, is.place) },
+  )
+
+  pub inner_place : (text : Text) (front : Pieces) (c : Broken) → rest ≡ left ∷ text → text ≡ spelling front ++ broken_text c
+      → length (before_inner b.h b.before.list b.before.white ++ spelling front) + length (broken_text c) ≡ length inside + 1
+  inner_place text front c opening e =
+      let whole_is : left ∷ inside ≡ before_inner b.h b.before.list b.before.white ++ spelling front ++ broken_text c =
+      whole ∙ ap (λ t. head_text b.h ++ nested_text b.before.list ++ b.before.white ++ t) (opening ∙ ap (λ t. left ∷ t) e) ∙ simp append_assoc in
+      omega (arith, ap length whole_is, length-append (before_inner b.h b.before.list b.before.white ++ spelling front) (broken_text c))
+
+  -- The same from what the calls ensure.
+
   shown : ShowsHead (is_version_three v) (length inside + 1) head modifiers b.h
   shown = let same : length (left ∷ inside) ≡ length inside + 1 = omega arith in subst (λ k. ShowsHead (is_version_three v) k head modifiers b.h) same b.begins.shows
 
@@ -272,51 +301,37 @@ module _ (v : DescriptionVersion) (limit n : ℕ) (inside : Text) (head : code_h
       → ((place : ℕ) (h : Head) (parts : List Part) → ShowsHead (is_version_three v) (length inside + 1) head modifiers h → ShowsDescriptions (length inside + 1) spaced remaining read parts → place + length rest ≡ length inside + 1 → verdict (is_version_three v) h parts place ≡ Ok tree)
       → Leads v limit n (left ∷ inside) tree after
   accepted after tree closing judged =
-      bracket_leads v limit n inside head modifiers b.behind b.h spaced remaining read rest b.begins b.before after tree closing
-      (judged _ b.h _ shown (parts_shown v limit n inside head modifiers b.behind b.h spaced remaining read rest b.begins b.before) (place_of_rest v limit n inside head modifiers b.behind b.h spaced remaining read rest b.begins b.before))
+      bracket_leads after tree closing
+      (judged _ b.h _ shown parts_shown place_of_rest)
 
   pub refuses : (after : Text) (e : ReadError) → rest ≡ right ∷ after
       → ((place : ℕ) (h : Head) (parts : List Part) → ShowsHead (is_version_three v) (length inside + 1) head modifiers h → ShowsDescriptions (length inside + 1) spaced remaining read parts → place + length rest ≡ length inside + 1
       → MemoryOr (λ f. (g : Fault) × (verdict (is_version_three v) h parts place ≡ Err g) × IsFault (length inside + 1) f g) e)
       → MemoryOr (IsFaultAt v limit n (left ∷ inside)) e
   refuses after e closing judged =
-      memory_or _ (IsFaultAt v limit n (left ∷ inside)) (λ f is. bracket_refused v limit n inside head modifiers b.behind b.h spaced remaining read rest b.begins b.before after f is.0 closing is.1 is.2) e
-      (judged _ b.h _ shown (parts_shown v limit n inside head modifiers b.behind b.h spaced remaining read rest b.begins b.before) (place_of_rest v limit n inside head modifiers b.behind b.h spaced remaining read rest b.begins b.before))
+      memory_or _ (IsFaultAt v limit n (left ∷ inside)) (λ f is. bracket_refused after f is.0 closing is.1 is.2) e
+      (judged _ b.h _ shown parts_shown place_of_rest)
 
   pub never_closed : (e : ReadError) → StopsBefore is_bracket_byte rest → MemoryOr (λ f. IsFault (length inside + 1) f (fault unclosed_bracket 0)) e → MemoryOr (IsFaultAt v limit n (left ∷ inside)) e
-  never_closed e stops = memory_or _ (IsFaultAt v limit n (left ∷ inside)) (λ f is. bracket_unclosed v limit n inside head modifiers b.behind b.h spaced remaining read rest b.begins b.before f stops is) e
+  never_closed e stops = memory_or _ (IsFaultAt v limit n (left ∷ inside)) (λ f is. bracket_unclosed f stops is) e
 
-  pub at_limit : (f : code_fault.Fault) (text : Text) → rest ≡ left ∷ text → n ≡ limit → IsFault (length rest) f (fault too_highly_nested 0) → IsFaultAt v limit n (left ∷ inside) f
-  at_limit = bracket_too_deep v limit n inside head modifiers b.behind b.h spaced remaining read rest b.begins b.before
+  pub nested_fault : (text : Text) (e : ReadError) → rest ≡ left ∷ text → MemoryOr (IsNestedFault v limit n (length inside + 1) text) e → MemoryOr (IsFaultAt v limit n (left ∷ inside)) e
+  nested_fault text e opening is = memory_or _ (IsFaultAt v limit n (left ∷ inside)) by e is
+    where
+      by : (f : code_fault.Fault) → IsNestedFault v limit n (length inside + 1) text f → IsFaultAt v limit n (left ∷ inside) f
+      by f (inl d) =
+          let whole_rest : length text + 1 ≡ length rest = omega (arith, ap length opening) in
+          bracket_too_deep f text opening d.0 (subst (λ k. IsFault k f (fault too_highly_nested 0)) whole_rest d.1)
+      by f (inr (inl c)) = bracket_cut_off f text c.0 opening c.1 c.2 c.3 c.4
+      by f (inr (inr k)) =
+          bracket_broken f text k.0 k.1 opening k.2 k.3 k.4 k.5
+          (k.6 (length (before_inner b.h b.before.list b.before.white ++ spelling k.0)) (inner_place text k.0 k.1 opening k.5))
 
-  pub inner_fails : (m : ℕ) (text : Text) (e r : ReadError) → m ≡ suc n → rest ≡ left ∷ text → n < limit → MemoryOr (IsFaultIn v limit m text) e → IsEnclosed (length inside + 1) e r → MemoryOr (IsFaultAt v limit n (left ∷ inside)) r
-  inner_fails m text errors.Memory r more opening lt is enclosing = subst (MemoryOr (IsFaultAt v limit n (left ∷ inside))) (sym enclosing) tt
-  inner_fails m text (errors.Invalid f) r more opening lt is enclosing =
-      let in_suc : IsFaultIn v limit (suc n) text f = subst (λ k. IsFaultIn v limit k text f) more is in
-      memory_or _ (IsFaultAt v limit n (left ∷ inside))
-      (λ f' raise. bracket_broken v limit n inside head modifiers b.behind b.h spaced remaining read rest b.begins b.before f' text in_suc.0 in_suc.1 opening lt in_suc.2 in_suc.3 in_suc.4
-      (raise (broken_fault in_suc.1) (length (broken_text in_suc.1)) (length (before_inner b.h b.before.list b.before.white ++ spelling in_suc.0)) in_suc.5
-      (inner_place v limit n inside head modifiers b.behind b.h spaced remaining read rest b.begins b.before text in_suc.0 in_suc.1 opening in_suc.4)))
-      r enclosing
-
-  pub inner_cut_off : (m : ℕ) (text : Text) (inner : List Tree) (end : Text) (e : ReadError) → m ≡ suc n → rest ≡ left ∷ text → n < limit → AreItems v limit m text inner end → end ≡ []
-      → MemoryOr (λ f. IsFault (length inside + 1) f (fault unclosed_bracket 0)) e → MemoryOr (IsFaultAt v limit n (left ∷ inside)) e
-  inner_cut_off m text inner end e more opening lt is none =
-      let in_suc : AreItems v limit (suc n) text inner end = subst (λ k. AreItems v limit k text inner end) more is in
-      memory_or _ (IsFaultAt v limit n (left ∷ inside))
-      (λ f at_start. bracket_cut_off v limit n inside head modifiers b.behind b.h spaced remaining read rest b.begins b.before f text in_suc.0 opening lt in_suc.1
-      (in_suc.2 ∙ ap (λ t. spelling in_suc.0 ++ t) none ∙ append-nil (spelling in_suc.0)) at_start)
-      e
-
-  pub one_more : (m : ℕ) (text : Text) (inner : List Tree) (end after white' rest' : Text) (tree : Tree) → m ≡ suc n → rest ≡ left ∷ text → n < limit → AreItems v limit m text inner end → end ≡ right ∷ after
-      → IsCut is_white after white' rest' → tree ≡ pack inner
+  pub one_more : {text after white' rest' : Text} {tree : Tree} → rest ≡ left ∷ text → IsNested v limit n text tree after → IsCut is_white after white' rest'
       → BracketBefore v limit n inside head modifiers spaced remaining (read ++ tree ∷ []) rest'
-  one_more m text inner end after white' rest' tree more opening lt is closing cut packed =
-      let in_suc : AreItems v limit (suc n) text inner end = subst (λ k. AreItems v limit k text inner end) more is in
-      record {
-        h = b.h;
-        behind = b.behind;
-        begins = b.begins;
-        before = nested_step v limit n (head.white.now ++ b.behind) spaced remaining read rest text after white' rest' in_suc.0 tree b.before opening lt in_suc.1
-            (in_suc.2 ∙ ap (λ t. spelling in_suc.0 ++ t) closing) cut (packed ∙ ap pack (sym in_suc.3));
-      }
+  one_more {text} {after} {white'} {rest'} {tree} opening is cut = record {
+    h = b.h;
+    behind = b.behind;
+    begins = b.begins;
+    before = nested_step v limit n (head.white.now ++ b.behind) spaced remaining read rest text after white' rest' is.0 tree b.before opening is.1 is.2 is.3 cut is.4;
+  }

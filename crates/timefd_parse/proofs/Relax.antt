@@ -1,6 +1,7 @@
 -- What version 3 spells without nested descriptions, version 2 spells.
-use Rattle.std.proofs.Common.{ℕ, zero, suc, nat_le, ◌==◌, ◌≡◌, ◌||◌, cond, not, Bool, true, false, List, [], ◌∷◌, ◌++◌, Result, Ok, Option, Some, None, refl, sym, ◌∙◌, ap, ap₂, subst, codes, is_some}
-use Rattle.std.proofs.lemmas.Bool.{false≢true, not-false}
+use Rattle.std.proofs.Common.{ℕ, ◌≡◌, ◌||◌, ◌&&◌, cond, not, map, Bool, true, false, List, [], ◌∷◌, ◌++◌, Result, Ok, Option, Some, None, refl, sym, ◌∙◌, ap, ap₂, subst, codes, is_some}
+use Rattle.std.proofs.lemmas.Bool.{false≢true, not-false, not-true, and_parts}
+use Rattle.std.specs.List.{list_all}
 use Rattle.std.specs.declared.num.NonZeroU16.{NonZeroU16}
 use Rattle.timefd_modifier.specs.declared.enums.Padding.{Padding}
 use Rattle.timefd_modifier.specs.declared.enums.MonthRepr.{MonthRepr}
@@ -19,19 +20,20 @@ use Rattle.timefd_items.specs.Tree.{Text, Tree, component, optional, first, tree
 use Rattle.timefd_items.specs.Faults.{Kind, fault}
 use Rattle.timefd_items.specs.Modern.{modern_month, modern_weekday, modern_week_number, modern_hour, modern_timestamp, modern_year}
 use Rattle.timefd_parse.specs.declared.description_version.DescriptionVersion.TheVariants.{Two, Three}
-use Rattle.timefd_parse.specs.Bytes.{right, equal, same, named}
+use Rattle.timefd_parse.specs.Bytes.{right, equal, same, named, lowered}
 use Rattle.timefd_parse.specs.Fault.{expected_nested, expected_alternative}
 use Rattle.timefd_parse.specs.Head.{Head, Placed, placed, head_text}
 use Rattle.timefd_parse.specs.declared.setting.Setting.{Setting}
 use Rattle.timefd_parse.specs.declared.setting.Settings.{Settings}
 use Rattle.timefd_parse.specs.Settings.{defaults, with}
-use Rattle.timefd_parse.specs.Values.{padding, trailing_input, hour_repr, count, month_repr, case_sensitive, sign, case, digits, precision, weekday_repr, one_indexed, week_number_repr, year_repr, range, base, format, Value, Values, words, numbers, Key, sets_of, setting_in, key_in, counted, count_of, digits_of, not_zero}
-use Rattle.timefd_parse.specs.Names.{Row, rows, row_of, ignored}
+use Rattle.timefd_parse.specs.Values.{format, Value, Values, words, numbers, Key, sets_of, setting_in, key_in}
+use Rattle.timefd_parse.specs.declared.name.ComponentName.{ComponentName}
+use Rattle.timefd_parse.specs.Names.{Row, rows, row_of, row_for, component_names, ignored, day, end, hour, minute, month, offset_hour, offset_minute, offset_second, ordinal, period, second, subsecond, unix_timestamp, weekday, week_number, year}
 use Rattle.timefd_parse.specs.Verdict.{refuse, bad_value, bad_modifier, bad_modifiers, is_set, setting_of, with_option, settings_from, settings, made, any_modifier, is_formatted, only, optional_verdict, first_verdict, component_verdict, verdict}
 use Rattle.timefd_parse.specs.Grammar.{Pieces, no_pieces, run, escape, closing, bracket, no_nested, nested, nested_text, spelling, ArePieces, BeginsNoRun}
-use Rattle.timefd_parse.specs.Relaxed.{IsFlat, widened, relaxed_tree, relaxed}
+use Rattle.timefd_parse.specs.Relaxed.{IsFlat, IsStandard, IsStandardIn, AreStandard, widened, relaxed_tree, relaxed}
 use Rattle.timefd_parse.specs.Laws.{Relaxing}
-use Rattle.timefd_parse.proofs.Lookup.{Each, IsLowered, named-found, named-lowered}
+use Rattle.timefd_parse.proofs.Lookup.{Each, each-map, each-passes, IsLowered, equal-true, named-found, named-lowered, count_of-sets}
 use Rattle.timefd_parse.proofs.Roomy.{behind_ok, made_ok}
 use Rattle.timefd_parse.proofs.Recase.{or_none, none_or, refuse_none, none_refused, behind_none, none_behind, unless_two, unless_one}
 
@@ -41,120 +43,116 @@ abbrev is_range : Setting → Bool
 is_range (Setting.Range r) = true
 is_range _ = false
 
+is_lowered : Text → Bool
+is_lowered text = equal (map lowered text) text
+
+is_same : Bool → Bool → Bool
+is_same x y = cond x y (not y)
+
+same_is : (x y : Bool) → is_same x y ≡ true → x ≡ y
+unfolding is_same
+same_is true y e = sym e
+same_is false y e = sym (not-true y e)
+
 -- words in lower case, that set the range where the key is `range`, and no others
-abbrev ArePlain : Text → Values → Type 0
-ArePlain key (words vs) = Each (λ v. IsLowered v.word × (is_range v.sets ≡ equal (codes "range") key)) vs
-ArePlain key numbers = equal (codes "range") key ≡ false
+is_plain_word : Text → Value Setting → Bool
+is_plain_word key v = is_lowered v.word && is_same (is_range v.sets) (equal (codes "range") key)
+
+IsPlainWord : Text → Value Setting → Type 0
+IsPlainWord key v = IsLowered v.word × (is_range v.sets ≡ equal (codes "range") key)
+
+plain_word : (key : Text) (v : Value Setting) → is_plain_word key v ≡ true → IsPlainWord key v
+unfolding is_plain_word is_lowered IsPlainWord
+plain_word key v e =
+    let p = and_parts (is_lowered v.word) (is_same (is_range v.sets) (equal (codes "range") key)) e in
+    (equal-true (map lowered v.word) v.word p.0, same_is (is_range v.sets) (equal (codes "range") key) p.1)
+
+are_plain : Text → Values → Bool
+are_plain key (words vs) = list_all (is_plain_word key) vs
+are_plain key numbers = not (equal (codes "range") key)
+
+is_plain : Key → Bool
+is_plain k = is_lowered k.key && are_plain k.key k.values
 
 record IsPlain (k : Key) : Type 0 where
   key : IsLowered k.key
-  words : ArePlain k.key k.values
+  words : are_plain k.key k.values ≡ true
 
-padding_plain : IsPlain padding
-padding_plain = record { key = refl; words = ((refl, refl), ((refl, refl), ((refl, refl), tt))) }
-
-trailing_input_plain : IsPlain trailing_input
-trailing_input_plain = record { key = refl; words = ((refl, refl), ((refl, refl), tt)) }
-
-hour_repr_plain : IsPlain hour_repr
-hour_repr_plain = record { key = refl; words = ((refl, refl), ((refl, refl), tt)) }
-
-count_plain : IsPlain count
-count_plain = record { key = refl; words = refl }
-
-month_repr_plain : IsPlain month_repr
-month_repr_plain = record { key = refl; words = ((refl, refl), ((refl, refl), ((refl, refl), tt))) }
-
-case_sensitive_plain : IsPlain case_sensitive
-case_sensitive_plain = record { key = refl; words = ((refl, refl), ((refl, refl), tt)) }
-
-sign_plain : IsPlain sign
-sign_plain = record { key = refl; words = ((refl, refl), ((refl, refl), tt)) }
-
-case_plain : IsPlain case
-case_plain = record { key = refl; words = ((refl, refl), ((refl, refl), tt)) }
-
-digits_plain : IsPlain digits
-digits_plain = record { key = refl; words = ((refl, refl), ((refl, refl), ((refl, refl), ((refl, refl), ((refl, refl), ((refl, refl), ((refl, refl), ((refl, refl), ((refl, refl), ((refl, refl), tt)))))))))) }
-
-precision_plain : IsPlain precision
-precision_plain = record { key = refl; words = ((refl, refl), ((refl, refl), ((refl, refl), ((refl, refl), tt)))) }
-
-weekday_repr_plain : IsPlain weekday_repr
-weekday_repr_plain = record { key = refl; words = ((refl, refl), ((refl, refl), ((refl, refl), ((refl, refl), tt)))) }
-
-one_indexed_plain : IsPlain one_indexed
-one_indexed_plain = record { key = refl; words = ((refl, refl), ((refl, refl), tt)) }
-
-week_number_repr_plain : IsPlain week_number_repr
-week_number_repr_plain = record { key = refl; words = ((refl, refl), ((refl, refl), ((refl, refl), tt))) }
-
-year_repr_plain : IsPlain year_repr
-year_repr_plain = record { key = refl; words = ((refl, refl), ((refl, refl), ((refl, refl), tt))) }
-
-range_plain : IsPlain range
-range_plain = record { key = refl; words = ((refl, refl), ((refl, refl), tt)) }
-
-base_plain : IsPlain base
-base_plain = record { key = refl; words = ((refl, refl), ((refl, refl), tt)) }
+plain_key : (k : Key) → is_plain k ≡ true → IsPlain k
+unfolding is_plain is_lowered
+plain_key k e =
+    let p = and_parts (is_lowered k.key) (are_plain k.key k.values) e in
+    record { key = equal-true (map lowered k.key) k.key p.0; words = p.1 }
 
 key_names : (ks : List Key) → Each IsPlain ks → Each (λ k. IsLowered k.key) ks
 key_names [] all = tt
 key_names (k ∷ ks) all = (all.0.key, key_names ks all.1)
 
-word_names : (key : Text) (vs : List (Value Setting)) → Each (λ v. IsLowered v.word × (is_range v.sets ≡ equal (codes "range") key)) vs → Each (λ v. IsLowered v.word) vs
+word_names : (key : Text) (vs : List (Value Setting)) → Each (IsPlainWord key) vs → Each (λ v. IsLowered v.word) vs
+unfolding IsPlainWord
 word_names key [] all = tt
 word_names key (v ∷ vs) all = (all.0.0, word_names key vs all.1)
 
 -- Components.
 
-made_widened : (d e c : Component) → ◌≡◌ {A = Result Component Kind} (Ok d) (Ok c) → e ≡ widened d → ◌≡◌ {A = Result Component Kind} (Ok e) (Ok (widened c))
-made_widened d e c h w = let is : d ≡ c = cc in ap Ok (w ∙ ap widened is)
+-- no year of a range
+abbrev IsKept : Component → Type 0
+IsKept c = (c ≡ widened c) × IsStandard c
 
-month_same : (r : MonthRepr) (m : Month) → modern_month r m ≡ widened (modern_month r m)
-month_same MonthRepr.Short m = refl
-month_same MonthRepr.Long m = refl
-month_same MonthRepr.Numerical m = refl
+month_same : (r : MonthRepr) (m : Month) → IsKept (modern_month r m)
+month_same MonthRepr.Short m = (refl, tt)
+month_same MonthRepr.Long m = (refl, tt)
+month_same MonthRepr.Numerical m = (refl, tt)
 
-weekday_same : (r : WeekdayRepr) (w : Weekday) → modern_weekday r w ≡ widened (modern_weekday r w)
-weekday_same WeekdayRepr.Short w = refl
-weekday_same WeekdayRepr.Long w = refl
-weekday_same WeekdayRepr.Sunday w = refl
-weekday_same WeekdayRepr.Monday w = refl
+weekday_same : (r : WeekdayRepr) (w : Weekday) → IsKept (modern_weekday r w)
+weekday_same WeekdayRepr.Short w = (refl, tt)
+weekday_same WeekdayRepr.Long w = (refl, tt)
+weekday_same WeekdayRepr.Sunday w = (refl, tt)
+weekday_same WeekdayRepr.Monday w = (refl, tt)
 
-week_same : (r : WeekNumberRepr) (w : WeekNumber) → modern_week_number r w ≡ widened (modern_week_number r w)
-week_same WeekNumberRepr.Iso w = refl
-week_same WeekNumberRepr.Sunday w = refl
-week_same WeekNumberRepr.Monday w = refl
+week_same : (r : WeekNumberRepr) (w : WeekNumber) → IsKept (modern_week_number r w)
+week_same WeekNumberRepr.Iso w = (refl, tt)
+week_same WeekNumberRepr.Sunday w = (refl, tt)
+week_same WeekNumberRepr.Monday w = (refl, tt)
 
-hour_same : (b : Bool) (h : Hour) → modern_hour b h ≡ widened (modern_hour b h)
-hour_same true h = refl
-hour_same false h = refl
+hour_same : (b : Bool) (h : Hour) → IsKept (modern_hour b h)
+hour_same true h = (refl, tt)
+hour_same false h = (refl, tt)
 
-timestamp_same : (p : UnixTimestampPrecision) (t : UnixTimestamp) → modern_timestamp p t ≡ widened (modern_timestamp p t)
-timestamp_same UnixTimestampPrecision.Second t = refl
-timestamp_same UnixTimestampPrecision.Millisecond t = refl
-timestamp_same UnixTimestampPrecision.Microsecond t = refl
-timestamp_same UnixTimestampPrecision.Nanosecond t = refl
+timestamp_same : (p : UnixTimestampPrecision) (t : UnixTimestamp) → IsKept (modern_timestamp p t)
+timestamp_same UnixTimestampPrecision.Second t = (refl, tt)
+timestamp_same UnixTimestampPrecision.Millisecond t = (refl, tt)
+timestamp_same UnixTimestampPrecision.Microsecond t = (refl, tt)
+timestamp_same UnixTimestampPrecision.Nanosecond t = (refl, tt)
 
 abbrev year_with : Bool → YearRepr → YearRange → Padding → Bool → Component
 year_with iso repr range padding sign =
     modern_year iso repr range (record { padding = padding; repr = repr; range = range; iso_week_based = iso; sign_is_mandatory = sign })
 
-year_widened : (iso : Bool) (k : YearRepr) (p : Padding) (s : Bool) → year_with iso k YearRange.Extended p s ≡ widened (year_with iso k YearRange.Standard p s)
-year_widened true YearRepr.Full p s = refl
-year_widened true YearRepr.Century p s = refl
-year_widened true YearRepr.LastTwo p s = refl
-year_widened false YearRepr.Full p s = refl
-year_widened false YearRepr.Century p s = refl
-year_widened false YearRepr.LastTwo p s = refl
+year_widened : (iso : Bool) (k : YearRepr) (p : Padding) (s : Bool)
+    → (year_with iso k YearRange.Extended p s ≡ widened (year_with iso k YearRange.Standard p s)) × IsStandard (year_with iso k YearRange.Standard p s)
+year_widened true YearRepr.Full p s = (refl, tt)
+year_widened true YearRepr.Century p s = (refl, tt)
+year_widened true YearRepr.LastTwo p s = (refl, tt)
+year_widened false YearRepr.Full p s = (refl, tt)
+year_widened false YearRepr.Century p s = (refl, tt)
+year_widened false YearRepr.LastTwo p s = (refl, tt)
 
-ignore_same : (o : Option NonZeroU16) (c : Component) → ignored o ≡ Ok c → ignored o ≡ Ok (widened c)
+ignore_same : (o : Option NonZeroU16) (c : Component) → ignored o ≡ Ok c → (ignored o ≡ Ok (widened c)) × IsStandard c
 ignore_same None c e = absurd cc
-ignore_same (Some n) c e = made_widened (Component.Ignore (record { count = n })) _ c e refl
+ignore_same (Some n) c e =
+    let is : Component.Ignore (record { count = n }) ≡ c = cc in (ap Ok (ap widened is), subst IsStandard is tt)
 
 abbrev in_range : YearRange → Settings → Settings
 in_range r s = record s { range = r }
+
+-- a component of the standard range, which in the extended range is that one widened
+abbrev Widens : (Settings → Result Component Kind) → Type 0
+Widens f =
+    (s : Settings) (c : Component) → f (in_range YearRange.Standard s) ≡ Ok c → (f (in_range YearRange.Extended s) ≡ Ok (widened c)) × IsStandard c
+
+is_plain_row : Row → Bool
+is_plain_row r = is_lowered r.name && (not (equal (codes "optional") r.name) && (not (equal (codes "first") r.name) && list_all is_plain r.keys))
 
 -- a row in lower case, whose component is widened with its range
 record IsPlainRow (r : Row) : Type 0 where
@@ -162,58 +160,61 @@ record IsPlainRow (r : Row) : Type 0 where
   no_optional : equal (codes "optional") r.name ≡ false
   no_first : equal (codes "first") r.name ≡ false
   keys : Each IsPlain r.keys
-  component : (s : Settings) (c : Component) → r.component (in_range YearRange.Standard s) ≡ Ok c → r.component (in_range YearRange.Extended s) ≡ Ok (widened c)
+  component : Widens r.component
+
+plain_row : (r : Row) → is_plain_row r ≡ true → Widens r.component → IsPlainRow r
+unfolding is_plain_row is_lowered
+plain_row r e widens =
+    let p = and_parts (is_lowered r.name) _ e in
+    let q = and_parts (not (equal (codes "optional") r.name)) _ p.1 in
+    let t = and_parts (not (equal (codes "first") r.name)) (list_all is_plain r.keys) q.1 in
+    record {
+      name = equal-true (map lowered r.name) r.name p.0;
+      no_optional = not-true (equal (codes "optional") r.name) q.0;
+      no_first = not-true (equal (codes "first") r.name) t.0;
+      keys = each-passes is_plain IsPlain plain_key r.keys t.1;
+      component = widens;
+    }
+
+by_form : (f : Settings → Component)
+    → ((s : Settings) → (f (in_range YearRange.Extended s) ≡ widened (f (in_range YearRange.Standard s))) × IsStandard (f (in_range YearRange.Standard s)))
+    → Widens (λ s. Ok (f s))
+by_form f widens s c e =
+    let is : f (in_range YearRange.Standard s) ≡ c = cc in (ap Ok ((widens s).0 ∙ ap widened is), subst IsStandard is (widens s).1)
+
+name_widens : (n : ComponentName) → Widens (row_for n).component
+name_widens ComponentName.Day = by_form day (λ s. (refl, tt))
+name_widens ComponentName.End = by_form end (λ s. (refl, tt))
+name_widens ComponentName.Hour = by_form hour (λ s. hour_same s.is_12_hour_clock _)
+name_widens ComponentName.Ignore = λ s c e. ignore_same s.count c e
+name_widens ComponentName.Minute = by_form minute (λ s. (refl, tt))
+name_widens ComponentName.Month = by_form month (λ s. month_same s.month_repr _)
+name_widens ComponentName.OffsetHour = by_form offset_hour (λ s. (refl, tt))
+name_widens ComponentName.OffsetMinute = by_form offset_minute (λ s. (refl, tt))
+name_widens ComponentName.OffsetSecond = by_form offset_second (λ s. (refl, tt))
+name_widens ComponentName.Ordinal = by_form ordinal (λ s. (refl, tt))
+name_widens ComponentName.Period = by_form period (λ s. (refl, tt))
+name_widens ComponentName.Second = by_form second (λ s. (refl, tt))
+name_widens ComponentName.Subsecond = by_form subsecond (λ s. (refl, tt))
+name_widens ComponentName.UnixTimestamp = by_form unix_timestamp (λ s. timestamp_same s.precision _)
+name_widens ComponentName.Weekday = by_form weekday (λ s. weekday_same s.weekday_repr _)
+name_widens ComponentName.WeekNumber = by_form week_number (λ s. week_same s.week_number_repr _)
+name_widens ComponentName.Year = by_form year (λ s. year_widened s.iso_week_based s.year_repr s.padding s.sign_is_mandatory)
+
+rows_are_plain : list_all is_plain_row rows ≡ true
+unfolding is_plain_row is_plain is_plain_word are_plain is_lowered is_same
+rows_are_plain = refl
+
+rows_widen : Each (λ r. Widens r.component) rows
+rows_widen = each-map row_for (λ r. Widens r.component) component_names name_widens
+
+plain_rows : (rs : List Row) → list_all is_plain_row rs ≡ true → Each (λ r. Widens r.component) rs → Each IsPlainRow rs
+plain_rows [] e widen = tt
+plain_rows (r ∷ rs) e widen =
+    let p = and_parts (is_plain_row r) (list_all is_plain_row rs) e in (plain_row r p.0 widen.0, plain_rows rs p.1 widen.1)
 
 all_plain : Each IsPlainRow rows
-all_plain = (
-  record { name = refl; no_optional = refl; no_first = refl; keys = (padding_plain, tt); component = λ s c e. made_widened _ _ c e (refl) },
-  (
-    record { name = refl; no_optional = refl; no_first = refl; keys = (trailing_input_plain, tt); component = λ s c e. made_widened _ _ c e (refl) },
-    (
-      record { name = refl; no_optional = refl; no_first = refl; keys = (padding_plain, (hour_repr_plain, tt)); component = λ s c e. made_widened _ _ c e (hour_same s.is_12_hour_clock _) },
-      (
-        record { name = refl; no_optional = refl; no_first = refl; keys = (count_plain, tt); component = λ s c e. ignore_same s.count c e },
-        (
-          record { name = refl; no_optional = refl; no_first = refl; keys = (padding_plain, tt); component = λ s c e. made_widened _ _ c e (refl) },
-          (
-            record { name = refl; no_optional = refl; no_first = refl; keys = (padding_plain, (month_repr_plain, (case_sensitive_plain, tt))); component = λ s c e. made_widened _ _ c e (month_same s.month_repr _) },
-            (
-              record { name = refl; no_optional = refl; no_first = refl; keys = (sign_plain, (padding_plain, tt)); component = λ s c e. made_widened _ _ c e (refl) },
-              (
-                record { name = refl; no_optional = refl; no_first = refl; keys = (padding_plain, tt); component = λ s c e. made_widened _ _ c e (refl) },
-                (
-                  record { name = refl; no_optional = refl; no_first = refl; keys = (padding_plain, tt); component = λ s c e. made_widened _ _ c e (refl) },
-                  (
-                    record { name = refl; no_optional = refl; no_first = refl; keys = (padding_plain, tt); component = λ s c e. made_widened _ _ c e (refl) },
-                    (
-                      record { name = refl; no_optional = refl; no_first = refl; keys = (case_plain, (case_sensitive_plain, tt)); component = λ s c e. made_widened _ _ c e (refl) },
-                      (
-                        record { name = refl; no_optional = refl; no_first = refl; keys = (padding_plain, tt); component = λ s c e. made_widened _ _ c e (refl) },
-                        (
-                          record { name = refl; no_optional = refl; no_first = refl; keys = (digits_plain, tt); component = λ s c e. made_widened _ _ c e (refl) },
-                          (
-                            record { name = refl; no_optional = refl; no_first = refl; keys = (precision_plain, (sign_plain, tt)); component = λ s c e. made_widened _ _ c e (timestamp_same s.precision _) },
-                            (
-                              record { name = refl; no_optional = refl; no_first = refl; keys = (weekday_repr_plain, (one_indexed_plain, (case_sensitive_plain, tt))); component = λ s c e. made_widened _ _ c e (weekday_same s.weekday_repr _) },
-                              (
-                                record { name = refl; no_optional = refl; no_first = refl; keys = (padding_plain, (week_number_repr_plain, tt)); component = λ s c e. made_widened _ _ c e (week_same s.week_number_repr _) },
-                                (record { name = refl; no_optional = refl; no_first = refl; keys = (padding_plain, (year_repr_plain, (range_plain, (base_plain, (sign_plain, tt))))); component = λ s c e. made_widened _ _ c e (year_widened s.iso_week_based s.year_repr s.padding s.sign_is_mandatory) }, tt),
-                              ),
-                            ),
-                          ),
-                        ),
-                      ),
-                    ),
-                  ),
-                ),
-              ),
-            ),
-          ),
-        ),
-      ),
-    ),
-  ),
-)
+all_plain = plain_rows rows rows_are_plain rows_widen
 
 row_names : (rs : List Row) → Each IsPlainRow rs → Each (λ r. IsLowered r.name) rs
 row_names [] all = tt
@@ -257,40 +258,23 @@ record IsWord (key : Text) (values : Values) (text : Text) (v : Setting) : Type 
   loose : setting_in false values text ≡ Some v
   range : is_range v ≡ equal (codes "range") key
 
-word_in-found : (key : Text) (vs : List (Value Setting)) (text : Text) (v : Setting) → Each (λ x. IsLowered x.word × (is_range x.sets ≡ equal (codes "range") key)) vs
+word_in-found : (key : Text) (vs : List (Value Setting)) (text : Text) (v : Setting) → list_all (is_plain_word key) vs ≡ true
     → (o : Option (Value Setting)) → named (λ x. x.word) true text vs ≡ o → sets_of o ≡ Some v → IsWord key (words vs) text v
-word_in-found key vs text v all None e h = absurd cc
-word_in-found key vs text v all (Some x) e h =
-    let f = named-found (λ y. y.word) (λ y. IsLowered y.word × (is_range y.sets ≡ equal (codes "range") key)) text vs x all e in
+unfolding IsPlainWord
+word_in-found key vs text v plain None e h = absurd cc
+word_in-found key vs text v plain (Some x) e h =
+    let all = each-passes (is_plain_word key) (IsPlainWord key) (plain_word key) vs plain in
+    let f = named-found (λ y. y.word) (IsPlainWord key) text vs x all e in
     let is : x.sets ≡ v = cc in
     record {
       loose = ap sets_of (named-lowered (λ y. y.word) text vs (word_names key vs all) (subst IsLowered f.1 f.0.0) ∙ e) ∙ h;
       range = subst (λ y. is_range y ≡ equal (codes "range") key) is f.0.1;
     }
 
-counted-free : (o : Option ℕ) (v : Setting) → counted o ≡ Some v → is_range v ≡ false
-counted-free None v e = absurd cc
-counted-free (Some zero) v e = absurd cc
-counted-free (Some (suc n)) v e = by (nat_le (suc n) 65535) e
-  where
-    by : (t : Bool) → elim t [ true ↦ Some (Setting.Count (not_zero n)) | false ↦ None ] ≡ Some v → is_range v ≡ false
-    by true h = let is : Setting.Count (not_zero n) ≡ v = cc in subst (λ y. is_range y ≡ false) is refl
-    by false h = absurd cc
-
-count_of-free : (text : Text) (v : Setting) → count_of text ≡ Some v → is_range v ≡ false
-count_of-free [] v e = absurd cc
-count_of-free (b ∷ text) v e = by (b == 43) e
-  where
-    by : (t : Bool) → elim t [ true ↦ counted (digits_of text) | false ↦ counted (digits_of (b ∷ text)) ] ≡ Some v → is_range v ≡ false
-    by true h = counted-free (digits_of text) v h
-    by false h = counted-free (digits_of (b ∷ text)) v h
-
-setting_in-found : (key : Text) (values : Values) (text : Text) (v : Setting) → ArePlain key values → setting_in true values text ≡ Some v → IsWord key values text v
+setting_in-found : (key : Text) (values : Values) (text : Text) (v : Setting) → are_plain key values ≡ true → setting_in true values text ≡ Some v → IsWord key values text v
+unfolding are_plain
 setting_in-found key (words vs) text v plain e = word_in-found key vs text v plain _ refl e
-setting_in-found key numbers text v plain e = record { loose = e; range = free ∙ sym plain }
-  where
-    free : is_range v ≡ false
-    free = count_of-free text v e
+setting_in-found key numbers text v plain e = record { loose = e; range = ap is_range (count_of-sets text v e).1 ∙ sym (not-true (equal (codes "range") key) plain) }
 
 good_found : (keys : List Key) (m : Placed) → Each IsPlain keys → IsGood keys m → IsFound keys m
 good_found keys m plain g =
@@ -357,18 +341,18 @@ ranged keys r s (m ∷ ms) f =
 
 -- Brackets.
 
-component_relaxed : (h : Head) (r : Row) (tree : Tree) → IsPlainRow r → component_verdict true h (Some r) ≡ Ok tree → component_verdict false h (Some r) ≡ Ok (relaxed_tree h tree)
-component_relaxed h r tree plain e =
-    none_behind (bad_modifiers false r.keys [] (placed h)) (made false h (r.component (settings false r.keys (placed h)))) (good_modifiers r.keys [] (placed h) found)
-    ∙ ap (made false h) (by (is_set true (codes "range") (placed h)) refl)
-    ∙ ap (λ t. Ok (relaxed_tree h t)) leaf.1
+component_relaxed : (h : Head) (r : Row) (tree : Tree) → IsPlainRow r → component_verdict true h (Some r) ≡ Ok tree
+    → (component_verdict false h (Some r) ≡ Ok (relaxed_tree h tree)) × IsStandardIn h tree
+component_relaxed h r tree plain e = (
+  none_behind (bad_modifiers false r.keys [] (placed h)) (made false h (r.component (settings false r.keys (placed h)))) (good_modifiers r.keys [] (placed h) found)
+      ∙ ap (made false h) (by (is_set true (codes "range") (placed h)) refl)
+      ∙ ap (λ t. Ok (relaxed_tree h t)) leaf.1,
+  subst (IsStandardIn h) leaf.1 (λ n. (standard n).1),
+)
   where
     found : Each (IsFound r.keys) (placed h)
     found = all_found r.keys (placed h) plain.keys
         (all_good r.keys [] (placed h) (behind_none (bad_modifiers true r.keys [] (placed h)) (made true h (r.component (settings true r.keys (placed h)))) tree e))
-
-    set : Settings
-    set = settings true r.keys (placed h)
 
     leaf : (c : Component) × (component c ≡ tree) × (r.component (settings true r.keys (placed h)) ≡ Ok c)
     leaf = made_ok true h (r.component (settings true r.keys (placed h))) tree
@@ -380,25 +364,32 @@ component_relaxed h r tree plain e =
     strict : settings true r.keys (placed h) ≡ cond (is_set true (codes "range") (placed h)) (settings true r.keys (placed h)) (in_range YearRange.Standard (settings true r.keys (placed h)))
     strict = ranged r.keys YearRange.Standard (defaults true) (placed h) found
 
+    standard : is_set true (codes "range") (placed h) ≡ false
+        → (r.component (in_range YearRange.Extended (settings true r.keys (placed h))) ≡ Ok (widened leaf.0)) × IsStandard leaf.0
+    standard n = plain.component (settings true r.keys (placed h)) leaf.0 (sym (ap r.component (strict ∙ rw n refl)) ∙ leaf.2)
+
     by : (t : Bool) → is_set true (codes "range") (placed h) ≡ t
         → r.component (settings false r.keys (placed h)) ≡ Ok (cond (is_set true (codes "range") (placed h)) leaf.0 (widened leaf.0))
     by true n = rw n (ap r.component (loose ∙ rw n refl) ∙ leaf.2)
     by false n =
-        rw n
-        (ap r.component (loose ∙ rw n refl)
-        ∙ plain.component (settings true r.keys (placed h)) leaf.0 (sym (ap r.component (strict ∙ rw n refl)) ∙ leaf.2))
+        rw n (ap r.component (loose ∙ rw n refl) ∙ (standard n).0)
 
 named_relaxed : (h : Head) (close : ℕ) (tree : Tree) (o : Option Row) → row_of true h.name ≡ o → component_verdict true h o ≡ Ok tree
-    → verdict false h [] close ≡ Ok (relaxed_tree h tree)
+    → (verdict false h [] close ≡ Ok (relaxed_tree h tree)) × IsStandardIn h tree
 named_relaxed h close tree None known e = absurd cc
-named_relaxed h close tree (Some r) known e =
-    ap₂ (λ x y. cond x (optional_verdict false h [] close) (cond y (first_verdict false h [] close) (component_verdict false h (row_of false h.name))))
-    (ap (equal (codes "optional")) low ∙ no_optional) (ap (equal (codes "first")) low ∙ no_first)
-    ∙ ap (component_verdict false h) (named-lowered (λ x. x.name) h.name rows (row_names rows all_plain) low ∙ known)
-    ∙ component_relaxed h r tree found.0 e
+named_relaxed h close tree (Some r) known e = (
+  ap₂ (λ x y. cond x (optional_verdict false h [] close) (cond y (first_verdict false h [] close) (component_verdict false h (row_of false h.name))))
+      (ap (equal (codes "optional")) low ∙ no_optional) (ap (equal (codes "first")) low ∙ no_first)
+      ∙ ap (component_verdict false h) (named-lowered (λ x. x.name) h.name rows (row_names rows all_plain) low ∙ known)
+      ∙ relaxes.0,
+  relaxes.1,
+)
   where
     found : IsPlainRow r × (r.name ≡ h.name)
     found = named-found (λ x. x.name) IsPlainRow h.name rows r all_plain known
+
+    relaxes : (component_verdict false h (Some r) ≡ Ok (relaxed_tree h tree)) × IsStandardIn h tree
+    relaxes = component_relaxed h r tree found.0 e
 
     low : IsLowered h.name
     low = subst IsLowered found.1 found.0.name
@@ -409,11 +400,11 @@ named_relaxed h close tree (Some r) known e =
     no_first : equal (codes "first") h.name ≡ false
     no_first = subst (λ x. equal (codes "first") x ≡ false) found.1 found.0.no_first
 
-verdict_relaxed : (h : Head) (close : ℕ) (tree : Tree) → verdict true h [] close ≡ Ok tree → verdict false h [] close ≡ Ok (relaxed_tree h tree)
+verdict_relaxed : (h : Head) (close : ℕ) (tree : Tree) → verdict true h [] close ≡ Ok tree → (verdict false h [] close ≡ Ok (relaxed_tree h tree)) × IsStandardIn h tree
 verdict_relaxed h close tree e = by (same true (codes "optional") h.name) (same true (codes "first") h.name) e
   where
     by : (t u : Bool) → cond t (optional_verdict true h [] close) (cond u (first_verdict true h [] close) (component_verdict true h (row_of true h.name))) ≡ Ok tree
-        → verdict false h [] close ≡ Ok (relaxed_tree h tree)
+        → (verdict false h [] close ≡ Ok (relaxed_tree h tree)) × IsStandardIn h tree
     by true u c = absurd (unless_two (bad_modifiers true (format ∷ []) [] (placed h)) None (fault expected_nested close) (optional (is_formatted true (placed h)) (only [])) tree c)
     by false true c = absurd (unless_one (any_modifier (placed h)) (fault expected_alternative close) (first (trees [])) tree c)
     by false false c = named_relaxed h close tree (row_of true h.name) refl c
@@ -433,8 +424,16 @@ relaxed_are limit (run bytes rest) are flat = (are.0, relaxed_begins rest are.1,
 relaxed_are limit (escape a b rest) are flat = (are.0, relaxed_are limit rest are.1 flat)
 relaxed_are limit (closing rest) are flat = absurd (false≢true (sym are.0))
 relaxed_are limit (bracket h no_nested white tree rest) are flat =
-    (are.0, tt, are.2, verdict_relaxed h _ tree are.3, relaxed_are limit rest are.4 flat.1)
+    (are.0, tt, are.2, (verdict_relaxed h _ tree are.3).0, relaxed_are limit rest are.4 flat.1)
 relaxed_are limit (bracket h (nested w ps ns) white tree rest) are flat = absurd flat.0
+
+standard_are : (limit : ℕ) (ps : Pieces) → ArePieces Three limit 0 ps → IsFlat ps → AreStandard ps
+standard_are limit no_pieces are flat = tt
+standard_are limit (run bytes rest) are flat = standard_are limit rest are.2 flat
+standard_are limit (escape a b rest) are flat = standard_are limit rest are.1 flat
+standard_are limit (closing rest) are flat = absurd (false≢true (sym are.0))
+standard_are limit (bracket h no_nested white tree rest) are flat = ((verdict_relaxed h _ tree are.3).1, standard_are limit rest are.4 flat.1)
+standard_are limit (bracket h (nested w ps ns) white tree rest) are flat = absurd flat.0
 
 pub relaxed_spelling : (ps : Pieces) → spelling (relaxed ps) ≡ spelling ps
 relaxed_spelling no_pieces = refl
@@ -444,4 +443,4 @@ relaxed_spelling (closing rest) = ap (λ x. right ∷ x) (relaxed_spelling rest)
 relaxed_spelling (bracket h ns white tree rest) = ap (λ x. head_text h ++ nested_text ns ++ white ++ right ∷ x) (relaxed_spelling rest)
 
 pub relaxing_law : Relaxing
-relaxing_law limit ps are flat = (relaxed_are limit ps are flat, relaxed_spelling ps)
+relaxing_law limit ps are flat = (relaxed_are limit ps are flat, relaxed_spelling ps, standard_are limit ps are flat)

@@ -6,7 +6,7 @@ use Rattle.timefd_items.specs.Tree.{Text, Tree, joined, pack, trees}
 use Rattle.timefd_items.specs.Modern.{AreModern}
 use Rattle.timefd_parse.specs.Bytes.{is_version_three}
 use Rattle.timefd_parse.specs.Recased.{Recased}
-use Rattle.timefd_parse.specs.Relaxed.{IsFlat, relaxed}
+use Rattle.timefd_parse.specs.Relaxed.{IsFlat, AreStandard, relaxed}
 use Rattle.timefd_items.specs.Faults.{Fault}
 use Rattle.timefd_parse.specs.Fault.{raised, too_highly_nested}
 use Rattle.timefd_parse.specs.Grammar.{Pieces, ArePieces, spelling, items, Spells}
@@ -108,7 +108,7 @@ Recasing = (v : DescriptionVersion) (limit n : ℕ) (ps qs : Pieces) → IsFalse
 -- A text that version 3 spells without nested descriptions version 2 spells, piece by piece.
 abbrev pub Relaxing : Type 0
 Relaxing = (limit : ℕ) (ps : Pieces) → ArePieces Three limit 0 ps → IsFlat ps
-    → ArePieces Two limit 0 (relaxed ps) × (spelling (relaxed ps) ≡ spelling ps)
+    → ArePieces Two limit 0 (relaxed ps) × (spelling (relaxed ps) ≡ spelling ps) × AreStandard ps
 
 -- Modern components.
 

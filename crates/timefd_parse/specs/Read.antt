@@ -1,13 +1,14 @@
 -- How what is read of a text stands to the grammar.
-use Rattle.std.specs.Prelude.{ℕ, ◌≡◌, ◌+◌, ◌<◌, List, [], ◌∷◌, ◌++◌, length, map, Option, Some, None, Result, MatchResult, IsTrue, ⊤}
+use Rattle.std.specs.Prelude.{ℕ, suc, ◌≡◌, ◌+◌, ◌<◌, ◌⊎◌, List, [], ◌∷◌, ◌++◌, length, map, Option, Some, None, Result, MatchResult, IsTrue, ⊤}
 use Rattle.std.specs.Borrow.{Bor}
 use Rattle.std.specs.Str.{IsUtf8}
 use Rattle.std.specs.declared.vec.Vec.{Vec}
 use Rattle.std.specs.declared.alloc.Global.{Global}
 use Rattle.timefd_items.specs.declared.borrowed_format_item.BorrowedFormatItem.{BorrowedFormatItem}
-use Rattle.timefd_items.specs.Faults.{Fault}
-use Rattle.timefd_items.specs.Meaning.{item_tree}
-use Rattle.timefd_items.specs.Tree.{Text, Tree}
+use Rattle.timefd_items.specs.declared.format_description_v3.inner.FormatDescriptionV3Inner.{FormatDescriptionV3Inner}
+use Rattle.timefd_items.specs.Faults.{Fault, fault, unclosed_bracket}
+use Rattle.timefd_items.specs.Meaning.{item_tree, inner_tree}
+use Rattle.timefd_items.specs.Tree.{Text, Tree, pack}
 use Rattle.timefd_parse.specs.declared.description_version.DescriptionVersion.{DescriptionVersion}
 use Rattle.timefd_parse.specs.declared.fault.Fault as code_fault
 use Rattle.timefd_parse.specs.declared.fault.ReadError as code_error
@@ -15,7 +16,7 @@ use Rattle.timefd_parse.specs.declared.fault.ReadError.TheVariants as errors
 use Rattle.timefd_parse.specs.declared.members.Members.{Members}
 use Rattle.timefd_parse.specs.declared.piece.Piece.{Piece}
 use Rattle.timefd_parse.specs.Bytes.{right, is_run_byte, is_version_three}
-use Rattle.timefd_parse.specs.Fault.{enclosed}
+use Rattle.timefd_parse.specs.Fault.{enclosed, too_highly_nested}
 use Rattle.timefd_parse.specs.Grammar.{Pieces, ArePieces, spelling, items}
 use Rattle.timefd_parse.specs.Broken.{Broken, IsBroken, broken_text, broken_fault}
 use Rattle.timefd_parse.specs.Pieces.{piece_tree, members_trees, AreMembers, IsSound}
@@ -77,6 +78,34 @@ AreItems v limit n text read rest =
 abbrev pub ReadsMembers : DescriptionVersion → ℕ → ℕ → Text → Result (Members × Bor (List ℕ)) code_error.ReadError → Type 0
 ReadsMembers v limit n text r =
     MatchResult r (λ x. AreItems v limit n text (members_trees x.0) x.1.now × AreMembers x.0) (MemoryOr (IsFaultIn v limit n text))
+
+-- The text behind the `[` of a nested description, which is this tree, and what follows its `]`.
+abbrev pub IsNested : DescriptionVersion → ℕ → ℕ → Text → Tree → Text → Type 0
+IsNested v limit n text tree rest =
+    (inner : Pieces) × (n < limit) × ArePieces v limit (suc n) inner × (text ≡ spelling inner ++ right ∷ rest) × (tree ≡ pack (items inner))
+
+-- The faults behind the `[` of a nested description: it is one too many, the text ends in it, or it has a fault.
+-- The bracket around it begins where `start` bytes remain.
+
+abbrev pub IsTooDeep : ℕ → ℕ → Text → code_fault.Fault → Type 0
+IsTooDeep limit n text f = (n ≡ limit) × IsFault (length text + 1) f (fault too_highly_nested 0)
+
+abbrev pub IsCutOff : DescriptionVersion → ℕ → ℕ → ℕ → Text → code_fault.Fault → Type 0
+IsCutOff v limit n start text f =
+    (inner : Pieces) × (n < limit) × ArePieces v limit (suc n) inner × (text ≡ spelling inner) × IsFault start f (fault unclosed_bracket 0)
+
+abbrev pub IsBrokenInside : DescriptionVersion → ℕ → ℕ → ℕ → Text → code_fault.Fault → Type 0
+IsBrokenInside v limit n start text f =
+    (inner : Pieces) × (b : Broken) × (n < limit) × ArePieces v limit (suc n) inner × IsBroken v limit (suc n) b
+    × (text ≡ spelling inner ++ broken_text b)
+    × ((k : ℕ) → k + length (broken_text b) ≡ start → IsFault start f (enclosed (broken_fault b).kind (broken_fault b).index k))
+
+abbrev pub IsNestedFault : DescriptionVersion → ℕ → ℕ → ℕ → Text → code_fault.Fault → Type 0
+IsNestedFault v limit n start text f = IsTooDeep limit n text f ⊎ (IsCutOff v limit n start text f ⊎ IsBrokenInside v limit n start text f)
+
+abbrev pub ReadsNested : DescriptionVersion → ℕ → ℕ → ℕ → Text → Result (FormatDescriptionV3Inner × Bor (List ℕ)) code_error.ReadError → Type 0
+ReadsNested v limit n start text r =
+    MatchResult r (λ x. IsNested v limit n text (inner_tree x.0) x.1.now) (MemoryOr (IsNestedFault v limit n start text))
 
 -- the items of a whole text
 abbrev pub ReadsItems : DescriptionVersion → ℕ → Text → Result (Vec BorrowedFormatItem Global) code_error.ReadError → Type 0

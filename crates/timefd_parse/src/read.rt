@@ -6,7 +6,7 @@ ghost use Rattle.std.specs.Str.{IsUtf8};
 ghost use Rattle.timefd_parse.specs.declared.description_version.DescriptionVersion as spec_version;
 ghost use Rattle.timefd_parse.specs.Broken.{BeginsNoEscape};
 ghost use Rattle.timefd_parse.specs.Bytes.{is_version_three};
-ghost use Rattle.timefd_parse.specs.Read.{BeginsRun, BeginsClosing, LeadsOn, ReadsEscape, ReadsPiece, ReadsNext, ReadsMembers, ReadsItems, IsEnclosed};
+ghost use Rattle.timefd_parse.specs.Read.{BeginsRun, BeginsClosing, LeadsOn, ReadsEscape, ReadsPiece, ReadsNext, ReadsMembers, ReadsNested, ReadsItems, IsEnclosed};
 ghost use Rattle.timefd_parse.specs.Fault.{too_highly_nested};
 ghost use Rattle.timefd_parse.specs.Invalid.{IsInvalid};
 ghost use Rattle.timefd_parse.specs.Shown.{IsFault, MemoryOr};
@@ -22,7 +22,7 @@ use crate::piece::Piece;
 use crate::text::{Class, Start, cut, cut_run, escaped, start_of};
 use crate::verdict::{Nested, Span, verdict};
 use std::alloc::Global;
-use timefd_items::BorrowedFormatItem;
+use timefd_items::{BorrowedFormatItem, FormatDescriptionV3Inner};
 
 /// The run that a text begins with.
 #[inline(always)]
@@ -181,6 +181,33 @@ pub fn members<'a>(
     }
 }
 
+/// The description behind the `[` of a nested one, and what follows its `]`. The bracket around it
+/// begins where `start` bytes remain.
+#[cycle(read)]
+fn nested<'a>(
+    alloc: Global,
+    version: DescriptionVersion,
+    text: &'a str,
+    limit: u8,
+    around: u8,
+    start: usize,
+) -> Result<(FormatDescriptionV3Inner<'a>, &'a str), ReadError<'a>>
+    requires { around ≤ limit }
+    ensures { ReadsNested version limit around start text.now result }
+{
+    if around == limit {
+        return Err(too_deep(text.len() + 1));
+    }
+    let (members, end) = match members(alloc, version, text, limit, around + 1) {
+        Ok(read) => read,
+        Err(error) => return Err(enclosed(error, start)),
+    };
+    let Start::Closing(after) = start_of(end) else {
+        return Err(unclosed(start));
+    };
+    Ok((members.packed(alloc), after))
+}
+
 /// The bracket that has this inside.
 #[cycle(read)]
 fn bracket<'a>(
@@ -200,38 +227,25 @@ fn bracket<'a>(
     let (head, behind) = read_head(strict, inside, &mut modifiers)?;
     let spaced = !head.white.is_empty();
     let remaining = behind.len();
-    let mut descriptions = Members::Empty;
+    let mut members = Members::Empty;
     let mut rest = behind;
-    'nested: loop {
+    'inner: loop {
         match start_of(rest) {
             Start::Opening(text) => {
-                if around == limit {
-                    return Err(too_deep(rest.len()));
-                }
-                let (inner, end) = match members(alloc, version, text, limit, around + 1) {
-                    Ok(read) => read,
-                    Err(error) => return Err(enclosed(error, start)),
-                };
-                let Start::Closing(after) = start_of(end) else {
-                    return Err(unclosed(start));
-                };
-                descriptions.add(alloc, inner.packed(alloc), FEW)?;
+                let (description, after) = nested(alloc, version, text, limit, around, start)?;
+                members.add(alloc, description, FEW)?;
                 rest = cut(after, Class::White).1;
             }
             Start::Closing(after) => {
-                let span = Span {
-                    start,
-                    end: rest.len(),
-                };
+                let end = rest.len();
+                let span = Span { start, end };
                 let nested = Nested {
                     spaced,
                     remaining,
-                    members: descriptions,
+                    members,
                 };
-                return Ok((
-                    verdict(alloc, strict, &head, &modifiers, nested, span)?,
-                    after,
-                ));
+                let piece = verdict(alloc, strict, &head, &modifiers, nested, span)?;
+                return Ok((piece, after));
             }
             _ => return Err(unclosed(start)),
         }

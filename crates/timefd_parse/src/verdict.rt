@@ -124,7 +124,7 @@ fn first<'a>(
 }
 
 /// The first key that version 3 refuses with the component.
-fn refused(strict: bool, component: Component, places: &Places) -> Option<Fault<'static>>
+fn combination_fault(strict: bool, component: Component, places: &Places) -> Option<Fault<'static>>
     ensures { (total : ℕ) (ps : List Placed) → (IsTrue strict → ShowsPlaces total places.now ps) → ShowsFault total result (rules.combination strict component ps) }
 {
     if !strict {
@@ -158,14 +158,14 @@ fn component<'a>(
             remaining: head.remaining,
         });
     };
-    match refused(strict, component, &modifiers.places) {
+    match combination_fault(strict, component, &modifiers.places) {
         Some(fault) => Err(fault),
         None => Ok(component),
     }
 }
 
 /// The fault of nested descriptions that stand where they may not.
-fn misplaced<'a>(head: &Head<'a>, nested: &Nested<'a>, span: Span) -> Option<Fault<'a>>
+fn placing_fault<'a>(head: &Head<'a>, nested: &Nested<'a>, span: Span) -> Option<Fault<'a>>
     requires { AreMembers nested.now.members }
     ensures { (parts : List Part) → ShowsParts span.start nested.now parts → ShowsFault span.start result (placing head.now.name parts) }
 {
@@ -200,7 +200,7 @@ pub fn verdict<'a>(
     ensures tree { (place : ℕ) (h : spec.Head) (parts : List Part) → ShowsHead strict span.start head.now modifiers.now h → ShowsParts span.start nested.entry parts → place + span.end ≡ span.start → Judged span.start result (rules.verdict strict h parts place) }
     ensures sound { IfOk result (IsSound strict) }
 {
-    if let Some(fault) = misplaced(head, &nested, span) {
+    if let Some(fault) = placing_fault(head, &nested, span) {
         return Err(ReadError::Invalid(fault));
     }
     match head.name {

@@ -1,4 +1,4 @@
-use Rattle.std.proofs.Common.{ℕ, List, ◌≡◌, ◌+◌, ◌<◌, not, length, sym, ap, subst, arith, lit<, [], ◌∷◌, ◌++◌, Ok}
+use Rattle.std.proofs.Common.{ℕ, List, ◌≡◌, ◌+◌, not, length, sym, ap, subst, arith, lit<, [], ◌∷◌, ◌++◌, Ok}
 use Rattle.std.proofs.lemmas.Result.{err_from_is_err_and}
 use Rattle.timefd_parse.specs.Bytes.{left}
 use Rattle.timefd_parse.specs.Head.{Head}
@@ -6,69 +6,74 @@ use Rattle.timefd_parse.specs.Verdict.{Part, verdict}
 use Rattle.timefd_parse.specs.Heads.{ShowsHead, BeginsWithHead}
 use Rattle.timefd_parse.specs.Judged.{ShowsDescriptions, JudgedFault}
 use Rattle.timefd_parse.specs.Pieces.{piece_tree, members_trees, IsSound}
-use Rattle.timefd_parse.specs.Shown.{IsFaultAt, MemoryOr}
+use Rattle.timefd_parse.specs.Shown.{MemoryOr}
 use Rattle.timefd_parse.specs.Read.{IsFaultIn, IsNext}
-use Rattle.timefd_parse.proofs.ReadLemmas.{Continues, continues_more, items_end, items_fault, memory_or, sound_modern, closing_outside, fault_outside, doubled_leads, opening_leads, utf8_after, cut_shorter, items_shorter}
-use Rattle.timefd_parse.proofs.NestedLemmas.{BracketBefore, bracket_begins, behind_within, no_bracket, no_closing, accepted, refuses, never_closed, at_limit, inner_fails, inner_cut_off, one_more}
+use Rattle.timefd_parse.proofs.ReadLemmas.{Continues, continues_more, items_end, items_fault, memory_or, sound_modern, closing_outside, fault_outside, doubled_leads, opening_leads, utf8_after, cut_shorter}
+use Rattle.timefd_parse.proofs.NestedLemmas.{BracketBefore, bracket_begins, behind_within, no_bracket, no_closing, accepted, refuses, never_closed, at_limit, inner_fails, inner_cut_off, inner_read, nested_shorter, nested_fault, one_more}
 use Rattle.timefd_parse.proofs.read.+read.Goals as goal
 
-pub bracket-nested-init : goal.bracket-nested-init
-bracket-nested-init t c =
+pub bracket-inner-init : goal.bracket-inner-init
+bracket-inner-init t c =
     let e = c.in_ok-head.ensures in
     let begins = subst (λ s. BeginsWithHead s (left ∷ c.args.inside.now) c.in_ok-head.head c.read_head.new.modifiers c.in_ok-head.behind.now e.0.0) c.is_strict-strict.ensures e.0.1 in
-    (e.1, behind_within _ _ _ _ _ _ begins, bracket_begins _ _ _ _ _ _ _ _ _ begins c.is_empty-spaced.ensures, tt)
+    (e.1, behind_within begins, bracket_begins begins c.is_empty-spaced.ensures, tt)
 
-pub bracket-returns-then-around-limit : goal.bracket-returns-then-around-limit
-bracket-returns-then-around-limit t c =
-    memory_or _ (IsFaultAt c.args.version c.args.limit c.args.around (left ∷ c.args.inside.now))
-    (λ f is. at_limit _ _ _ _ _ _ _ _ _ _ c.nested.invariant.2 f _ c.in-Opening.ensures c.if-around-limit.true is) _ c.too_deep.ensures.fault
+pub nested-returns-then-around-limit : goal.nested-returns-then-around-limit
+nested-returns-then-around-limit t c = at_limit _ _ _ _ _ _ c.if-around-limit.true c.too_deep.ensures.fault
 
-pub bracket-returns-in-Err : goal.bracket-returns-in-Err
-bracket-returns-in-Err t c =
-    inner_fails _ _ _ _ _ _ _ _ _ _ c.nested.invariant.2 _ _ _ _ (omega arith) c.in-Opening.ensures (omega (arith, c.if-around-limit.false, c.requires)) c.in-Err.ensures.members c.enclosed.ensures.fault
+pub nested-returns-in-Err : goal.nested-returns-in-Err
+nested-returns-in-Err t c = inner_fails _ _ _ _ _ _ _ _ (omega arith) (omega (arith, c.if-around-limit.false, c.requires)) c.in-Err.ensures.members c.enclosed.ensures.fault
 
-pub bracket-returns-in_default-start_of : goal.bracket-returns-in_default-start_of
-bracket-returns-in_default-start_of t c =
-    inner_cut_off _ _ _ _ _ _ _ _ _ _ c.nested.invariant.2 _ _ _ _ _ (omega arith) c.in-Opening.ensures (omega (arith, c.if-around-limit.false, c.requires)) c.in-Ok.ensures.members.0
-    (no_closing _ _ _ c.start_of-in-Opening.ensures c.in-Ok.ensures.members.0.4 c.in_default-start_of.not-Closing) c.unclosed.ensures.fault
+pub nested-returns-in_default : goal.nested-returns-in_default
+nested-returns-in_default t c =
+    inner_cut_off _ _ _ _ _ _ _ _ _ (omega arith) (omega (arith, c.if-around-limit.false, c.requires)) c.in-Ok.ensures.members.0
+    (no_closing _ _ _ c.start_of.ensures c.in-Ok.ensures.members.0.4 c.in_default.not-Closing) c.unclosed.ensures.fault
 
-pub bracket-nested-preserved : goal.bracket-nested-preserved
-bracket-nested-preserved t c =
-    let lt : c.args.around < c.args.limit = omega (arith, c.if-around-limit.false, c.requires) in (
-      c.cut.ensures.utf8,
-      omega (arith, c.nested.invariant.1, ap length c.in-Opening.ensures, items_shorter _ _ _ _ _ _ c.in-Ok.ensures.members.0, ap length c.in-Closing-start_of.ensures, cut_shorter _ _ _ _ c.cut.ensures.parts),
-      subst (λ read. BracketBefore c.args.version c.args.limit c.args.around c.args.inside.now c.in_ok-head.head c.read_head.new.modifiers (not c.is_empty-spaced.result) (length c.in_ok-head.behind.now) read c.cut.result.1.now) (sym c.in_ok-add-in-Opening.ensures.trees)
-          (one_more _ _ _ _ _ _ _ _ _ _ c.nested.invariant.2 _ _ _ _ _ _ _ _ (omega arith) c.in-Opening.ensures lt c.in-Ok.ensures.members.0 c.in-Closing-start_of.ensures c.cut.ensures.parts c.packed.ensures),
-      c.in_ok-add-in-Opening.ensures.count,
-    )
+pub nested-returns : goal.nested-returns
+nested-returns t c =
+    inner_read _ _ _ _ _ (omega arith) (omega (arith, c.if-around-limit.false, c.requires)) c.in-Ok.ensures.members.0 c.in-Closing.ensures c.packed.ensures
 
-pub bracket-returns-in_err-verdict-in-Closing : goal.bracket-returns-in_err-verdict-in-Closing
-bracket-returns-in_err-verdict-in-Closing t c =
-    let p = err_from_is_err_and c.from_residual-in_err-verdict-in-Closing.result c.from_residual-in_err-verdict-in-Closing.ensures.1 in
+pub bracket-returns-in_err-description-in-Opening : goal.bracket-returns-in_err-description-in-Opening
+bracket-returns-in_err-description-in-Opening t c =
+    let p = err_from_is_err_and c.from_residual-in_err-description-in-Opening.result c.from_residual-in_err-description-in-Opening.ensures.1 in
+    rw (p.1, p.2) (nested_fault c.inner.invariant.2 _ _ c.in-Opening.ensures c.in_err-description-in-Opening.ensures)
+
+pub bracket-inner-preserved : goal.bracket-inner-preserved
+bracket-inner-preserved t c = (
+  c.cut.ensures.utf8,
+  omega (arith, c.inner.invariant.1, ap length c.in-Opening.ensures, nested_shorter _ _ c.in_ok-description-in-Opening.ensures, cut_shorter _ _ _ _ c.cut.ensures.parts),
+  subst (λ read. BracketBefore c.args.version c.args.limit c.args.around c.args.inside.now c.in_ok-head.head c.read_head.new.modifiers (not c.is_empty-spaced.result) (length c.in_ok-head.behind.now) read c.cut.result.1.now) (sym c.in_ok-add-in-Opening.ensures.trees)
+      (one_more c.inner.invariant.2 c.in-Opening.ensures c.in_ok-description-in-Opening.ensures c.cut.ensures.parts),
+  c.in_ok-add-in-Opening.ensures.count,
+)
+
+pub bracket-returns-in_err-piece-in-Closing : goal.bracket-returns-in_err-piece-in-Closing
+bracket-returns-in_err-piece-in-Closing t c =
+    let p = err_from_is_err_and c.from_residual-in_err-piece-in-Closing.result c.from_residual-in_err-piece-in-Closing.ensures.1 in
     let total : ℕ = length c.args.inside.now + 1 in
     let judged = subst
-    (λ s. (place : ℕ) (h : Head) (parts : List Part) → ShowsHead s total c.in_ok-head.head c.read_head.new.modifiers h → ShowsDescriptions total (not c.is_empty-spaced.result) (length c.in_ok-head.behind.now) (members_trees c.nested.descriptions) parts
-    → place + length c.nested.rest.now ≡ total → MemoryOr (JudgedFault total (verdict s h parts place)) c.in_err-verdict-in-Closing.field-0.0)
-    c.is_strict-strict.ensures c.in_err-verdict-in-Closing.ensures.tree in
-    rw (p.1, p.2) (refuses _ _ _ _ _ _ _ _ _ _ c.nested.invariant.2 _ _ c.in-Closing.ensures judged)
+    (λ s. (place : ℕ) (h : Head) (parts : List Part) → ShowsHead s total c.in_ok-head.head c.read_head.new.modifiers h → ShowsDescriptions total (not c.is_empty-spaced.result) (length c.in_ok-head.behind.now) (members_trees c.inner.members) parts
+    → place + length c.inner.rest.now ≡ total → MemoryOr (JudgedFault total (verdict s h parts place)) c.in_err-piece-in-Closing.field-0.0)
+    c.is_strict-strict.ensures c.in_err-piece-in-Closing.ensures.tree in
+    rw (p.1, p.2) (refuses c.inner.invariant.2 _ _ c.in-Closing.ensures judged)
 
 pub bracket-returns-in-Closing : goal.bracket-returns-in-Closing
 bracket-returns-in-Closing t c =
     let total : ℕ = length c.args.inside.now + 1 in
     let judged = subst
-    (λ s. (place : ℕ) (h : Head) (parts : List Part) → ShowsHead s total c.in_ok-head.head c.read_head.new.modifiers h → ShowsDescriptions total (not c.is_empty-spaced.result) (length c.in_ok-head.behind.now) (members_trees c.nested.descriptions) parts
-    → place + length c.nested.rest.now ≡ total → verdict s h parts place ≡ Ok (piece_tree c.in_ok-verdict-in-Closing.field-0))
-    c.is_strict-strict.ensures c.in_ok-verdict-in-Closing.ensures.tree in
+    (λ s. (place : ℕ) (h : Head) (parts : List Part) → ShowsHead s total c.in_ok-head.head c.read_head.new.modifiers h → ShowsDescriptions total (not c.is_empty-spaced.result) (length c.in_ok-head.behind.now) (members_trees c.inner.members) parts
+    → place + length c.inner.rest.now ≡ total → verdict s h parts place ≡ Ok (piece_tree c.in_ok-piece-in-Closing.piece))
+    c.is_strict-strict.ensures c.in_ok-piece-in-Closing.ensures.tree in
     record {
-      leads = accepted _ _ _ _ _ _ _ _ _ _ c.nested.invariant.2 _ _ c.in-Closing.ensures judged;
-      sound = subst (λ s. IsSound s c.in_ok-verdict-in-Closing.field-0) c.is_strict-strict.ensures c.in_ok-verdict-in-Closing.ensures.sound;
-      shorter = omega (arith, c.nested.invariant.1, ap length c.in-Closing.ensures);
-      utf8 = utf8_after _ _ _ c.in-Closing.ensures (lit< tt) c.nested.invariant.0;
+      leads = accepted c.inner.invariant.2 _ _ c.in-Closing.ensures judged;
+      sound = subst (λ s. IsSound s c.in_ok-piece-in-Closing.piece) c.is_strict-strict.ensures c.in_ok-piece-in-Closing.ensures.sound;
+      shorter = omega (arith, c.inner.invariant.1, ap length c.in-Closing.ensures);
+      utf8 = utf8_after _ _ _ c.in-Closing.ensures (lit< tt) c.inner.invariant.0;
     }
 
 pub bracket-returns-in_default : goal.bracket-returns-in_default
 bracket-returns-in_default t c =
-    never_closed _ _ _ _ _ _ _ _ _ _ c.nested.invariant.2 _ (no_bracket _ _ c.start_of.ensures c.in_default.not-Opening c.in_default.not-Closing) c.unclosed-in_default.ensures.fault
+    never_closed c.inner.invariant.2 _ (no_bracket _ _ c.start_of.ensures c.in_default.not-Opening c.in_default.not-Closing) c.unclosed.ensures.fault
 
 pub members-returns-in_err-piece : goal.members-returns-in_err-piece
 members-returns-in_err-piece t c =

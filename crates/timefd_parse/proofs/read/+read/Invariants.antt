@@ -9,6 +9,9 @@ use Rattle.timefd_parse.proofs.read.+read.Given as goal
 abbrev pub decreases-bracket : goal.decreases-bracket
 decreases-bracket l = 2 * length l.inside.now + 1
 
+abbrev pub decreases-nested : goal.decreases-nested
+decreases-nested l = 2 * length l.text.now + 2
+
 abbrev pub decreases-next_piece : goal.decreases-next_piece
 decreases-next_piece l = 2 * length l.text.now
 
@@ -16,12 +19,12 @@ abbrev pub decreases-members : goal.decreases-members
 decreases-members l = 2 * length l.text.now + 1
 
 -- the head, and the nested descriptions so far
-abbrev pub invariant-bracket-nested : goal.invariant-bracket-nested
-invariant-bracket-nested l =
-    shadow (Utf8 l.rest) × (length l.rest ≤ length l.inside) × BracketBefore l.version l.limit l.around l.inside l.head l.modifiers l.spaced l.remaining (members_trees l.descriptions) l.rest × AreMembers l.descriptions
+abbrev pub invariant-bracket-inner : goal.invariant-bracket-inner
+invariant-bracket-inner l =
+    shadow (Utf8 l.rest) × (length l.rest ≤ length l.inside) × BracketBefore l.version l.limit l.around l.inside l.head l.modifiers l.spaced l.remaining (members_trees l.members) l.rest × AreMembers l.members
 
-abbrev pub decreases-bracket-nested : goal.decreases-bracket-nested
-decreases-bracket-nested l = length l.rest
+abbrev pub decreases-bracket-inner : goal.decreases-bracket-inner
+decreases-bracket-inner l = length l.rest
 
 -- the pieces so far
 abbrev pub invariant-members-pieces : goal.invariant-members-pieces
