@@ -1,2 +1,1 @@
-pub mod AmountLemmas
-pub mod KindLemmas
+pub mod VerdictLemmas

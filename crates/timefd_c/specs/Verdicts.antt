@@ -2,18 +2,19 @@
 use Rattle.std.specs.Prelude.{ℕ, ◌≡◌, Option, None, List, IsSome, IsUtf8, ⊤}
 use Rattle.timefd_items.specs.Tree.{Text, Tree}
 use Rattle.timefd_items.specs.Faults.{Fault, fault_of}
-use Rattle.timefd_c.specs.declared.kind.Kind.{Kind}
+use Rattle.timefd_parse.specs.declared.language.Language.{Language}
 use Rattle.timefd_c.specs.declared.verdict.Verdict.{Verdict}
 use Rattle.timefd_c.specs.declared.verdict.Verdict.TheVariants.{Accepted, Refused, NotUtf8, NoMemory, UnknownKind}
 use Rattle.timefd_c.specs.Languages.{SpellsIn, FaultIn, amount}
 
 -- What the verdict says of the text in the language is so. Want of memory says nothing.
-abbrev pub Says : Option Kind → Text → Verdict → Type 0
-Says kind bytes (Accepted value) = IsUtf8 bytes × ((list : List Tree) × SpellsIn kind bytes list × (value ≡ amount kind list))
-Says kind bytes (Refused f) = IsUtf8 bytes × FaultIn kind bytes (fault_of f)
-Says kind bytes NotUtf8 = IsSome kind × ¬ (IsUtf8 bytes)
-Says kind bytes NoMemory = ⊤
-Says kind bytes UnknownKind = kind ≡ None
+abbrev pub Says : Option Language → Text → Verdict → Type 0
+Says language bytes (Accepted value) =
+    IsUtf8 bytes × ((list : List Tree) × SpellsIn language bytes list × (value ≡ amount language list))
+Says language bytes (Refused f) = IsUtf8 bytes × FaultIn language bytes (fault_of f)
+Says language bytes NotUtf8 = IsSome language × ¬ (IsUtf8 bytes)
+Says language bytes NoMemory = ⊤
+Says language bytes UnknownKind = language ≡ None
 
 -- accepted with so many, or want of memory
 abbrev pub Accepts : ℕ → Verdict → Type 0

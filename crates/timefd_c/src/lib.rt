@@ -4,7 +4,7 @@
 
 mod answer;
 mod exports;
-mod kind;
+mod numbers;
 mod sentence;
 #[cfg(test)]
 mod tests;

@@ -1,21 +1,16 @@
 //! What is said of bytes.
 
-ghost use Rattle.std.specs.Prelude.{◌≡◌, [], List, Some, None, IsSome, IsUtf8, length};
+ghost use Rattle.std.specs.Prelude.{◌≡◌, [], List, Some, None, IsSome, IsUtf8};
 ghost use Rattle.timefd_items.specs.Tree.{Tree};
 ghost use Rattle.timefd_items.specs.Faults.{Fault};
-ghost use Rattle.timefd_parse.specs.Grammar.{Spells};
-ghost use Rattle.timefd_parse.specs.Broken.{FaultOf};
-ghost use Rattle.timefd_parse.specs.Strftime.{SpellsStrftime, StrftimeFaultOf};
-ghost use Rattle.timefd_c.specs.Languages.{SpellsIn, FaultIn, amount, version_amount};
+ghost use Rattle.timefd_c.specs.Answers.{answer_of};
+ghost use Rattle.timefd_c.specs.Languages.{SpellsIn, FaultIn, amount};
 ghost use Rattle.timefd_c.specs.Verdicts.{Says, Accepts, Refuses, IsAccepted};
 
-use crate::kind::Kind;
+use crate::answer::{ACCEPTED, Answer, NO_MEMORY, NOT_UTF8, REFUSED, UNKNOWN_KIND};
 use std::alloc::Global;
 use timefd_items::InvalidFormatDescription;
-use timefd_parse::{
-    BorrowedOutput, DescriptionVersion, ParseError, StrftimeTables, parse_borrowed,
-    parse_strftime_borrowed,
-};
+use timefd_parse::{Language, NESTING_LIMIT, ParseError, amount_within};
 
 /// What bytes are as a text of a language.
 #[derive(Debug, Drop)]
@@ -32,59 +27,56 @@ pub enum Verdict {
     UnknownKind,
 }
 
+impl Verdict {
+    /// The answer that says so, with no sentence.
+    pub fn answer(&self) -> Answer
+        ensures { result ≡ answer_of self.now }
+    {
+        match self {
+            Verdict::Accepted(amount) => Answer::plain(ACCEPTED, *amount),
+            Verdict::Refused(fault) => Answer::plain(REFUSED, fault.index()),
+            Verdict::NotUtf8 => Answer::plain(NOT_UTF8, 0),
+            Verdict::NoMemory => Answer::plain(NO_MEMORY, 0),
+            Verdict::UnknownKind => Answer::plain(UNKNOWN_KIND, 0),
+        }
+    }
+}
+
 /// What the bytes are in the language, where there is one.
-pub fn verdict_on(alloc: Global, kind: Option<Kind>, bytes: &[u8]) -> Verdict
+pub fn verdict_on(alloc: Global, language: Option<Language>, bytes: &[u8]) -> Verdict
     // What is said is so.
-    ensures says { Says kind bytes.now result }
+    ensures says { Says language bytes.now result }
 
     // What is so is said, unless memory runs out.
-    ensures spelled { (list : List Tree) → IsUtf8 bytes.now → SpellsIn kind bytes.now list → Accepts (amount kind list) result }
-    ensures faulty { (f : Fault) → IsUtf8 bytes.now → FaultIn kind bytes.now f → Refuses f result }
-    ensures no_text { IsSome kind → ¬ (IsUtf8 bytes.now) → result ≡ Verdict.NotUtf8 }
-    ensures no_language { kind ≡ None → result ≡ Verdict.UnknownKind }
+    ensures spelled { (list : List Tree) → IsUtf8 bytes.now → SpellsIn language bytes.now list
+        → Accepts (amount language list) result }
+    ensures faulty { (f : Fault) → IsUtf8 bytes.now → FaultIn language bytes.now f
+        → Refuses f result }
+    ensures no_text { IsSome language → ¬ (IsUtf8 bytes.now) → result ≡ Verdict.NotUtf8 }
+    ensures no_language { language ≡ None → result ≡ Verdict.UnknownKind }
 
     // The empty text takes no memory.
-    ensures empty { IsSome kind → bytes.now ≡ [] → IsAccepted result }
+    ensures empty { IsSome language → bytes.now ≡ [] → IsAccepted result }
 {
-    let Some(kind) = kind else {
+    let Some(language) = language else {
         return Verdict::UnknownKind;
     };
     let Ok(text) = str::from_utf8(bytes) else {
         return Verdict::NotUtf8;
     };
-    match kind {
-        Kind::Version(version) => version_verdict(alloc, version, text),
-        Kind::Strftime => strftime_verdict(alloc, text),
-    }
+    text_verdict(alloc, language, text)
 }
 
-// What the text is in this version.
-fn version_verdict(alloc: Global, version: DescriptionVersion, text: &str) -> Verdict
-    ensures says { Says (Some (Kind.Version version)) text.now result }
-    ensures spelled { (list : List Tree) → Spells version 127 0 text.now list → Accepts (version_amount version list) result }
-    ensures faulty { (f : Fault) → FaultOf version 127 text.now f → Refuses f result }
+// What the text is in the language.
+fn text_verdict(alloc: Global, language: Language, text: &str) -> Verdict
+    ensures says { Says (Some language) text.now result }
+    ensures spelled { (list : List Tree) → SpellsIn (Some language) text.now list
+        → Accepts (amount (Some language) list) result }
+    ensures faulty { (f : Fault) → FaultIn (Some language) text.now f → Refuses f result }
     ensures empty { text.now ≡ [] → IsAccepted result }
 {
-    match parse_borrowed(alloc, version, text) {
-        Ok(BorrowedOutput::Items(items)) => Verdict::Accepted(items.len()),
-        Ok(BorrowedOutput::Description(description)) => {
-            Verdict::Accepted(description.max_bytes_needed())
-        }
-        Err(ParseError::Invalid(fault)) => Verdict::Refused(fault),
-        Err(ParseError::Memory(_)) => Verdict::NoMemory,
-    }
-}
-
-// What the text is in strftime.
-fn strftime_verdict(alloc: Global, text: &str) -> Verdict
-    ensures says { Says (Some Kind.Strftime) text.now result }
-    ensures spelled { (list : List Tree) → SpellsStrftime text.now list → Accepts (length list) result }
-    ensures faulty { (f : Fault) → StrftimeFaultOf text.now f → Refuses f result }
-    ensures empty { text.now ≡ [] → IsAccepted result }
-{
-    let tables = StrftimeTables::new();
-    match parse_strftime_borrowed(alloc, &tables, text) {
-        Ok(items) => Verdict::Accepted(items.len()),
+    match amount_within(alloc, language, NESTING_LIMIT, text) {
+        Ok(amount) => Verdict::Accepted(amount),
         Err(ParseError::Invalid(fault)) => Verdict::Refused(fault),
         Err(ParseError::Memory(_)) => Verdict::NoMemory,
     }

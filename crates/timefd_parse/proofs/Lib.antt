@@ -37,3 +37,4 @@ pub mod BareLemmas
 pub mod ReadLemmas
 pub mod NestedLemmas
 pub mod ParseLemmas
+pub mod AmountLemmas

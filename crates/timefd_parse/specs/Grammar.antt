@@ -72,6 +72,10 @@ BeginsNoRun (escape a b rest) = ⊤
 BeginsNoRun (closing rest) = ⊤
 BeginsNoRun (bracket h ns white tree rest) = ⊤
 
+-- how many nested descriptions may stand around one another, at most
+abbrev pub nesting_limit : ℕ
+nesting_limit = 127
+
 -- Pieces of a version, with n nested descriptions around them, of which there may be at most limit around one another.
 abbrev mutual
   pub ArePieces : DescriptionVersion → ℕ → ℕ → Pieces → Type 0

@@ -76,7 +76,8 @@ StrftimeShift = (s t : Text) (a : List Tree) (f : Fault) → SpellsStrftime s a 
 
 -- Limits.
 
--- A greater limit changes the answer only of texts that are refused as too deep.
+-- What is spelled with a limit is spelled with every greater limit, with the same list, and a fault other than the
+-- highly-nested one is the same fault with every greater limit.
 abbrev pub GreaterLimit : Type 0
 GreaterLimit = (v : DescriptionVersion) (low high : ℕ) (text : Text) → low ≤ high
     → ((list : List Tree) → Spells v low 0 text list → Spells v high 0 text list)

@@ -32,4 +32,5 @@ pub mod Judged
 pub mod Read
 pub mod Answers
 pub mod StrftimeAnswers
+pub mod Language
 pub mod Laws

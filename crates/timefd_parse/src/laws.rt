@@ -47,7 +47,8 @@ pub fn strftime_shift()
     ensures { StrftimeShift }
 {}
 
-/// A greater limit changes the answer only of texts that are refused as too deep.
+/// What a text spells with a limit it spells with every greater one, and so it has every fault but
+/// that of a too highly nested description.
 pub fn greater_limit()
     ensures { GreaterLimit }
 {}

@@ -9,6 +9,7 @@ mod description_version;
 mod fault;
 mod head;
 mod key;
+mod language;
 pub mod laws;
 mod members;
 mod modifier;
@@ -26,7 +27,10 @@ mod value;
 mod verdict;
 
 pub use description_version::DescriptionVersion;
-pub use parsing::{BorrowedOutput, ParseError, parse, parse_borrowed};
+pub use language::{Language, amount_within};
+pub use parsing::{
+    BorrowedOutput, NESTING_LIMIT, ParseError, parse, parse_borrowed, parse_borrowed_within,
+};
 pub use strftime::{StrftimeTables, parse_strftime_borrowed};
 pub use timefd_items::{BorrowedFormatItem, FormatDescriptionV3, InvalidFormatDescription};
 

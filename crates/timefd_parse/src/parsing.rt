@@ -8,7 +8,7 @@ ghost use Rattle.timefd_items.specs.Description.{description_tree};
 ghost use Rattle.timefd_items.specs.Reserved.{reserve};
 ghost use Rattle.timefd_parse.specs.declared.description_version.DescriptionVersion.TheVariants.{One, Three};
 ghost use Rattle.timefd_parse.specs.Bytes.{is_version_three};
-ghost use Rattle.timefd_parse.specs.Grammar.{Spells};
+ghost use Rattle.timefd_parse.specs.Grammar.{Spells, nesting_limit};
 ghost use Rattle.timefd_parse.specs.Broken.{FaultOf};
 ghost use Rattle.timefd_parse.specs.Answers.{IsOutput, IsAssigned, IsFaultOrMemory, MemoryAlone, ReservesAtMost, HasStrings, Tells};
 ghost use Rattle.timefd_parse.specs.Shown.{IsFault, MemoryOr};
@@ -22,8 +22,8 @@ use timefd_items::{
     BorrowedFormatItem, FormatDescriptionV3, InvalidFormatDescription, NotOpaque, OpaqueCause,
 };
 
-/// How many nested descriptions may stand around one another.
-const LIMIT: u8 = 127;
+/// How many nested descriptions may stand around one another, at most.
+pub const NESTING_LIMIT: u8 = 127;
 
 /// What a text is read as: the output of `time`'s `parse_borrowed`.
 #[derive(Debug, Drop)]
@@ -52,12 +52,48 @@ pub fn parse_borrowed<'a>(
     s: &'a str,
 ) -> Result<BorrowedOutput<'a>, ParseError>
     // What is accepted is spelled so, and what is refused is refused for the fault that the rules assign.
-    ensures found { IfOk result (λ output. (list : List Tree) × Spells version 127 0 s.now list × IsOutput version list output) }
-    ensures fault { IfErr result (IsAssigned version 127 s.now) }
+    ensures found { IfOk result (λ output. (list : List Tree)
+        × Spells version nesting_limit 0 s.now list × IsOutput version list output) }
+    ensures fault { IfErr result (IsAssigned version nesting_limit s.now) }
 
     // What is spelled is accepted, and what has a fault is refused for it, unless memory runs out.
-    ensures spelled { (list : List Tree) → Spells version 127 0 s.now list → MatchResult result (IsOutput version list) MemoryAlone }
-    ensures refused { (f : spec.Fault) → FaultOf version 127 s.now f → MatchResult result (λ _. ⊥) (IsFaultOrMemory f) }
+    ensures spelled { (list : List Tree) → Spells version nesting_limit 0 s.now list
+        → MatchResult result (IsOutput version list) MemoryAlone }
+    ensures refused { (f : spec.Fault) → FaultOf version nesting_limit s.now f
+        → MatchResult result (λ _. ⊥) (IsFaultOrMemory f) }
+
+    // No literal of an item is one of bytes, and a description reserves no more bytes than the text has.
+    ensures strings { IfOk result HasStrings }
+    ensures reserved { IfOk result (ReservesAtMost (length s.now)) }
+
+    // The empty text takes no memory.
+    ensures empty { s.now ≡ [] → IsOk result }
+{
+    parse_borrowed_within(alloc, version, NESTING_LIMIT, s)
+}
+
+/// Reads a text of a version as `parse_borrowed` does, with at most `limit` nested descriptions
+/// around one another. This call is this port's own.
+///
+/// The error is `Invalid` for a text that is none, and `Memory` where memory ran out.
+pub fn parse_borrowed_within<'a>(
+    alloc: Global,
+    version: DescriptionVersion,
+    limit: u8,
+    s: &'a str,
+) -> Result<BorrowedOutput<'a>, ParseError>
+    requires { limit ≤ nesting_limit }
+
+    // What is accepted is spelled so, and what is refused is refused for the fault that the rules assign.
+    ensures found { IfOk result (λ output. (list : List Tree)
+        × Spells version limit 0 s.now list × IsOutput version list output) }
+    ensures fault { IfErr result (IsAssigned version limit s.now) }
+
+    // What is spelled is accepted, and what has a fault is refused for it, unless memory runs out.
+    ensures spelled { (list : List Tree) → Spells version limit 0 s.now list
+        → MatchResult result (IsOutput version list) MemoryAlone }
+    ensures refused { (f : spec.Fault) → FaultOf version limit s.now f
+        → MatchResult result (λ _. ⊥) (IsFaultOrMemory f) }
 
     // No literal of an item is one of bytes, and a description reserves no more bytes than the text has.
     ensures strings { IfOk result HasStrings }
@@ -67,12 +103,12 @@ pub fn parse_borrowed<'a>(
     ensures empty { s.now ≡ [] → IsOk result }
 {
     if let DescriptionVersion::Three = version {
-        return match parse_description(alloc, s) {
+        return match parse_description(alloc, limit, s) {
             Ok(description) => Ok(BorrowedOutput::Description(description)),
             Err(error) => Err(error),
         };
     }
-    match parse_items(alloc, version, s) {
+    match parse_items(alloc, version, limit, s) {
         Ok(items) => Ok(BorrowedOutput::Items(items)),
         Err(error) => Err(error),
     }
@@ -83,49 +119,63 @@ pub fn parse_borrowed<'a>(
 /// The error is `Invalid` for a text that is none, and `Memory` where memory ran out.
 pub fn parse<'a>(alloc: Global, s: &'a str) -> Result<Vec<BorrowedFormatItem<'a>>, ParseError>
     // What is accepted is spelled so, and what is refused is refused for the fault that the rules assign.
-    ensures found { IfOk result (λ items. (list : List Tree) × Spells One 127 0 s.now list × AreItems items.items list) }
-    ensures fault { IfErr result (IsAssigned One 127 s.now) }
+    ensures found { IfOk result (λ items. (list : List Tree)
+        × Spells One nesting_limit 0 s.now list × AreItems items.items list) }
+    ensures fault { IfErr result (IsAssigned One nesting_limit s.now) }
 
     // What is spelled is accepted, and what has a fault is refused for it, unless memory runs out.
-    ensures spelled { (list : List Tree) → Spells One 127 0 s.now list → MatchResult result (λ items. AreItems items.items list) MemoryAlone }
-    ensures refused { (f : spec.Fault) → FaultOf One 127 s.now f → MatchResult result (λ _. ⊥) (IsFaultOrMemory f) }
+    ensures spelled { (list : List Tree) → Spells One nesting_limit 0 s.now list
+        → MatchResult result (λ items. AreItems items.items list) MemoryAlone }
+    ensures refused { (f : spec.Fault) → FaultOf One nesting_limit s.now f
+        → MatchResult result (λ _. ⊥) (IsFaultOrMemory f) }
 
     // The empty text takes no memory.
     ensures empty { s.now ≡ [] → IsOk result }
 {
-    parse_items(alloc, DescriptionVersion::One, s)
+    parse_items(alloc, DescriptionVersion::One, NESTING_LIMIT, s)
 }
 
 /// The items of a text of version 1 or 2.
 fn parse_items<'a>(
     alloc: Global,
     version: DescriptionVersion,
+    limit: u8,
     s: &'a str,
 ) -> Result<Vec<BorrowedFormatItem<'a>>, ParseError>
     requires { IsFalse (is_version_three version) }
-    ensures found { IfOk result (λ items. (list : List Tree) × Spells version 127 0 s.now list × AreItems items.items list) }
-    ensures fault { IfErr result (IsAssigned version 127 s.now) }
-    ensures spelled { (list : List Tree) → Spells version 127 0 s.now list → MatchResult result (λ items. AreItems items.items list) MemoryAlone }
-    ensures refused { (f : spec.Fault) → FaultOf version 127 s.now f → MatchResult result (λ _. ⊥) (IsFaultOrMemory f) }
+    ensures found { IfOk result (λ items. (list : List Tree)
+        × Spells version limit 0 s.now list × AreItems items.items list) }
+    ensures fault { IfErr result (IsAssigned version limit s.now) }
+    ensures spelled { (list : List Tree) → Spells version limit 0 s.now list
+        → MatchResult result (λ items. AreItems items.items list) MemoryAlone }
+    ensures refused { (f : spec.Fault) → FaultOf version limit s.now f
+        → MatchResult result (λ _. ⊥) (IsFaultOrMemory f) }
     ensures empty { s.now ≡ [] → IsOk result }
 {
-    match items(alloc, version, s, LIMIT) {
+    match items(alloc, version, s, limit) {
         Ok(items) => Ok(items),
         Err(error) => Err(told(alloc, error, s.len())),
     }
 }
 
 /// The description that a text of version 3 spells.
-fn parse_description<'a>(alloc: Global, s: &'a str) -> Result<FormatDescriptionV3<'a>, ParseError>
-    ensures found { IfOk result (λ d. (list : List Tree) × Spells Three 127 0 s.now list × (description_tree d ≡ pack list)) }
-    ensures fault { IfErr result (IsAssigned Three 127 s.now) }
-    ensures spelled { (list : List Tree) → Spells Three 127 0 s.now list → MatchResult result (λ d. description_tree d ≡ pack list) MemoryAlone }
-    ensures refused { (f : spec.Fault) → FaultOf Three 127 s.now f → MatchResult result (λ _. ⊥) (IsFaultOrMemory f) }
+fn parse_description<'a>(
+    alloc: Global,
+    limit: u8,
+    s: &'a str,
+) -> Result<FormatDescriptionV3<'a>, ParseError>
+    ensures found { IfOk result (λ d. (list : List Tree)
+        × Spells Three limit 0 s.now list × (description_tree d ≡ pack list)) }
+    ensures fault { IfErr result (IsAssigned Three limit s.now) }
+    ensures spelled { (list : List Tree) → Spells Three limit 0 s.now list
+        → MatchResult result (λ d. description_tree d ≡ pack list) MemoryAlone }
+    ensures refused { (f : spec.Fault) → FaultOf Three limit s.now f
+        → MatchResult result (λ _. ⊥) (IsFaultOrMemory f) }
     ensures reserved { IfOk result (λ d. reserve (description_tree d) ≤ length s.now) }
     ensures empty { s.now ≡ [] → IsOk result }
 {
     let len = s.len();
-    let members = match members(alloc, DescriptionVersion::Three, s, LIMIT, 0) {
+    let members = match members(alloc, DescriptionVersion::Three, s, limit, 0) {
         Ok((members, _)) => members,
         Err(error) => return Err(told(alloc, error, len)),
     };

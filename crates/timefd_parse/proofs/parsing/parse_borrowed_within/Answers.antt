@@ -6,16 +6,16 @@ use Rattle.timefd_parse.specs.Broken.{FaultOf}
 use Rattle.timefd_parse.specs.Grammar.{Spells}
 use Rattle.timefd_parse.proofs.ParseLemmas.{items_output}
 use Rattle.timefd_parse.proofs.ReadLemmas.{not_three}
-use Rattle.timefd_parse.proofs.parsing.parse_borrowed.Goals as goal
+use Rattle.timefd_parse.proofs.parsing.parse_borrowed_within.Goals as goal
 
 pub returns-in-Ok-clause-refused : goal.returns-in-Ok-clause-refused
-returns-in-Ok-clause-refused c = subst (λ v. (f : Fault) → FaultOf v 127 c.args.s.now f → ⊥) (sym c.in-Three.is) c.in-Ok.ensures.refused
+returns-in-Ok-clause-refused c = subst (λ v. (f : Fault) → FaultOf v c.args.limit c.args.s.now f → ⊥) (sym c.in-Three.is) c.in-Ok.ensures.refused
 
 pub returns-in-Err-clause-spelled : goal.returns-in-Err-clause-spelled
-returns-in-Err-clause-spelled c = subst (λ v. (list : List Tree) → Spells v 127 0 c.args.s.now list → MemoryAlone c.in-Err.error) (sym c.in-Three.is) c.in-Err.ensures.spelled
+returns-in-Err-clause-spelled c = subst (λ v. (list : List Tree) → Spells v c.args.limit 0 c.args.s.now list → MemoryAlone c.in-Err.error) (sym c.in-Three.is) c.in-Err.ensures.spelled
 
 pub returns-in-Err-clause-refused : goal.returns-in-Err-clause-refused
-returns-in-Err-clause-refused c = subst (λ v. (f : Fault) → FaultOf v 127 c.args.s.now f → IsFaultOrMemory f c.in-Err.error) (sym c.in-Three.is) c.in-Err.ensures.refused
+returns-in-Err-clause-refused c = subst (λ v. (f : Fault) → FaultOf v c.args.limit c.args.s.now f → IsFaultOrMemory f c.in-Err.error) (sym c.in-Three.is) c.in-Err.ensures.refused
 
 pub returns-in-Ok-parse_items : goal.returns-in-Ok-parse_items
 returns-in-Ok-parse_items c =

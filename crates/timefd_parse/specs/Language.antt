@@ -1,0 +1,36 @@
+-- The languages, and what a text is in each.
+use Rattle.std.specs.Prelude.{ℕ, List, length, ⊤}
+use Rattle.timefd_items.specs.Tree.{Text, Tree, pack}
+use Rattle.timefd_items.specs.Faults.{Fault, fault_of}
+use Rattle.timefd_items.specs.Reserved.{reserve}
+use Rattle.timefd_parse.specs.declared.description_version.DescriptionVersion.TheVariants.{One, Two, Three}
+use Rattle.timefd_parse.specs.declared.language.Language.{Language}
+use Rattle.timefd_parse.specs.declared.language.Language.TheVariants.{Version, Strftime}
+use Rattle.timefd_parse.specs.declared.parsing.ParseError.{ParseError}
+use Rattle.timefd_parse.specs.declared.parsing.ParseError.TheVariants.{Invalid, Memory}
+use Rattle.timefd_parse.specs.Grammar.{Spells}
+use Rattle.timefd_parse.specs.Broken.{FaultOf}
+use Rattle.timefd_parse.specs.Strftime.{SpellsStrftime, StrftimeFaultOf}
+
+-- The text spells the list in the language, with at most so many nested descriptions around one another. Strftime nests
+-- none.
+abbrev pub SpellsIn : Language → ℕ → Text → List Tree → Type 0
+SpellsIn (Version v) limit text list = Spells v limit 0 text list
+SpellsIn Strftime limit text list = SpellsStrftime text list
+
+-- The rules of the language assign the fault to the text.
+abbrev pub FaultIn : Language → ℕ → Text → Fault → Type 0
+FaultIn (Version v) limit text f = FaultOf v limit text f
+FaultIn Strftime limit text f = StrftimeFaultOf text f
+
+-- how many items a text has that spells the list, or in version 3 how many bytes it reserves
+abbrev pub amount : Language → List Tree → ℕ
+amount (Version One) list = length list
+amount (Version Two) list = length list
+amount (Version Three) list = reserve (pack list)
+amount Strftime list = length list
+
+-- a fault that the rules of the language assign to the text, or want of memory
+abbrev pub IsAssignedIn : Language → ℕ → Text → ParseError → Type 0
+IsAssignedIn language limit text (Invalid f) = FaultIn language limit text (fault_of f)
+IsAssignedIn language limit text (Memory e) = ⊤
