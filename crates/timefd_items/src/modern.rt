@@ -1,6 +1,6 @@
 //! From a deprecated component to the one that it stands for.
 
-ghost use Rattle.std.specs.Prelude.{◌≡◌};
+ghost use Rattle.std.specs.Prelude.{◌≡◌, true, false};
 ghost use Rattle.timefd_items.specs.Modern as spec;
 
 use crate::component::Component;
@@ -13,7 +13,8 @@ impl Component {
     /// The component that a deprecated one stands for; any other is itself.
     #[inline(always)]
     pub fn modern(self) -> Component
-        ensures { result ≡ spec.modern self }
+        ensures table { result ≡ spec.modern self }
+        ensures modern { spec.modern result ≡ result }
     {
         match self {
             Component::Month(month) => modern_month(month),
@@ -121,64 +122,81 @@ fn modern_timestamp(timestamp: modifier::UnixTimestamp) -> Component
 fn modern_year(year: modifier::Year) -> Component
     ensures { result ≡ spec.modern_year year.iso_week_based year.repr year.range year }
 {
+    if year.iso_week_based {
+        modern_iso_year(year)
+    } else {
+        modern_calendar_year(year)
+    }
+}
+
+#[inline(always)]
+fn modern_calendar_year(year: modifier::Year) -> Component
+    ensures { result ≡ spec.modern_year false year.repr year.range year }
+{
     let padding = year.padding;
     let sign_is_mandatory = year.sign_is_mandatory;
-    match (year.iso_week_based, year.repr, year.range) {
-        (false, YearRepr::Full, YearRange::Extended) => Component::CalendarYearFullExtendedRange(
+    match (year.repr, year.range) {
+        (YearRepr::Full, YearRange::Extended) => Component::CalendarYearFullExtendedRange(
             modifier::CalendarYearFullExtendedRange {
                 padding,
                 sign_is_mandatory,
             },
         ),
-        (false, YearRepr::Full, YearRange::Standard) => Component::CalendarYearFullStandardRange(
+        (YearRepr::Full, YearRange::Standard) => Component::CalendarYearFullStandardRange(
             modifier::CalendarYearFullStandardRange {
                 padding,
                 sign_is_mandatory,
             },
         ),
-        (false, YearRepr::Century, YearRange::Extended) =>
-            Component::CalendarYearCenturyExtendedRange(
-                modifier::CalendarYearCenturyExtendedRange {
-                    padding,
-                    sign_is_mandatory,
-                },
-            ),
-        (false, YearRepr::Century, YearRange::Standard) =>
-            Component::CalendarYearCenturyStandardRange(
-                modifier::CalendarYearCenturyStandardRange {
-                    padding,
-                    sign_is_mandatory,
-                },
-            ),
-        (false, YearRepr::LastTwo, _) => Component::CalendarYearLastTwo(
-            modifier::CalendarYearLastTwo { padding },
+        (YearRepr::Century, YearRange::Extended) => Component::CalendarYearCenturyExtendedRange(
+            modifier::CalendarYearCenturyExtendedRange {
+                padding,
+                sign_is_mandatory,
+            },
         ),
-        (true, YearRepr::Full, YearRange::Extended) => Component::IsoYearFullExtendedRange(
+        (YearRepr::Century, YearRange::Standard) => Component::CalendarYearCenturyStandardRange(
+            modifier::CalendarYearCenturyStandardRange {
+                padding,
+                sign_is_mandatory,
+            },
+        ),
+        (YearRepr::LastTwo, _) => Component::CalendarYearLastTwo(modifier::CalendarYearLastTwo {
+            padding,
+        }),
+    }
+}
+
+#[inline(always)]
+fn modern_iso_year(year: modifier::Year) -> Component
+    ensures { result ≡ spec.modern_year true year.repr year.range year }
+{
+    let padding = year.padding;
+    let sign_is_mandatory = year.sign_is_mandatory;
+    match (year.repr, year.range) {
+        (YearRepr::Full, YearRange::Extended) => Component::IsoYearFullExtendedRange(
             modifier::IsoYearFullExtendedRange {
                 padding,
                 sign_is_mandatory,
             },
         ),
-        (true, YearRepr::Full, YearRange::Standard) => Component::IsoYearFullStandardRange(
+        (YearRepr::Full, YearRange::Standard) => Component::IsoYearFullStandardRange(
             modifier::IsoYearFullStandardRange {
                 padding,
                 sign_is_mandatory,
             },
         ),
-        (true, YearRepr::Century, YearRange::Extended) => Component::IsoYearCenturyExtendedRange(
+        (YearRepr::Century, YearRange::Extended) => Component::IsoYearCenturyExtendedRange(
             modifier::IsoYearCenturyExtendedRange {
                 padding,
                 sign_is_mandatory,
             },
         ),
-        (true, YearRepr::Century, YearRange::Standard) => Component::IsoYearCenturyStandardRange(
+        (YearRepr::Century, YearRange::Standard) => Component::IsoYearCenturyStandardRange(
             modifier::IsoYearCenturyStandardRange {
                 padding,
                 sign_is_mandatory,
             },
         ),
-        (true, YearRepr::LastTwo, _) => Component::IsoYearLastTwo(modifier::IsoYearLastTwo {
-            padding,
-        }),
+        (YearRepr::LastTwo, _) => Component::IsoYearLastTwo(modifier::IsoYearLastTwo { padding }),
     }
 }

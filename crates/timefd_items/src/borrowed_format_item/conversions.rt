@@ -24,8 +24,12 @@ impl<'a> From<&'a [BorrowedFormatItem<'a>]> for BorrowedFormatItem<'a> {
     ghost use Rattle.std.specs.Prelude.{◌≡◌};
     ghost use Rattle.timefd_items.specs.Meaning.{item_tree, item_trees};
     ghost use Rattle.timefd_items.specs.Tree.{compound, trees};
+    ghost use Rattle.timefd_items.specs.declared.borrowed_format_item.BorrowedFormatItem.TheVariants.{Compound};
 
-    ghost from_gives = { λ items item. item_tree item ≡ compound (trees (item_trees items.now)) };
+    ghost from_gives = { λ items item. record {
+      content : item ≡ Compound items;
+      meaning : item_tree item ≡ compound (trees (item_trees items.now));
+    } };
 
     fn from(items: &'a [BorrowedFormatItem<'a>]) -> Self {
         BorrowedFormatItem::Compound(items)
@@ -53,6 +57,7 @@ impl<'a> BorrowedFormatItem<'a> {
     /// The items of a compound. An `Err` comes for every other variant. It stands for
     /// `TryFrom` onto a slice.
     pub fn into_items(self) -> Result<&'a [BorrowedFormatItem<'a>], DifferentVariant>
+        ensures content { IfOk result (λ items. self.entry ≡ BorrowedFormatItem.Compound items) }
         ensures ok { IfOk result (λ items. trees_in (item_tree self.entry) ≡ Some (trees (item_trees items.now))) }
         ensures err { IfErr result (λ e. trees_in (item_tree self.entry) ≡ None) }
     {

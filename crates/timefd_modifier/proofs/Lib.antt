@@ -1,0 +1,3 @@
+pub mod FieldTests
+pub mod EnumTests
+pub mod ModifierTests
