@@ -1,0 +1,4 @@
+pub mod Flat
+pub mod Rewriting
+pub mod Answering
+pub mod Scanning

@@ -1,0 +1,29 @@
+-- How the text that is answered stands to the text of version 1 that it was made of.
+use Rattle.std.specs.Prelude.{◌≡◌, List, Result, Ok, Err, string_bytes}
+use Rattle.std.specs.declared.string.String.{String}
+use Rattle.std.specs.declared.alloc.Global.{Global}
+use Rattle.timefd_items.specs.Tree.{Text, Tree, joined}
+use Rattle.timefd_parse.specs.declared.description_version.DescriptionVersion.TheVariants.{One, Two}
+use Rattle.timefd_parse.specs.declared.parsing.ParseError.{ParseError}
+use Rattle.timefd_parse.specs.Answers.{MemoryAlone}
+use Rattle.timefd_parse.specs.Grammar.{Pieces, ArePieces, spelling, Spells}
+use Rattle.timefd_parse.specs.Rewritten.{rewritten}
+
+-- version 1 spells the text by these pieces
+abbrev pub IsSpelledBy : Pieces → Text → Type 0
+IsSpelledBy ps text = ArePieces One 127 0 ps × (text ≡ spelling ps)
+
+-- version 1 spells the text, and this is what it is rewritten to
+abbrev pub IsRewritten : Text → Text → Type 0
+IsRewritten text answer = (ps : Pieces) × IsSpelledBy ps text × (answer ≡ rewritten ps)
+
+-- version 2 spells the answer as version 1 spells the text, once neighbouring literals are joined
+abbrev pub HasItemsOf : Text → Text → Type 0
+HasItemsOf text answer =
+    (list : List Tree) → Spells One 127 0 text list
+    → (other : List Tree) × Spells Two 127 0 answer other × (joined other ≡ joined list)
+
+-- this text, or want of memory
+abbrev pub IsTextOrMemory : Text → Result (String Global) ParseError → Type 0
+IsTextOrMemory text (Ok answer) = string_bytes answer ≡ text
+IsTextOrMemory text (Err e) = MemoryAlone e

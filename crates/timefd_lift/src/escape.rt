@@ -1,0 +1,73 @@
+//! What version 2 escapes in a text of version 1.
+
+ghost use Rattle.std.specs.Prelude.{◌≡◌, ◌≤◌, ◌<◌, ◌++◌, ◌∷◌, ◌&&◌, ◌==◌, not, if◌then◌else◌, length, take, drop, slice_index, MatchOption, IsFalse};
+ghost use Rattle.std.specs.Str.{IsUtf8};
+ghost use Rattle.timefd_parse.specs.Bytes.{left, right};
+ghost use Rattle.timefd_lift.specs.Bytewise as spec;
+ghost use Rattle.timefd_lift.specs.Bytewise.{outside, EndsOrIsEscaped, IsEscape};
+
+/// Whether an escape is written for the front of a text: outside of components for `[[`, `]` and `\`.
+#[inline(always)]
+fn is_escaped(in_component: bool, bytes: &[u8]) -> bool
+    ensures { result ≡ (not in_component && spec.is_escaped bytes.now) }
+{
+    match bytes {
+        _ if in_component => false,
+        [b']', ..] => true,
+        [b'\\', ..] => true,
+        [b'[', b'[', ..] => true,
+        _ => false,
+    }
+}
+
+/// Whether a component goes on behind a byte that is kept.
+#[inline(always)]
+fn goes_on(in_component: bool, byte: u8) -> bool
+    ensures { result ≡ (if in_component then not (byte == right) else byte == left) }
+{
+    if in_component {
+        byte != b']'
+    } else {
+        byte == b'['
+    }
+}
+
+/// How many bytes at the front are kept: those of components, and those of literals up to the first
+/// for which an escape is written.
+pub fn kept_len(bytes: &[u8]) -> usize
+    ensures within { result ≤ length bytes.now }
+    ensures kept { outside bytes.now ≡ take result bytes.now ++ outside (drop result bytes.now) }
+    ensures up_to { EndsOrIsEscaped (drop result bytes.now) }
+{
+    let mut in_component = false;
+    for (at, byte) in bytes.iter().enumerate() {
+        if is_escaped(in_component, &bytes[at..]) {
+            return at;
+        }
+        in_component = goes_on(in_component, *byte);
+    }
+    bytes.len()
+}
+
+/// What follows the first byte, which is ASCII.
+#[inline(always)]
+fn tail(text: &str) -> &str
+    requires there { 0 < length text.now }
+    requires ascii { slice_index text.now 0 < 128 }
+    ensures rest { text.now ≡ slice_index text.now 0 ∷ result.now }
+    ensures utf8 { IsUtf8 result.now }
+{
+    &text[1..]
+}
+
+/// The escape that is written for the front of a text outside of components, and what follows.
+pub fn escape_of(text: &str) -> Option<(&'static str, &str)>
+    ensures { MatchOption result (IsFalse (spec.is_escaped text.now)) (λ x. IsEscape text.now x.0.now x.1.now) }
+{
+    match text.as_bytes() {
+        [b']', ..] => Some(("\\]", tail(text))),
+        [b'\\', ..] => Some(("\\\\", tail(text))),
+        [b'[', b'[', ..] => Some(("\\[", tail(tail(text)))),
+        _ => None,
+    }
+}

@@ -1,0 +1,64 @@
+//! Texts of version 1 as texts of version 2.
+
+ghost use Rattle.std.specs.Prelude.{◌≡◌, [], IfOk, IsOk, MatchResult, string_bytes};
+ghost use Rattle.std.specs.Result.{IfErr};
+ghost use Rattle.timefd_items.specs.Faults as spec;
+ghost use Rattle.timefd_parse.specs.declared.description_version.DescriptionVersion.TheVariants.{One};
+ghost use Rattle.timefd_parse.specs.Grammar.{Pieces};
+ghost use Rattle.timefd_parse.specs.Broken.{FaultOf};
+ghost use Rattle.timefd_parse.specs.Answers.{IsAssigned, IsFaultOrMemory};
+ghost use Rattle.timefd_parse.specs.Rewritten.{rewritten};
+ghost use Rattle.timefd_lift.specs.Bytewise.{outside};
+ghost use Rattle.timefd_lift.specs.Answers.{IsSpelledBy, IsRewritten, HasItemsOf, IsTextOrMemory};
+
+use crate::escape::{escape_of, kept_len};
+use std::alloc::{AllocError, Global};
+use timefd_parse::laws::lifting;
+use timefd_parse::{ParseError, parse};
+
+/// The text of version 2 that means what a text of version 1 means: components as they are, and
+/// outside of them `[[` as `\[`, `]` as `\]`, `\` as `\\`, and all else as it is.
+///
+/// The error is the fault that version 1 finds in the text, or `Memory` where memory ran out.
+pub fn v1_to_v2(alloc: Global, s: &str) -> Result<String, ParseError>
+    // What is answered is the text rewritten, which has the same items. What is refused is refused
+    // for the fault that the rules of version 1 assign.
+    ensures rewritten { IfOk result (λ answer. IsRewritten s.now (string_bytes answer)) }
+    ensures same_items { IfOk result (λ answer. HasItemsOf s.now (string_bytes answer)) }
+    ensures fault { IfErr result (IsAssigned One 127 s.now) }
+
+    // What version 1 spells is rewritten, and what has a fault is refused for it, unless memory
+    // runs out.
+    ensures spelled { (ps : Pieces) → IsSpelledBy ps s.now → IsTextOrMemory (rewritten ps) result }
+    ensures refused { (f : spec.Fault) → FaultOf One 127 s.now f → MatchResult result (λ _. ⊥) (IsFaultOrMemory f) }
+
+    // The empty text takes no memory.
+    ensures empty { s.now ≡ [] → IsOk result }
+{
+    // The law by which version 2 spells the same items.
+    lifting();
+    match parse(alloc, s) {
+        Ok(_) => match escaped(alloc, s) {
+            Ok(answer) => Ok(answer),
+            Err(error) => Err(ParseError::Memory(error)),
+        },
+        Err(error) => Err(error),
+    }
+}
+
+/// The text with its literals escaped as in version 2. One that needs no escape is copied at once.
+fn escaped(alloc: Global, text: &str) -> Result<String, AllocError>
+    ensures written { IfOk result (λ answer. string_bytes answer ≡ outside text.now) }
+    ensures empty { text.now ≡ [] → IsOk result }
+{
+    let mut answer = String::with_capacity(alloc, text.len())?;
+    let (kept, mut rest) = text.split_at(kept_len(text.as_bytes()));
+    answer.push_str(kept)?;
+    while let Some((escape, behind)) = escape_of(rest) {
+        answer.push_str(escape)?;
+        let (kept, behind) = behind.split_at(kept_len(behind.as_bytes()));
+        answer.push_str(kept)?;
+        rest = behind;
+    }
+    Ok(answer)
+}
