@@ -2,7 +2,7 @@
 use Rattle.std.proofs.Common.{◌≡◌, List, ap, sym, ◌∙◌}
 use Rattle.timefd_items.specs.Tree.{Text, Tree, joined}
 use Rattle.timefd_parse.specs.declared.description_version.DescriptionVersion.TheVariants.{One}
-use Rattle.timefd_parse.specs.Grammar.{Pieces, Spells}
+use Rattle.timefd_parse.specs.Grammar.{Pieces, Spells, nesting_limit}
 use Rattle.timefd_parse.specs.Laws.{Lifting}
 use Rattle.timefd_parse.specs.Rewritten.{rewritten}
 use Rattle.timefd_lift.specs.Answers.{IsSpelledBy, IsRewritten, HasItemsOf}
@@ -10,15 +10,15 @@ use Rattle.timefd_lift.specs.Bytewise.{outside}
 use Rattle.timefd_lift.proofs.Rewriting.{outside-spelling}
 
 pub writes-rewritten : (text answer : Text) (ps : Pieces) → answer ≡ outside text → IsSpelledBy ps text → answer ≡ rewritten ps
-writes-rewritten text answer ps written spelled = written ∙ ap outside spelled.1 ∙ outside-spelling 127 0 ps spelled.0
+writes-rewritten text answer ps written spelled = written ∙ ap outside spelled.1 ∙ outside-spelling nesting_limit 0 ps spelled.0
 
-pub is-rewritten : (text answer : Text) (list : List Tree) → answer ≡ outside text → Spells One 127 0 text list → IsRewritten text answer
+pub is-rewritten : (text answer : Text) (list : List Tree) → answer ≡ outside text → Spells One nesting_limit 0 text list → IsRewritten text answer
 is-rewritten text answer list written s =
     (s.0, (s.1, s.2), writes-rewritten text answer s.0 written (s.1, s.2))
 
 pub has-items : Lifting → (text answer : Text) → answer ≡ outside text → HasItemsOf text answer
 has-items law text answer written list s =
-    let lifted = law 127 s.0 s.1 in
+    let lifted = law nesting_limit s.0 s.1 in
     let spelled = lifted.1 in (
       lifted.0,
       (spelled.0, spelled.1, writes-rewritten text answer s.0 written (s.1, s.2) ∙ spelled.2, spelled.3),

@@ -6,12 +6,12 @@ use Rattle.timefd_items.specs.Tree.{Text, Tree, joined}
 use Rattle.timefd_parse.specs.declared.description_version.DescriptionVersion.TheVariants.{One, Two}
 use Rattle.timefd_parse.specs.declared.parsing.ParseError.{ParseError}
 use Rattle.timefd_parse.specs.Answers.{MemoryAlone}
-use Rattle.timefd_parse.specs.Grammar.{Pieces, ArePieces, spelling, Spells}
+use Rattle.timefd_parse.specs.Grammar.{Pieces, ArePieces, spelling, Spells, nesting_limit}
 use Rattle.timefd_parse.specs.Rewritten.{rewritten}
 
 -- version 1 spells the text by these pieces
 abbrev pub IsSpelledBy : Pieces → Text → Type 0
-IsSpelledBy ps text = ArePieces One 127 0 ps × (text ≡ spelling ps)
+IsSpelledBy ps text = ArePieces One nesting_limit 0 ps × (text ≡ spelling ps)
 
 -- version 1 spells the text, and this is what it is rewritten to
 abbrev pub IsRewritten : Text → Text → Type 0
@@ -20,8 +20,8 @@ IsRewritten text answer = (ps : Pieces) × IsSpelledBy ps text × (answer ≡ re
 -- version 2 spells the answer as version 1 spells the text, once neighbouring literals are joined
 abbrev pub HasItemsOf : Text → Text → Type 0
 HasItemsOf text answer =
-    (list : List Tree) → Spells One 127 0 text list
-    → (other : List Tree) × Spells Two 127 0 answer other × (joined other ≡ joined list)
+    (list : List Tree) → Spells One nesting_limit 0 text list
+    → (other : List Tree) × Spells Two nesting_limit 0 answer other × (joined other ≡ joined list)
 
 -- this text, or want of memory
 abbrev pub IsTextOrMemory : Text → Result (String Global) ParseError → Type 0

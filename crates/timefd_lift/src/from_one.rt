@@ -4,7 +4,7 @@ ghost use Rattle.std.specs.Prelude.{◌≡◌, [], IfOk, IsOk, MatchResult, stri
 ghost use Rattle.std.specs.Result.{IfErr};
 ghost use Rattle.timefd_items.specs.Faults as spec;
 ghost use Rattle.timefd_parse.specs.declared.description_version.DescriptionVersion.TheVariants.{One};
-ghost use Rattle.timefd_parse.specs.Grammar.{Pieces};
+ghost use Rattle.timefd_parse.specs.Grammar.{Pieces, nesting_limit};
 ghost use Rattle.timefd_parse.specs.Broken.{FaultOf};
 ghost use Rattle.timefd_parse.specs.Answers.{IsAssigned, IsFaultOrMemory};
 ghost use Rattle.timefd_parse.specs.Rewritten.{rewritten};
@@ -25,12 +25,12 @@ pub fn v1_to_v2(alloc: Global, s: &str) -> Result<String, ParseError>
     // for the fault that the rules of version 1 assign.
     ensures rewritten { IfOk result (λ answer. IsRewritten s.now (string_bytes answer)) }
     ensures same_items { IfOk result (λ answer. HasItemsOf s.now (string_bytes answer)) }
-    ensures fault { IfErr result (IsAssigned One 127 s.now) }
+    ensures fault { IfErr result (IsAssigned One nesting_limit s.now) }
 
     // What version 1 spells is rewritten, and what has a fault is refused for it, unless memory
     // runs out.
     ensures spelled { (ps : Pieces) → IsSpelledBy ps s.now → IsTextOrMemory (rewritten ps) result }
-    ensures refused { (f : spec.Fault) → FaultOf One 127 s.now f → MatchResult result (λ _. ⊥) (IsFaultOrMemory f) }
+    ensures refused { (f : spec.Fault) → FaultOf One nesting_limit s.now f → MatchResult result (λ _. ⊥) (IsFaultOrMemory f) }
 
     // The empty text takes no memory.
     ensures empty { s.now ≡ [] → IsOk result }

@@ -20,6 +20,7 @@ mod piece;
 mod places;
 mod read;
 mod same;
+mod search;
 mod setting;
 mod strftime;
 mod text;
