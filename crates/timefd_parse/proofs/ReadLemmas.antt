@@ -181,9 +181,6 @@ memory_or P Q more errors.Memory is = tt
 pub cut_shorter : (test : ℕ → Bool) (text front rest : Text) → IsCut test text front rest → length rest ≤ length text
 cut_shorter test text front rest is = omega (arith, ap length is.whole, length-append front rest)
 
-pub items_shorter : (v : DescriptionVersion) (limit n : ℕ) (text : Text) (read : List Tree) (rest : Text) → AreItems v limit n text read rest → length rest ≤ length text
-items_shorter v limit n text read rest are = omega (arith, ap length are.2, length-append (spelling are.0) rest)
-
 -- the same from what the calls ensure
 
 pub closing_outside : (v : DescriptionVersion) (limit n : ℕ) (text : Text) (piece : Piece) (rest : Text) → n ≡ 0 → LeadsOn v limit 0 text piece rest → LeadsOn v limit n text piece rest
