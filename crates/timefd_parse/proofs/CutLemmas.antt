@@ -1,11 +1,10 @@
 -- A longest front whose bytes pass, by its length, and where it ends.
-use Rattle.std.proofs.Common.{◌≡◌, ℕ, zero, suc, ◌+◌, ◌<◌, Bool, true, false, not, List, [], ◌∷◌, length, take, drop, None, Some, ap, ◌∙◌, IsUtf8, refl, sym, subst, inl, inr, arith, add-one, take-append-drop}
+use Rattle.std.proofs.Common.{◌≡◌, ℕ, zero, suc, ◌+◌, ◌<◌, ◌≤◌, Bool, true, false, List, [], ◌∷◌, length, take, drop, ap, ◌∙◌, IsUtf8, refl, sym, subst, inl, inr, arith, add-one, take-append-drop}
 use Rattle.std.proofs.lemmas.Bool.{cases_lt, cases_Bool, and_from}
 use Rattle.std.proofs.lemmas.Bool.Decides.{nat_tests}
-use Rattle.std.proofs.lemmas.List.Sums.{prefix_len-le-length, prefix_len_passes, prefix_len_stops, prefix_len_is}
+use Rattle.std.proofs.lemmas.List.Sums.{prefix_len-le-length, prefix_len_passes, prefix_len_stops}
 use Rattle.std.proofs.lemmas.Str.{IsUtf8-drop, IsCharBoundary-start, IsCharBoundary-end, IsCharBoundary-before_ascii, IsCharBoundary-after_ascii}
 use Rattle.std.specs.List.{prefix_len}
-use Rattle.memchr.specs.Find.{IsFirstByte}
 use Rattle.std.specs.Str.{IsCharBoundary}
 use Rattle.timefd_parse.specs.declared.description_version.DescriptionVersion.TheVariants.{One, Three}
 use Rattle.timefd_parse.specs.declared.text.Class.{Class}
@@ -66,15 +65,8 @@ utf8_behind class text rest n e utf8 r = rw (r, e) (IsUtf8-drop text (prefix_len
 pub special_ascii : (b : ℕ) → is_special b ≡ true → b < 128
 special_ascii b e = grind (arith, nat_tests)
 
--- A search that finds no byte of another kind before a place.
-not_true : (q : Bool) → (q ≡ true → ⊥) → not q ≡ true
-not_true true h = absurd (h refl)
-not_true false h = refl
-
-pub all_before : (p q : ℕ → Bool) → ((b : ℕ) → p b ≡ not (q b)) → (bytes : Text) → IsFirstByte q bytes None → length bytes ≡ prefix_len p bytes
-all_before p q other bytes found =
-    sym (prefix_len_is p bytes (length bytes) 0 (omega arith) (λ k below. other _ ∙ not_true _ (found k (omega arith) below)) (λ past. absurd (omega arith)))
-
-pub some_before : (p q : ℕ → Bool) → ((b : ℕ) → p b ≡ not (q b)) → (bytes : Text) (n : ℕ) → IsFirstByte q bytes (Some n) → n ≡ prefix_len p bytes
-some_before p q other bytes n found =
-    sym (prefix_len_is p bytes n 0 (omega (arith, found.0.high)) (λ k below. other _ ∙ not_true _ (found.0.before k (omega arith) below)) (λ within. other _ ∙ ap not found.1))
+-- the length of a front by another test that passes the same bytes
+pub front_len : (p q : ℕ → Bool) (bytes : Text) (n : ℕ) → ((b : ℕ) → q b ≡ p b) → n ≡ prefix_len q bytes → (n ≡ prefix_len p bytes) × (n ≤ length bytes)
+front_len p q bytes n same e =
+    let len : n ≡ prefix_len p bytes = e ∙ ap (λ test. prefix_len test bytes) (λ i b. same b i) in
+    (len, omega (arith, len, prefix_len-le-length p bytes))

@@ -25,6 +25,7 @@ pub mod Reserved
 pub mod Recase
 pub mod Relax
 pub mod ModernPieces
+pub mod SearchLemmas
 pub mod CutLemmas
 pub mod ModifierLemmas
 pub mod Words

@@ -1,5 +1,5 @@
 -- Steps over a text.
-use Rattle.std.specs.Prelude.{ℕ, ◌≡◌, Bool, [], ◌∷◌, ◌++◌, IsTrue}
+use Rattle.std.specs.Prelude.{ℕ, ◌≡◌, Bool, not, ◌==◌, ◌||◌, [], ◌∷◌, ◌++◌, IsTrue}
 use Rattle.timefd_parse.specs.declared.description_version.DescriptionVersion.TheVariants.{One, Three}
 use Rattle.timefd_parse.specs.declared.text.Class.{Class}
 use Rattle.timefd_parse.specs.declared.text.Class.TheVariants.{White, Word, Key, Run, RunWithBackslash, Plain}
@@ -16,6 +16,10 @@ class_test Key = is_key_byte
 class_test Run = is_run_byte Three
 class_test RunWithBackslash = is_run_byte One
 class_test Plain = is_plain
+
+-- the byte is none of these three
+abbrev pub is_none_of : ℕ → ℕ → ℕ → ℕ → Bool
+is_none_of first second third b = not (((b == first) || (b == second)) || (b == third))
 
 -- the text is cut behind its longest front whose bytes pass
 pub record IsCut (test : ℕ → Bool) (text front rest : Text) : Type 0 where

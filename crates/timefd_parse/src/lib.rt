@@ -19,6 +19,7 @@ mod piece;
 mod places;
 mod read;
 mod same;
+mod search;
 mod setting;
 mod strftime;
 mod text;

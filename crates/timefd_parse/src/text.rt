@@ -1,15 +1,14 @@
 //! Steps over a text: the longest stretch of a class of bytes, and what a text begins with.
 
-ghost use Rattle.std.specs.Prelude.{◌≡◌, ◌≤◌, ◌<◌, length, ◌==◌, ◌∷◌, MatchOption, slice_index, ℕ, IsTrue, [], ⊤, Bool, not};
+ghost use Rattle.std.specs.Prelude.{◌≡◌, ◌≤◌, ◌<◌, length, ◌==◌, ◌∷◌, MatchOption, slice_index, ℕ, IsTrue, [], ⊤};
 ghost use Rattle.std.specs.List.{prefix_len};
 ghost use Rattle.std.specs.Str.{IsUtf8};
-ghost use Rattle.memchr.specs.Find.{is_byte3};
 ghost use Rattle.timefd_parse.specs.Bytes as spec;
 ghost use Rattle.timefd_parse.specs.Bytes.{is_run_byte, StopsBefore};
 ghost use Rattle.timefd_parse.specs.Cut.{class_test, IsCut, BeginsWith};
 
 use crate::description_version::DescriptionVersion;
-use memchr::memchr3;
+use crate::search::len_before;
 
 /// A set of bytes. Where a stretch of its bytes ends, a character ends.
 #[derive(Clone, Copy)]
@@ -69,17 +68,6 @@ fn is_in(class: Class, byte: u8) -> bool
 /// How many bytes are looked at one by one: a stretch that is longer is a literal.
 const NEAR: usize = 8;
 
-/// How many bytes stand before the first of these three, where many are looked at at once.
-fn len_before(bytes: &[u8], first: u8, second: u8, third: u8) -> usize
-    ensures len { (test : ℕ → Bool) → ((b : ℕ) → test b ≡ not (is_byte3 first second third b)) → result ≡ prefix_len test bytes.now }
-    ensures within { result ≤ length bytes.now }
-{
-    let Some(at) = memchr3(first, second, third, bytes) else {
-        return bytes.len();
-    };
-    at
-}
-
 /// How many bytes at the front are in the class, if that is one of literals.
 #[inline(always)]
 fn literal_len(bytes: &[u8], class: Class) -> Option<usize>
@@ -101,9 +89,9 @@ fn run_len(bytes: &[u8], class: Class) -> usize
 {
     for (at, byte) in bytes.iter().enumerate() {
         if at == NEAR
-            && let Some(more) = literal_len(&bytes[at..], class)
+            && let Some(len) = literal_len(bytes, class)
         {
-            return at + more;
+            return len;
         }
         if !is_in(class, *byte) {
             return at;
