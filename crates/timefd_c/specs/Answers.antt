@@ -23,7 +23,8 @@ pub record Judges (language : Option Language) (bytes : Text) (answer : Answer) 
   -- What is answered is so.
   pub accepted : answer.status ≡ ACCEPTED
       → (list : List Tree) × Describes language bytes list × (answer.value ≡ amount language list)
-  pub refused : answer.status ≡ REFUSED → (f : Fault) × HasFault language bytes f × (answer.value ≡ f.index)
+  pub refused : answer.status ≡ REFUSED
+      → (f : Fault) × HasFault language bytes f × (answer.value ≡ f.index)
   -- What is so is answered, unless memory runs out.
   pub spelled : (list : List Tree) → Describes language bytes list → answer.status ≢ NO_MEMORY
       → (answer.status ≡ ACCEPTED) × (answer.value ≡ amount language list)
@@ -39,7 +40,8 @@ pub record Judges (language : Option Language) (bytes : Text) (answer : Answer) 
 
 -- If the answer is a refusal, this holds of the sentence of the fault.
 abbrev pub IfRefused : Option Language → Text → Answer → (Text → Type 0) → Type 0
-IfRefused language bytes answer P = answer.status ≡ REFUSED → (f : Fault) → HasFault language bytes f → P (sentence f)
+IfRefused language bytes answer P =
+    answer.status ≡ REFUSED → (f : Fault) → HasFault language bytes f → P (sentence f)
 
 -- the answer that says what the verdict says, with no sentence
 abbrev pub plain : ℕ → ℕ → Answer

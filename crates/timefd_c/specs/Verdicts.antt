@@ -10,7 +10,8 @@ use Rattle.timefd_c.specs.Languages.{SpellsIn, FaultIn, amount}
 -- What the verdict says of the text in the language is so. Want of memory says nothing.
 abbrev pub Says : Option Language → Text → Verdict → Type 0
 Says language bytes (Accepted value) =
-    IsUtf8 bytes × ((list : List Tree) × SpellsIn language bytes list × (value ≡ amount language list))
+    IsUtf8 bytes
+    × ((list : List Tree) × SpellsIn language bytes list × (value ≡ amount language list))
 Says language bytes (Refused f) = IsUtf8 bytes × FaultIn language bytes (fault_of f)
 Says language bytes NotUtf8 = IsSome language × ¬ (IsUtf8 bytes)
 Says language bytes NoMemory = ⊤

@@ -28,19 +28,22 @@ pub extern "C" fn timefd_check(alloc: Global, kind: u32, text: &[u8], sentence: 
     ensures judges { Judges (language_of kind) text.now result }
 
     // The length of the sentence, its front, and behind that what the buffer held.
-    ensures full_len { IfRefused (language_of kind) text.now result (λ full. result.sentence_len ≡ length full) }
+    ensures full_len { IfRefused (language_of kind) text.now result (λ full.
+        result.sentence_len ≡ length full) }
     ensures front { IfRefused (language_of kind) text.now result (λ full.
         sentence.new ≡ take result.written full ++ drop result.written sentence.old) }
 
     // The front has room, ends between two characters, and no longer one does so.
     ensures room { result.written ≤ length sentence.old }
-    ensures whole { IfRefused (language_of kind) text.now result (λ full. IsCharBoundary full result.written) }
+    ensures whole { IfRefused (language_of kind) text.now result (λ full.
+        IsCharBoundary full result.written) }
     ensures most { IfRefused (language_of kind) text.now result (λ full. (i : ℕ) →
         result.written < i → i ≤ length sentence.old → ¬ (IsCharBoundary full i)) }
 
     // Where nothing is refused, nothing is written.
     ensures kept { result.status ≢ REFUSED → sentence.new ≡ sentence.old }
-    ensures no_sentence { result.status ≢ REFUSED → (result.sentence_len ≡ 0) × (result.written ≡ 0) }
+    ensures no_sentence { result.status ≢ REFUSED
+        → (result.sentence_len ≡ 0) × (result.written ≡ 0) }
 {
     let verdict = verdict_on(alloc, from_number(kind), text);
     let Verdict::Refused(fault) = &verdict else {

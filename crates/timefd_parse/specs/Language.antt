@@ -12,8 +12,8 @@ use Rattle.timefd_parse.specs.Grammar.{Spells}
 use Rattle.timefd_parse.specs.Broken.{FaultOf}
 use Rattle.timefd_parse.specs.Strftime.{SpellsStrftime, StrftimeFaultOf}
 
--- The text spells the list in the language, with at most so many nested descriptions around one another. Strftime nests
--- none.
+-- The text spells the list in the language, with at most so many nested descriptions around one
+-- another. Strftime nests none.
 abbrev pub SpellsIn : Language → ℕ → Text → List Tree → Type 0
 SpellsIn (Version v) limit text list = Spells v limit 0 text list
 SpellsIn Strftime limit text list = SpellsStrftime text list

@@ -34,7 +34,8 @@ pub fn amount_within(
 ) -> Result<usize, ParseError>
     requires { limit ≤ nesting_limit }
 
-    // What is accepted is spelled so, and what is refused is refused for the fault that the rules assign.
+    // What is accepted is spelled so, and what is refused is refused for the fault that the rules
+    // assign.
     ensures found { IfOk result (λ n.
         (list : List Tree) × SpellsIn language limit text.now list × (n ≡ amount language list)) }
     ensures fault { IfErr result (IsAssignedIn language limit text.now) }

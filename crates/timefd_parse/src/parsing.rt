@@ -51,7 +51,8 @@ pub fn parse_borrowed<'a>(
     version: DescriptionVersion,
     s: &'a str,
 ) -> Result<BorrowedOutput<'a>, ParseError>
-    // What is accepted is spelled so, and what is refused is refused for the fault that the rules assign.
+    // What is accepted is spelled so, and what is refused is refused for the fault that the rules
+    // assign.
     ensures found { IfOk result (λ output. (list : List Tree)
         × Spells version nesting_limit 0 s.now list × IsOutput version list output) }
     ensures fault { IfErr result (IsAssigned version nesting_limit s.now) }
@@ -62,7 +63,8 @@ pub fn parse_borrowed<'a>(
     ensures refused { (f : spec.Fault) → FaultOf version nesting_limit s.now f
         → MatchResult result (λ _. ⊥) (IsFaultOrMemory f) }
 
-    // No literal of an item is one of bytes, and a description reserves no more bytes than the text has.
+    // No literal of an item is one of bytes, and a description reserves no more bytes than the
+    // text has.
     ensures strings { IfOk result HasStrings }
     ensures reserved { IfOk result (ReservesAtMost (length s.now)) }
 
@@ -84,7 +86,8 @@ pub fn parse_borrowed_within<'a>(
 ) -> Result<BorrowedOutput<'a>, ParseError>
     requires { limit ≤ nesting_limit }
 
-    // What is accepted is spelled so, and what is refused is refused for the fault that the rules assign.
+    // What is accepted is spelled so, and what is refused is refused for the fault that the rules
+    // assign.
     ensures found { IfOk result (λ output. (list : List Tree)
         × Spells version limit 0 s.now list × IsOutput version list output) }
     ensures fault { IfErr result (IsAssigned version limit s.now) }
@@ -95,7 +98,8 @@ pub fn parse_borrowed_within<'a>(
     ensures refused { (f : spec.Fault) → FaultOf version limit s.now f
         → MatchResult result (λ _. ⊥) (IsFaultOrMemory f) }
 
-    // No literal of an item is one of bytes, and a description reserves no more bytes than the text has.
+    // No literal of an item is one of bytes, and a description reserves no more bytes than the
+    // text has.
     ensures strings { IfOk result HasStrings }
     ensures reserved { IfOk result (ReservesAtMost (length s.now)) }
 
@@ -118,7 +122,8 @@ pub fn parse_borrowed_within<'a>(
 ///
 /// The error is `Invalid` for a text that is none, and `Memory` where memory ran out.
 pub fn parse<'a>(alloc: Global, s: &'a str) -> Result<Vec<BorrowedFormatItem<'a>>, ParseError>
-    // What is accepted is spelled so, and what is refused is refused for the fault that the rules assign.
+    // What is accepted is spelled so, and what is refused is refused for the fault that the rules
+    // assign.
     ensures found { IfOk result (λ items. (list : List Tree)
         × Spells One nesting_limit 0 s.now list × AreItems items.items list) }
     ensures fault { IfErr result (IsAssigned One nesting_limit s.now) }
