@@ -29,6 +29,3 @@ pub use description_version::DescriptionVersion;
 pub use parsing::{BorrowedOutput, ParseError, parse, parse_borrowed};
 pub use strftime::{StrftimeTables, parse_strftime_borrowed};
 pub use timefd_items::{BorrowedFormatItem, FormatDescriptionV3, InvalidFormatDescription};
-
-#[cfg(test)]
-mod tests;
