@@ -9,8 +9,6 @@ mod format_description_v3;
 mod invalid_format_description;
 pub mod laws;
 mod modern;
-#[cfg(test)]
-mod tests;
 
 pub use borrowed_format_item::{BorrowedFormatItem, FormatItem, StaticFormatDescription};
 pub use component::Component;

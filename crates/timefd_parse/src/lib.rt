@@ -34,6 +34,3 @@ pub use parsing::{
 };
 pub use strftime::{StrftimeTables, parse_strftime_borrowed};
 pub use timefd_items::{BorrowedFormatItem, FormatDescriptionV3, InvalidFormatDescription};
-
-#[cfg(test)]
-mod tests;

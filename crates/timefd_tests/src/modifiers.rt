@@ -1,21 +1,18 @@
 //! Defaults and printed forms, against the table of modifiers.
 
-use super::*;
+use super::printed::expect_printed;
 use std::num::NonZero;
-use std::test::Fail;
+use timefd_modifier::*;
 
 /// Compares the default of each type with the text that its `Debug` prints.
 macro_rules! defaults {
     ($rt:expr; $($kind:ident => $shown:expr,)*) => {
-        $(
-            let shown = format!(in $rt.alloc(); "{:?}", $kind::default())?;
-            assert_eq!($rt; shown.as_str(), $shown);
-        )*
+        $(expect_printed(&$rt, $rt.alloc(), &$kind::default(), $shown);)*
     };
 }
 
 #[test]
-fn day_and_month_defaults(rt: HostRuntime) -> Result<(), Fail> {
+fn day_and_month_defaults(rt: HostRuntime) {
     defaults!(rt;
         Day => "Day { padding: Zero }",
         Ordinal => "Ordinal { padding: Zero }",
@@ -33,11 +30,10 @@ fn day_and_month_defaults(rt: HostRuntime) -> Result<(), Fail> {
         WeekNumberMonday => "WeekNumberMonday { padding: Zero }",
         WeekNumber => "WeekNumber { padding: Zero, repr: Iso }",
     );
-    Ok(())
 }
 
 #[test]
-fn year_defaults(rt: HostRuntime) -> Result<(), Fail> {
+fn year_defaults(rt: HostRuntime) {
     defaults!(rt;
         CalendarYearFullExtendedRange =>
             "CalendarYearFullExtendedRange { padding: Zero, sign_is_mandatory: false }",
@@ -61,11 +57,10 @@ fn year_defaults(rt: HostRuntime) -> Result<(), Fail> {
             "Year { padding: Zero, repr: Full, range: Extended, iso_week_based: false, \
              sign_is_mandatory: false }",
     );
-    Ok(())
 }
 
 #[test]
-fn time_defaults(rt: HostRuntime) -> Result<(), Fail> {
+fn time_defaults(rt: HostRuntime) {
     defaults!(rt;
         Hour12 => "Hour12 { padding: Zero }",
         Hour24 => "Hour24 { padding: Zero }",
@@ -84,11 +79,10 @@ fn time_defaults(rt: HostRuntime) -> Result<(), Fail> {
         UnixTimestamp => "UnixTimestamp { precision: Second, sign_is_mandatory: false }",
         End => "End { trailing_input: Prohibit }",
     );
-    Ok(())
 }
 
 #[test]
-fn value_defaults(rt: HostRuntime) -> Result<(), Fail> {
+fn value_defaults(rt: HostRuntime) {
     defaults!(rt;
         Padding => "Zero",
         MonthRepr => "Numerical",
@@ -100,11 +94,10 @@ fn value_defaults(rt: HostRuntime) -> Result<(), Fail> {
         UnixTimestampPrecision => "Second",
         TrailingInput => "Prohibit",
     );
-    Ok(())
 }
 
 #[test]
-fn one_field_changes(rt: HostRuntime) -> Result<(), Fail> {
+fn one_field_changes(rt: HostRuntime) {
     let year = Year::default().with_range(YearRange::Standard);
     assert!(rt;
         year == Year {
@@ -115,11 +108,13 @@ fn one_field_changes(rt: HostRuntime) -> Result<(), Fail> {
             sign_is_mandatory: false,
         }
     );
-    let five = NonZero::<u16>::new(5).ok_or("five is not zero")?;
-    let seven = NonZero::<u16>::new(7).ok_or("seven is not zero")?;
+}
+
+#[test]
+fn one_count_changes(rt: HostRuntime) {
+    let five = NonZero::<u16>::new(5).expect(&rt, "five is not zero");
+    let seven = NonZero::<u16>::new(7).expect(&rt, "seven is not zero");
     let ignore = Ignore::count(five).with_count(seven);
     assert!(rt; ignore == Ignore { count: seven });
-    let shown = format!(in rt.alloc(); "{ignore:?}")?;
-    assert_eq!(rt; shown.as_str(), "Ignore { count: 7 }");
-    Ok(())
+    expect_printed(&rt, rt.alloc(), &ignore, "Ignore { count: 7 }");
 }

@@ -1,0 +1,87 @@
+//! Copies of descriptions: each call once with ample memory.
+
+use super::printed::{AMPLE, expect_printed};
+use super::trees::{WEEKDAY, expect_description, literal, opaque, optional, two_literals};
+use std::alloc::Global;
+use std::process::Abort;
+use timefd_items::{FormatDescriptionV3, FormatDescriptionV3Inner};
+use timefd_modifier::{Day, Padding};
+use timefd_parse::{BorrowedOutput, DescriptionVersion, parse_borrowed};
+
+#[test]
+fn copies_of_a_lent_compound(rt: HostRuntime) {
+    let alloc = rt.alloc();
+    let tree = two_literals(&rt, alloc);
+    let description = opaque(&rt, alloc, tree.clone(alloc).expect(&rt, AMPLE));
+    let copy = description.clone(alloc).expect(&rt, AMPLE);
+    let expected = "Compound([Literal(\"abcdef\"), Literal(\"ghijkl\")])";
+    assert_eq!(rt; description.max_bytes_needed(), 12);
+    assert_eq!(rt; copy.max_bytes_needed(), 12);
+    expect_description(&rt, alloc, &description, expected);
+    expect_description(&rt, alloc, &copy, expected);
+}
+
+/// `x[optional format:false [[weekday]]]`, whose literal is cut from a text that is gone by the
+/// return.
+fn outlives_its_text(rt: &impl Abort, alloc: Global) -> FormatDescriptionV3<'static> {
+    let text = String::from_str(alloc, "x").expect(rt, AMPLE);
+    let members = vec![in alloc;
+        FormatDescriptionV3Inner::BorrowedLiteral(text.as_str()),
+        optional(rt, alloc, false, WEEKDAY),
+    ]
+    .expect(rt, AMPLE);
+    let description = opaque(rt, alloc, FormatDescriptionV3Inner::OwnedCompound(members));
+    description.to_owned(alloc).expect(rt, AMPLE)
+}
+
+/// The same, read from a text that is gone by the return.
+fn read_and_copied(rt: &impl Abort, alloc: Global) -> FormatDescriptionV3<'static> {
+    let text = "x[optional format:false [[weekday]]]";
+    let text = String::from_str(alloc, text).expect(rt, AMPLE);
+    match parse_borrowed(alloc, DescriptionVersion::Three, text.as_str()) {
+        Ok(BorrowedOutput::Description(description)) => {
+            description.to_owned(alloc).expect(rt, AMPLE)
+        }
+        _ => rt.panic("the text is a description"),
+    }
+}
+
+/// Expects that the description is that of `x[optional format:false [[weekday]]]`.
+fn expect_x_and_optional(rt: &impl Abort, alloc: Global, description: &FormatDescriptionV3) {
+    assert_eq!(rt; description.max_bytes_needed(), 1);
+    let expected =
+        "Compound([Literal(\"x\"), Optional { should_format: false, item: WeekdayLong { case_sensitive: true } }])";
+    expect_description(rt, alloc, description, expected);
+}
+
+#[test]
+fn an_owned_copy_outlives_its_text(rt: HostRuntime) {
+    let description = outlives_its_text(&rt, rt.alloc());
+    expect_x_and_optional(&rt, rt.alloc(), &description);
+}
+
+#[test]
+fn an_owned_copy_of_what_was_read(rt: HostRuntime) {
+    let description = read_and_copied(&rt, rt.alloc());
+    expect_x_and_optional(&rt, rt.alloc(), &description);
+}
+
+#[test]
+fn copies_of_owned_parts(rt: HostRuntime) {
+    let alloc = rt.alloc();
+    let alternatives = vec![in alloc;
+        literal(&rt, alloc, "a"),
+        FormatDescriptionV3Inner::Day(Day {
+            padding: Padding::Zero
+        }),
+    ]
+    .expect(&rt, AMPLE);
+    let first = FormatDescriptionV3Inner::OwnedFirst(alternatives);
+    let tree = optional(&rt, alloc, true, first);
+    let description = opaque(&rt, alloc, tree.clone(alloc).expect(&rt, AMPLE));
+    let owned = description.to_owned(alloc).expect(&rt, AMPLE);
+    let expected =
+        "Optional { should_format: true, item: First([Literal(\"a\"), Day { padding: Zero }]) }";
+    expect_printed(&rt, alloc, &owned, expected);
+    assert_eq!(rt; owned.max_bytes_needed(), 1);
+}

@@ -1,0 +1,66 @@
+//! How descriptions print, and what they reserve.
+
+use super::printed::{AMPLE, expect_printed};
+use super::trees::{WEEKDAY, lend, lend_two, literal, opaque, optional};
+use std::alloc::Global;
+use std::process::Abort;
+use timefd_items::{Component, FormatDescriptionV3Inner, NotOpaque, OpaqueCause};
+use timefd_modifier::Day;
+
+/// `x[optional format:false [[weekday]]][first [a] [bcd]]`, its parts owned but for `bcd`.
+fn owned(rt: &impl Abort, alloc: Global) -> FormatDescriptionV3Inner<'static> {
+    let alternatives = vec![in alloc;
+        literal(rt, alloc, "a"),
+        FormatDescriptionV3Inner::BorrowedLiteral("bcd"),
+    ]
+    .expect(rt, AMPLE);
+    let members = vec![in alloc;
+        literal(rt, alloc, "x"),
+        optional(rt, alloc, false, WEEKDAY),
+        FormatDescriptionV3Inner::OwnedFirst(alternatives),
+    ]
+    .expect(rt, AMPLE);
+    FormatDescriptionV3Inner::OwnedCompound(members)
+}
+
+/// The same tree, its parts lent.
+fn lent(rt: &impl Abort, alloc: Global) -> FormatDescriptionV3Inner<'static> {
+    let first = FormatDescriptionV3Inner::BorrowedLiteral("a");
+    let second = FormatDescriptionV3Inner::BorrowedLiteral("bcd");
+    let members = vec![in alloc;
+        FormatDescriptionV3Inner::BorrowedLiteral("x"),
+        FormatDescriptionV3Inner::BorrowedOptional {
+            format: false,
+            item: lend(rt, alloc, WEEKDAY),
+        },
+        FormatDescriptionV3Inner::BorrowedFirst(lend_two(rt, alloc, first, second)),
+    ]
+    .expect(rt, AMPLE);
+    FormatDescriptionV3Inner::BorrowedCompound(members.leak())
+}
+
+const PRINTED: &str =
+    "Compound([Literal(\"x\"), Optional { should_format: false, item: WeekdayLong { case_sensitive: true } }, First([Literal(\"a\"), Literal(\"bcd\")])])";
+
+#[test]
+fn lent_parts_print_as_owned_ones(rt: HostRuntime) {
+    expect_printed(&rt, rt.alloc(), &lent(&rt, rt.alloc()), PRINTED);
+    expect_printed(&rt, rt.alloc(), &owned(&rt, rt.alloc()), PRINTED);
+}
+
+#[test]
+fn a_description_prints_as_its_tree(rt: HostRuntime) {
+    let description = opaque(&rt, rt.alloc(), owned(&rt, rt.alloc()));
+    expect_printed(&rt, rt.alloc(), &description, PRINTED);
+    assert_eq!(rt; description.max_bytes_needed(), 2);
+}
+
+#[test]
+fn printed_refusal(rt: HostRuntime) {
+    let refused = NotOpaque {
+        tree: FormatDescriptionV3Inner::from(Component::Day(Day::default())),
+        cause: OpaqueCause::TooManyBytes,
+    };
+    let expected = "NotOpaque { tree: Day { padding: Zero }, cause: TooManyBytes }";
+    expect_printed(&rt, rt.alloc(), &refused, expected);
+}
