@@ -1,6 +1,8 @@
 pub mod Status
+pub mod Kinds
 pub mod Arguments
 pub mod Streams
 pub mod Line
 pub mod Replies
 pub mod Runs
+pub mod Program

@@ -1,7 +1,11 @@
 //! The languages that the program reads, and the arguments that name them.
 
-ghost use Rattle.std.specs.Prelude.{◌≡◌, map, string_bytes};
+ghost use Rattle.std.specs.Prelude.{◌≡◌, ◌≤◌, IfSome, map, string_bytes};
+ghost use Rattle.timefd_parse.specs.Grammar.{nesting_limit};
 ghost use Rattle.timefd.specs.Arguments as spec;
+ghost use Rattle.timefd.specs.Kinds.{language_of};
+
+use timefd_parse::{DescriptionVersion, Language, NESTING_LIMIT};
 
 /// The language of a text.
 #[derive(Debug, Clone, Copy, PartialEq, Eq)]
@@ -16,10 +20,22 @@ pub enum Kind {
     Strftime,
 }
 
-/// The most nested descriptions around one another, where no argument says otherwise.
-const DEFAULT_LIMIT: u8 = 127;
+/// The most digits of a limit.
+const LIMIT_DIGITS: usize = 3;
 
 impl Kind {
+    /// The language of this kind.
+    pub fn language(self) -> Language
+        ensures { result ≡ language_of self }
+    {
+        match self {
+            Kind::One => Language::Version(DescriptionVersion::One),
+            Kind::Two => Language::Version(DescriptionVersion::Two),
+            Kind::Three => Language::Version(DescriptionVersion::Three),
+            Kind::Strftime => Language::Strftime,
+        }
+    }
+
     // The kind that an argument names.
     fn named(word: &str) -> Option<Kind>
         ensures { result ≡ spec.kind_named word.now }
@@ -34,13 +50,36 @@ impl Kind {
     }
 }
 
+// The limit that an argument names: digits alone, where Rust reads a plus too.
+fn limit_named(word: &str) -> Option<u8>
+    ensures { result ≡ spec.limit_named word.now }
+{
+    if word.len() > LIMIT_DIGITS {
+        return None;
+    }
+    if word.starts_with('+') {
+        return None;
+    }
+    let limit = word.parse::<u8>().ok()?;
+    if limit <= NESTING_LIMIT {
+        Some(limit)
+    } else {
+        None
+    }
+}
+
 /// The kind, and how many nested descriptions there may be around one another, which the words
 /// after the program's name give: `None` where they are no arguments of the program.
 pub fn arguments(words: &[String]) -> Option<(Kind, u8)>
-    ensures { result ≡ spec.arguments (map string_bytes words.now) }
+    ensures exact { result ≡ spec.arguments (map string_bytes words.now) }
+    ensures within { IfSome result (λ x. x.1 ≤ nesting_limit) }
 {
-    let [word] = words else {
-        return None;
-    };
-    Some((Kind::named(word)?, DEFAULT_LIMIT))
+    match words {
+        [word] => Some((Kind::named(word)?, NESTING_LIMIT)),
+        [word, limit] => match Kind::named(word)? {
+            Kind::Strftime => None,
+            kind => Some((kind, limit_named(limit)?)),
+        },
+        _ => None,
+    }
 }

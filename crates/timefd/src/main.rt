@@ -1,9 +1,12 @@
-//! `timefd KIND`, with `1`, `2`, `3` or `strftime` as the kind: reads a format description of that
-//! kind from the standard input, and says on the standard output what it holds, or why it is none.
+//! `timefd KIND [LIMIT]`, with `1`, `2`, `3` or `strftime` as the kind: reads a format description
+//! of that kind from the standard input, and says on the standard output what it holds, or why it
+//! is none. The limit, for the kinds `1`, `2` and `3`, is how many nested descriptions may stand
+//! around one another.
 #![tactic(auto)]
 
 mod end;
 mod kind;
+mod program;
 mod reply;
 mod run;
 mod streams;
@@ -11,30 +14,24 @@ mod streams;
 mod tests;
 mod transfer;
 
-use kind::arguments;
+use program::execute;
 use std::env;
 use std::process::ExitCode;
 use streams::{FromReader, ToWriter};
 
-// The status where the arguments ask for nothing that the program does.
-const WRONG_ARGUMENTS: u8 = 2;
-
 // The status where the arguments can't be had.
 const NO_ARGUMENTS: u8 = 3;
 
-// The arguments after the program's name.
-fn words(rt: &HostRuntime) -> Option<Vec<String>> {
-    env::args(rt).ok()?.skip(1).collect(rt.alloc()).ok()
+// All arguments, of which the first is the program's name.
+fn args(rt: &HostRuntime) -> Option<Vec<String>> {
+    env::args(rt).ok()?.collect(rt.alloc()).ok()
 }
 
 fn main(rt: HostRuntime) -> ExitCode {
-    let Some(words) = words(&rt) else {
+    let Some(args) = args(&rt) else {
         return ExitCode::from(NO_ARGUMENTS);
-    };
-    let Some((kind, _limit)) = arguments(&words) else {
-        return ExitCode::from(WRONG_ARGUMENTS);
     };
     let mut reader = FromReader::new(rt.stdin());
     let mut writer = ToWriter::new(rt.stdout());
-    ExitCode::from(run::run(rt.alloc(), kind, &mut reader, &mut writer).status())
+    ExitCode::from(execute(rt.alloc(), &args, &mut reader, &mut writer))
 }

@@ -1,8 +1,8 @@
 //! What is said of a text.
 
-ghost use Rattle.std.specs.Prelude.{◌≡◌, IfOk, string_bytes};
+ghost use Rattle.std.specs.Prelude.{◌≡◌, ◌≤◌, IfOk, string_bytes};
 ghost use Rattle.timefd_items.specs.Faults.{fault_of};
-ghost use Rattle.timefd.specs.declared.kind.Kind.{Kind};
+ghost use Rattle.timefd_parse.specs.Grammar.{nesting_limit};
 ghost use Rattle.timefd.specs.Replies.{IsReply, line_of, end_of};
 ghost use Rattle.timefd.specs.Line as spec;
 
@@ -10,10 +10,7 @@ use crate::end::RunEnd;
 use crate::kind::Kind;
 use std::alloc::{AllocError, Global};
 use timefd_items::InvalidFormatDescription;
-use timefd_parse::{
-    BorrowedOutput, DescriptionVersion, ParseError, StrftimeTables, parse_borrowed,
-    parse_strftime_borrowed,
-};
+use timefd_parse::{DescriptionVersion, Language, ParseError, amount_within};
 
 /// The line that is said of a text.
 #[derive(Debug, Drop)]
@@ -45,16 +42,14 @@ impl Reply {
     }
 }
 
-fn items_line(alloc: Global, count: usize) -> Result<String, AllocError>
-    ensures { IfOk result (λ line. string_bytes line ≡ spec.items_line count) }
+// The line of a text of the language that holds so much.
+fn amount_line(alloc: Global, language: Language, count: usize) -> Result<String, AllocError>
+    ensures { IfOk result (λ line. string_bytes line ≡ spec.amount_line language count) }
 {
-    format!(in alloc; "ok items {count}\n")
-}
-
-fn bytes_line(alloc: Global, count: usize) -> Result<String, AllocError>
-    ensures { IfOk result (λ line. string_bytes line ≡ spec.bytes_line count) }
-{
-    format!(in alloc; "ok bytes {count}\n")
+    match language {
+        Language::Version(DescriptionVersion::Three) => { format!(in alloc; "ok bytes {count}\n") }
+        Language::Version(_) | Language::Strftime => format!(in alloc; "ok items {count}\n"),
+    }
 }
 
 fn fault_line(alloc: Global, fault: &InvalidFormatDescription) -> Result<String, AllocError>
@@ -63,35 +58,15 @@ fn fault_line(alloc: Global, fault: &InvalidFormatDescription) -> Result<String,
     format!(in alloc; "{fault}\n")
 }
 
-/// The line of the text as a description of this kind. An `Err` says that memory ran out, and
-/// nothing of the text.
-pub fn reply_to(alloc: Global, kind: Kind, text: &str) -> Result<Reply, AllocError>
-    ensures { IfOk result (IsReply kind 127 text.now) }
+/// The line of the text as a description of this kind, with at most `limit` nested descriptions
+/// around one another. An `Err` says that memory ran out, and nothing of the text.
+pub fn reply_to(alloc: Global, kind: Kind, limit: u8, text: &str) -> Result<Reply, AllocError>
+    requires { limit ≤ nesting_limit }
+    ensures { IfOk result (IsReply kind limit text.now) }
 {
-    let version = match kind {
-        Kind::One => DescriptionVersion::One,
-        Kind::Two => DescriptionVersion::Two,
-        Kind::Three => DescriptionVersion::Three,
-        Kind::Strftime => return strftime_reply_to(alloc, text),
-    };
-    match parse_borrowed(alloc, version, text) {
-        Ok(BorrowedOutput::Items(items)) => Ok(Reply::Accepted(items_line(alloc, items.len())?)),
-        Ok(BorrowedOutput::Description(description)) => {
-            let reserved = description.max_bytes_needed();
-            Ok(Reply::Accepted(bytes_line(alloc, reserved)?))
-        }
-        Err(ParseError::Invalid(fault)) => Ok(Reply::Refused(fault_line(alloc, &fault)?)),
-        Err(ParseError::Memory(error)) => Err(error),
-    }
-}
-
-// The line of the text as one of strftime.
-fn strftime_reply_to(alloc: Global, text: &str) -> Result<Reply, AllocError>
-    ensures { IfOk result (IsReply Kind.Strftime 127 text.now) }
-{
-    let tables = StrftimeTables::new();
-    match parse_strftime_borrowed(alloc, &tables, text) {
-        Ok(items) => Ok(Reply::Accepted(items_line(alloc, items.len())?)),
+    let language = kind.language();
+    match amount_within(alloc, language, limit, text) {
+        Ok(amount) => Ok(Reply::Accepted(amount_line(alloc, language, amount)?)),
         Err(ParseError::Invalid(fault)) => Ok(Reply::Refused(fault_line(alloc, &fault)?)),
         Err(ParseError::Memory(error)) => Err(error),
     }

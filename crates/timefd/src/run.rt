@@ -1,6 +1,7 @@
 //! A whole run: from the bytes of a reader to a line in a writer.
 
-ghost use Rattle.std.specs.Prelude.{◌≡◌, IsUtf8, IsTrue, IsFalse};
+ghost use Rattle.std.specs.Prelude.{◌≡◌, ◌≤◌, IsUtf8, IsTrue, IsFalse};
+ghost use Rattle.timefd_parse.specs.Grammar.{nesting_limit};
 ghost use Rattle.timefd.specs.Line.{IsOkLine, IsFaultLine};
 ghost use Rattle.timefd.specs.Runs.{Answers, EndsAt, IsAnswer, IsOfText, IsSilent};
 
@@ -11,15 +12,51 @@ use crate::streams::{Failed, Sink, Source};
 use crate::transfer::{ReadError, read_all, write_all};
 use bstr::ByteVec;
 use std::alloc::{AllocError, Global};
+use timefd_parse::NESTING_LIMIT;
 
-/// Reads a text to the reader's end, and writes the line that is said of it.
+/// Reads a text of this kind to the reader's end, and writes the line that is said of it.
 pub fn run<R: Source, W: Sink>(alloc: Global, kind: Kind, reader: &mut R, writer: &mut W) -> RunEnd
     // All bytes are read, and one line of theirs is written, and nothing else.
     ensures accepted { result ≡ RunEnd.Accepted
-        → Answers (IsOkLine kind 127) (R.remaining reader.old) (R.remaining reader.new)
+        → Answers (IsOkLine kind nesting_limit) (R.remaining reader.old) (R.remaining reader.new)
         (W.contents writer.old) (W.contents writer.new) }
     ensures refused { result ≡ RunEnd.Refused
-        → Answers (IsFaultLine kind 127) (R.remaining reader.old) (R.remaining reader.new)
+        → Answers (IsFaultLine kind nesting_limit) (R.remaining reader.old) (R.remaining reader.new)
+        (W.contents writer.old) (W.contents writer.new) }
+    ensures not_utf8 { result ≡ RunEnd.NotUtf8
+        → EndsAt (λ bytes. ¬ IsUtf8 bytes) (R.remaining reader.old) (R.remaining reader.new) }
+
+    // What is said of a text is said of a whole one.
+    ensures read { IsOfText result → IsFalse (R.has_failed reader.new) }
+    ensures written { IsAnswer result → IsFalse (W.has_failed writer.new) }
+    ensures flushed { IsAnswer result → IsTrue (W.is_flushed writer.new) }
+
+    // A failure is answered only where there is one.
+    ensures read_failed { result ≡ RunEnd.ReadFailed → IsTrue (R.has_failed reader.new) }
+    ensures write_failed { result ≡ RunEnd.WriteFailed → IsTrue (W.has_failed writer.new) }
+
+    // The writer is as it was, where nothing is said.
+    ensures silent { IsSilent result → writer.new ≡ writer.old }
+{
+    run_within(alloc, kind, NESTING_LIMIT, reader, writer)
+}
+
+/// Reads a text as `run` does, with at most `limit` nested descriptions around one another.
+pub fn run_within<R: Source, W: Sink>(
+    alloc: Global,
+    kind: Kind,
+    limit: u8,
+    reader: &mut R,
+    writer: &mut W,
+) -> RunEnd
+    requires { limit ≤ nesting_limit }
+
+    // All bytes are read, and one line of theirs is written, and nothing else.
+    ensures accepted { result ≡ RunEnd.Accepted
+        → Answers (IsOkLine kind limit) (R.remaining reader.old) (R.remaining reader.new)
+        (W.contents writer.old) (W.contents writer.new) }
+    ensures refused { result ≡ RunEnd.Refused
+        → Answers (IsFaultLine kind limit) (R.remaining reader.old) (R.remaining reader.new)
         (W.contents writer.old) (W.contents writer.new) }
     ensures not_utf8 { result ≡ RunEnd.NotUtf8
         → EndsAt (λ bytes. ¬ IsUtf8 bytes) (R.remaining reader.old) (R.remaining reader.new) }
@@ -44,7 +81,7 @@ pub fn run<R: Source, W: Sink>(alloc: Global, kind: Kind, reader: &mut R, writer
     let Ok(text) = bytes.into_string() else {
         return RunEnd::NotUtf8;
     };
-    let reply = match reply_to(alloc, kind, &text) {
+    let reply = match reply_to(alloc, kind, limit, &text) {
         Ok(reply) => reply,
         Err(AllocError) => return RunEnd::Memory,
     };

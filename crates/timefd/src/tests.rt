@@ -2,6 +2,8 @@
 
 mod arguments;
 mod failures;
+mod limits;
 mod memory;
+mod program;
 mod rows;
 mod streams;
