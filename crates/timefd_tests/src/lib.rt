@@ -24,6 +24,8 @@ mod large;
 #[cfg(test)]
 mod lent;
 #[cfg(test)]
+mod limits;
+#[cfg(test)]
 mod modifiers;
 #[cfg(test)]
 mod printed;
