@@ -16,10 +16,17 @@ use Rattle.timefd_parse.specs.LetterMeaning.{flag_padding}
 use Rattle.timefd_parse.specs.Strftime.{percent, is_flag, is_plain, flag_text, Directives, no_directives, plain, directive, directives_text, directive_items, IsBehind, AreDirectives, SpellsStrftime, cut_short, unknown, cut_index, ill_text, unknown_kind, ill_fault, StrftimeFaultOf}
 use Rattle.timefd_parse.specs.Strings.{is_of_strings, are_of_strings}
 use Rattle.timefd_parse.specs.Laws.{HasOneStrftimeAnswer}
-use Rattle.timefd_parse.specs.declared.strftime.directive.PlacedFlaw.{PlacedFlaw}
+use Rattle.timefd_parse.specs.declared.fault.Fault as code_fault
+use Rattle.timefd_parse.specs.declared.fault.ReadError.{ReadError}
+use Rattle.timefd_parse.specs.declared.fault.ReadError.TheVariants as errors
+use Rattle.timefd_parse.specs.declared.parsing.ParseError.{ParseError}
+use Rattle.timefd_parse.specs.declared.parsing.ParseError.TheVariants.{Invalid, Memory}
 use Rattle.timefd_parse.specs.Fault.{raised, expected_escape}
 use Rattle.timefd_parse.specs.Cut.{IsCut}
-use Rattle.timefd_parse.specs.StrftimeReading.{MayFollow, BeginsWithFlag, Leads, kind_of, IsFault, IsFlawAt, IsFlawIn, IsRestOf}
+use Rattle.timefd_parse.specs.StrftimeReading.{MayFollow, BeginsWithFlag, Leads, IsStrftimeFaultAt, IsStrftimeFaultIn, IsRestOf}
+use Rattle.timefd_parse.specs.Shown.{kind_of, IsFault, MemoryOr}
+use Rattle.timefd_parse.specs.Answers.{IsFaultOrMemory, MemoryAlone, Tells}
+use Rattle.timefd_parse.specs.StrftimeAnswers.{IsStrftimeFault}
 use Rattle.timefd_parse.proofs.StrftimeReader.{directive_regrouped, begins_no_plain, strftime_one_answer_law}
 
 pub ascii_below : (b : ℕ) → is_ascii b ≡ true → b < 128
@@ -48,9 +55,9 @@ directive_leads behind rest after padding b tree item h e of is = λ front tail 
   refl,
 )
 
-pub directive_unknown : (behind rest : Text) (padding : Option Padding) (flaw : PlacedFlaw) → BeginsWithFlag behind padding rest → 0 < length rest
-    → ((f : Flag) → item_of f (get_or rest 0 0) ≡ None) → kind_of flaw.flaw ≡ unknown_kind (get_or rest 0 0) → flaw.remaining ≡ length rest → IsFlawAt (percent ∷ behind) flaw
-directive_unknown behind rest padding flaw h some none kind place =
+pub directive_unknown : (behind rest : Text) (padding : Option Padding) (bad : code_fault.Fault) → BeginsWithFlag behind padding rest → 0 < length rest
+    → ((f : Flag) → item_of f (get_or rest 0 0) ≡ None) → kind_of bad.kind ≡ unknown_kind (get_or rest 0 0) → bad.remaining ≡ length rest → IsStrftimeFaultAt (percent ∷ behind) bad
+directive_unknown behind rest padding bad h some none kind place =
     let e : rest ≡ get_or rest 0 0 ∷ drop 1 rest = first_and_rest rest some in (
       unknown h.0 (get_or rest 0 0) (drop 1 rest),
       (h.1, is_behind h.0 (get_or rest 0 0) rest (drop 1 rest) e h.4, none h.0),
@@ -58,9 +65,9 @@ directive_unknown behind rest padding flaw h some none kind place =
       record { kind = sym kind; place = omega (arith, place, ap length h.3, length-append (flag_text h.0) rest) },
     )
 
-pub directive_cut_short : (behind rest : Text) (padding : Option Padding) (flaw : PlacedFlaw) → BeginsWithFlag behind padding rest → rest ≡ []
-    → kind_of flaw.flaw ≡ expected_escape → ((f : Flag) → flag_padding f ≡ padding → cut_index f + flaw.remaining ≡ 1 + length (flag_text f)) → IsFlawAt (percent ∷ behind) flaw
-directive_cut_short behind rest padding flaw h none kind place = (
+pub directive_cut_short : (behind rest : Text) (padding : Option Padding) (bad : code_fault.Fault) → BeginsWithFlag behind padding rest → rest ≡ []
+    → kind_of bad.kind ≡ expected_escape → ((f : Flag) → flag_padding f ≡ padding → cut_index f + bad.remaining ≡ 1 + length (flag_text f)) → IsStrftimeFaultAt (percent ∷ behind) bad
+directive_cut_short behind rest padding bad h none kind place = (
   cut_short h.0,
   h.1,
   ap (λ t. percent ∷ t) (h.3 ∙ ap (λ t. flag_text h.0 ++ t) none ∙ append-nil (flag_text h.0)),
@@ -103,8 +110,8 @@ all_read text rest done before end =
     let w = before no_directives rest tt refl in
     (w.0, w.1, w.2 ∙ ap (λ t. directives_text w.0 ++ t) end ∙ append-nil (directives_text w.0), sym (w.3 ∙ append-nil done))
 
-pub flaw_behind : (text rest : Text) (done : List Tree) (f : PlacedFlaw) → Continues text done rest → IsFlawAt rest f → IsFlawIn text f
-flaw_behind text rest done f before bad =
+pub fault_behind : (text rest : Text) (done : List Tree) (f : code_fault.Fault) → Continues text done rest → IsStrftimeFaultAt rest f → IsStrftimeFaultIn text f
+fault_behind text rest done f before bad =
     let w = before no_directives rest tt refl in
     (w.0, bad.0, w.1, bad.1, w.2 ∙ ap (λ t. directives_text w.0 ++ t) bad.2, subst (λ (t : Text). IsFault (length t) f (ill_fault bad.0)) bad.2 bad.3)
 
@@ -116,12 +123,12 @@ more_strings (first ∷ items) item are is =
 
 -- Whole texts.
 
-pub record WholeFault (text : Text) (f : PlacedFlaw) : Type 0 where
+pub record WholeFault (text : Text) (f : code_fault.Fault) : Type 0 where
   pub g : Fault
   pub assigned : StrftimeFaultOf text g
   pub is : IsFault (length text) f g
 
-pub whole_fault : (text : Text) (f : PlacedFlaw) → IsFlawIn text f → WholeFault text f
+pub whole_fault : (text : Text) (f : code_fault.Fault) → IsStrftimeFaultIn text f → WholeFault text f
 whole_fault text f h = record {
   g = raised (ill_fault h.1) (length (directives_text h.0));
   assigned = (h.0, h.1, h.2, h.3, h.4, refl);
@@ -130,6 +137,29 @@ whole_fault text f h = record {
 
 pub one : (text : Text) → HasOneStrftimeAnswer text
 one text = (strftime_one_answer_law text).1
+
+-- What the caller is told.
+
+pub told_strftime : (text : Text) (e : ReadError) (r : ParseError) → MemoryOr (IsStrftimeFaultIn text) e → Tells (length text) e r → IsStrftimeFault text r
+told_strftime text e (Memory m) h told = tt
+told_strftime text errors.Memory (Invalid x) h told = absurd told
+told_strftime text (errors.Invalid f) (Invalid x) h told =
+    let w = whole_fault text f h in
+    subst (StrftimeFaultOf text) (sym (told w.g w.is)) w.assigned
+
+pub told_strftime_spelled : (text : Text) (e : ReadError) (r : ParseError) (list : List Tree) → MemoryOr (IsStrftimeFaultIn text) e → Tells (length text) e r → SpellsStrftime text list → MemoryAlone r
+told_strftime_spelled text e (Memory m) list h told s = tt
+told_strftime_spelled text errors.Memory (Invalid x) list h told s = told
+told_strftime_spelled text (errors.Invalid f) (Invalid x) list h told s =
+    let w = whole_fault text f h in
+    (one text).not_both list w.g s w.assigned
+
+pub told_strftime_refused : (text : Text) (e : ReadError) (r : ParseError) (f : Fault) → MemoryOr (IsStrftimeFaultIn text) e → Tells (length text) e r → StrftimeFaultOf text f → IsFaultOrMemory f r
+told_strftime_refused text e (Memory m) f h told is = tt
+told_strftime_refused text errors.Memory (Invalid x) f h told is = absurd told
+told_strftime_refused text (errors.Invalid g) (Invalid x) f h told is =
+    let w = whole_fault text g h in
+    told w.g w.is ∙ (one text).one_fault w.g f w.assigned is
 
 -- an item and what follows it
 pub record IsPiece (text : Text) (piece : BorrowedFormatItem × Bor (List ℕ)) : Type 0 where

@@ -1,7 +1,6 @@
 pub mod Reader
 pub mod Defaults
 pub mod ValueRows
-pub mod LetterRows
 pub mod RefusalRows
 pub mod Spans
 pub mod Before

@@ -3,7 +3,7 @@ use Rattle.std.specs.Prelude.{ℕ, ◌≡◌, codes, List, [], ◌∷◌, Option
 use Rattle.timefd_modifier.specs.declared.enums.Padding.{Padding}
 use Rattle.timefd_items.specs.Tree.{Tree, component, literal, compound, trees}
 use Rattle.timefd_parse.specs.declared.strftime.letter.Letter.{Letter}
-use Rattle.timefd_parse.specs.declared.strftime.letter.Letter.TheVariants.{Percent, LineFeed, Tab, Plain, Padded, Composite as OfComposite}
+use Rattle.timefd_parse.specs.declared.strftime.letter.Letter.TheVariants.{Percent, LineFeed, Tab, Fixed, Padded, Composite as OfComposite}
 use Rattle.timefd_parse.specs.declared.strftime.letter.Field.{Field}
 use Rattle.timefd_parse.specs.declared.strftime.letter.Field.TheVariants.{Century, Day, Hour12, Hour24, IsoYearLastTwo, Minute, Month, Ordinal, Second, WeekNumberIso, WeekNumberMonday, WeekNumberSunday, YearLastTwo}
 use Rattle.timefd_parse.specs.declared.strftime.letter.Composite.{Composite}
@@ -40,7 +40,7 @@ abbrev pub letter_tree : Letter → Flag → Tree
 letter_tree Percent f = literal (codes "%")
 letter_tree LineFeed f = literal (10 ∷ [])
 letter_tree Tab f = literal (9 ∷ [])
-letter_tree (Plain c) f = component c
+letter_tree (Fixed c) f = component c
 letter_tree (Padded field padding) f = field_tree field (padding_or padding f)
 letter_tree (OfComposite c) f = compound (trees (composite_list c))
 

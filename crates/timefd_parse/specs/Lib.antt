@@ -17,12 +17,12 @@ pub mod LetterMeaning
 pub mod TreeLists
 pub mod Strings
 pub mod LentLists
-pub mod StrftimeReading
 pub mod Rewritten
 pub mod Recased
 pub mod Relaxed
 pub mod Cut
 pub mod Shown
+pub mod StrftimeReading
 pub mod Places
 pub mod Checked
 pub mod Heads

@@ -1,31 +1,26 @@
 -- How what is read of a text of strftime stands to its grammar.
-use Rattle.std.specs.Prelude.{ℕ, ◌≡◌, ◌+◌, ◌<◌, List, [], ◌∷◌, ◌++◌, length, Option, Result, MatchResult, IsTrue, ⊤}
+use Rattle.std.specs.Prelude.{ℕ, ◌≡◌, ◌<◌, List, [], ◌∷◌, ◌++◌, length, Option, Result, MatchResult, IsTrue, ⊤}
 use Rattle.std.specs.Borrow.{Bor}
 use Rattle.std.specs.Str.{IsUtf8}
 use Rattle.timefd_modifier.specs.declared.enums.Padding.{Padding}
 use Rattle.timefd_items.specs.declared.borrowed_format_item.BorrowedFormatItem.{BorrowedFormatItem}
-use Rattle.timefd_items.specs.Faults.{Kind, Fault, not_supported, invalid_name}
 use Rattle.timefd_items.specs.Meaning.{item_tree}
 use Rattle.timefd_items.specs.Tree.{Text, Tree}
-use Rattle.timefd_parse.specs.declared.strftime.text.Start.{Start}
-use Rattle.timefd_parse.specs.declared.strftime.text.Start.TheVariants.{End, Percent, Plain}
-use Rattle.timefd_parse.specs.declared.strftime.directive.Flaw.{Flaw}
-use Rattle.timefd_parse.specs.declared.strftime.directive.Flaw.TheVariants.{CutShort, NotSupported, UnknownLetter}
-use Rattle.timefd_parse.specs.declared.strftime.directive.PlacedFlaw.{PlacedFlaw}
-use Rattle.timefd_parse.specs.declared.strftime.Failure.{Failure}
-use Rattle.timefd_parse.specs.declared.strftime.Failure.TheVariants.{Flawed, Memory}
+use Rattle.timefd_parse.specs.declared.strftime.text.PieceStart.{PieceStart}
+use Rattle.timefd_parse.specs.declared.strftime.text.PieceStart.TheVariants.{End, Directive, Literal}
+use Rattle.timefd_parse.specs.declared.fault.Fault.{Fault}
 use Rattle.timefd_parse.specs.Bytes.{StopsBefore}
-use Rattle.timefd_parse.specs.Fault.{expected_escape}
 use Rattle.timefd_parse.specs.Letters.{Flag, unflagged, flagged}
 use Rattle.timefd_parse.specs.LetterMeaning.{flag_padding}
+use Rattle.timefd_parse.specs.Shown.{IsFault}
 use Rattle.timefd_parse.specs.Strftime.{percent, is_flag, is_plain, flag_text, IsFlag, Directives, AreDirectives, directives_text, directive_items, IllDirective, ill_text, ill_fault, IsIll}
 
 -- Steps.
 
-abbrev pub BeginsWith : Start → Text → Type 0
-BeginsWith End text = text ≡ []
-BeginsWith (Percent rest) text = text ≡ percent ∷ rest.now
-BeginsWith Plain text = (b : ℕ) × (rest : Text) × (text ≡ b ∷ rest) × IsTrue (is_plain b)
+abbrev pub BeginsPiece : PieceStart → Text → Type 0
+BeginsPiece End text = text ≡ []
+BeginsPiece (Directive rest) text = text ≡ percent ∷ rest.now
+BeginsPiece Literal text = (b : ℕ) × (rest : Text) × (text ≡ b ∷ rest) × IsTrue (is_plain b)
 
 -- a `_`, `-` or `0` that comes first is the flag
 abbrev pub MayFollow : Flag → Text → Type 0
@@ -50,33 +45,18 @@ Leads text tree rest =
     (front : Directives) (tail : Text) → AreDirectives front → rest ≡ directives_text front ++ tail
     → (whole : Directives) × AreDirectives whole × (text ≡ directives_text whole ++ tail) × (directive_items whole ≡ tree ∷ directive_items front)
 
--- Flaws.
+-- Faults.
 
-abbrev pub kind_of : Flaw → Kind
-kind_of CutShort = expected_escape
-kind_of (NotSupported what) = not_supported what.now []
-kind_of (UnknownLetter name) = invalid_name name.now
+-- the text begins with what is no directive, and this is its fault
+abbrev pub IsStrftimeFaultAt : Text → Fault → Type 0
+IsStrftimeFaultAt text f = (ill : IllDirective) × IsIll ill × (text ≡ ill_text ill) × IsFault (length text) f (ill_fault ill)
 
--- the fault of a text with so many bytes
-pub record IsFault (total : ℕ) (f : PlacedFlaw) (g : Fault) : Type 0 where
-  pub kind : g.kind ≡ kind_of f.flaw
-  pub place : g.index + f.remaining ≡ total
+-- a directive and the rest, or a fault
+abbrev pub ReadsDirective : Text → Result (BorrowedFormatItem × Bor (List ℕ)) Fault → Type 0
+ReadsDirective text r = MatchResult r (λ x. Leads text (item_tree x.0) x.1.now) (IsStrftimeFaultAt text)
 
--- the text begins with what is no directive, and this is its flaw
-abbrev pub IsFlawAt : Text → PlacedFlaw → Type 0
-IsFlawAt text f = (ill : IllDirective) × IsIll ill × (text ≡ ill_text ill) × IsFault (length text) f (ill_fault ill)
-
--- a directive and the rest, or a flaw
-abbrev pub ReadsDirective : Text → Result (BorrowedFormatItem × Bor (List ℕ)) PlacedFlaw → Type 0
-ReadsDirective text r = MatchResult r (λ x. Leads text (item_tree x.0) x.1.now) (IsFlawAt text)
-
--- directives, and what is none behind them, with its flaw
-abbrev pub IsFlawIn : Text → PlacedFlaw → Type 0
-IsFlawIn text f =
+-- directives, and what is none behind them, with its fault
+abbrev pub IsStrftimeFaultIn : Text → Fault → Type 0
+IsStrftimeFaultIn text f =
     (front : Directives) × (ill : IllDirective) × AreDirectives front × IsIll ill
     × (text ≡ directives_text front ++ ill_text ill) × IsFault (length (ill_text ill)) f (ill_fault ill)
-
--- want of memory, or a flaw of which this holds
-abbrev pub FlawOr : (PlacedFlaw → Type 0) → Failure → Type 0
-FlawOr P (Flawed f) = P f
-FlawOr P Memory = ⊤

@@ -194,7 +194,7 @@ fn parse_description<'a>(
 }
 
 /// What the caller is told of an error in a text with so many bytes.
-fn told(alloc: Global, error: ReadError, len: usize) -> ParseError
+pub fn told(alloc: Global, error: ReadError, len: usize) -> ParseError
     requires { MemoryOr (λ f. f.remaining ≤ len) error }
     ensures { Tells len error.entry result }
 {

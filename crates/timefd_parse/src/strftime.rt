@@ -1,15 +1,16 @@
 //! The texts of strftime.
 
-ghost use Rattle.std.specs.Prelude.{◌≡◌, ◌<◌, ◌≤◌, [], List, IfOk, IsOk, IsTrue, MatchResult, length};
+ghost use Rattle.std.specs.Prelude.{◌≡◌, ◌<◌, [], List, IfOk, IsOk, IsTrue, MatchResult, length};
 ghost use Rattle.std.specs.Result.{IfErr};
 ghost use Rattle.timefd_items.specs.Faults as spec;
 ghost use Rattle.timefd_items.specs.Meaning.{item_tree, item_trees};
-ghost use Rattle.timefd_items.specs.Tree.{Tree, literal};
-ghost use Rattle.timefd_parse.specs.declared.strftime.text.Start.TheVariants.{Plain};
+ghost use Rattle.timefd_items.specs.Tree.{Tree};
+ghost use Rattle.timefd_parse.specs.declared.strftime.text.PieceStart.TheVariants.{Literal};
 ghost use Rattle.timefd_parse.specs.Answers.{IsFaultOrMemory, MemoryAlone};
 ghost use Rattle.timefd_parse.specs.Strftime.{SpellsStrftime, StrftimeFaultOf};
 ghost use Rattle.timefd_parse.specs.StrftimeAnswers.{IsStrftimeFault};
-ghost use Rattle.timefd_parse.specs.StrftimeReading.{BeginsWith, IsFault, IsFlawIn, IsRestOf, Leads, FlawOr};
+ghost use Rattle.timefd_parse.specs.Shown.{MemoryOr};
+ghost use Rattle.timefd_parse.specs.StrftimeReading.{BeginsPiece, IsStrftimeFaultIn, IsRestOf, Leads};
 ghost use Rattle.timefd_parse.specs.Strings.{are_of_strings, is_of_strings};
 
 mod directive;
@@ -18,23 +19,15 @@ mod letter;
 mod tables;
 mod text;
 
-use crate::parsing::ParseError;
+use crate::fault::ReadError;
+use crate::parsing::{ParseError, told};
 use crate::text::{Class, cut};
-use directive::{Flaw, PlacedFlaw, directive};
+use directive::directive;
 use item::literal_item;
-use std::alloc::{AllocError, AllocFailed, Global};
+use std::alloc::Global;
 pub use tables::StrftimeTables;
-use text::{Start, start_of};
-use timefd_items::{BorrowedFormatItem, InvalidFormatDescription};
-
-/// Why a text was not read.
-#[derive(Drop)]
-enum Failure<'a> {
-    /// It has this flaw.
-    Flawed(PlacedFlaw<'a>),
-    /// Memory ran out.
-    Memory,
-}
+use text::{PieceStart, piece_start_of};
+use timefd_items::BorrowedFormatItem;
 
 /// Reads a text of strftime: `time`'s `parse_strftime_borrowed`. The items of composite letters lend the tables' lists.
 ///
@@ -60,11 +53,7 @@ pub fn parse_strftime_borrowed<'a>(
 {
     match items(alloc, tables, s) {
         Ok(items) => Ok(items),
-        Err(Failure::Flawed(at)) => match described(alloc, at, s.len()) {
-            Ok(fault) => Err(ParseError::Invalid(fault)),
-            Err(error) => Err(ParseError::Memory(error)),
-        },
-        Err(Failure::Memory) => Err(ParseError::Memory(AllocError)),
+        Err(error) => Err(told(alloc, error, s.len())),
     }
 }
 
@@ -73,19 +62,19 @@ fn items<'a>(
     alloc: Global,
     tables: &'a StrftimeTables<'a>,
     text: &'a str,
-) -> Result<Vec<BorrowedFormatItem<'a>>, Failure<'a>>
+) -> Result<Vec<BorrowedFormatItem<'a>>, ReadError<'a>>
     ensures found { IfOk result (λ items. SpellsStrftime text.now (item_trees items.items)) }
-    ensures flaw { IfErr result (FlawOr (IsFlawIn text.now)) }
+    ensures fault { IfErr result (MemoryOr (IsStrftimeFaultIn text.now)) }
     ensures strings { IfOk result (λ items. IsTrue (are_of_strings items.items)) }
     ensures some { IfErr result (λ _. 0 < length text.now) }
 {
     let mut items = Vec::with_capacity(alloc, first_room(text))?;
     let mut rest = text;
     'items: loop {
-        let piece = match start_of(rest) {
-            Start::End => return Ok(items),
-            Start::Percent(behind) => directive(tables, behind)?,
-            Start::Plain => run(rest),
+        let piece = match piece_start_of(rest) {
+            PieceStart::End => return Ok(items),
+            PieceStart::Directive(behind) => directive(tables, behind)?,
+            PieceStart::Literal => run(rest),
         };
         items.push(piece.0)?;
         rest = piece.1;
@@ -103,68 +92,11 @@ fn first_room(text: &str) -> usize
 /// The literal before the first `%`, and the rest.
 #[inline(always)]
 fn run<'a>(text: &'a str) -> (BorrowedFormatItem<'a>, &'a str)
-    requires { BeginsWith Plain text.now }
+    requires { BeginsPiece Literal text.now }
     ensures leads { Leads text.now (item_tree result.0) result.1.now }
     ensures rest { IsRestOf text.now result.1.now }
     ensures strings { IsTrue (is_of_strings result.0) }
 {
     let (front, rest) = cut(text, Class::Plain);
     (literal_item(front), rest)
-}
-
-/// The fault of a text with so many bytes.
-fn described(
-    alloc: Global,
-    at: PlacedFlaw,
-    len: usize,
-) -> Result<InvalidFormatDescription, AllocError>
-    requires { at.remaining ≤ len }
-    ensures { IfOk result (λ e. (g : spec.Fault) → IsFault len at.entry g → spec.fault_of e ≡ g) }
-{
-    let index = len - at.remaining;
-    Ok(match at.flaw {
-        Flaw::CutShort => InvalidFormatDescription::Expected {
-            what: "valid escape sequence",
-            index,
-        },
-        Flaw::NotSupported(what) => InvalidFormatDescription::NotSupported {
-            what,
-            context: "",
-            index,
-        },
-        Flaw::UnknownLetter(name) => {
-            let name = String::from_str(alloc, name)?;
-            InvalidFormatDescription::InvalidComponentName { name, index }
-        }
-    })
-}
-
-impl<'a> From<PlacedFlaw<'a>> for Failure<'a> {
-    ghost use Rattle.timefd_parse.specs.declared.strftime.Failure.TheVariants.{Flawed};
-
-    ghost from_gives = { λ f e. e ≡ Flawed f };
-
-    fn from(at: PlacedFlaw<'a>) -> Failure<'a> {
-        Failure::Flawed(at)
-    }
-}
-
-impl<'a, T: Drop> From<AllocFailed<T>> for Failure<'a> {
-    ghost use Rattle.timefd_parse.specs.declared.strftime.Failure.TheVariants.{Memory};
-
-    ghost from_gives = { λ _ e. e ≡ Memory };
-
-    fn from(_error: AllocFailed<T>) -> Failure<'a> {
-        Failure::Memory
-    }
-}
-
-impl<'a> From<AllocError> for Failure<'a> {
-    ghost use Rattle.timefd_parse.specs.declared.strftime.Failure.TheVariants.{Memory};
-
-    ghost from_gives = { λ _ e. e ≡ Memory };
-
-    fn from(_error: AllocError) -> Failure<'a> {
-        Failure::Memory
-    }
 }

@@ -4,10 +4,13 @@ ghost use Rattle.std.specs.Prelude.{◌≡◌, ◌+◌, ◌<◌, ◌∷◌, IfOk
 ghost use Rattle.timefd_items.specs.Meaning.{item_tree};
 ghost use Rattle.timefd_parse.specs.LetterMeaning.{flag_padding, letter_tree};
 ghost use Rattle.timefd_parse.specs.Letters.{Flag};
+ghost use Rattle.timefd_parse.specs.Fault.{expected_escape};
+ghost use Rattle.timefd_parse.specs.Shown.{kind_of};
 ghost use Rattle.timefd_parse.specs.Strftime.{cut_index, flag_text, percent, unknown_kind};
-ghost use Rattle.timefd_parse.specs.StrftimeReading.{IsRestOf, ReadsDirective, kind_of};
+ghost use Rattle.timefd_parse.specs.StrftimeReading.{IsRestOf, ReadsDirective};
 ghost use Rattle.timefd_parse.specs.Strings.{is_of_strings};
 
+use crate::fault::{Fault, Kind};
 use crate::strftime::item::{component_item, compound_item, literal_item};
 use crate::strftime::letter::{Letter, letter_of, padded};
 use crate::strftime::tables::StrftimeTables;
@@ -16,30 +19,12 @@ use crate::text::tail;
 use timefd_items::BorrowedFormatItem;
 use timefd_modifier::Padding;
 
-/// Why what begins with `%` is no directive.
-#[derive(Clone, Copy)]
-pub enum Flaw<'a> {
-    /// The text ends before a letter.
-    CutShort,
-    /// A letter that is known, and not supported, by what it is.
-    NotSupported(&'static str),
-    /// A byte that is no letter, as text.
-    UnknownLetter(&'a str),
-}
-
-/// A flaw, and how many bytes of the text remain from its place on.
-#[derive(Clone, Copy)]
-pub struct PlacedFlaw<'a> {
-    pub flaw: Flaw<'a>,
-    pub remaining: usize,
-}
-
 /// The directive that has this behind its `%`, and what follows it.
 #[inline(always)]
 pub fn directive<'a>(
     tables: &'a StrftimeTables<'a>,
     behind: &'a str,
-) -> Result<(BorrowedFormatItem<'a>, &'a str), PlacedFlaw<'a>>
+) -> Result<(BorrowedFormatItem<'a>, &'a str), Fault<'a>>
     ensures item { ReadsDirective (percent ∷ behind.now) result }
     ensures rest { IfOk result (λ x. IsRestOf behind.now x.1.now) }
     ensures strings { IfOk result (λ x. IsTrue (is_of_strings x.0)) }
@@ -50,24 +35,24 @@ pub fn directive<'a>(
     };
     match letter_of(*byte) {
         Some(letter) => Ok((item(tables, letter, padding), tail(text))),
-        None => Err(PlacedFlaw {
-            flaw: flaw_of(text),
+        None => Err(Fault {
+            kind: unknown(text),
             remaining: text.len(),
         }),
     }
 }
 
-/// The flaw of a text that ends before a letter: it stands at the `%`, or right behind the flag.
-fn cut_short<'a>(padding: Option<Padding>) -> PlacedFlaw<'a>
-    ensures flaw { result.flaw ≡ Flaw.CutShort }
+/// The fault of a text that ends before a letter: it stands at the `%`, or right behind the flag.
+fn cut_short<'a>(padding: Option<Padding>) -> Fault<'a>
+    ensures kind { kind_of result.kind ≡ expected_escape }
     ensures place { (f : Flag) → flag_padding f ≡ padding → cut_index f + result.remaining ≡ 1 + length (flag_text f) }
 {
     let remaining = match padding {
         Some(_) => 0,
         None => 1,
     };
-    PlacedFlaw {
-        flaw: Flaw::CutShort,
+    Fault {
+        kind: Kind::Expected("valid escape sequence"),
         remaining,
     }
 }
@@ -86,22 +71,22 @@ fn item<'a>(
         Letter::Percent => literal_item("%"),
         Letter::LineFeed => literal_item("\n"),
         Letter::Tab => literal_item("\t"),
-        Letter::Plain(component) => component_item(component),
+        Letter::Fixed(component) => component_item(component),
         Letter::Padded(field, usual) => component_item(padded(field, padding.unwrap_or(usual))),
         Letter::Composite(composite) => compound_item(tables.list(composite)),
     }
 }
 
-/// The flaw of a text in a letter's place that begins with none.
-fn flaw_of(text: &str) -> Flaw<'_>
+/// Why a text in a letter's place, which begins with none, is refused.
+fn unknown(text: &str) -> Kind<'_>
     requires { 0 < length text.now }
     ensures { kind_of result ≡ unknown_kind (slice_index text.now 0) }
 {
     let first = text.as_bytes()[0];
     match first {
-        b'O' => Flaw::NotSupported("modifier"),
-        b'Z' => Flaw::NotSupported("component"),
-        byte if byte.is_ascii() => Flaw::UnknownLetter(text.split_at(1).0),
-        _ => Flaw::UnknownLetter("\u{FFFD}"),
+        b'O' => Kind::NotSupported("modifier", ""),
+        b'Z' => Kind::NotSupported("component", ""),
+        byte if byte.is_ascii() => Kind::InvalidName(text.split_at(1).0),
+        _ => Kind::InvalidName("\u{FFFD}"),
     }
 }

@@ -1,30 +1,30 @@
 //! Steps over a text of strftime that take no memory.
 
 ghost use Rattle.std.specs.Str.{IsUtf8};
-ghost use Rattle.timefd_parse.specs.StrftimeReading.{BeginsWith, BeginsWithFlag};
+ghost use Rattle.timefd_parse.specs.StrftimeReading.{BeginsPiece, BeginsWithFlag};
 
 use crate::text::tail;
 use timefd_modifier::Padding;
 
 /// What a text begins with.
 #[derive(Clone, Copy)]
-pub enum Start<'a> {
+pub enum PieceStart<'a> {
     /// Nothing: it is empty.
     End,
     /// A `%`, and what follows it.
-    Percent(&'a str),
+    Directive(&'a str),
     /// Any other byte.
-    Plain,
+    Literal,
 }
 
 #[inline(always)]
-pub fn start_of(text: &str) -> Start<'_>
-    ensures { BeginsWith result text.now }
+pub fn piece_start_of(text: &str) -> PieceStart<'_>
+    ensures { BeginsPiece result text.now }
 {
     match text.as_bytes() {
-        [] => Start::End,
-        [b'%', ..] => Start::Percent(tail(text)),
-        [_, ..] => Start::Plain,
+        [] => PieceStart::End,
+        [b'%', ..] => PieceStart::Directive(tail(text)),
+        [_, ..] => PieceStart::Literal,
     }
 }
 

@@ -1,7 +1,4 @@
-use Rattle.std.proofs.Common.{sym, subst, ◌∙◌}
-use Rattle.timefd_parse.specs.Strftime.{StrftimeFaultOf}
-use Rattle.timefd_parse.specs.StrftimeReading.{FlawOr, IsFlawIn}
-use Rattle.timefd_parse.proofs.DirectiveLemmas.{one, whole_fault}
+use Rattle.timefd_parse.proofs.DirectiveLemmas.{one, told_strftime, told_strftime_spelled, told_strftime_refused}
 use Rattle.timefd_parse.proofs.strftime.parse_strftime_borrowed.Goals as goal
 
 pub returns-in-Ok-clause-spelled : goal.returns-in-Ok-clause-spelled
@@ -10,17 +7,11 @@ returns-in-Ok-clause-spelled c = λ list s. (one c.args.s.now).one_list _ list c
 pub returns-in-Ok-clause-refused : goal.returns-in-Ok-clause-refused
 returns-in-Ok-clause-refused c = λ f h. (one c.args.s.now).not_both _ f c.in-Ok.ensures.found h
 
-pub returns-in-Ok-described-clause-fault : goal.returns-in-Ok-described-clause-fault
-returns-in-Ok-described-clause-fault c =
-    let w = whole_fault _ _ (subst (FlawOr (IsFlawIn c.args.s.now)) c.in-Err-Flawed.field-0-is c.in-Err-Flawed.ensures.flaw) in
-    subst (StrftimeFaultOf c.args.s.now) (sym (c.in-Ok-described.ensures w.g w.is)) w.assigned
+pub returns-in-Err-clause-fault : goal.returns-in-Err-clause-fault
+returns-in-Err-clause-fault c = told_strftime _ _ _ c.in-Err.ensures.fault c.told.ensures
 
-pub returns-in-Ok-described-clause-spelled : goal.returns-in-Ok-described-clause-spelled
-returns-in-Ok-described-clause-spelled c = λ list s.
-    let w = whole_fault _ _ (subst (FlawOr (IsFlawIn c.args.s.now)) c.in-Err-Flawed.field-0-is c.in-Err-Flawed.ensures.flaw) in
-    (one c.args.s.now).not_both list w.g s w.assigned
+pub returns-in-Err-clause-spelled : goal.returns-in-Err-clause-spelled
+returns-in-Err-clause-spelled c = λ list s. told_strftime_spelled _ _ _ list c.in-Err.ensures.fault c.told.ensures s
 
-pub returns-in-Ok-described-clause-refused : goal.returns-in-Ok-described-clause-refused
-returns-in-Ok-described-clause-refused c = λ f h.
-    let w = whole_fault _ _ (subst (FlawOr (IsFlawIn c.args.s.now)) c.in-Err-Flawed.field-0-is c.in-Err-Flawed.ensures.flaw) in
-    c.in-Ok-described.ensures w.g w.is ∙ (one c.args.s.now).one_fault w.g f w.assigned h
+pub returns-in-Err-clause-refused : goal.returns-in-Err-clause-refused
+returns-in-Err-clause-refused c = λ f h. told_strftime_refused _ _ _ f c.in-Err.ensures.fault c.told.ensures h

@@ -2,7 +2,7 @@ use Rattle.std.proofs.Common.{get_or, ap, sym, ◌∙◌}
 use Rattle.std.proofs.lemmas.Str.{IsCharBoundary-after_ascii}
 use Rattle.std.specs.Char.{is_ascii}
 use Rattle.timefd_parse.proofs.DirectiveLemmas.{ascii_below}
-use Rattle.timefd_parse.proofs.strftime.directive.flaw_of.Goals as goal
+use Rattle.timefd_parse.proofs.strftime.directive.unknown.Goals as goal
 
 pub split_at-requires : goal.split_at-requires
 split_at-requires c =
