@@ -72,9 +72,8 @@ fn printed_lists(rt: HostRuntime) {
 #[test]
 fn printed_items(rt: HostRuntime) {
     let alloc = rt.alloc();
-    let day = DAY;
-    let optional = BorrowedFormatItem::Optional(&day);
-    expect_item(&rt, alloc, day, "Day(Day { padding: Zero })");
+    let optional = BorrowedFormatItem::Optional(lend_one(&rt, alloc, DAY));
+    expect_item(&rt, alloc, DAY, "Day(Day { padding: Zero })");
     expect_item(&rt, alloc, BorrowedFormatItem::Compound(&[]), "[]");
     expect_item(&rt, alloc, optional, "Optional(Day(Day { padding: Zero }))");
     expect_item(&rt, alloc, BorrowedFormatItem::First(&[]), "First([])");

@@ -1,7 +1,6 @@
 //! Sentences in buffers that are long enough, and in short ones.
 
 use crate::exports::timefd_check;
-use std::test::Fail;
 
 // How long the longest buffer here is.
 const MOST: usize = 96;
@@ -22,64 +21,67 @@ fn writes(rt: &HostRuntime, kind: u32, text: &str, sentence: &str, room: usize, 
         && buffer.iter().skip(n).all(|byte| *byte == b'.')
 }
 
-#[test]
-fn whole_sentences(rt: HostRuntime) -> Result<(), Fail> {
-    let rows = [
-        (1, "[foo bar", "invalid modifier `bar` at byte index 5"),
-        (
-            1,
-            "[ignore]",
-            "missing required modifier `count` for component at byte index 1",
-        ),
-        (
-            2,
-            "[foo [x]]",
-            "nested format descriptions is not supported in on this component at byte index 0",
-        ),
-        (
-            2,
-            "[day][foo]",
-            "invalid component name `foo` at byte index 6",
-        ),
-        (3, "due [day", "unclosed opening bracket at byte index 4"),
-        (
-            3,
-            "[month repr:long padding:none]",
-            "the `padding` modifier is not valid at byte index 17 for long month",
-        ),
-        (4, "%O", "modifier is not supported at byte index 1"),
-    ];
-    for (kind, text, sentence) in rows {
-        for room in [sentence.len(), MOST] {
-            let n = sentence.len();
-            assert!(rt; writes(&rt, kind, text, sentence, room, n), "{kind} {text}");
-        }
-    }
-    Ok(())
-}
+/// Kinds, texts and the sentences of their faults.
+const WHOLE: &[(u32, &str, &str)] = &[
+    (1, "[foo bar", "invalid modifier `bar` at byte index 5"),
+    (
+        1,
+        "[ignore]",
+        "missing required modifier `count` for component at byte index 1",
+    ),
+    (
+        2,
+        "[foo [x]]",
+        "nested format descriptions is not supported in on this component at byte index 0",
+    ),
+    (
+        2,
+        "[day][foo]",
+        "invalid component name `foo` at byte index 6",
+    ),
+    (3, "due [day", "unclosed opening bracket at byte index 4"),
+    (
+        3,
+        "[month repr:long padding:none]",
+        "the `padding` modifier is not valid at byte index 17 for long month",
+    ),
+    (4, "%O", "modifier is not supported at byte index 1"),
+];
 
 #[test]
-fn short_buffers(rt: HostRuntime) -> Result<(), Fail> {
-    let two_bytes = "invalid component name `é` at byte index 1";
-    let three_bytes = "invalid component name `\u{fffd}` at byte index 1";
-    let rows = [
-        (3, "[é]", two_bytes, 0, 0),
-        (3, "[é]", two_bytes, 1, 1),
-        (3, "[é]", two_bytes, 24, 24),
-        (3, "[é]", two_bytes, 25, 24),
-        (3, "[é]", two_bytes, 26, 26),
-        (3, "[é]", two_bytes, 42, 42),
-        (4, "%é", three_bytes, 24, 24),
-        (4, "%é", three_bytes, 25, 24),
-        (4, "%é", three_bytes, 26, 24),
-        (4, "%é", three_bytes, 27, 27),
-        (4, "%é", three_bytes, 43, 43),
-    ];
-    for (kind, text, sentence, room, n) in rows {
+fn whole_sentences(rt: HostRuntime) {
+    for &(kind, text, sentence) in WHOLE {
+        let n = sentence.len();
+        assert!(rt; writes(&rt, kind, text, sentence, n, n), "{kind} {text}");
+        assert!(rt; writes(&rt, kind, text, sentence, MOST, n), "{kind} {text}");
+    }
+}
+
+const TWO_BYTES: &str = "invalid component name `é` at byte index 1";
+
+const THREE_BYTES: &str = "invalid component name `\u{fffd}` at byte index 1";
+
+/// Kinds, texts, sentences, rooms and the bytes that are written.
+const SHORT: &[(u32, &str, &str, usize, usize)] = &[
+    (3, "[é]", TWO_BYTES, 0, 0),
+    (3, "[é]", TWO_BYTES, 1, 1),
+    (3, "[é]", TWO_BYTES, 24, 24),
+    (3, "[é]", TWO_BYTES, 25, 24),
+    (3, "[é]", TWO_BYTES, 26, 26),
+    (3, "[é]", TWO_BYTES, 42, 42),
+    (4, "%é", THREE_BYTES, 24, 24),
+    (4, "%é", THREE_BYTES, 25, 24),
+    (4, "%é", THREE_BYTES, 26, 24),
+    (4, "%é", THREE_BYTES, 27, 27),
+    (4, "%é", THREE_BYTES, 43, 43),
+];
+
+#[test]
+fn short_buffers(rt: HostRuntime) {
+    for &(kind, text, sentence, room, n) in SHORT {
         assert!(rt;
             writes(&rt, kind, text, sentence, room, n),
             "{text} in {room}"
         );
     }
-    Ok(())
 }
