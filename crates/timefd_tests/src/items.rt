@@ -30,6 +30,17 @@ fn expect_item(rt: &impl Abort, alloc: Global, item: BorrowedFormatItem, expecte
     expect_printed(rt, alloc, &item, expected);
 }
 
+/// Expects that the item as an optional one prints so.
+fn expect_optional<'a>(
+    rt: &impl Abort,
+    alloc: Global,
+    item: &'a BorrowedFormatItem<'a>,
+    expected: &str,
+) {
+    let optional = BorrowedFormatItem::Optional(item);
+    expect_printed(rt, alloc, &optional, expected);
+}
+
 #[test]
 fn printed_literals(rt: HostRuntime) {
     let alloc = rt.alloc();
@@ -70,12 +81,17 @@ fn printed_lists(rt: HostRuntime) {
 }
 
 #[test]
-fn printed_items(rt: HostRuntime) {
+fn printed_components(rt: HostRuntime) {
     let alloc = rt.alloc();
-    let optional = BorrowedFormatItem::Optional(lend_one(&rt, alloc, DAY));
-    expect_item(&rt, alloc, DAY, "Day(Day { padding: Zero })");
+    let day = DAY;
+    expect_item(&rt, alloc, day, "Day(Day { padding: Zero })");
+    expect_optional(&rt, alloc, &day, "Optional(Day(Day { padding: Zero }))");
+}
+
+#[test]
+fn printed_empty_lists(rt: HostRuntime) {
+    let alloc = rt.alloc();
     expect_item(&rt, alloc, BorrowedFormatItem::Compound(&[]), "[]");
-    expect_item(&rt, alloc, optional, "Optional(Day(Day { padding: Zero }))");
     expect_item(&rt, alloc, BorrowedFormatItem::First(&[]), "First([])");
 }
 
