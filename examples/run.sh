@@ -13,11 +13,16 @@ fail() {
     exit 1
 }
 
-# Builds c/NAME.c and rust/NAME.rs, and compares what both print with a file.
-build_and_compare() {
+# Builds c/NAME.c and rust/NAME.rs.
+build() {
     cc -std=c11 -Wall -Wextra -Werror -O2 -o "out/$1_c" "c/$1.c" "$library" "$libc"
     rustc --edition 2024 -D warnings -O -o "out/$1_rust" "rust/$1.rs" \
         -C link-arg="$library" -C link-arg="$libc"
+}
+
+# Builds c/NAME.c and rust/NAME.rs, and compares what both print with a file.
+build_and_compare() {
+    build "$1"
     compare "$1_c" "$2"
     compare "$1_rust" "$2"
 }
@@ -32,3 +37,14 @@ compare() {
 
 build_and_compare first expected_first.txt
 build_and_compare check expected.txt
+build_and_compare convert expected_convert.txt
+
+# The linters end with status 1, since they find something in formats.txt.
+build lint
+for linter in lint_c lint_rust; do
+    status=0
+    "out/$linter" formats.txt > "out/$linter.txt" || status=$?
+    [ "$status" = 1 ] || fail "out/$linter ended with status $status"
+    diff -u expected_lint.txt "out/$linter.txt" || fail "out/$linter printed something else than expected_lint.txt"
+    echo "run.sh: out/$linter printed what is expected"
+done

@@ -1,4 +1,5 @@
-/* What texts are as format descriptions: the two functions of the static library libtimefd_c.a. */
+/* What texts are as format descriptions, and texts of version 1 as ones of version 2: the three functions of the static
+   library libtimefd_c.a. */
 
 #ifndef TIMEFD_H
 #define TIMEFD_H
@@ -17,7 +18,8 @@ extern "C" {
 #define TIMEFD_STRFTIME 4u
 
 /* The text is a description. The value is the number of its items; in version 3 it is the number of bytes that the
-   description reserves, the length of the longest text that it can be shown as. */
+   description reserves, the length of the longest text that it can be shown as. From timefd_v1_to_v2 it is the length of
+   the text of version 2, in bytes. */
 #define TIMEFD_ACCEPTED 0u
 
 /* The text is no description. The value is the index of the fault: how many bytes of the text stand before it. */
@@ -38,8 +40,11 @@ typedef struct timefd_answer {
     size_t value;
 
     /* From timefd_check where the status is TIMEFD_REFUSED, and 0 everywhere else: how many bytes the whole sentence of
-       the fault has, and how many of them were written. If these differ, the buffer was short. */
+       the fault has. */
     size_t sentence_len;
+
+    /* How many bytes were written to the buffer. If they are fewer than the sentence has, or than the text of version 2,
+       the buffer was short. */
     size_t written;
 } timefd_answer;
 
@@ -58,6 +63,15 @@ timefd_answer timefd_judge(uint32_t kind, const uint8_t *text, size_t len);
    The buffer's bytes have been set to something before, and while the call runs nobody else reads or writes them. It
    doesn't overlap the text. */
 timefd_answer timefd_check(uint32_t kind, const uint8_t *text, size_t len, uint8_t *sentence, size_t room);
+
+/* Rewrites the `len` bytes at `text`, a description of version 1, as one of version 2 that has the same items, and writes
+   that to the front of the `room` bytes at `buffer`. The value is its length, whether or not it was written: a buffer that
+   has no room for all of it is as it was, and 2 * len bytes are always room enough. What the text is refused for is what
+   timefd_judge refuses it for as version 1, and then the buffer is as it was too. TIMEFD_UNKNOWN_KIND never comes. No 0 is
+   written behind the text, and the rest of the buffer is as it was.
+
+   The buffer is as that of timefd_check. */
+timefd_answer timefd_v1_to_v2(const uint8_t *text, size_t len, uint8_t *buffer, size_t room);
 
 #ifdef __cplusplus
 }

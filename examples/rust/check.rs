@@ -1,5 +1,7 @@
 //! Prints what a few texts are. `../run.sh` builds and runs it.
 
+// Another program uses the rest of the module.
+#[allow(dead_code)]
 mod timefd;
 
 use timefd::{STRFTIME, VERSION_1, VERSION_2, VERSION_3};

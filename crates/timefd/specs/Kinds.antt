@@ -1,5 +1,5 @@
 -- The language of each kind.
-use Rattle.timefd_parse.specs.declared.description_version.DescriptionVersion.{DescriptionVersion}
+use Rattle.timefd_language.specs.declared.description_version.DescriptionVersion.{DescriptionVersion}
 use Rattle.timefd_parse.specs.declared.language.Language.{Language}
 use Rattle.timefd_parse.specs.declared.language.Language.TheVariants.{Version}
 use Rattle.timefd.specs.declared.kind.Kind.{Kind}

@@ -2,7 +2,7 @@
 
 ghost use Rattle.std.specs.Prelude.{◌≡◌, ◌≤◌, IfOk, string_bytes};
 ghost use Rattle.timefd_items.specs.Faults.{fault_of};
-ghost use Rattle.timefd_parse.specs.Grammar.{nesting_limit};
+ghost use Rattle.timefd_language.specs.Grammar.{nesting_limit};
 ghost use Rattle.timefd.specs.Replies.{IsReply, line_of, end_of};
 ghost use Rattle.timefd.specs.Line as spec;
 
@@ -31,7 +31,7 @@ impl Reply {
         }
     }
 
-    /// How a run ends that has said so.
+    /// How a run ends that writes this line.
     pub fn end(&self) -> RunEnd
         ensures { result ≡ end_of self.now }
     {

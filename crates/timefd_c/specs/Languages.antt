@@ -2,10 +2,10 @@
 use Rattle.std.specs.Prelude.{ℕ, ◌==◌, if◌then◌else◌, Option, Some, None, List}
 use Rattle.timefd_items.specs.Tree.{Text, Tree}
 use Rattle.timefd_items.specs.Faults.{Fault}
-use Rattle.timefd_parse.specs.declared.description_version.DescriptionVersion.TheVariants.{One, Two, Three}
+use Rattle.timefd_language.specs.declared.description_version.DescriptionVersion.TheVariants.{One, Two, Three}
 use Rattle.timefd_parse.specs.declared.language.Language.{Language}
 use Rattle.timefd_parse.specs.declared.language.Language.TheVariants.{Version, Strftime}
-use Rattle.timefd_parse.specs.Grammar.{nesting_limit}
+use Rattle.timefd_language.specs.Grammar.{nesting_limit}
 use Rattle.timefd_parse.specs.Language as spec
 
 -- the language of a number, if it has one

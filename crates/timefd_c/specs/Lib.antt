@@ -1,3 +1,4 @@
 pub mod Languages
 pub mod Verdicts
 pub mod Answers
+pub mod Conversions

@@ -7,7 +7,7 @@ use Rattle.timefd_c.specs.declared.verdict.Verdict.{Verdict}
 use Rattle.timefd_c.specs.declared.verdict.Verdict.TheVariants.{Accepted, Refused, NotUtf8, NoMemory, UnknownKind}
 use Rattle.timefd_c.specs.Languages.{SpellsIn, FaultIn, amount}
 
--- What the verdict says of the text in the language is so. Want of memory says nothing.
+-- What the verdict says of the text in the language is so. Out of memory says nothing.
 abbrev pub Says : Option Language → Text → Verdict → Type 0
 Says language bytes (Accepted value) =
     IsUtf8 bytes
@@ -17,7 +17,7 @@ Says language bytes NotUtf8 = IsSome language × ¬ (IsUtf8 bytes)
 Says language bytes NoMemory = ⊤
 Says language bytes UnknownKind = language ≡ None
 
--- accepted with so many, or want of memory
+-- accepted with so many, or out of memory
 abbrev pub Accepts : ℕ → Verdict → Type 0
 Accepts count (Accepted value) = value ≡ count
 Accepts count NoMemory = ⊤
@@ -25,7 +25,7 @@ Accepts count (Refused f) = ⊥
 Accepts count NotUtf8 = ⊥
 Accepts count UnknownKind = ⊥
 
--- refused for this fault, or want of memory
+-- refused for this fault, or out of memory
 abbrev pub Refuses : Fault → Verdict → Type 0
 Refuses f (Refused g) = fault_of g ≡ f
 Refuses f NoMemory = ⊤

@@ -35,6 +35,7 @@ pub struct Answer {
 
 impl Answer {
     /// The answer with this status and value, and with no sentence.
+    #[inline(always)]
     pub(crate) fn plain(status: u32, value: usize) -> Answer
         ensures { result ≡ record { status = status; value = value; sentence_len = 0; written = 0 } }
     {

@@ -4,12 +4,16 @@ ghost use Rattle.std.specs.Prelude.{◌≡◌, ◌≢◌, ◌<◌, ◌≤◌, �
 ghost use Rattle.std.specs.Str.{IsCharBoundary};
 ghost use Rattle.timefd_c.specs.Answers.{Judges, IfRefused};
 ghost use Rattle.timefd_c.specs.Languages.{language_of};
+ghost use Rattle.timefd_c.specs.Conversions.{Converts};
 
-use crate::answer::{Answer, NO_MEMORY, REFUSED};
+use crate::answer::{ACCEPTED, Answer, NO_MEMORY, NOT_UTF8, REFUSED};
 use crate::numbers::from_number;
 use crate::sentence::write_sentence;
 use crate::verdict::{Verdict, verdict_on};
+use crate::whole::write_whole;
 use std::alloc::{AllocError, Global};
+use timefd_lift::v1_to_v2;
+use timefd_parse::ParseError;
 
 /// Says what the bytes are as a text of the language with this number: 1, 2 and 3 are the versions
 /// of the format descriptions, and 4 is strftime.
@@ -57,5 +61,26 @@ pub extern "C" fn timefd_check(alloc: Global, kind: u32, text: &[u8], sentence: 
             written: excerpt.written,
         },
         Err(AllocError) => Answer::plain(NO_MEMORY, 0),
+    }
+}
+
+/// Rewrites a text of version 1 as one of version 2, which has the same items, and writes it over
+/// the front of the buffer, if that has room for all of it. The value is its length in bytes.
+#[unsafe(no_mangle)]
+pub extern "C" fn timefd_v1_to_v2(alloc: Global, text: &[u8], buffer: &mut [u8]) -> Answer
+    ensures converts { Converts text.now buffer.old buffer.new result }
+{
+    let Ok(text) = str::from_utf8(text) else {
+        return Answer::plain(NOT_UTF8, 0);
+    };
+    match v1_to_v2(alloc, text) {
+        Ok(converted) => Answer {
+            status: ACCEPTED,
+            value: converted.len(),
+            sentence_len: 0,
+            written: write_whole(&converted, buffer),
+        },
+        Err(ParseError::Invalid(fault)) => Answer::plain(REFUSED, fault.index()),
+        Err(ParseError::Memory(_)) => Answer::plain(NO_MEMORY, 0),
     }
 }

@@ -1,5 +1,6 @@
 //! The readers for C, and for Rust outside of this workspace: two functions that say of the bytes
-//! of a text what they are in a language, which a number names. `examples/timefd.h` declares them.
+//! of a text what they are in a language, which a number names, and one that rewrites a text of
+//! version 1 as one of version 2. `examples/timefd.h` declares them.
 #![tactic(auto)]
 
 mod answer;
@@ -9,6 +10,7 @@ mod sentence;
 #[cfg(test)]
 mod tests;
 mod verdict;
+mod whole;
 
 pub use answer::{ACCEPTED, Answer, NO_MEMORY, NOT_UTF8, REFUSED, UNKNOWN_KIND};
-pub use exports::{timefd_check, timefd_judge};
+pub use exports::{timefd_check, timefd_judge, timefd_v1_to_v2};

@@ -6,6 +6,7 @@ ghost use Rattle.timefd_c.specs.Languages.{language_of};
 use timefd_parse::{DescriptionVersion, Language};
 
 /// The language of a number: each version has its own, strftime has 4, and no other number has one.
+#[inline(always)]
 pub fn from_number(number: u32) -> Option<Language>
     ensures { result ≡ language_of number }
 {

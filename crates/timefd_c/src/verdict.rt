@@ -28,7 +28,8 @@ pub enum Verdict {
 }
 
 impl Verdict {
-    /// The answer that says so, with no sentence.
+    /// The answer of this verdict, with no sentence.
+    #[inline(always)]
     pub fn answer(&self) -> Answer
         ensures { result ≡ answer_of self.now }
     {
@@ -43,6 +44,7 @@ impl Verdict {
 }
 
 /// What the bytes are in the language, where there is one.
+#[inline(always)]
 pub fn verdict_on(alloc: Global, language: Option<Language>, bytes: &[u8]) -> Verdict
     // What is said is so.
     ensures says { Says language bytes.now result }
@@ -68,6 +70,7 @@ pub fn verdict_on(alloc: Global, language: Option<Language>, bytes: &[u8]) -> Ve
 }
 
 // What the text is in the language.
+#[inline(always)]
 fn text_verdict(alloc: Global, language: Language, text: &str) -> Verdict
     ensures says { Says (Some language) text.now result }
     ensures spelled { (list : List Tree) → SpellsIn (Some language) text.now list

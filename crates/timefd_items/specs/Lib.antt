@@ -2,7 +2,13 @@ pub mod Tree
 pub mod Meaning
 pub mod Modern
 pub mod Reserved
+pub mod Nodes
+pub mod NodeTrees
+pub mod Tallies
 pub mod Description
+pub mod Builder
+pub mod Views
+pub mod Turns
 pub mod Texts
 pub mod Faults
 pub mod Sentences

@@ -1,5 +1,5 @@
 -- The tree that an item or a description means.
-use Rattle.std.specs.Prelude.{true, List, map, string_bytes, box_value}
+use Rattle.std.specs.Prelude.{Bool, true, false, List, map, string_bytes, box_value}
 use Rattle.timefd_items.specs.declared.component.Component.TheVariants.{Day, MonthShort, MonthLong, MonthNumerical, Ordinal, WeekdayShort, WeekdayLong, WeekdaySunday, WeekdayMonday, WeekNumberIso, WeekNumberSunday, WeekNumberMonday, CalendarYearFullExtendedRange, CalendarYearFullStandardRange, CalendarYearCenturyExtendedRange, CalendarYearCenturyStandardRange, IsoYearFullExtendedRange, IsoYearFullStandardRange, IsoYearCenturyExtendedRange, IsoYearCenturyStandardRange, CalendarYearLastTwo, IsoYearLastTwo, Hour12, Hour24, Minute, Period, Second, Subsecond, OffsetHour, OffsetMinute, OffsetSecond, Ignore, UnixTimestampSecond, UnixTimestampMillisecond, UnixTimestampMicrosecond, UnixTimestampNanosecond, End}
 use Rattle.timefd_items.specs.declared.borrowed_format_item.BorrowedFormatItem.{BorrowedFormatItem}
 use Rattle.timefd_items.specs.declared.borrowed_format_item.BorrowedFormatItem.TheOpen.{BorrowedFormatItem-F}
@@ -76,3 +76,14 @@ inner_step (inner.OwnedFirst members) = first (trees members.items)
 
 abbrev pub inner_tree : FormatDescriptionV3Inner → Tree
 inner_tree = fold-FormatDescriptionV3Inner Tree inner_step
+
+-- whether it is one of the four owned parts
+abbrev pub owns_step : FormatDescriptionV3Inner-F Bool → Bool
+owns_step (inner.OwnedLiteral text) = true
+owns_step (inner.OwnedCompound members) = true
+owns_step (inner.OwnedOptional format member) = true
+owns_step (inner.OwnedFirst members) = true
+owns_step other = false
+
+abbrev pub owns : FormatDescriptionV3Inner → Bool
+owns = fold-FormatDescriptionV3Inner Bool owns_step

@@ -1,33 +1,57 @@
 //! A description of version 3, whose reserved bytes are known.
 
-ghost use Rattle.std.specs.Prelude.{◌≡◌};
-ghost use Rattle.timefd_items.specs.Meaning.{inner_tree};
+ghost use Rattle.std.specs.Prelude.{◌-◌, ◌^◌, ◌≤◌, length};
+ghost use Rattle.timefd_items.specs.NodeTrees.{list_trees};
 ghost use Rattle.timefd_items.specs.Reserved.{reserve};
+ghost use Rattle.timefd_items.specs.Tree.{pack};
 
+pub mod builder;
 mod copies;
 mod debug;
+mod flatten;
+pub mod in_turn;
 pub mod inner;
+mod inner_trees;
+pub mod members;
+mod node;
+mod node_list;
 pub mod opaque;
 mod reserved;
+mod tally;
+pub mod view;
+pub mod walk;
 
 use inner::FormatDescriptionV3Inner;
+use node_list::NodeList;
 use std::alloc::{AllocError, Global};
+use view::View;
 
 /// A description of version 3, as a formatter takes it: a tree whose reserved bytes a `usize`
 /// counts. `FormatDescriptionV3Inner::into_opaque` makes one. It is the struct of that name of
 /// `time`.
 #[derive(Drop)]
 pub struct FormatDescriptionV3<'a> {
-    max_bytes_needed: usize,
-    inner: FormatDescriptionV3Inner<'a>,
-    ghost reserves: { max_bytes_needed ≡ reserve (inner_tree inner) },
+    // The one tree, or none for the compound of none.
+    list: NodeList<'a>,
+    ghost one: { length (list_trees list) ≤ 1 },
+    ghost fits: { reserve (pack (list_trees list)) ≤ 2 ^ 64 - 1 },
 }
 
 impl<'a> FormatDescriptionV3<'a> {
-    ghost use Rattle.std.specs.Prelude.{◌≤◌, length, IfOk};
+    ghost use Rattle.std.specs.Prelude.{◌≡◌, IfOk};
     ghost use Rattle.timefd_items.specs.Description.{description_tree};
+    ghost use Rattle.timefd_items.specs.Meaning.{inner_tree};
     ghost use Rattle.timefd_items.specs.Texts.{Renders};
-    ghost use Rattle.timefd_items.specs.Tree.{Text};
+    ghost use Rattle.timefd_items.specs.Tree.{Text, compound, no_trees};
+    ghost use Rattle.timefd_items.specs.Views.{view_tree};
+
+    fn empty(alloc: Global) -> Self
+        ensures { description_tree result ≡ compound no_trees }
+    {
+        FormatDescriptionV3 {
+            list: NodeList::new(alloc),
+        }
+    }
 
     /// The reserved bytes: how many bytes its longest rendering has.
     pub fn max_bytes_needed(&self) -> usize
@@ -35,7 +59,14 @@ impl<'a> FormatDescriptionV3<'a> {
         ensures reached { (text : Text) × Renders (description_tree self.now) text × (length text ≡ result) }
         ensures longest { (text : Text) → Renders (description_tree self.now) text → length text ≤ result }
     {
-        self.max_bytes_needed
+        self.list.last_bytes()
+    }
+
+    /// The tree that it is, to look at in place. This is this port's own.
+    pub fn view(&self) -> View<'_, 'a>
+        ensures { view_tree result ≡ description_tree self.now }
+    {
+        View::new(self.list.nodes())
     }
 
     /// A tree of the same meaning, to look at. An `Err` comes where there is no memory left for
@@ -43,28 +74,29 @@ impl<'a> FormatDescriptionV3<'a> {
     pub fn to_inner(&self, alloc: Global) -> Result<FormatDescriptionV3Inner<'a>, AllocError>
         ensures { IfOk result (λ tree. inner_tree tree ≡ description_tree self.now) }
     {
-        FormatDescriptionV3Inner::clone(&self.inner, alloc)
+        match inner_trees::all_trees(alloc, self.list.nodes())?.pop() {
+            Some(tree) => Ok(tree),
+            None => Ok(FormatDescriptionV3Inner::OwnedCompound(Vec::new(alloc))),
+        }
     }
 
-    /// A description of the same meaning that lends nothing, so it may outlive the text. An
+    /// A description of the same meaning that borrows nothing, so it may outlive the text. An
     /// `Err` comes where there is no memory left for it.
     pub fn to_owned(&self, alloc: Global) -> Result<FormatDescriptionV3<'static>, AllocError>
         ensures { IfOk result (λ copy. description_tree copy ≡ description_tree self.now) }
     {
         Ok(FormatDescriptionV3 {
-            max_bytes_needed: self.max_bytes_needed,
-            inner: self.inner.owned(alloc)?,
+            list: self.list.owned(alloc)?,
         })
     }
 
-    /// A description of the same meaning, which lends what this one lends. An `Err` comes where
+    /// A description of the same meaning, which borrows what this one borrows. An `Err` comes where
     /// there is no memory left for it.
     pub fn clone(&self, alloc: Global) -> Result<Self, AllocError>
         ensures { IfOk result (λ copy. description_tree copy ≡ description_tree self.now) }
     {
         Ok(FormatDescriptionV3 {
-            max_bytes_needed: self.max_bytes_needed,
-            inner: FormatDescriptionV3Inner::clone(&self.inner, alloc)?,
+            list: self.list.copied(alloc)?,
         })
     }
 }

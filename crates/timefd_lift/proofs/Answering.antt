@@ -1,10 +1,10 @@
 -- What is said of a text that was written byte after byte, where version 1 spells the text that it was made of.
 use Rattle.std.proofs.Common.{◌≡◌, List, ap, sym, ◌∙◌}
 use Rattle.timefd_items.specs.Tree.{Text, Tree, joined}
-use Rattle.timefd_parse.specs.declared.description_version.DescriptionVersion.TheVariants.{One}
-use Rattle.timefd_parse.specs.Grammar.{Pieces, Spells, nesting_limit}
-use Rattle.timefd_parse.specs.Laws.{Lifting}
-use Rattle.timefd_parse.specs.Rewritten.{rewritten}
+use Rattle.timefd_language.specs.declared.description_version.DescriptionVersion.TheVariants.{One}
+use Rattle.timefd_language.specs.Grammar.{Pieces, Spells, nesting_limit}
+use Rattle.timefd_language.specs.Laws.{Lifting}
+use Rattle.timefd_language.specs.Rewritten.{rewritten}
 use Rattle.timefd_lift.specs.Answers.{IsSpelledBy, IsRewritten, HasItemsOf}
 use Rattle.timefd_lift.specs.Bytewise.{outside}
 use Rattle.timefd_lift.proofs.Rewriting.{outside-spelling}

@@ -2,11 +2,11 @@
 use Rattle.std.proofs.Common.{ℕ, ◌≡◌, cond, Bool, true, false, List, [], ◌∷◌, Result, Ok, Option, Some, None, codes}
 use Rattle.timefd_items.specs.Tree.{Tree}
 use Rattle.timefd_items.specs.Faults.{Fault, fault}
-use Rattle.timefd_parse.specs.Bytes.{same}
-use Rattle.timefd_parse.specs.Fault.{optional_item, first_item}
-use Rattle.timefd_parse.specs.Head.{Head, placed}
-use Rattle.timefd_parse.specs.Values.{format}
-use Rattle.timefd_parse.specs.Verdict.{Part, ◌or◌, unless, behind, bad_modifiers, touching, too_many, any_modifier, optional_verdict, first_verdict, verdict}
+use Rattle.timefd_language.specs.Bytes.{same}
+use Rattle.timefd_language.specs.Fault.{optional_item, first_item}
+use Rattle.timefd_language.specs.Head.{Head, placed}
+use Rattle.timefd_language.specs.Values.{format}
+use Rattle.timefd_language.specs.Verdict.{Part, ◌or◌, unless, behind, bad_modifiers, touching, too_many, any_modifier, optional_verdict, first_verdict, verdict}
 
 unless_last : (a b c : Option Fault) (f : Fault) (t u : Tree) → unless (a or b or c or Some f) t ≡ Ok u → ⊥
 unless_last (Some x) b c f t u e = cc

@@ -3,12 +3,12 @@ use Rattle.std.proofs.Common.{ℕ, ◌≡◌, ◌+◌, ◌==◌, inl, inr, not, 
 use Rattle.std.specs.List.{list_all}
 use Rattle.std.proofs.lemmas.Bool.{and_parts, and_from, cases_Bool}
 use Rattle.std.proofs.lemmas.Bool.Decides.{nat_tests}
-use Rattle.timefd_parse.specs.declared.description_version.DescriptionVersion.TheVariants.{One}
+use Rattle.timefd_language.specs.declared.description_version.DescriptionVersion.TheVariants.{One}
 use Rattle.timefd_items.specs.Tree.{Text}
-use Rattle.timefd_parse.specs.Bytes.{left, right, backslash, colon, is_special, is_run_byte, is_white, is_word_byte, is_key_byte, ZeroOrMore, OneOrMore}
-use Rattle.timefd_parse.specs.Head.{Head, IsHead, Modifier, AreModifiers, IsModifier, head_text, modifier_text, modifiers_text}
-use Rattle.timefd_parse.specs.Grammar.{Pieces, no_pieces, run, escape, closing, bracket, no_nested, nested, spelling, nested_text, items, ArePieces, is_empty, parts_from}
-use Rattle.timefd_parse.specs.Rewritten.{doubled, rewritten}
+use Rattle.timefd_language.specs.Bytes.{left, right, backslash, colon, is_special, is_run_byte, is_white, is_word_byte, is_key_byte, ZeroOrMore, OneOrMore}
+use Rattle.timefd_language.specs.Head.{Head, IsHead, Modifier, AreModifiers, IsModifier, head_text, modifier_text, modifiers_text}
+use Rattle.timefd_language.specs.Grammar.{Pieces, no_pieces, run, escape, closing, bracket, no_nested, nested, spelling, nested_text, items, ArePieces, is_empty, parts_from}
+use Rattle.timefd_language.specs.Rewritten.{doubled, rewritten}
 use Rattle.timefd_lift.specs.Bytewise.{outside, inside}
 use Rattle.timefd_lift.proofs.Flat.{nested_is_refused}
 

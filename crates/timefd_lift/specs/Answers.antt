@@ -3,11 +3,11 @@ use Rattle.std.specs.Prelude.{◌≡◌, List, Result, Ok, Err, string_bytes}
 use Rattle.std.specs.declared.string.String.{String}
 use Rattle.std.specs.declared.alloc.Global.{Global}
 use Rattle.timefd_items.specs.Tree.{Text, Tree, joined}
-use Rattle.timefd_parse.specs.declared.description_version.DescriptionVersion.TheVariants.{One, Two}
-use Rattle.timefd_parse.specs.declared.parsing.ParseError.{ParseError}
-use Rattle.timefd_parse.specs.Answers.{MemoryAlone}
-use Rattle.timefd_parse.specs.Grammar.{Pieces, ArePieces, spelling, Spells, nesting_limit}
-use Rattle.timefd_parse.specs.Rewritten.{rewritten}
+use Rattle.timefd_language.specs.declared.description_version.DescriptionVersion.TheVariants.{One, Two}
+use Rattle.timefd_language.specs.declared.parse_error.ParseError.{ParseError}
+use Rattle.timefd_language.specs.Told.{MemoryAlone}
+use Rattle.timefd_language.specs.Grammar.{Pieces, ArePieces, spelling, Spells, nesting_limit}
+use Rattle.timefd_language.specs.Rewritten.{rewritten}
 
 -- version 1 spells the text by these pieces
 abbrev pub IsSpelledBy : Pieces → Text → Type 0
@@ -23,7 +23,7 @@ HasItemsOf text answer =
     (list : List Tree) → Spells One nesting_limit 0 text list
     → (other : List Tree) × Spells Two nesting_limit 0 answer other × (joined other ≡ joined list)
 
--- this text, or want of memory
+-- this text, or out of memory
 abbrev pub IsTextOrMemory : Text → Result (String Global) ParseError → Type 0
 IsTextOrMemory text (Ok answer) = string_bytes answer ≡ text
 IsTextOrMemory text (Err e) = MemoryAlone e

@@ -2,7 +2,7 @@
 use Rattle.std.specs.Prelude.{◌≡◌, ◌<◌, Bool, false, ◌&&◌, ◌||◌, ◌==◌, ◌⊎◌, if◌then◌else◌, [], ◌∷◌, ◌++◌, length, IsTrue}
 use Rattle.std.specs.Str.{IsUtf8}
 use Rattle.timefd_items.specs.Tree.{Text}
-use Rattle.timefd_parse.specs.Bytes.{left, right, backslash, is_special}
+use Rattle.timefd_language.specs.Bytes.{left, right, backslash, is_special}
 
 abbrev mutual
   -- literals, with their escapes, up to the next component

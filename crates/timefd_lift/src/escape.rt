@@ -2,7 +2,7 @@
 
 ghost use Rattle.std.specs.Prelude.{◌≡◌, ◌≤◌, ◌<◌, ◌++◌, ◌∷◌, ◌&&◌, ◌==◌, not, if◌then◌else◌, length, take, drop, slice_index, MatchOption, IsFalse};
 ghost use Rattle.std.specs.Str.{IsUtf8};
-ghost use Rattle.timefd_parse.specs.Bytes.{left, right};
+ghost use Rattle.timefd_language.specs.Bytes.{left, right};
 ghost use Rattle.timefd_lift.specs.Bytewise as spec;
 ghost use Rattle.timefd_lift.specs.Bytewise.{outside, EndsOrIsEscaped, IsEscape};
 

@@ -1,13 +1,14 @@
 //! Texts of version 1 as texts of version 2.
 
-ghost use Rattle.std.specs.Prelude.{◌≡◌, [], IfOk, IsOk, MatchResult, string_bytes};
+ghost use Rattle.std.specs.Prelude.{◌≡◌, ◌≤◌, ◌*◌, [], length, IfOk, IsOk, MatchResult, string_bytes};
 ghost use Rattle.std.specs.Result.{IfErr};
 ghost use Rattle.timefd_items.specs.Faults as spec;
-ghost use Rattle.timefd_parse.specs.declared.description_version.DescriptionVersion.TheVariants.{One};
-ghost use Rattle.timefd_parse.specs.Grammar.{Pieces, nesting_limit};
-ghost use Rattle.timefd_parse.specs.Broken.{FaultOf};
-ghost use Rattle.timefd_parse.specs.Answers.{IsAssigned, IsFaultOrMemory};
-ghost use Rattle.timefd_parse.specs.Rewritten.{rewritten};
+ghost use Rattle.timefd_language.specs.declared.description_version.DescriptionVersion.TheVariants.{One};
+ghost use Rattle.timefd_language.specs.Grammar.{Pieces, nesting_limit};
+ghost use Rattle.timefd_language.specs.Broken.{FaultOf};
+ghost use Rattle.timefd_parse.specs.Answers.{IsAssigned};
+ghost use Rattle.timefd_language.specs.Told.{IsFaultOrMemory};
+ghost use Rattle.timefd_language.specs.Rewritten.{rewritten};
 ghost use Rattle.timefd_lift.specs.Bytewise.{outside};
 ghost use Rattle.timefd_lift.specs.Answers.{IsSpelledBy, IsRewritten, HasItemsOf, IsTextOrMemory};
 
@@ -31,6 +32,9 @@ pub fn v1_to_v2(alloc: Global, s: &str) -> Result<String, ParseError>
     // runs out.
     ensures spelled { (ps : Pieces) → IsSpelledBy ps s.now → IsTextOrMemory (rewritten ps) result }
     ensures refused { (f : spec.Fault) → FaultOf One nesting_limit s.now f → MatchResult result (λ _. ⊥) (IsFaultOrMemory f) }
+
+    // It is at most twice as long.
+    ensures within { IfOk result (λ answer. length (string_bytes answer) ≤ 2 * length s.now) }
 
     // The empty text takes no memory.
     ensures empty { s.now ≡ [] → IsOk result }

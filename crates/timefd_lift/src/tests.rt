@@ -1,5 +1,7 @@
 //! Texts of version 1 with what they are rewritten to, and the items of both.
 
+mod refused_memory;
+
 use crate::v1_to_v2;
 use std::alloc::Global;
 use std::process::Abort;

@@ -9,15 +9,15 @@ use Rattle.timefd_items.specs.Description.{description_tree}
 use Rattle.timefd_items.specs.Meaning.{item_tree, item_trees}
 use Rattle.timefd_items.specs.Reserved.{reserve}
 use Rattle.timefd_items.specs.Tree.{Text, Tree}
-use Rattle.timefd_parse.specs.declared.description_version.DescriptionVersion.{DescriptionVersion}
-use Rattle.timefd_parse.specs.declared.description_version.DescriptionVersion.TheVariants.{One, Two, Three}
+use Rattle.timefd_language.specs.declared.description_version.DescriptionVersion.{DescriptionVersion}
+use Rattle.timefd_language.specs.declared.description_version.DescriptionVersion.TheVariants.{One, Two, Three}
 use Rattle.timefd_parse.specs.declared.language.Language.TheVariants.{Version, Strftime}
 use Rattle.timefd_parse.specs.declared.parsing.BorrowedOutput.{BorrowedOutput}
 use Rattle.timefd_parse.specs.declared.parsing.BorrowedOutput.TheVariants.{Items, Description}
-use Rattle.timefd_parse.specs.declared.parsing.ParseError.{ParseError}
-use Rattle.timefd_parse.specs.declared.parsing.ParseError.TheVariants.{Invalid, Memory}
+use Rattle.timefd_language.specs.declared.parse_error.ParseError.{ParseError}
+use Rattle.timefd_language.specs.declared.parse_error.ParseError.TheVariants.{Invalid, Memory}
 use Rattle.timefd_parse.specs.Answers.{IsOutput, IsAssigned}
-use Rattle.timefd_parse.specs.StrftimeAnswers.{IsStrftimeFault}
+use Rattle.timefd_strftime.specs.StrftimeAnswers.{IsStrftimeFault}
 use Rattle.timefd_parse.specs.Language.{amount, IsAssignedIn}
 
 pub items-counted : (items : Vec BorrowedFormatItem Global) (list : List Tree) → item_trees items.items ≡ list → items.len ≡ length list

@@ -1,23 +1,20 @@
 -- Brackets that hold the name of a component and nothing else.
 use Rattle.std.proofs.Common.{◌≡◌, ℕ, Bool, true, false, List, [], ◌∷◌, ◌++◌, length, None, Some, Ok, refl, ap, ◌∙◌, arith, append_assoc, append-nil, length-append, IsUtf8}
 use Rattle.timefd_items.specs.declared.component.Component.{Component}
-use Rattle.timefd_items.specs.Modern.{modern}
 use Rattle.timefd_items.specs.Tree.{Text, component}
-use Rattle.timefd_parse.specs.declared.description_version.DescriptionVersion.{DescriptionVersion}
-use Rattle.timefd_parse.specs.declared.name.ComponentName.{ComponentName}
-use Rattle.timefd_parse.specs.declared.name.Name.{Name}
-use Rattle.timefd_parse.specs.declared.piece.Piece.TheVariants as pieces
-use Rattle.timefd_parse.specs.Bytes.{left, right, is_word_byte, is_version_three, OneOrMore}
-use Rattle.timefd_parse.specs.Combinations.{Refusal, refusals}
-use Rattle.timefd_parse.specs.Head.{Head}
-use Rattle.timefd_parse.specs.Names.{row_for}
-use Rattle.timefd_parse.specs.Settings.{defaults}
-use Rattle.timefd_parse.specs.Grammar.{bracket, no_nested}
-use Rattle.timefd_parse.specs.Lookup.{IsNameOf}
-use Rattle.timefd_parse.specs.Pieces.{IsSound}
-use Rattle.timefd_parse.specs.Verdict.{unless, combined, made, verdict}
-use Rattle.timefd_parse.specs.Read.{LeadsOn}
-use Rattle.timefd_parse.proofs.ModernPieces.{name_modern}
+use Rattle.timefd_language.specs.declared.description_version.DescriptionVersion.{DescriptionVersion}
+use Rattle.timefd_language.specs.declared.name.ComponentName.{ComponentName}
+use Rattle.timefd_language.specs.declared.name.Name.{Name}
+use Rattle.timefd_language.specs.Bytes.{left, right, is_word_byte, is_version_three, OneOrMore}
+use Rattle.timefd_language.specs.Combinations.{Refusal, refusals}
+use Rattle.timefd_language.specs.Head.{Head}
+use Rattle.timefd_language.specs.Names.{row_for}
+use Rattle.timefd_language.specs.Settings.{defaults}
+use Rattle.timefd_language.specs.Grammar.{bracket, no_nested}
+use Rattle.timefd_language.specs.Lookup.{IsNameOf}
+use Rattle.timefd_language.specs.Verdict.{unless, combined, made, verdict}
+use Rattle.timefd_parse.specs.Read.{LeadsOn, IsBare}
+use Rattle.timefd_language.proofs.ModernPieces.{name_modern}
 
 named_itself : (strict : Bool) (n : ComponentName) → IsNameOf strict (row_for n).name (Some (Name.Component n))
 named_itself true ComponentName.Day = (refl, refl, refl)
@@ -93,13 +90,9 @@ bare_verdict strict n c place e =
     let is = named_itself strict n in
     rw (is.0, is.1, is.2, e) (bare_made strict (row_for n).name c)
 
-component_sound : (strict : Bool) (c : Component) → modern c ≡ c → IsSound strict (pieces.Component c)
-component_sound true c e = e
-component_sound false c e = (e, tt)
-
-pub bare_leads : (v : DescriptionVersion) (limit n : ℕ) (inside closed rest : Text) (name : ComponentName) (c : Component)
+bare_leads : (v : DescriptionVersion) (limit n : ℕ) (inside closed rest : Text) (name : ComponentName) (c : Component)
     → closed ≡ (row_for name).name ++ right ∷ [] → inside ≡ closed ++ rest → IsUtf8 rest → (row_for name).component (defaults (is_version_three v)) ≡ Ok c
-    → LeadsOn v limit n (left ∷ inside) (pieces.Component c) rest
+    → LeadsOn v limit n (left ∷ inside) (component c) rest
 unfolding bare_head
 bare_leads v limit n inside closed rest name c spelled e utf8 made = record {
   leads = λ front tail are f. (
@@ -108,7 +101,14 @@ bare_leads v limit n inside closed rest name c spelled e utf8 made = record {
     ap (λ t. left ∷ t) (e ∙ ap (λ t. t ++ rest) spelled ∙ ap (λ t. ((row_for name).name ++ right ∷ []) ++ t) f) ∙ simp (append_assoc, append-nil),
     refl,
   );
-  sound = component_sound (is_version_three v) c (name_modern name _ c made);
   shorter = omega (arith, ap length e, length-append closed rest);
   utf8 = utf8;
+}
+
+pub is_bare : (v : DescriptionVersion) (inside closed rest : Text) (name : ComponentName) (c : Component)
+    → closed ≡ (row_for name).name ++ right ∷ [] → inside ≡ closed ++ rest → IsUtf8 rest → (row_for name).component (defaults (is_version_three v)) ≡ Ok c
+    → IsBare v inside c rest
+is_bare v inside closed rest name c spelled e utf8 made = record {
+  leads = λ limit n. bare_leads v limit n inside closed rest name c spelled e utf8 made;
+  is_modern = name_modern name _ c made;
 }

@@ -5,27 +5,28 @@ use Rattle.std.specs.Bool.{⊤}
 use Rattle.std.proofs.lemmas.Bool.{true≢false}
 use Rattle.timefd_items.specs.Tree.{Text}
 use Rattle.timefd_items.specs.Faults.{Fault, fault, invalid_modifier, duplicate_modifier}
-use Rattle.timefd_parse.specs.declared.fault.Fault as code_fault
-use Rattle.timefd_parse.specs.declared.fault.Kind.TheVariants as kinds
-use Rattle.timefd_parse.specs.declared.key.Key as code_key
-use Rattle.timefd_parse.specs.declared.key.Key.TheVariants.{Padding, TrailingInput, HourRepr, Count, MonthRepr, CaseSensitive, Sign, Case, Digits, Precision, WeekdayRepr, OneIndexed, WeekNumberRepr, YearRepr, Range, Base, Format}
+use Rattle.timefd_language.specs.declared.fault.Fault as code_fault
+use Rattle.timefd_language.specs.declared.fault.Kind.TheVariants as kinds
+use Rattle.timefd_language.specs.declared.key.Key as code_key
+use Rattle.timefd_language.specs.declared.key.Key.TheVariants.{Padding, TrailingInput, HourRepr, Count, MonthRepr, CaseSensitive, Sign, Case, Digits, Precision, WeekdayRepr, OneIndexed, WeekNumberRepr, YearRepr, Range, Base, Format}
 use Rattle.timefd_parse.specs.declared.modifier.Modifier as code
 use Rattle.timefd_parse.specs.declared.modifiers.Modifiers.{Modifiers}
-use Rattle.timefd_parse.specs.declared.name.Name.{Name}
+use Rattle.timefd_language.specs.declared.name.Name.{Name}
 use Rattle.timefd_parse.specs.declared.places.Places.{Places}
-use Rattle.timefd_parse.specs.declared.setting.Setting.{Setting}
-use Rattle.timefd_parse.specs.declared.setting.Settings.{Settings}
-use Rattle.timefd_parse.specs.Bytes.{equal}
-use Rattle.timefd_parse.specs.Settings.{with}
-use Rattle.timefd_parse.specs.Head.{Placed}
-use Rattle.timefd_parse.specs.Values.{Key, key_in, setting_in}
-use Rattle.timefd_parse.specs.Lookup.{key_for}
+use Rattle.timefd_language.specs.declared.setting.Setting.{Setting}
+use Rattle.timefd_language.specs.declared.setting.Settings.{Settings}
+use Rattle.timefd_language.specs.Bytes.{equal}
+use Rattle.timefd_language.specs.Settings.{with}
+use Rattle.timefd_language.specs.Head.{Placed}
+use Rattle.timefd_language.specs.Values.{Key, key_in, setting_in}
+use Rattle.timefd_language.specs.Lookup.{key_for}
 use Rattle.timefd_parse.specs.Places.{place, with_place}
-use Rattle.timefd_parse.specs.Verdict.{bad_modifier, bad_modifiers, ◌or◌, bad_value, refuse, is_set, settings, settings_from, setting_of, with_option}
-use Rattle.timefd_parse.specs.Shown.{IsPlaced, IsFault}
+use Rattle.timefd_language.specs.Verdict.{bad_modifier, bad_modifiers, ◌or◌, bad_value, refuse, is_set, settings, settings_from, setting_of, with_option}
+use Rattle.timefd_language.specs.Shown.{IsFault}
+use Rattle.timefd_parse.specs.ReadModifiers.{IsPlaced}
 use Rattle.timefd_parse.specs.Checked.{keys_of, first_place, ShowsFault, ShowsPlace, Checks, ChecksOne}
-use Rattle.timefd_parse.proofs.Lookup.{equal-true, Each, named-found}
-use Rattle.timefd_parse.proofs.Words.{equal-refl}
+use Rattle.timefd_language.proofs.Lookup.{equal-true, Each, named-found}
+use Rattle.timefd_language.proofs.Words.{equal-refl}
 
 -- The first fault of two.
 

@@ -3,11 +3,12 @@ use Rattle.std.proofs.Common.{◌≡◌, ℕ, ◌+◌, ◌<◌, ◌==◌, Bool, 
 use Rattle.std.specs.List.{list_all}
 use Rattle.std.proofs.lemmas.Bool.{and_parts, and_from}
 use Rattle.timefd_items.specs.Tree.{Text}
-use Rattle.timefd_parse.specs.declared.fault.Fault as code_fault
-use Rattle.timefd_parse.specs.Bytes.{colon, is_word_byte, is_key_byte, ZeroOrMore, OneOrMore, StopsBefore}
-use Rattle.timefd_parse.specs.Broken.{no_colon, no_key, no_value, misfit_fault}
-use Rattle.timefd_parse.specs.Cut.{IsCut}
-use Rattle.timefd_parse.specs.Shown.{IsFault, BeginsWithWord, IsNoWord}
+use Rattle.timefd_language.specs.declared.fault.Fault as code_fault
+use Rattle.timefd_language.specs.Bytes.{colon, is_word_byte, is_key_byte, ZeroOrMore, OneOrMore, StopsBefore}
+use Rattle.timefd_language.specs.Broken.{no_colon, no_key, no_value, misfit_fault}
+use Rattle.timefd_language.specs.Cut.{IsCut}
+use Rattle.timefd_language.specs.Shown.{IsFault}
+use Rattle.timefd_parse.specs.ReadModifiers.{BeginsWithWord, IsNoWord}
 
 -- Stretches.
 

@@ -1,30 +1,33 @@
 -- Nested descriptions, read one at a time, and the bracket around them.
 use Rattle.std.proofs.Common.{inl, inr, ◌≡◌, ℕ, suc, ◌+◌, ◌<◌, ◌≤◌, Bool, false, not, ◌==◌, List, [], ◌∷◌, ◌++◌, length, map, Ok, Err, IsTrue, refl, sym, ap, ◌∙◌, subst, arith, append_assoc, append-nil, length-append}
-use Rattle.std.proofs.lemmas.List.{map-append}
+use Rattle.std.proofs.lemmas.List.{map-append, length-map}
 use Rattle.std.proofs.lemmas.Bool.{true≢false}
 use Rattle.std.proofs.lemmas.Bool.Decides.{nat_tests}
 use Rattle.std.specs.Borrow.{Bor}
-use Rattle.timefd_parse.specs.declared.text.Start.{Start}
-use Rattle.timefd_parse.specs.declared.text.Start.TheVariants as starts
-use Rattle.timefd_parse.specs.declared.description_version.DescriptionVersion.{DescriptionVersion}
-use Rattle.timefd_parse.specs.declared.description_version.DescriptionVersion.TheVariants.{Three}
-use Rattle.timefd_parse.specs.declared.fault.Fault as code_fault
-use Rattle.timefd_parse.specs.declared.fault.ReadError.{ReadError}
-use Rattle.timefd_parse.specs.declared.fault.ReadError.TheVariants as errors
+use Rattle.timefd_language.specs.declared.text.Start.{Start}
+use Rattle.timefd_language.specs.declared.text.Start.TheVariants as starts
+use Rattle.timefd_language.specs.declared.description_version.DescriptionVersion.{DescriptionVersion}
+use Rattle.timefd_language.specs.declared.description_version.DescriptionVersion.TheVariants.{Three}
+use Rattle.timefd_language.specs.declared.fault.Fault as code_fault
+use Rattle.timefd_language.specs.declared.fault.ReadError.{ReadError}
+use Rattle.timefd_language.specs.declared.fault.ReadError.TheVariants as errors
 use Rattle.timefd_parse.specs.declared.head.Head as code_head
 use Rattle.timefd_parse.specs.declared.modifiers.Modifiers as code_modifiers
+use Rattle.timefd_parse.specs.declared.piece.Piece.{Piece}
+use Rattle.timefd_parse.specs.declared.verdict.Nested as code_nested
 use Rattle.timefd_items.specs.Tree.{Text, Tree, pack}
 use Rattle.timefd_items.specs.Faults.{Fault, fault, unclosed_bracket}
-use Rattle.timefd_parse.specs.Bytes.{left, right, backslash, is_run_byte, is_version_three, is_white, ZeroOrMore, StopsBefore}
-use Rattle.timefd_parse.specs.Fault.{enclosed, too_highly_nested}
-use Rattle.timefd_parse.specs.Head.{Head, head_text, modifiers_text}
-use Rattle.timefd_parse.specs.Verdict.{Part, verdict}
-use Rattle.timefd_parse.specs.Grammar.{Pieces, bracket, Nested, no_nested, nested, ArePieces, AreNested, spelling, nested_text, items, parts_from, is_empty}
-use Rattle.timefd_parse.specs.Broken.{Broken, too_deep, broken_inside, cut_off, unclosed, refused, IsBroken, broken_text, broken_fault, before_inner, IsWholeBefore, is_bracket_byte}
-use Rattle.timefd_parse.specs.Cut.{IsCut, BeginsWith}
-use Rattle.timefd_parse.specs.Shown.{IsFault, IsFaultAt, MemoryOr}
+use Rattle.timefd_language.specs.Bytes.{left, right, backslash, is_run_byte, is_version_three, is_white, ZeroOrMore, StopsBefore}
+use Rattle.timefd_language.specs.Fault.{enclosed, too_highly_nested}
+use Rattle.timefd_language.specs.Head.{Head, head_text, modifiers_text}
+use Rattle.timefd_language.specs.Verdict.{Part, verdict}
+use Rattle.timefd_language.specs.Grammar.{Pieces, bracket, Nested, no_nested, nested, ArePieces, AreNested, spelling, nested_text, items, parts_from, is_empty}
+use Rattle.timefd_language.specs.Broken.{Broken, too_deep, broken_inside, cut_off, unclosed, refused, IsBroken, broken_text, broken_fault, before_inner, IsWholeBefore, is_bracket_byte}
+use Rattle.timefd_language.specs.Cut.{IsCut, BeginsWith}
+use Rattle.timefd_language.specs.Shown.{IsFault, IsFaultAt, MemoryOr}
 use Rattle.timefd_parse.specs.Heads.{ShowsHead, BeginsWithHead}
-use Rattle.timefd_parse.specs.Judged.{ShowsDescriptions}
+use Rattle.timefd_parse.specs.Pieces.{IsBuilt, IsPiece}
+use Rattle.timefd_parse.specs.Judged.{ShowsDescriptions, ShowsNested, JudgedFault, packed}
 use Rattle.timefd_parse.specs.Read.{Leads, IsFaultIn, IsEnd, AreItems, IsEnclosed, IsNested, IsNestedFault}
 use Rattle.timefd_parse.proofs.ReadLemmas.{memory_or}
 
@@ -160,6 +163,25 @@ module _ {v : DescriptionVersion} {limit n : ℕ} {text : Text} where
   nested_shorter tree after is = omega (arith, ap length is.3, length-append (spelling is.0) (right ∷ after))
 
 -- Brackets.
+
+-- what a verdict says of a bracket that it accepts, and of one that it refuses
+abbrev pub Accepts : Bool → ℕ → code_head.Head → code_modifiers.Modifiers → code_nested.Nested → ℕ → List Tree → List Tree → Piece → Type 0
+Accepts strict total head modifiers inners end old new piece =
+    (place : ℕ) (h : Head) (parts : List Part) (base : List Tree) → ShowsHead strict total head modifiers h → ShowsNested total inners parts → place + end ≡ total
+    → IsBuilt strict base old (packed parts) → (tree : Tree) × (verdict strict h parts place ≡ Ok tree) × IsPiece strict base new piece tree
+
+abbrev pub Refuses : Bool → ℕ → code_head.Head → code_modifiers.Modifiers → code_nested.Nested → ℕ → List Tree → ReadError → Type 0
+Refuses strict total head modifiers inners end old e =
+    (place : ℕ) (h : Head) (parts : List Part) (base : List Tree) → ShowsHead strict total head modifiers h → ShowsNested total inners parts → place + end ≡ total
+    → IsBuilt strict base old (packed parts) → MemoryOr (JudgedFault total (verdict strict h parts place)) e
+
+shows_nested : (total : ℕ) (inners : code_nested.Nested) (read : List Tree) (parts : List Part) → ShowsDescriptions total inners.spaced inners.remaining read parts → inners.count ≡ length read → ShowsNested total inners parts
+shows_nested total inners read [] shows e = e ∙ ap length shows
+shows_nested total inners read (p ∷ ps) shows e = (shows.0, shows.1, e ∙ ap length shows.2 ∙ length-map (p ∷ ps) (λ (q : Part). pack q.trees))
+
+read_packed : (total : ℕ) (spaced : Bool) (remaining : ℕ) (read : List Tree) (parts : List Part) → ShowsDescriptions total spaced remaining read parts → read ≡ packed parts
+read_packed total spaced remaining read [] shows = shows
+read_packed total spaced remaining read (p ∷ ps) shows = shows.2
 
 -- the head of a bracket and nested descriptions were read, and this is the rest
 pub record BracketBefore (v : DescriptionVersion) (limit n : ℕ) (inside : Text) (head : code_head.Head) (modifiers : code_modifiers.Modifiers) (spaced : Bool) (remaining : ℕ) (read : List Tree) (rest : Text) : Type 0 where
@@ -297,20 +319,26 @@ module _ {v : DescriptionVersion} {limit n : ℕ} {inside : Text} {head : code_h
   shown : ShowsHead (is_version_three v) (length inside + 1) head modifiers b.h
   shown = let same : length (left ∷ inside) ≡ length inside + 1 = omega arith in subst (λ k. ShowsHead (is_version_three v) k head modifiers b.h) same b.begins.shows
 
-  pub accepted : (after : Text) (tree : Tree) → rest ≡ right ∷ after
-      → ((place : ℕ) (h : Head) (parts : List Part) → ShowsHead (is_version_three v) (length inside + 1) head modifiers h → ShowsDescriptions (length inside + 1) spaced remaining read parts → place + length rest ≡ length inside + 1 → verdict (is_version_three v) h parts place ≡ Ok tree)
-      → Leads v limit n (left ∷ inside) tree after
-  accepted after tree closing judged =
-      bracket_leads after tree closing
-      (judged _ b.h _ shown parts_shown place_of_rest)
+  module _ (count : ℕ) (base old : List Tree) (counted : count ≡ length read) (are : IsBuilt (is_version_three v) base old read) where
+    built_parts : IsBuilt (is_version_three v) base old (packed parts)
+    built_parts = λ three. are three ∙ ap (λ ts. base ++ ts) (read_packed _ _ _ read parts parts_shown)
 
-  pub refuses : (after : Text) (e : ReadError) → rest ≡ right ∷ after
-      → ((place : ℕ) (h : Head) (parts : List Part) → ShowsHead (is_version_three v) (length inside + 1) head modifiers h → ShowsDescriptions (length inside + 1) spaced remaining read parts → place + length rest ≡ length inside + 1
-      → MemoryOr (λ f. (g : Fault) × (verdict (is_version_three v) h parts place ≡ Err g) × IsFault (length inside + 1) f g) e)
-      → MemoryOr (IsFaultAt v limit n (left ∷ inside)) e
-  refuses after e closing judged =
-      memory_or _ (IsFaultAt v limit n (left ∷ inside)) (λ f is. bracket_refused after f is.0 closing is.1 is.2) e
-      (judged _ b.h _ shown parts_shown place_of_rest)
+    nested_shown : ShowsNested (length inside + 1) (record { spaced = spaced; remaining = remaining; count = count }) parts
+    nested_shown = shows_nested (length inside + 1) (record { spaced = spaced; remaining = remaining; count = count }) read parts parts_shown counted
+
+    pub accepted : (after : Text) (new : List Tree) (piece : Piece) → rest ≡ right ∷ after
+        → Accepts (is_version_three v) (length inside + 1) head modifiers (record { spaced = spaced; remaining = remaining; count = count }) (length rest) old new piece
+        → (tree : Tree) × Leads v limit n (left ∷ inside) tree after × IsPiece (is_version_three v) base new piece tree
+    accepted after new piece closing judged =
+        let j = judged place b.h parts base shown nested_shown place_of_rest built_parts in
+        (j.0, bracket_leads after j.0 closing j.1, j.2)
+
+    pub refuses : (after : Text) (e : ReadError) → rest ≡ right ∷ after
+        → Refuses (is_version_three v) (length inside + 1) head modifiers (record { spaced = spaced; remaining = remaining; count = count }) (length rest) old e
+        → MemoryOr (IsFaultAt v limit n (left ∷ inside)) e
+    refuses after e closing judged =
+        memory_or _ (IsFaultAt v limit n (left ∷ inside)) (λ f is. bracket_refused after f is.0 closing is.1 is.2) e
+        (judged place b.h parts base shown nested_shown place_of_rest built_parts)
 
   pub never_closed : (e : ReadError) → StopsBefore is_bracket_byte rest → MemoryOr (λ f. IsFault (length inside + 1) f (fault unclosed_bracket 0)) e → MemoryOr (IsFaultAt v limit n (left ∷ inside)) e
   never_closed e stops = memory_or _ (IsFaultAt v limit n (left ∷ inside)) (λ f is. bracket_unclosed f stops is) e

@@ -1,5 +1,5 @@
 -- What was read of a whole text.
-use Rattle.std.proofs.Common.{◌≡◌, ℕ, ◌≤◌, List, ◌++◌, length, IsFalse, refl, sym, ap, ◌∙◌, subst, arith, append-nil, length-append}
+use Rattle.std.proofs.Common.{◌≡◌, ℕ, ◌≤◌, List, [], ◌++◌, length, IsFalse, refl, sym, ap, ◌∙◌, subst, arith, append-nil, length-append}
 use Rattle.std.specs.declared.vec.Vec.{Vec}
 use Rattle.std.specs.declared.alloc.Global.{Global}
 use Rattle.std.proofs.lemmas.Bool.{true≢false}
@@ -7,25 +7,26 @@ use Rattle.timefd_items.specs.Faults.{Fault}
 use Rattle.timefd_items.specs.Reserved.{reserve}
 use Rattle.timefd_items.specs.Tree.{Text, Tree, pack}
 use Rattle.timefd_items.specs.declared.borrowed_format_item.BorrowedFormatItem.{BorrowedFormatItem}
-use Rattle.timefd_parse.specs.declared.description_version.DescriptionVersion.{DescriptionVersion}
-use Rattle.timefd_parse.specs.declared.description_version.DescriptionVersion.TheVariants.{One, Two, Three}
-use Rattle.timefd_parse.specs.declared.fault.Fault as code_fault
-use Rattle.timefd_parse.specs.declared.fault.ReadError.{ReadError}
-use Rattle.timefd_parse.specs.declared.fault.ReadError.TheVariants as errors
+use Rattle.timefd_language.specs.declared.description_version.DescriptionVersion.{DescriptionVersion}
+use Rattle.timefd_language.specs.declared.description_version.DescriptionVersion.TheVariants.{One, Two, Three}
+use Rattle.timefd_language.specs.declared.fault.Fault as code_fault
+use Rattle.timefd_language.specs.declared.fault.ReadError.{ReadError}
+use Rattle.timefd_language.specs.declared.fault.ReadError.TheVariants as errors
 use Rattle.timefd_parse.specs.declared.parsing.BorrowedOutput.TheVariants.{Items}
-use Rattle.timefd_parse.specs.declared.parsing.ParseError.{ParseError}
-use Rattle.timefd_parse.specs.declared.parsing.ParseError.TheVariants.{Invalid, Memory}
-use Rattle.timefd_parse.specs.Bytes.{is_version_three}
-use Rattle.timefd_parse.specs.Fault.{raised}
-use Rattle.timefd_parse.specs.Grammar.{Spells, spelling}
-use Rattle.timefd_parse.specs.Broken.{FaultOf, broken_text, broken_fault}
-use Rattle.timefd_parse.specs.Shown.{IsFault, MemoryOr}
+use Rattle.timefd_language.specs.declared.parse_error.ParseError.{ParseError}
+use Rattle.timefd_language.specs.declared.parse_error.ParseError.TheVariants.{Invalid, Memory}
+use Rattle.timefd_language.specs.Bytes.{is_version_three}
+use Rattle.timefd_language.specs.Fault.{raised}
+use Rattle.timefd_language.specs.Grammar.{Spells, no_pieces, spelling}
+use Rattle.timefd_language.specs.Broken.{FaultOf, broken_text, broken_fault}
+use Rattle.timefd_language.specs.Shown.{IsFault, MemoryOr}
 use Rattle.timefd_parse.specs.Read.{IsFaultIn, AreItems}
-use Rattle.timefd_parse.specs.Strings.{AreItems as AreTheItems}
-use Rattle.timefd_parse.specs.Answers.{IsOutput, IsAssigned, IsFaultOrMemory, MemoryAlone, Tells}
-use Rattle.timefd_parse.specs.Laws.{HasOneAnswer}
-use Rattle.timefd_parse.proofs.LawLemmas.{one_answer_law}
-use Rattle.timefd_parse.proofs.Reserved.{reserves_within_law}
+use Rattle.timefd_language.specs.Strings.{AreItems as AreTheItems}
+use Rattle.timefd_parse.specs.Answers.{IsOutput, IsAssigned}
+use Rattle.timefd_language.specs.Told.{IsFaultOrMemory, MemoryAlone, Tells}
+use Rattle.timefd_language.specs.Laws.{HasOneAnswer}
+use Rattle.timefd_language.proofs.LawLemmas.{one_answer_law}
+use Rattle.timefd_language.proofs.Reserved.{reserves_within_law}
 use Rattle.timefd_parse.proofs.ReadLemmas.{end_outside}
 
 pub one : (v : DescriptionVersion) (limit : ℕ) (text : Text) → HasOneAnswer v limit text
@@ -37,6 +38,10 @@ items_spelled v limit text read rest are =
 
 pub same_list : (v : DescriptionVersion) (limit : ℕ) (text : Text) (read : List Tree) (rest : Text) (list : List Tree) → AreItems v limit 0 text read rest → Spells v limit 0 text list → read ≡ list
 same_list v limit text read rest list are s = (one v limit text).one_list read list (items_spelled v limit text read rest are) s
+
+-- the empty text was read as none
+pub none_read : (v : DescriptionVersion) (limit : ℕ) (text : Text) (read : List Tree) (rest : Text) → AreItems v limit 0 text read rest → text ≡ [] → read ≡ []
+none_read v limit text read rest are e = same_list v limit text read rest [] are (no_pieces, tt, e, refl)
 
 pub no_fault_in : (v : DescriptionVersion) (limit : ℕ) (text : Text) (read : List Tree) (rest : Text) (f : Fault) → AreItems v limit 0 text read rest → FaultOf v limit text f → ⊥
 no_fault_in v limit text read rest f are h = (one v limit text).not_both read f (items_spelled v limit text read rest are) h

@@ -1,27 +1,24 @@
 -- Pieces, read one at a time.
 use Rattle.std.proofs.Common.{◌≡◌, ℕ, ◌+◌, ◌<◌, ◌≤◌, Bool, true, false, List, [], ◌∷◌, ◌++◌, length, get_or, take, drop, IsTrue, IsFalse, IsUtf8, refl, sym, ap, ◌∙◌, subst, arith, append_assoc, append-nil, length-append}
-use Rattle.std.specs.Borrow.{Bor}
 use Rattle.std.specs.List.{list_all}
 use Rattle.std.proofs.lemmas.Bool.{and_parts, true≢false}
 use Rattle.std.proofs.lemmas.Str.{IsUtf8-drop, IsCharBoundary-after_ascii}
 use Rattle.std.specs.Str.{IsCharBoundary}
-use Rattle.timefd_parse.specs.declared.description_version.DescriptionVersion.{DescriptionVersion}
-use Rattle.timefd_parse.specs.declared.description_version.DescriptionVersion.TheVariants.{One, Two, Three}
-use Rattle.timefd_parse.specs.declared.fault.Fault as code_fault
-use Rattle.timefd_parse.specs.declared.fault.ReadError.{ReadError}
-use Rattle.timefd_parse.specs.declared.fault.ReadError.TheVariants as errors
-use Rattle.timefd_parse.specs.declared.piece.Piece.{Piece}
-use Rattle.timefd_parse.specs.declared.piece.Piece.TheVariants.{Literal}
+use Rattle.timefd_language.specs.declared.description_version.DescriptionVersion.{DescriptionVersion}
+use Rattle.timefd_language.specs.declared.description_version.DescriptionVersion.TheVariants.{One, Two, Three}
+use Rattle.timefd_language.specs.declared.fault.Fault as code_fault
+use Rattle.timefd_language.specs.declared.fault.ReadError.{ReadError}
+use Rattle.timefd_language.specs.declared.fault.ReadError.TheVariants as errors
 use Rattle.timefd_items.specs.Tree.{Text, Tree, literal}
 use Rattle.timefd_items.specs.Faults.{fault}
-use Rattle.timefd_parse.specs.Bytes.{left, right, backslash, is_special, is_run_byte, is_version_one, is_version_three, OneOrMore, StopsBefore}
-use Rattle.timefd_parse.specs.Fault.{expected_escape, expected_closing_escape}
-use Rattle.timefd_parse.specs.Grammar.{Pieces, no_pieces, run, escape, closing, bracket, ArePieces, BeginsNoRun, IsEscape, spelling, items}
-use Rattle.timefd_parse.specs.Broken.{bare_closing, half_escape, broken_fault, escape_index}
-use Rattle.timefd_parse.specs.Cut.{IsCut}
-use Rattle.timefd_parse.specs.Pieces.{IsSound, IsModernPiece}
-use Rattle.timefd_parse.specs.Shown.{kind_of, IsFault, IsFaultAt, MemoryOr}
-use Rattle.timefd_parse.specs.Read.{Leads, LeadsOn, IsFaultIn, AreItems, IsEnd, BeginsRun}
+use Rattle.timefd_language.specs.Bytes.{left, right, backslash, is_special, is_run_byte, is_version_one, is_version_three, OneOrMore, StopsBefore}
+use Rattle.timefd_language.specs.Fault.{expected_escape, expected_closing_escape}
+use Rattle.timefd_language.specs.Grammar.{Pieces, no_pieces, run, escape, closing, bracket, ArePieces, BeginsNoRun, IsEscape, spelling, items}
+use Rattle.timefd_language.specs.Broken.{bare_closing, half_escape, broken_fault, escape_index}
+use Rattle.timefd_language.specs.Cut.{IsCut}
+use Rattle.timefd_parse.specs.Pieces.{IsBuilt}
+use Rattle.timefd_language.specs.Shown.{kind_of, IsFault, IsFaultAt, MemoryOr}
+use Rattle.timefd_parse.specs.Read.{Leads, LeadsOn, IsFaultIn, AreItems, AreMembers, IsEnd, BeginsRun}
 
 -- Runs.
 
@@ -42,22 +39,17 @@ some_length : (test : ℕ → Bool) (front : Text) → OneOrMore test front → 
 some_length test [] some = absurd some
 some_length test (b ∷ front) some = omega arith
 
-pub literal_sound : (strict : Bool) (text : Bor (List ℕ)) → IsSound strict (Literal text)
-literal_sound true text = tt
-literal_sound false text = (tt, tt)
-
-pub run_leads : (v : DescriptionVersion) (limit n : ℕ) (text : Text) (front : Bor (List ℕ)) (rest : Text) → IsCut (is_run_byte v) text front.now rest → BeginsRun v text → IsUtf8 rest → LeadsOn v limit n text (Literal front) rest
+pub run_leads : (v : DescriptionVersion) (limit n : ℕ) (text bytes rest : Text) → IsCut (is_run_byte v) text bytes rest → BeginsRun v text → IsUtf8 rest → LeadsOn v limit n text (literal bytes) rest
 run_leads v limit n text bytes rest is begins utf8 =
-    let some = run_some v text bytes.now rest begins.0 begins.1 is begins.2 begins.3 in
+    let some = run_some v text bytes rest begins.0 begins.1 is begins.2 begins.3 in
     record {
       leads = λ front tail are f. (
-        run bytes.now front,
+        run bytes front,
         (some, begins_no_run v limit n front rest tail are f is.stops, are),
-        is.whole ∙ ap (λ t. bytes.now ++ t) f ∙ sym (append_assoc bytes.now (spelling front) tail),
+        is.whole ∙ ap (λ t. bytes ++ t) f ∙ sym (append_assoc bytes (spelling front) tail),
         refl,
       );
-      sound = literal_sound (is_version_three v) bytes;
-      shorter = omega (arith, ap length is.whole, length-append bytes.now rest, some_length (is_run_byte v) bytes.now some);
+      shorter = omega (arith, ap length is.whole, length-append bytes rest, some_length (is_run_byte v) bytes some);
       utf8 = utf8;
     }
 
@@ -75,12 +67,11 @@ not_three Three other = absurd (other refl)
 
 -- Escapes.
 
-pub escape_leads : (v : DescriptionVersion) (limit n : ℕ) (text : Text) (a b : ℕ) (special : Bor (List ℕ)) (rest : Text) → IsEscape v a b → special.now ≡ b ∷ [] → text ≡ a ∷ b ∷ rest → IsUtf8 rest
-    → LeadsOn v limit n text (Literal special) rest
+pub escape_leads : (v : DescriptionVersion) (limit n : ℕ) (text : Text) (a b : ℕ) (special rest : Text) → IsEscape v a b → special ≡ b ∷ [] → text ≡ a ∷ b ∷ rest → IsUtf8 rest
+    → LeadsOn v limit n text (literal special) rest
 escape_leads v limit n text a b special rest is s e utf8 = record {
   leads = λ front tail are f.
       (escape a b front, (is, are), e ∙ ap (λ t. a ∷ b ∷ t) f, ap (λ t. literal t ∷ items front) (sym s));
-  sound = literal_sound (is_version_three v) special;
   shorter = omega (arith, ap length e);
   utf8 = utf8;
 }
@@ -105,12 +96,11 @@ escape_some (b ∷ text) e = refl
 
 -- A `]` that closes nothing.
 
-pub closing_leads : (v : DescriptionVersion) (limit : ℕ) (text : Text) (special : Bor (List ℕ)) (rest : Text) → IsFalse (is_version_three v) → special.now ≡ right ∷ [] → text ≡ right ∷ rest → IsUtf8 rest
-    → LeadsOn v limit 0 text (Literal special) rest
+pub closing_leads : (v : DescriptionVersion) (limit : ℕ) (text special rest : Text) → IsFalse (is_version_three v) → special ≡ right ∷ [] → text ≡ right ∷ rest → IsUtf8 rest
+    → LeadsOn v limit 0 text (literal special) rest
 closing_leads v limit text special rest earlier s e utf8 = record {
   leads = λ front tail are f.
       (closing front, (earlier, refl, are), e ∙ ap (λ t. right ∷ t) f, ap (λ t. literal t ∷ items front) (sym s));
-  sound = literal_sound (is_version_three v) special;
   shorter = omega (arith, ap length e);
   utf8 = utf8;
 }
@@ -122,10 +112,6 @@ pub closing_fault_of : (v : DescriptionVersion) (limit : ℕ) (text rest : Text)
     → IsFaultAt v limit 0 text f
 closing_fault_of v limit text rest f is e kind at =
     subst (λ w. IsFaultAt w limit 0 text f) (sym is) (closing_fault limit text rest f e (record { kind = kind; place = omega (arith, at) }))
-
-pub sound_modern : (strict : Bool) (piece : Piece) → IsSound strict piece → IsModernPiece piece
-sound_modern true piece is = is
-sound_modern false piece is = is.0
 
 -- cutting behind a first byte that is ASCII
 
@@ -165,6 +151,12 @@ items_end v limit n text rest done before end =
     let w = before no_pieces rest tt refl in
     (w.0, w.1, w.2, w.3 ∙ append-nil done, end)
 
+-- the same, with what is built
+pub members_end : (v : DescriptionVersion) (limit n : ℕ) (text rest : Text) (done old built new : List Tree) (count : ℕ) → Continues v limit n text done rest → IsEnd n rest → count ≡ length done
+    → IsBuilt (is_version_three v) old built done → new ≡ built → AreMembers v limit n text old new count rest
+members_end v limit n text rest done old built new count before end counted are same =
+    (done, items_end v limit n text rest done before end, counted, λ three. same ∙ are three)
+
 pub items_fault : (v : DescriptionVersion) (limit n : ℕ) (text rest : Text) (done : List Tree) (f : code_fault.Fault) → Continues v limit n text done rest → IsFaultAt v limit n rest f → IsFaultIn v limit n text f
 items_fault v limit n text rest done f before bad =
     let w = before no_pieces rest tt refl in
@@ -183,18 +175,18 @@ cut_shorter test text front rest is = omega (arith, ap length is.whole, length-a
 
 -- the same from what the calls ensure
 
-pub closing_outside : (v : DescriptionVersion) (limit n : ℕ) (text : Text) (piece : Piece) (rest : Text) → n ≡ 0 → LeadsOn v limit 0 text piece rest → LeadsOn v limit n text piece rest
-closing_outside v limit n text piece rest outside leads = subst (λ k. LeadsOn v limit k text piece rest) (sym outside) leads
+pub closing_outside : (v : DescriptionVersion) (limit n : ℕ) (text : Text) (tree : Tree) (rest : Text) → n ≡ 0 → LeadsOn v limit 0 text tree rest → LeadsOn v limit n text tree rest
+closing_outside v limit n text tree rest outside leads = subst (λ k. LeadsOn v limit k text tree rest) (sym outside) leads
 
 pub fault_outside : (v : DescriptionVersion) (limit n : ℕ) (text : Text) (f : code_fault.Fault) → n ≡ 0 → IsFaultAt v limit 0 text f → IsFaultAt v limit n text f
 fault_outside v limit n text f outside bad = subst (λ k. IsFaultAt v limit k text f) (sym outside) bad
 
 -- `[[` in version 1
-pub doubled_leads : (v : DescriptionVersion) (limit n : ℕ) (text inside : Text) (byte : Bor (List ℕ)) (rest : Text) → v ≡ One → byte.now ≡ left ∷ [] → text ≡ left ∷ inside → inside ≡ left ∷ rest → IsUtf8 rest
-    → LeadsOn v limit n text (Literal byte) rest
+pub doubled_leads : (v : DescriptionVersion) (limit n : ℕ) (text inside byte rest : Text) → v ≡ One → byte ≡ left ∷ [] → text ≡ left ∷ inside → inside ≡ left ∷ rest → IsUtf8 rest
+    → LeadsOn v limit n text (literal byte) rest
 doubled_leads v limit n text inside byte rest one s opening doubled utf8 =
     escape_leads v limit n text left left byte rest (subst (λ w. IsEscape w left left) (sym one) (refl, refl)) s (opening ∙ ap (λ t. left ∷ t) doubled) utf8
 
 -- a bracket that is read by what it has inside
-pub opening_leads : (v : DescriptionVersion) (limit n : ℕ) (text inside : Text) (piece : Piece) (rest : Text) → text ≡ left ∷ inside → LeadsOn v limit n (left ∷ inside) piece rest → LeadsOn v limit n text piece rest
-opening_leads v limit n text inside piece rest opening leads = subst (λ t. LeadsOn v limit n t piece rest) (sym opening) leads
+pub opening_leads : (v : DescriptionVersion) (limit n : ℕ) (text inside : Text) (tree : Tree) (rest : Text) → text ≡ left ∷ inside → LeadsOn v limit n (left ∷ inside) tree rest → LeadsOn v limit n text tree rest
+opening_leads v limit n text inside tree rest opening leads = subst (λ t. LeadsOn v limit n t tree rest) (sym opening) leads

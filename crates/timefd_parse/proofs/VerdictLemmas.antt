@@ -1,68 +1,61 @@
 -- The verdict, rule by rule.
-use Rattle.std.proofs.Common.{◌≡◌, ℕ, ◌+◌, Bool, true, false, not, if◌then◌else◌, codes, List, [], ◌∷◌, length, map, Option, Some, None, option_map, Result, Ok, Err, refl, sym, ap, ◌∙◌, subst, arith}
-use Rattle.std.proofs.lemmas.Bool.{true≢false}
+use Rattle.std.proofs.Common.{◌++◌, ◌<◌, ◌≡◌, ℕ, ◌+◌, Bool, true, false, not, if◌then◌else◌, codes, List, [], ◌∷◌, length, map, Option, Some, None, option_map, Result, Ok, Err, refl, sym, ap, ◌∙◌, subst, arith}
 use Rattle.std.proofs.lemmas.List.{length-map}
 use Rattle.std.specs.Borrow.{Bor}
 use Rattle.timefd_items.specs.declared.component.Component.{Component}
 use Rattle.timefd_items.specs.Faults.{Kind, Fault, fault, missing_modifier, invalid_combination}
 use Rattle.timefd_items.specs.Tree.{Tree, component, optional, first, trees, pack}
-use Rattle.timefd_items.specs.Meaning.{inner_tree}
-use Rattle.timefd_parse.specs.declared.fault.Fault as code_fault
-use Rattle.timefd_parse.specs.declared.fault.Kind.TheVariants as kinds
+use Rattle.timefd_items.specs.Nodes.{before, ending}
+use Rattle.timefd_items.proofs.NodeLemmas.{before-append, ending-append}
+use Rattle.timefd_language.specs.declared.fault.Fault as code_fault
+use Rattle.timefd_language.specs.declared.fault.Kind.TheVariants as kinds
 use Rattle.timefd_parse.specs.declared.head.Head as code_head
 use Rattle.timefd_parse.specs.declared.modifiers.Modifiers as code_modifiers
-use Rattle.timefd_parse.specs.declared.members.Members.{Members}
-use Rattle.timefd_parse.specs.declared.members.Members.TheVariants.{Empty, One, Many}
-use Rattle.timefd_parse.specs.declared.name.ComponentName.{ComponentName}
-use Rattle.timefd_parse.specs.declared.name.Name.{Name}
-use Rattle.timefd_parse.specs.declared.name.Name.TheVariants as names
+use Rattle.timefd_language.specs.declared.name.ComponentName.{ComponentName}
+use Rattle.timefd_language.specs.declared.name.Name.{Name}
+use Rattle.timefd_language.specs.declared.name.Name.TheVariants as names
+use Rattle.timefd_parse.specs.declared.piece.Piece.TheVariants.{Built}
 use Rattle.timefd_parse.specs.declared.places.Places.{Places}
-use Rattle.timefd_parse.specs.declared.combination.Refusal as code_refusal
-use Rattle.timefd_parse.specs.declared.key.Key as code_key
-use Rattle.timefd_parse.specs.Bytes.{equal, same}
-use Rattle.timefd_parse.specs.Fault.{expected_nested, expected_alternative, many_nested, optional_item, first_item}
-use Rattle.timefd_parse.specs.Head.{Head, Placed, placed, name_index}
-use Rattle.timefd_parse.specs.Names.{Row, row_for, row_of}
-use Rattle.timefd_parse.specs.Values.{format}
-use Rattle.timefd_parse.specs.Combinations.{Refusal, refusals}
-use Rattle.timefd_parse.specs.Lookup.{key_for, IsNameOf, refusal_for}
+use Rattle.timefd_parse.specs.declared.verdict.Nested as code_nested
+use Rattle.timefd_language.specs.declared.combination.Refusal as code_refusal
+use Rattle.timefd_language.specs.declared.key.Key as code_key
+use Rattle.timefd_language.specs.Bytes.{equal, same}
+use Rattle.timefd_language.specs.Fault.{expected_nested, expected_alternative, many_nested, optional_item, first_item}
+use Rattle.timefd_language.specs.Head.{Head, Placed, placed, name_index}
+use Rattle.timefd_language.specs.Names.{Row, row_for, row_of}
+use Rattle.timefd_language.specs.Values.{format}
+use Rattle.timefd_language.specs.Combinations.{Refusal, refusals}
+use Rattle.timefd_language.specs.Lookup.{key_for, IsNameOf, refusal_for}
 use Rattle.timefd_parse.specs.Places.{place}
-use Rattle.timefd_parse.specs.Verdict.{Part, ◌or◌, unless, behind, refuse, bad_modifiers, settings, component_verdict, combination, combined, misplaced, made, any_modifier, nested_wanted, too_many, is_formatted, only, optional_verdict, first_verdict, touching, nested_refused, verdict}
-use Rattle.timefd_parse.specs.Shown.{IsFault}
+use Rattle.timefd_language.specs.Verdict.{Part, ◌or◌, unless, behind, refuse, bad_modifiers, settings, component_verdict, combination, combined, misplaced, made, any_modifier, nested_wanted, too_many, is_formatted, only, optional_verdict, first_verdict, touching, nested_refused, verdict}
+use Rattle.timefd_language.specs.Shown.{IsFault}
 use Rattle.timefd_parse.specs.Checked.{Checks, ShowsFault, ShowsPlace, first_place}
 use Rattle.timefd_parse.specs.Heads.{ShowsHead}
-use Rattle.timefd_parse.specs.Pieces.{members_trees, no_members, AreMembers}
-use Rattle.timefd_parse.specs.Judged.{ShowsMembers, ShowsDescriptions, ShowsPlaces, JudgedFault, refused_in, placing}
+use Rattle.timefd_parse.specs.Pieces.{IsBuilt, IsPiece}
+use Rattle.timefd_parse.specs.Judged.{ShowsNested, ShowsPlaces, JudgedFault, packed, refused_in, placing}
 use Rattle.timefd_parse.proofs.CheckLemmas.{none_shown}
 
 -- Parts.
 
-nothing_mapped : {A B : Type 0} (f : A → B) (xs : List A) → map f xs ≡ [] → xs ≡ []
-nothing_mapped {A} {B} f [] e = refl
-nothing_mapped {A} {B} f (x ∷ xs) e = absurd cc
+module _ (total : ℕ) (n : code_nested.Nested) where
+  pub parts_none : (parts : List Part) → ShowsNested total n parts → n.count ≡ 0 → parts ≡ []
+  parts_none [] shows e = refl
+  parts_none (p ∷ ps) shows e = absurd (omega (arith, shows.2, e))
 
-pub members_shown : (total : ℕ) (spaced : Bool) (remaining : ℕ) (m : Members) (parts : List Part) → ShowsDescriptions total spaced remaining (members_trees m) parts → ShowsMembers m parts
-members_shown total spaced remaining m [] shows = shows
-members_shown total spaced remaining m (p ∷ ps) shows = shows.2
+  pub parts_one : (parts : List Part) → ShowsNested total n parts → n.count ≡ 1 → (p : Part) × (parts ≡ p ∷ [])
+  parts_one [] shows e = absurd (omega (arith, shows, e))
+  parts_one (p ∷ []) shows e = (p, refl)
+  parts_one (p ∷ q ∷ ps) shows e = absurd (omega (arith, shows.2, e))
 
-some_members : (m : Members) → no_members m ≡ false → AreMembers m → members_trees m ≡ [] → ⊥
-some_members Empty some are e = true≢false some
-some_members (One item) some are e = absurd cc
-some_members (Many items) some are e = absurd (omega (arith, are, ap length (nothing_mapped inner_tree items.items e)))
+  pub parts_many : (parts : List Part) → ShowsNested total n parts → 1 < n.count
+      → (f : Fault) × (too_many parts ≡ Some f) × (f.kind ≡ many_nested) × (f.index + n.remaining ≡ total)
+  parts_many [] shows many = absurd (omega (arith, shows, many))
+  parts_many (p ∷ []) shows many = absurd (omega (arith, shows.2, many))
+  parts_many (p ∷ q ∷ ps) shows many = (fault many_nested p.index, refl, refl, shows.1)
 
-pub parts_none : (m : Members) (parts : List Part) → ShowsMembers m parts → m ≡ Empty → parts ≡ []
-parts_none m parts shows e = nothing_mapped _ parts (sym shows ∙ ap members_trees e)
-
-pub parts_many : (total : ℕ) (spaced : Bool) (remaining : ℕ) (m : Members) (parts : List Part) → ShowsDescriptions total spaced remaining (members_trees m) parts → AreMembers m
-    → no_members m ≡ false → ((item : _) → m ≡ One item → ⊥)
-    → (f : Fault) × (too_many parts ≡ Some f) × (f.kind ≡ many_nested) × (f.index + remaining ≡ total)
-parts_many total spaced remaining Empty parts shows are some many = absurd (true≢false some)
-parts_many total spaced remaining (One item) parts shows are some many = absurd (many item refl)
-parts_many total spaced remaining (Many items) [] shows are some many = absurd (some_members (Many items) some are shows)
-parts_many total spaced remaining (Many items) (p ∷ []) shows are some many =
-    let one = simp length-map at (ap length shows.2) in
-    absurd (omega (arith, one, are))
-parts_many total spaced remaining (Many items) (p ∷ q ∷ ps) shows are some many = (fault many_nested p.index, refl, refl, shows.1)
+  parts_count : (parts : List Part) → ShowsNested total n parts → n.count ≡ length (packed parts)
+  parts_count [] shows = shows
+  parts_count (p ∷ ps) shows = shows.2 ∙ sym (length-map (p ∷ ps) (λ (q : Part). pack q.trees))
 
 -- What modifiers come to.
 
@@ -86,18 +79,40 @@ optional_many strict place h parts g bad many =
     subst (λ a. unless (a or too_many parts or nested_wanted expected_nested parts place or refuse (not strict) optional_item 0) (optional (is_formatted strict (placed h)) (only parts)) ≡ Err g) (sym bad)
     (subst (λ a. unless (None or a or nested_wanted expected_nested parts place or refuse (not strict) optional_item 0) (optional (is_formatted strict (placed h)) (only parts)) ≡ Err g) (sym many) refl)
 
-one_part : (x : Tree) (parts : List Part) → x ∷ [] ≡ map (λ (q : Part). pack q.trees) parts → (p : Part) × (parts ≡ p ∷ []) × (x ≡ pack p.trees)
-one_part x [] e = absurd cc
-one_part x (p ∷ []) e = (p, refl, cc)
-one_part x (p ∷ q ∷ ps) e = absurd cc
+pub optional_lax : (strict : Bool) (place : ℕ) (h : Head) (p : Part) (parts : List Part) → bad_modifiers strict (format ∷ []) [] (placed h) ≡ None → strict ≡ false
+    → parts ≡ p ∷ [] → optional_verdict strict h parts place ≡ Err (fault optional_item 0)
+optional_lax strict place h p parts bad lax one =
+    subst (λ ps. optional_verdict strict h ps place ≡ Err (fault optional_item 0)) (sym one)
+    (subst (λ a. unless (a or None or None or refuse (not strict) optional_item 0) (optional (is_formatted strict (placed h)) (only (p ∷ []))) ≡ Err (fault optional_item 0)) (sym bad)
+    (subst (λ b. unless (None or None or None or refuse (not b) optional_item 0) (optional (is_formatted strict (placed h)) (only (p ∷ []))) ≡ Err (fault optional_item 0)) (sym lax) refl))
 
-pub optional_lax : (strict : Bool) (place : ℕ) (h : Head) (x : Tree) (parts : List Part) → bad_modifiers strict (format ∷ []) [] (placed h) ≡ None → strict ≡ false
-    → x ∷ [] ≡ map (λ (q : Part). pack q.trees) parts → optional_verdict strict h parts place ≡ Err (fault optional_item 0)
-optional_lax strict place h x parts bad lax one =
-    let only_one = one_part x parts one in
-    subst (λ ps. optional_verdict strict h ps place ≡ Err (fault optional_item 0)) (sym only_one.1)
-    (subst (λ a. unless (a or None or None or refuse (not strict) optional_item 0) (optional (is_formatted strict (placed h)) (only (only_one.0 ∷ []))) ≡ Err (fault optional_item 0)) (sym bad)
-    (subst (λ b. unless (None or None or None or refuse (not b) optional_item 0) (optional (is_formatted strict (placed h)) (only (only_one.0 ∷ []))) ≡ Err (fault optional_item 0)) (sym lax) refl))
+optional_found : (strict : Bool) (place : ℕ) (h : Head) (p : Part) (parts : List Part) → bad_modifiers strict (format ∷ []) [] (placed h) ≡ None → strict ≡ true
+    → parts ≡ p ∷ [] → optional_verdict strict h parts place ≡ Ok (optional (is_formatted strict (placed h)) (pack p.trees))
+optional_found strict place h p parts bad exact one =
+    let tree : Tree = optional (is_formatted strict (placed h)) (pack p.trees) in
+    subst (λ ps. optional_verdict strict h ps place ≡ Ok tree) (sym one)
+    (subst (λ a. unless (a or None or None or refuse (not strict) optional_item 0) tree ≡ Ok tree) (sym bad)
+    (subst (λ b. unless (None or None or None or refuse (not b) optional_item 0) tree ≡ Ok tree) (sym exact) refl))
+
+-- the last tree made one that may be skipped
+made_optional : (base old new : List Tree) (tree : Tree) (format shown : Bool) → old ≡ base ++ tree ∷ [] → new ≡ before 1 old ++ optional format (pack (ending 1 old)) ∷ [] → format ≡ shown
+    → new ≡ base ++ optional shown tree ∷ []
+made_optional base old new tree format shown o made same =
+    made ∙ ap (λ ts. before 1 ts ++ optional format (pack (ending 1 ts)) ∷ []) o
+    ∙ ap (λ ts. ts ++ optional format (pack (ending 1 (base ++ tree ∷ []))) ∷ []) (before-append base (tree ∷ []) 1 refl)
+    ∙ ap (λ ts. base ++ optional format (pack ts) ∷ []) (ending-append base (tree ∷ []) 1 refl)
+    ∙ ap (λ f. base ++ optional f tree ∷ []) same
+
+pub optional_made : (strict : Bool) (total place : ℕ) (n : code_nested.Nested) (modifiers : code_modifiers.Modifiers) (h : Head) (parts : List Part) (base old new : List Tree)
+    → Checks strict (Some names.Optional) total modifiers (placed h) → modifiers.fault ≡ None → ShowsNested total n parts → n.count ≡ 1 → strict ≡ true → IsBuilt strict base old (packed parts)
+    → new ≡ before 1 old ++ optional modifiers.settings.format (pack (ending 1 old)) ∷ []
+    → (tree : Tree) × (optional_verdict strict h parts place ≡ Ok tree) × IsPiece strict base new Built tree
+optional_made strict total place n modifiers h parts base old new checks good shows one exact are made =
+    let p = parts_one total n parts shows one in (
+      optional (is_formatted strict (placed h)) (pack p.0.trees),
+      optional_found strict place h p.0 parts (none_shown total _ _ checks.fault good) exact p.1,
+      (exact, made_optional base old new (pack p.0.trees) _ _ (are exact ∙ ap (λ ps. base ++ packed ps) p.1) made (ap (λ s. s.format) (checks.settings good))),
+    )
 
 -- `first`
 
@@ -117,6 +132,32 @@ first_empty strict place h parts bad exact none =
     subst (λ a. unless (a or (if strict then nested_wanted expected_alternative parts place else Some (fault first_item 0))) (first (trees (map (λ (p : Part). pack p.trees) parts))) ≡ Err (fault expected_alternative place)) (sym (any_is_bad strict (placed h) ∙ bad))
     (subst (λ b. unless (None or (if b then nested_wanted expected_alternative parts place else Some (fault first_item 0))) (first (trees (map (λ (p : Part). pack p.trees) parts))) ≡ Err (fault expected_alternative place)) (sym exact)
     (subst (λ ps. unless (nested_wanted expected_alternative ps place) (first (trees (map (λ (p : Part). pack p.trees) ps))) ≡ Err (fault expected_alternative place)) (sym none) refl))
+
+first_found : (strict : Bool) (place : ℕ) (h : Head) (parts : List Part) → bad_modifiers strict [] [] (placed h) ≡ None → strict ≡ true → (parts ≡ [] → ⊥)
+    → first_verdict strict h parts place ≡ Ok (first (trees (packed parts)))
+first_found strict place h [] bad exact some = absurd (some refl)
+first_found strict place h (p ∷ ps) bad exact some =
+    let tree : Tree = first (trees (packed (p ∷ ps))) in
+    subst (λ a. unless (a or (if strict then None else Some (fault first_item 0))) tree ≡ Ok tree) (sym (any_is_bad strict (placed h) ∙ bad))
+    (subst (λ b. unless (None or (if b then None else Some (fault first_item 0))) tree ≡ Ok tree) (sym exact) refl)
+
+-- the last trees made alternatives
+made_first : (base old new list : List Tree) (count : ℕ) → old ≡ base ++ list → count ≡ length list → new ≡ before count old ++ first (trees (ending count old)) ∷ []
+    → new ≡ base ++ first (trees list) ∷ []
+made_first base old new list count o counted made =
+    made ∙ ap (λ ts. before count ts ++ first (trees (ending count ts)) ∷ []) o
+    ∙ ap (λ ts. ts ++ first (trees (ending count (base ++ list))) ∷ []) (before-append base list count counted)
+    ∙ ap (λ ts. base ++ first (trees ts) ∷ []) (ending-append base list count counted)
+
+pub first_made : (strict : Bool) (total place : ℕ) (n : code_nested.Nested) (modifiers : code_modifiers.Modifiers) (h : Head) (parts : List Part) (base old new : List Tree)
+    → Checks strict (Some names.First) total modifiers (placed h) → modifiers.fault ≡ None → ShowsNested total n parts → (n.count ≡ 0 → ⊥) → strict ≡ true → IsBuilt strict base old (packed parts)
+    → new ≡ before n.count old ++ first (trees (ending n.count old)) ∷ []
+    → (tree : Tree) × (first_verdict strict h parts place ≡ Ok tree) × IsPiece strict base new Built tree
+first_made strict total place n modifiers h parts base old new checks good shows some exact are made = (
+  first (trees (packed parts)),
+  first_found strict place h parts (none_shown total _ _ checks.fault good) exact (λ e. some (parts_count total n parts shows ∙ ap (λ ps. length (packed ps)) e)),
+  (exact, made_first base old new (packed parts) n.count (are exact) (parts_count total n parts shows) made),
+)
 
 -- Components.
 

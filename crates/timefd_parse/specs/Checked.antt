@@ -2,18 +2,18 @@
 use Rattle.std.specs.Prelude.{ℕ, ◌≡◌, ◌+◌, Bool, true, false, List, [], ◌∷◌, Option, Some, None, Result, Ok, Err, IsTrue, ⊤}
 use Rattle.timefd_items.specs.Tree.{Text}
 use Rattle.timefd_items.specs.Faults.{Fault}
-use Rattle.timefd_parse.specs.declared.fault.Fault as code_fault
-use Rattle.timefd_parse.specs.declared.key.Key as code_key
-use Rattle.timefd_parse.specs.declared.name.Name.{Name}
-use Rattle.timefd_parse.specs.declared.setting.Setting.{Setting}
+use Rattle.timefd_language.specs.declared.fault.Fault as code_fault
+use Rattle.timefd_language.specs.declared.key.Key as code_key
+use Rattle.timefd_language.specs.declared.name.Name.{Name}
+use Rattle.timefd_language.specs.declared.setting.Setting.{Setting}
 use Rattle.timefd_parse.specs.declared.modifiers.Modifiers.{Modifiers}
-use Rattle.timefd_parse.specs.Bytes.{equal}
-use Rattle.timefd_parse.specs.Head.{Placed}
-use Rattle.timefd_parse.specs.Values.{Key, key_in, setting_in}
-use Rattle.timefd_parse.specs.Lookup.{key_for, keys_for}
+use Rattle.timefd_language.specs.Bytes.{equal}
+use Rattle.timefd_language.specs.Head.{Placed}
+use Rattle.timefd_language.specs.Values.{Key, key_in, setting_in}
+use Rattle.timefd_language.specs.Lookup.{key_for, keys_for}
 use Rattle.timefd_parse.specs.Places.{place}
-use Rattle.timefd_parse.specs.Verdict.{bad_modifier, bad_modifiers, settings}
-use Rattle.timefd_parse.specs.Shown.{IsFault}
+use Rattle.timefd_language.specs.Verdict.{bad_modifier, bad_modifiers, settings}
+use Rattle.timefd_language.specs.Shown.{IsFault}
 
 -- the keys of a name; an unknown name has none
 abbrev pub keys_of : Option Name → List Key

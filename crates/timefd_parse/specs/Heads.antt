@@ -3,16 +3,16 @@ use Rattle.std.specs.Prelude.{ℕ, ◌≡◌, ◌+◌, Bool, List, ◌∷◌, �
 use Rattle.std.specs.Borrow.{Bor}
 use Rattle.std.specs.Str.{IsUtf8}
 use Rattle.timefd_items.specs.Tree.{Text}
-use Rattle.timefd_parse.specs.declared.description_version.DescriptionVersion.{DescriptionVersion}
-use Rattle.timefd_parse.specs.declared.fault.Fault as code_fault
+use Rattle.timefd_language.specs.declared.description_version.DescriptionVersion.{DescriptionVersion}
+use Rattle.timefd_language.specs.declared.fault.Fault as code_fault
 use Rattle.timefd_parse.specs.declared.head.Head as code_head
 use Rattle.timefd_parse.specs.declared.modifiers.Modifiers as code_modifiers
-use Rattle.timefd_parse.specs.Bytes.{left, is_white, is_word_byte, ZeroOrMore, StopsBefore}
-use Rattle.timefd_parse.specs.Head.{Head, IsHead, head_text, name_index, placed}
-use Rattle.timefd_parse.specs.Lookup.{IsNameOf}
+use Rattle.timefd_language.specs.Bytes.{left, is_white, is_word_byte, ZeroOrMore, StopsBefore}
+use Rattle.timefd_language.specs.Head.{Head, IsHead, head_text, name_index, placed}
+use Rattle.timefd_language.specs.Lookup.{IsNameOf}
 use Rattle.timefd_parse.specs.Checked.{Checks}
-use Rattle.timefd_parse.specs.Broken.{BeginsNoEscape}
-use Rattle.timefd_parse.specs.Shown.{IsFaultAt}
+use Rattle.timefd_language.specs.Broken.{BeginsNoEscape}
+use Rattle.timefd_language.specs.Shown.{IsFaultAt}
 
 -- the head and its modifiers, as the code has them, of a text with so many bytes
 pub record ShowsHead (strict : Bool) (total : ℕ) (head : code_head.Head) (modifiers : code_modifiers.Modifiers) (h : Head) : Type 0 where

@@ -1,37 +1,38 @@
 -- How what the code makes of a closed bracket stands to the verdict of the rules.
-use Rattle.std.specs.Prelude.{ℕ, ◌≡◌, ◌+◌, Bool, List, [], ◌∷◌, map, Option, Some, None, Result, Ok, Err, MatchResult}
+use Rattle.std.specs.Prelude.{ℕ, ◌≡◌, ◌+◌, Bool, List, [], ◌∷◌, length, map, Option, Some, None, Result, Ok, Err, MatchResult}
 use Rattle.timefd_items.specs.declared.component.Component.{Component}
 use Rattle.timefd_items.specs.Faults.{Fault}
 use Rattle.timefd_items.specs.Tree.{Tree, component, pack}
-use Rattle.timefd_parse.specs.declared.fault.Fault as code_fault
-use Rattle.timefd_parse.specs.declared.fault.ReadError as code_error
-use Rattle.timefd_parse.specs.declared.key.Key as code_key
-use Rattle.timefd_parse.specs.declared.members.Members.{Members}
+use Rattle.timefd_language.specs.declared.fault.Fault as code_fault
+use Rattle.timefd_language.specs.declared.fault.ReadError as code_error
+use Rattle.timefd_language.specs.declared.key.Key as code_key
 use Rattle.timefd_parse.specs.declared.piece.Piece.{Piece}
 use Rattle.timefd_parse.specs.declared.places.Places.{Places}
 use Rattle.timefd_parse.specs.declared.verdict.Nested as code_nested
-use Rattle.timefd_parse.specs.Head.{Placed}
-use Rattle.timefd_parse.specs.declared.name.Name.{Name}
-use Rattle.timefd_parse.specs.declared.name.Name.TheVariants as names
-use Rattle.timefd_parse.specs.Verdict.{Part, ◌or◌, touching, nested_refused}
-use Rattle.timefd_parse.specs.Lookup.{key_for}
+use Rattle.timefd_language.specs.Head.{Placed}
+use Rattle.timefd_language.specs.declared.name.Name.{Name}
+use Rattle.timefd_language.specs.declared.name.Name.TheVariants as names
+use Rattle.timefd_language.specs.Verdict.{Part, ◌or◌, touching, nested_refused}
+use Rattle.timefd_language.specs.Lookup.{key_for}
 use Rattle.timefd_parse.specs.Places.{place}
-use Rattle.timefd_parse.specs.Pieces.{members_trees, piece_tree}
-use Rattle.timefd_parse.specs.Shown.{IsFault, MemoryOr}
+use Rattle.timefd_parse.specs.Pieces.{IsPiece}
+use Rattle.timefd_language.specs.Shown.{IsFault, MemoryOr}
 use Rattle.timefd_parse.specs.Checked.{first_place, ShowsPlace}
 
 -- each nested description is packed
-abbrev pub ShowsMembers : Members → List Part → Type 0
-ShowsMembers members parts = members_trees members ≡ map (λ q. pack q.trees) parts
+abbrev pub packed : List Part → List Tree
+packed parts = map (λ q. pack q.trees) parts
 
 -- the trees of the nested descriptions, and where the first of them stands
 abbrev pub ShowsDescriptions : ℕ → Bool → ℕ → List Tree → List Part → Type 0
 ShowsDescriptions total spaced remaining read [] = read ≡ []
 ShowsDescriptions total spaced remaining read (p ∷ ps) =
-    (p.spaced ≡ spaced) × (p.index + remaining ≡ total) × (read ≡ map (λ q. pack q.trees) (p ∷ ps))
+    (p.spaced ≡ spaced) × (p.index + remaining ≡ total) × (read ≡ packed (p ∷ ps))
 
-abbrev pub ShowsParts : ℕ → code_nested.Nested → List Part → Type 0
-ShowsParts total n parts = ShowsDescriptions total n.spaced n.remaining (members_trees n.members) parts
+-- how many there are, and where the first of them stands
+abbrev pub ShowsNested : ℕ → code_nested.Nested → List Part → Type 0
+ShowsNested total n [] = n.count ≡ 0
+ShowsNested total n (p ∷ ps) = (p.spaced ≡ n.spaced) × (p.index + n.remaining ≡ total) × (n.count ≡ length (p ∷ ps))
 
 -- where the keys stand
 abbrev pub ShowsPlaces : ℕ → Places → List Placed → Type 0
@@ -40,9 +41,10 @@ ShowsPlaces total places ps = (k : code_key.Key) → ShowsPlace total (place pla
 abbrev pub JudgedFault : ℕ → Result Tree Fault → code_fault.Fault → Type 0
 JudgedFault total rule f = (g : Fault) × (rule ≡ Err g) × IsFault total f g
 
--- the tree, or the fault
-abbrev pub Judged : ℕ → Result Piece code_error.ReadError → Result Tree Fault → Type 0
-Judged total r rule = MatchResult r (λ x. rule ≡ Ok (piece_tree x)) (MemoryOr (JudgedFault total rule))
+-- The tree, or the fault. The lists are the trees that were built before the bracket was read, and after.
+abbrev pub Judged : ℕ → Bool → List Tree → List Tree → Result Piece code_error.ReadError → Result Tree Fault → Type 0
+Judged total strict old new r rule =
+    MatchResult r (λ x. (tree : Tree) × (rule ≡ Ok tree) × IsPiece strict old new x tree) (MemoryOr (JudgedFault total rule))
 
 -- the same of a component, which takes no memory
 abbrev pub JudgedComponent : ℕ → Result Component code_fault.Fault → Result Tree Fault → Type 0

@@ -3,14 +3,14 @@ use Rattle.std.specs.Prelude.{ℕ, List, length, ⊤}
 use Rattle.timefd_items.specs.Tree.{Text, Tree, pack}
 use Rattle.timefd_items.specs.Faults.{Fault, fault_of}
 use Rattle.timefd_items.specs.Reserved.{reserve}
-use Rattle.timefd_parse.specs.declared.description_version.DescriptionVersion.TheVariants.{One, Two, Three}
+use Rattle.timefd_language.specs.declared.description_version.DescriptionVersion.TheVariants.{One, Two, Three}
 use Rattle.timefd_parse.specs.declared.language.Language.{Language}
 use Rattle.timefd_parse.specs.declared.language.Language.TheVariants.{Version, Strftime}
-use Rattle.timefd_parse.specs.declared.parsing.ParseError.{ParseError}
-use Rattle.timefd_parse.specs.declared.parsing.ParseError.TheVariants.{Invalid, Memory}
-use Rattle.timefd_parse.specs.Grammar.{Spells}
-use Rattle.timefd_parse.specs.Broken.{FaultOf}
-use Rattle.timefd_parse.specs.Strftime.{SpellsStrftime, StrftimeFaultOf}
+use Rattle.timefd_language.specs.declared.parse_error.ParseError.{ParseError}
+use Rattle.timefd_language.specs.declared.parse_error.ParseError.TheVariants.{Invalid, Memory}
+use Rattle.timefd_language.specs.Grammar.{Spells}
+use Rattle.timefd_language.specs.Broken.{FaultOf}
+use Rattle.timefd_language.specs.Strftime.{SpellsStrftime, StrftimeFaultOf}
 
 -- The text spells the list in the language, with at most so many nested descriptions around one
 -- another. Strftime nests none.
@@ -30,7 +30,7 @@ amount (Version Two) list = length list
 amount (Version Three) list = reserve (pack list)
 amount Strftime list = length list
 
--- a fault that the rules of the language assign to the text, or want of memory
+-- a fault that the rules of the language assign to the text, or out of memory
 abbrev pub IsAssignedIn : Language → ℕ → Text → ParseError → Type 0
 IsAssignedIn language limit text (Invalid f) = FaultIn language limit text (fault_of f)
 IsAssignedIn language limit text (Memory e) = ⊤

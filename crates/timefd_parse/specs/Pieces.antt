@@ -1,49 +1,28 @@
--- What the pieces and the members of the code mean.
-use Rattle.std.specs.Prelude.{◌≡◌, ◌<◌, Bool, true, false, List, [], ◌∷◌, length, map, ⊤}
-use Rattle.timefd_items.specs.Meaning.{inner_tree}
+-- How the pieces of the code stand to trees, and to the trees that are built of them.
+use Rattle.std.specs.Prelude.{◌≡◌, Bool, List, [], ◌∷◌, ◌++◌, IsTrue, ⊤}
 use Rattle.timefd_items.specs.Modern.{modern}
-use Rattle.timefd_items.specs.Tree.{Tree, component, literal, optional, first, trees}
-use Rattle.timefd_parse.specs.declared.members.Members as code_members
-use Rattle.timefd_parse.specs.declared.members.Members.TheVariants.{Empty, One, Many}
+use Rattle.timefd_items.specs.Tree.{Tree, component, literal}
 use Rattle.timefd_parse.specs.declared.piece.Piece as code
-use Rattle.timefd_parse.specs.declared.piece.Piece.TheVariants.{Literal, Component, Optional, First}
+use Rattle.timefd_parse.specs.declared.piece.Piece.TheVariants.{Literal, Component, Built}
 
-abbrev pub members_trees : code_members.Members → List Tree
-members_trees Empty = []
-members_trees (One item) = inner_tree item ∷ []
-members_trees (Many items) = map inner_tree items.items
+-- Version 3, which is strict, builds these trees behind the others. Versions 1 and 2 build none.
+abbrev pub IsBuilt : Bool → List Tree → List Tree → List Tree → Type 0
+IsBuilt strict old new list = IsTrue strict → new ≡ old ++ list
 
-abbrev pub no_members : code_members.Members → Bool
-no_members Empty = true
-no_members (One item) = false
-no_members (Many items) = false
+-- The piece is this tree. One that is built is the last tree that is, and version 3 alone has such; of another
+-- nothing is built yet, and a component is modern.
+abbrev pub IsPiece : Bool → List Tree → List Tree → code.Piece → Tree → Type 0
+IsPiece strict old new (Literal text) tree = (tree ≡ literal text.now) × (IsTrue strict → new ≡ old)
+IsPiece strict old new (Component c) tree = (tree ≡ component c) × (modern c ≡ c) × (IsTrue strict → new ≡ old)
+IsPiece strict old new Built tree = IsTrue strict × (new ≡ old ++ tree ∷ [])
 
--- many are at least two
-abbrev pub AreMembers : code_members.Members → Type 0
-AreMembers Empty = ⊤
-AreMembers (One item) = ⊤
-AreMembers (Many items) = 1 < length items.items
+-- a literal or a component
+abbrev pub IsLeaf : code.Piece → Type 0
+IsLeaf (Literal text) = ⊤
+IsLeaf (Component c) = ⊤
+IsLeaf Built = ⊥
 
-abbrev pub piece_tree : code.Piece → Tree
-piece_tree (Literal text) = literal text.now
-piece_tree (Component c) = component c
-piece_tree (Optional format item) = optional format (inner_tree item)
-piece_tree (First items) = first (trees (map inner_tree items.items))
-
-abbrev pub IsModernPiece : code.Piece → Type 0
-IsModernPiece (Literal text) = ⊤
-IsModernPiece (Component c) = modern c ≡ c
-IsModernPiece (Optional format item) = ⊤
-IsModernPiece (First items) = ⊤
-
--- no nested descriptions
-abbrev pub IsFlatPiece : code.Piece → Type 0
-IsFlatPiece (Literal text) = ⊤
-IsFlatPiece (Component c) = ⊤
-IsFlatPiece (Optional format item) = ⊥
-IsFlatPiece (First items) = ⊥
-
--- Pieces without nested descriptions in versions 1 and 2, and modern components in all.
-abbrev pub IsSound : Bool → code.Piece → Type 0
-IsSound true piece = IsModernPiece piece
-IsSound false piece = IsModernPiece piece × IsFlatPiece piece
+abbrev pub IsLeafTree : code.Piece → Tree → Type 0
+IsLeafTree (Literal text) tree = tree ≡ literal text.now
+IsLeafTree (Component c) tree = tree ≡ component c
+IsLeafTree Built tree = ⊥

@@ -1,8 +1,8 @@
 -- Where the keys of a head stand.
 use Rattle.std.specs.Prelude.{ℕ, Option, Some, None}
 use Rattle.timefd_parse.specs.declared.places.Places.{Places}
-use Rattle.timefd_parse.specs.declared.key.Key.{Key}
-use Rattle.timefd_parse.specs.declared.key.Key.TheVariants.{Padding, TrailingInput, HourRepr, Count, MonthRepr, CaseSensitive, Sign, Case, Digits, Precision, WeekdayRepr, OneIndexed, WeekNumberRepr, YearRepr, Range, Base, Format}
+use Rattle.timefd_language.specs.declared.key.Key.{Key}
+use Rattle.timefd_language.specs.declared.key.Key.TheVariants.{Padding, TrailingInput, HourRepr, Count, MonthRepr, CaseSensitive, Sign, Case, Digits, Precision, WeekdayRepr, OneIndexed, WeekNumberRepr, YearRepr, Range, Base, Format}
 
 abbrev pub no_places : Places
 no_places = record {

@@ -5,23 +5,23 @@ use Rattle.std.specs.Str.{IsUtf8}
 use Rattle.std.specs.declared.vec.Vec.{Vec}
 use Rattle.std.specs.declared.alloc.Global.{Global}
 use Rattle.timefd_items.specs.declared.borrowed_format_item.BorrowedFormatItem.{BorrowedFormatItem}
-use Rattle.timefd_items.specs.declared.format_description_v3.inner.FormatDescriptionV3Inner.{FormatDescriptionV3Inner}
 use Rattle.timefd_items.specs.Faults.{Fault, fault, unclosed_bracket}
-use Rattle.timefd_items.specs.Meaning.{item_tree, inner_tree}
-use Rattle.timefd_items.specs.Tree.{Text, Tree, pack}
-use Rattle.timefd_parse.specs.declared.description_version.DescriptionVersion.{DescriptionVersion}
-use Rattle.timefd_parse.specs.declared.fault.Fault as code_fault
-use Rattle.timefd_parse.specs.declared.fault.ReadError as code_error
-use Rattle.timefd_parse.specs.declared.fault.ReadError.TheVariants as errors
-use Rattle.timefd_parse.specs.declared.members.Members.{Members}
+use Rattle.timefd_items.specs.Meaning.{item_tree}
+use Rattle.timefd_items.specs.Modern.{modern}
+use Rattle.timefd_items.specs.declared.component.Component.{Component}
+use Rattle.timefd_items.specs.Tree.{Text, Tree, component, literal, pack}
+use Rattle.timefd_language.specs.declared.description_version.DescriptionVersion.{DescriptionVersion}
+use Rattle.timefd_language.specs.declared.fault.Fault as code_fault
+use Rattle.timefd_language.specs.declared.fault.ReadError as code_error
+use Rattle.timefd_language.specs.declared.fault.ReadError.TheVariants as errors
 use Rattle.timefd_parse.specs.declared.piece.Piece.{Piece}
-use Rattle.timefd_parse.specs.Bytes.{right, is_run_byte, is_version_three}
-use Rattle.timefd_parse.specs.Fault.{enclosed, too_highly_nested}
-use Rattle.timefd_parse.specs.Grammar.{Pieces, ArePieces, spelling, items}
-use Rattle.timefd_parse.specs.Broken.{Broken, IsBroken, broken_text, broken_fault}
-use Rattle.timefd_parse.specs.Pieces.{piece_tree, members_trees, AreMembers, IsSound}
-use Rattle.timefd_parse.specs.Strings.{are_of_strings}
-use Rattle.timefd_parse.specs.Shown.{IsFault, IsFaultAt, MemoryOr}
+use Rattle.timefd_language.specs.Bytes.{left, right, is_run_byte, is_version_three}
+use Rattle.timefd_language.specs.Fault.{enclosed, too_highly_nested}
+use Rattle.timefd_language.specs.Grammar.{Pieces, ArePieces, spelling, items}
+use Rattle.timefd_language.specs.Broken.{Broken, IsBroken, broken_text, broken_fault}
+use Rattle.timefd_parse.specs.Pieces.{IsBuilt, IsPiece}
+use Rattle.timefd_language.specs.Strings.{are_of_strings}
+use Rattle.timefd_language.specs.Shown.{IsFault, IsFaultAt, MemoryOr}
 
 -- the text begins with a byte of a run
 abbrev pub BeginsRun : DescriptionVersion → Text → Type 0
@@ -37,32 +37,42 @@ Leads v limit n text tree rest =
     → (whole : Pieces) × ArePieces v limit n whole × (text ≡ spelling whole ++ tail) × (items whole ≡ tree ∷ items front)
 
 -- the same of what the code reads: less text is left
-pub record LeadsOn (v : DescriptionVersion) (limit n : ℕ) (text : Text) (piece : Piece) (rest : Text) : Type 0 where
-  pub leads : Leads v limit n text (piece_tree piece) rest
-  pub sound : IsSound (is_version_three v) piece
+pub record LeadsOn (v : DescriptionVersion) (limit n : ℕ) (text : Text) (tree : Tree) (rest : Text) : Type 0 where
+  pub leads : Leads v limit n text tree rest
   pub shorter : length rest < length text
   pub utf8 : IsUtf8 rest
 
--- a piece and the rest, or the fault of a text that begins as no piece does
-abbrev pub ReadsEscape : DescriptionVersion → ℕ → ℕ → Text → Result (Piece × Bor (List ℕ)) code_fault.Fault → Type 0
-ReadsEscape v limit n text r = MatchResult r (λ x. LeadsOn v limit n text x.0 x.1.now) (IsFaultAt v limit n text)
+-- behind a `[` the text begins with what makes a bracket this component, which is modern
+pub record IsBare (v : DescriptionVersion) (inside : Text) (c : Component) (rest : Text) : Type 0 where
+  pub leads : (limit n : ℕ) → LeadsOn v limit n (left ∷ inside) (component c) rest
+  pub is_modern : modern c ≡ c
+
+-- a literal and the rest, or the fault of a text that begins as no piece does
+abbrev pub ReadsEscape : DescriptionVersion → ℕ → ℕ → Text → Result (Bor (List ℕ) × Bor (List ℕ)) code_fault.Fault → Type 0
+ReadsEscape v limit n text r = MatchResult r (λ x. LeadsOn v limit n text (literal x.0.now) x.1.now) (IsFaultAt v limit n text)
+
+-- The text begins with a piece, behind which is the rest. The lists are the trees that were built before it was
+-- read, and after.
+abbrev pub BeginsWithPiece : DescriptionVersion → ℕ → ℕ → Text → List Tree → List Tree → Piece × Bor (List ℕ) → Type 0
+BeginsWithPiece v limit n text old new x =
+    (tree : Tree) × LeadsOn v limit n text tree x.1.now × IsPiece (is_version_three v) old new x.0 tree
 
 -- the same of what may want memory
-abbrev pub ReadsPiece : DescriptionVersion → ℕ → ℕ → Text → Result (Piece × Bor (List ℕ)) code_error.ReadError → Type 0
-ReadsPiece v limit n text r = MatchResult r (λ x. LeadsOn v limit n text x.0 x.1.now) (MemoryOr (IsFaultAt v limit n text))
+abbrev pub ReadsPiece : DescriptionVersion → ℕ → ℕ → Text → List Tree → List Tree → Result (Piece × Bor (List ℕ)) code_error.ReadError → Type 0
+ReadsPiece v limit n text old new r = MatchResult r (BeginsWithPiece v limit n text old new) (MemoryOr (IsFaultAt v limit n text))
 
 -- the end of the text, or the `]` of a nested description
 abbrev pub IsEnd : ℕ → Text → Type 0
 IsEnd n [] = ⊤
 IsEnd n (b ∷ rest) = (b ≡ right) × (0 < n)
 
-abbrev pub IsNext : DescriptionVersion → ℕ → ℕ → Text → Option (Piece × Bor (List ℕ)) → Type 0
-IsNext v limit n text None = IsEnd n text
-IsNext v limit n text (Some x) = LeadsOn v limit n text x.0 x.1.now
+abbrev pub IsNext : DescriptionVersion → ℕ → ℕ → Text → List Tree → List Tree → Option (Piece × Bor (List ℕ)) → Type 0
+IsNext v limit n text old new None = IsEnd n text × (new ≡ old)
+IsNext v limit n text old new (Some x) = BeginsWithPiece v limit n text old new x
 
 -- the next piece, if there is one
-abbrev pub ReadsNext : DescriptionVersion → ℕ → ℕ → Text → Result (Option (Piece × Bor (List ℕ))) code_error.ReadError → Type 0
-ReadsNext v limit n text r = MatchResult r (IsNext v limit n text) (MemoryOr (IsFaultAt v limit n text))
+abbrev pub ReadsNext : DescriptionVersion → ℕ → ℕ → Text → List Tree → List Tree → Result (Option (Piece × Bor (List ℕ))) code_error.ReadError → Type 0
+ReadsNext v limit n text old new r = MatchResult r (IsNext v limit n text old new) (MemoryOr (IsFaultAt v limit n text))
 
 -- pieces, and a construct that no piece begins with, with its fault
 abbrev pub IsFaultIn : DescriptionVersion → ℕ → ℕ → Text → code_fault.Fault → Type 0
@@ -75,9 +85,14 @@ abbrev pub AreItems : DescriptionVersion → ℕ → ℕ → Text → List Tree 
 AreItems v limit n text read rest =
     (front : Pieces) × ArePieces v limit n front × (text ≡ spelling front ++ rest) × (items front ≡ read) × IsEnd n rest
 
-abbrev pub ReadsMembers : DescriptionVersion → ℕ → ℕ → Text → Result (Members × Bor (List ℕ)) code_error.ReadError → Type 0
-ReadsMembers v limit n text r =
-    MatchResult r (λ x. AreItems v limit n text (members_trees x.0) x.1.now × AreMembers x.0) (MemoryOr (IsFaultIn v limit n text))
+-- so many pieces, and their trees are built
+abbrev pub AreMembers : DescriptionVersion → ℕ → ℕ → Text → List Tree → List Tree → ℕ → Text → Type 0
+AreMembers v limit n text old new count rest =
+    (list : List Tree) × AreItems v limit n text list rest × (count ≡ length list) × IsBuilt (is_version_three v) old new list
+
+abbrev pub ReadsMembers : DescriptionVersion → ℕ → ℕ → Text → List Tree → List Tree → Result (ℕ × Bor (List ℕ)) code_error.ReadError → Type 0
+ReadsMembers v limit n text old new r =
+    MatchResult r (λ x. AreMembers v limit n text old new x.0 x.1.now) (MemoryOr (IsFaultIn v limit n text))
 
 -- The text behind the `[` of a nested description, which is this tree, and what follows its `]`.
 abbrev pub IsNested : DescriptionVersion → ℕ → ℕ → Text → Tree → Text → Type 0
@@ -103,9 +118,14 @@ IsBrokenInside v limit n start text f =
 abbrev pub IsNestedFault : DescriptionVersion → ℕ → ℕ → ℕ → Text → code_fault.Fault → Type 0
 IsNestedFault v limit n start text f = IsTooDeep limit n text f ⊎ (IsCutOff v limit n start text f ⊎ IsBrokenInside v limit n start text f)
 
-abbrev pub ReadsNested : DescriptionVersion → ℕ → ℕ → ℕ → Text → Result (FormatDescriptionV3Inner × Bor (List ℕ)) code_error.ReadError → Type 0
-ReadsNested v limit n start text r =
-    MatchResult r (λ x. IsNested v limit n text (inner_tree x.0) x.1.now) (MemoryOr (IsNestedFault v limit n start text))
+-- the same, and its tree is built
+abbrev pub IsBuiltNested : DescriptionVersion → ℕ → ℕ → Text → List Tree → List Tree → Text → Type 0
+IsBuiltNested v limit n text old new rest =
+    (tree : Tree) × IsNested v limit n text tree rest × IsBuilt (is_version_three v) old new (tree ∷ [])
+
+abbrev pub ReadsNested : DescriptionVersion → ℕ → ℕ → ℕ → Text → List Tree → List Tree → Result (Bor (List ℕ)) code_error.ReadError → Type 0
+ReadsNested v limit n start text old new r =
+    MatchResult r (λ x. IsBuiltNested v limit n text old new x.now) (MemoryOr (IsNestedFault v limit n start text))
 
 -- the items of a whole text
 abbrev pub ReadsItems : DescriptionVersion → ℕ → Text → Result (Vec BorrowedFormatItem Global) code_error.ReadError → Type 0

@@ -1,16 +1,21 @@
 //! Brackets that hold the name of a component and nothing else, as most brackets do.
 
-ghost use Rattle.std.specs.Prelude.{ℕ, ◌≡◌, ◌++◌, ◌∷◌, [], MatchOption, ⊤};
+ghost use Rattle.std.specs.Prelude.{◌≡◌, ◌++◌, ◌∷◌, [], MatchOption, Ok, ⊤};
 ghost use Rattle.std.specs.Str.{IsUtf8};
-ghost use Rattle.timefd_parse.specs.Names.{row_for};
-ghost use Rattle.timefd_parse.specs.declared.piece.Piece.TheVariants as pieces;
-ghost use Rattle.timefd_parse.specs.Read.{LeadsOn};
+ghost use Rattle.timefd_language.specs.Bytes.{is_version_three};
+ghost use Rattle.timefd_language.specs.Names.{row_for};
+ghost use Rattle.timefd_language.specs.Settings.{defaults};
+ghost use Rattle.timefd_language.specs.declared.name.ComponentName as names;
+ghost use Rattle.timefd_parse.specs.Read.{IsBare};
 
-use crate::component::component_of;
-use crate::description_version::DescriptionVersion;
-use crate::name::ComponentName;
-use crate::setting::Settings;
 use timefd_items::Component;
+use timefd_language::description_version::DescriptionVersion;
+use timefd_language::name::ComponentName;
+use timefd_modifier::{
+    CalendarYearFullExtendedRange, CalendarYearFullStandardRange, Day, End, Hour24, Minute,
+    MonthNumerical, OffsetHour, OffsetMinute, OffsetSecond, Ordinal, Period, Second, Subsecond,
+    UnixTimestampSecond, WeekNumberIso, WeekdayLong,
+};
 
 /// What follows these bytes, if the text begins with them.
 #[inline(always)]
@@ -21,53 +26,138 @@ fn behind<'a>(text: &'a str, front: &str) -> Option<&'a str>
     Some(rest)
 }
 
-/// The component of this name with no modifiers, if the text begins with the name and `]`, and what follows.
+/// This component, which is that of the name with no modifiers, if the text begins with the name and
+/// `]`, and what follows.
 #[inline(always)]
 fn alone<'a>(
     version: DescriptionVersion,
     inside: &'a str,
     name: ComponentName,
     closed: &str,
+    component: Component,
 ) -> Option<(Component, &'a str)>
-    requires { closed.now ≡ (row_for name).name ++ 93 ∷ [] }
-    ensures { MatchOption result ⊤ (λ x. (limit n : ℕ) → LeadsOn version limit n (91 ∷ inside.now) (pieces.Component x.0) x.1.now) }
+    requires spelled { closed.now ≡ (row_for name).name ++ 93 ∷ [] }
+    requires made { (row_for name).component (defaults (is_version_three version)) ≡ Ok component }
+    ensures { MatchOption result ⊤ (λ x. IsBare version inside.now x.0 x.1.now) }
 {
     let rest = behind(inside, closed)?;
-    let component = component_of(name, Settings::new(version.is_strict()))?;
     Some((component, rest))
+}
+
+/// The component of `year` with no modifiers, whose range of years depends on the version.
+#[inline(always)]
+fn plain_year(version: DescriptionVersion) -> Component
+    ensures { (row_for names.ComponentName.Year).component (defaults (is_version_three version)) ≡ Ok result }
+{
+    match version {
+        DescriptionVersion::One | DescriptionVersion::Two => {
+            Component::CalendarYearFullExtendedRange(CalendarYearFullExtendedRange::default())
+        }
+        DescriptionVersion::Three => {
+            Component::CalendarYearFullStandardRange(CalendarYearFullStandardRange::default())
+        }
+    }
 }
 
 /// The component of the bracket that has this inside, if that is its name alone and as it is spelled
 /// in every version, and what follows the bracket.
 #[inline(always)]
 pub fn bare<'a>(version: DescriptionVersion, inside: &'a str) -> Option<(Component, &'a str)>
-    ensures { MatchOption result ⊤ (λ x. (limit n : ℕ) → LeadsOn version limit n (91 ∷ inside.now) (pieces.Component x.0) x.1.now) }
+    ensures { MatchOption result ⊤ (λ x. IsBare version inside.now x.0 x.1.now) }
 {
     match inside.as_bytes() {
-        [b'd', ..] => alone(version, inside, ComponentName::Day, "day]"),
-        [b'e', ..] => alone(version, inside, ComponentName::End, "end]"),
-        [b'h', ..] => alone(version, inside, ComponentName::Hour, "hour]"),
-        [b'm', b'i', ..] => alone(version, inside, ComponentName::Minute, "minute]"),
-        [b'm', ..] => alone(version, inside, ComponentName::Month, "month]"),
-        [b'o', b'r', ..] => alone(version, inside, ComponentName::Ordinal, "ordinal]"),
+        [b'd', ..] => alone(
+            version,
+            inside,
+            ComponentName::Day,
+            "day]",
+            Component::Day(Day::default()),
+        ),
+        [b'e', ..] => alone(
+            version,
+            inside,
+            ComponentName::End,
+            "end]",
+            Component::End(End::default()),
+        ),
+        [b'h', ..] => alone(
+            version,
+            inside,
+            ComponentName::Hour,
+            "hour]",
+            Component::Hour24(Hour24::default()),
+        ),
+        [b'm', b'i', ..] => alone(
+            version,
+            inside,
+            ComponentName::Minute,
+            "minute]",
+            Component::Minute(Minute::default()),
+        ),
+        [b'm', ..] => alone(
+            version,
+            inside,
+            ComponentName::Month,
+            "month]",
+            Component::MonthNumerical(MonthNumerical::default()),
+        ),
+        [b'o', b'r', ..] => alone(
+            version,
+            inside,
+            ComponentName::Ordinal,
+            "ordinal]",
+            Component::Ordinal(Ordinal::default()),
+        ),
         [b'o', ..] => offset(version, inside),
-        [b'p', ..] => alone(version, inside, ComponentName::Period, "period]"),
-        [b's', b'e', ..] => alone(version, inside, ComponentName::Second, "second]"),
-        [b's', ..] => alone(version, inside, ComponentName::Subsecond, "subsecond]"),
+        [b'p', ..] => alone(
+            version,
+            inside,
+            ComponentName::Period,
+            "period]",
+            Component::Period(Period::default()),
+        ),
+        [b's', b'e', ..] => alone(
+            version,
+            inside,
+            ComponentName::Second,
+            "second]",
+            Component::Second(Second::default()),
+        ),
+        [b's', ..] => alone(
+            version,
+            inside,
+            ComponentName::Subsecond,
+            "subsecond]",
+            Component::Subsecond(Subsecond::default()),
+        ),
         [b'u', ..] => alone(
             version,
             inside,
             ComponentName::UnixTimestamp,
             "unix_timestamp]",
+            Component::UnixTimestampSecond(UnixTimestampSecond::default()),
         ),
         [b'w', b'e', b'e', b'k', b'd', ..] => alone(
             version,
             inside,
             ComponentName::Weekday,
             "weekday]",
+            Component::WeekdayLong(WeekdayLong::default()),
         ),
-        [b'w', ..] => alone(version, inside, ComponentName::WeekNumber, "week_number]"),
-        [b'y', ..] => alone(version, inside, ComponentName::Year, "year]"),
+        [b'w', ..] => alone(
+            version,
+            inside,
+            ComponentName::WeekNumber,
+            "week_number]",
+            Component::WeekNumberIso(WeekNumberIso::default()),
+        ),
+        [b'y', ..] => alone(
+            version,
+            inside,
+            ComponentName::Year,
+            "year]",
+            plain_year(version),
+        ),
         _ => None,
     }
 }
@@ -75,7 +165,7 @@ pub fn bare<'a>(version: DescriptionVersion, inside: &'a str) -> Option<(Compone
 /// The same of the parts of an offset.
 #[inline(always)]
 fn offset<'a>(version: DescriptionVersion, inside: &'a str) -> Option<(Component, &'a str)>
-    ensures { MatchOption result ⊤ (λ x. (limit n : ℕ) → LeadsOn version limit n (91 ∷ inside.now) (pieces.Component x.0) x.1.now) }
+    ensures { MatchOption result ⊤ (λ x. IsBare version inside.now x.0 x.1.now) }
 {
     match inside.as_bytes() {
         [_, _, _, _, _, _, _, b'h', ..] => alone(
@@ -83,18 +173,21 @@ fn offset<'a>(version: DescriptionVersion, inside: &'a str) -> Option<(Component
             inside,
             ComponentName::OffsetHour,
             "offset_hour]",
+            Component::OffsetHour(OffsetHour::default()),
         ),
         [_, _, _, _, _, _, _, b'm', ..] => alone(
             version,
             inside,
             ComponentName::OffsetMinute,
             "offset_minute]",
+            Component::OffsetMinute(OffsetMinute::default()),
         ),
         _ => alone(
             version,
             inside,
             ComponentName::OffsetSecond,
             "offset_second]",
+            Component::OffsetSecond(OffsetSecond::default()),
         ),
     }
 }

@@ -2,15 +2,15 @@
 
 ghost use Rattle.std.specs.Prelude.{ℕ, ◌≡◌, ◌∷◌, [], MatchResult, Option};
 ghost use Rattle.timefd_items.specs.Tree.{Text};
-ghost use Rattle.timefd_parse.specs.Bytes.{is_version_three};
+ghost use Rattle.timefd_language.specs.Bytes.{is_version_three};
 ghost use Rattle.timefd_parse.specs.Checked.{Checks};
 ghost use Rattle.timefd_parse.specs.Heads.{ReadsHead};
 
-use crate::fault::{Fault, Kind};
 use crate::modifier::read_modifier;
 use crate::modifiers::Modifiers;
-use crate::name::{Name, name_of};
-use crate::text::{Class, cut};
+use timefd_language::fault::{Fault, Kind};
+use timefd_language::name::{Name, name_of};
+use timefd_language::text::{Class, cut};
 
 /// What stands in a bracket up to its first nested description, or its end.
 #[derive(Clone, Copy)]

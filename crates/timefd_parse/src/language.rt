@@ -4,14 +4,15 @@ ghost use Rattle.std.specs.Prelude.{◌≡◌, ◌≤◌, [], List, IfOk, IsOk, 
 ghost use Rattle.std.specs.Result.{IfErr};
 ghost use Rattle.timefd_items.specs.Tree.{Tree};
 ghost use Rattle.timefd_items.specs.Faults as spec;
-ghost use Rattle.timefd_parse.specs.Answers.{IsFaultOrMemory, MemoryAlone};
-ghost use Rattle.timefd_parse.specs.Grammar.{nesting_limit};
+ghost use Rattle.timefd_language.specs.Told.{IsFaultOrMemory, MemoryAlone};
+ghost use Rattle.timefd_language.specs.Grammar.{nesting_limit};
 ghost use Rattle.timefd_parse.specs.Language.{SpellsIn, FaultIn, amount, IsAssignedIn};
 
-use crate::description_version::DescriptionVersion;
-use crate::parsing::{BorrowedOutput, ParseError, parse_borrowed_within};
-use crate::strftime::{StrftimeTables, parse_strftime_borrowed};
+use crate::parsing::{BorrowedOutput, parse_borrowed_within};
 use std::alloc::Global;
+use timefd_language::description_version::DescriptionVersion;
+use timefd_language::parse_error::ParseError;
+use timefd_strftime::{StrftimeTables, count_of, parse_strftime_borrowed};
 
 /// The language of a text. `time` has a call for each; this type is this port's own.
 #[derive(Debug, Clone, Copy, PartialEq, Eq)]
@@ -25,7 +26,8 @@ pub enum Language {
 /// How much a text holds: how many items, or in version 3 how many bytes its description reserves.
 /// At most `limit` nested descriptions may stand around one another; strftime nests none.
 ///
-/// The error is `Invalid` for a text that is none, and `Memory` where memory ran out.
+/// The error is `Invalid` with the fault of the text, or `Memory` where memory ran out.
+#[inline(always)]
 pub fn amount_within(
     alloc: Global,
     language: Language,
@@ -56,6 +58,7 @@ pub fn amount_within(
 }
 
 /// How much a text of this version holds.
+#[inline(never)]
 fn version_amount(
     alloc: Global,
     version: DescriptionVersion,
@@ -81,7 +84,26 @@ fn version_amount(
 }
 
 /// How many items a text of strftime has.
+#[inline(never)]
 fn strftime_amount(alloc: Global, text: &str) -> Result<usize, ParseError>
+    ensures found { IfOk result (λ n. (list : List Tree)
+        × SpellsIn Language.Strftime 0 text.now list × (n ≡ amount Language.Strftime list)) }
+    ensures fault { IfErr result (IsAssignedIn Language.Strftime 0 text.now) }
+    ensures spelled { (list : List Tree) → SpellsIn Language.Strftime 0 text.now list
+        → MatchResult result (λ n. n ≡ amount Language.Strftime list) MemoryAlone }
+    ensures refused { (f : spec.Fault) → FaultIn Language.Strftime 0 text.now f
+        → MatchResult result (λ _. ⊥) (IsFaultOrMemory f) }
+    ensures empty { text.now ≡ [] → IsOk result }
+{
+    match count_of(text) {
+        Some(count) => Ok(count),
+        None => read_amount(alloc, text),
+    }
+}
+
+/// The same by reading it, which tells the fault of a text that has one.
+#[inline(never)]
+fn read_amount(alloc: Global, text: &str) -> Result<usize, ParseError>
     ensures found { IfOk result (λ n. (list : List Tree)
         × SpellsIn Language.Strftime 0 text.now list × (n ≡ amount Language.Strftime list)) }
     ensures fault { IfErr result (IsAssignedIn Language.Strftime 0 text.now) }

@@ -1,9 +1,9 @@
 //! One modifier of a head.
 
-ghost use Rattle.timefd_parse.specs.Shown.{ReadsModifier};
+ghost use Rattle.timefd_parse.specs.ReadModifiers.{ReadsModifier};
 
-use crate::fault::{Fault, Kind};
-use crate::text::{Class, behind_colon, cut};
+use timefd_language::fault::{Fault, Kind};
+use timefd_language::text::{Class, behind_colon, cut};
 
 /// A key and its value. A place is given by how many bytes of the text remain.
 #[derive(Clone, Copy)]

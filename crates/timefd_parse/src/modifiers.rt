@@ -2,18 +2,18 @@
 
 ghost use Rattle.std.specs.Prelude.{ℕ, ◌≡◌, ◌++◌, ◌∷◌, [], List, Option, option_map};
 ghost use Rattle.timefd_parse.specs.Checked.{keys_of};
-ghost use Rattle.timefd_parse.specs.Head.{Placed};
-ghost use Rattle.timefd_parse.specs.Lookup.{key_for};
-ghost use Rattle.timefd_parse.specs.Shown.{IsPlaced};
-ghost use Rattle.timefd_parse.specs.Values.{key_in};
+ghost use Rattle.timefd_language.specs.Head.{Placed};
+ghost use Rattle.timefd_language.specs.Lookup.{key_for};
+ghost use Rattle.timefd_parse.specs.ReadModifiers.{IsPlaced};
+ghost use Rattle.timefd_language.specs.Values.{key_in};
 
-use crate::fault::{Fault, Kind};
-use crate::key::{Key, key_of};
 use crate::modifier::Modifier;
-use crate::name::Name;
 use crate::places::Places;
-use crate::setting::{Setting, Settings};
-use crate::value::setting_of;
+use timefd_language::fault::{Fault, Kind};
+use timefd_language::key::{Key, key_of};
+use timefd_language::name::Name;
+use timefd_language::setting::{Setting, Settings};
+use timefd_language::value::setting_of;
 
 /// What the modifiers set, and the fault of the first bad one, behind which none is looked at.
 #[derive(Clone, Copy)]

@@ -6,21 +6,23 @@ ghost use Rattle.timefd_items.specs.Tree.{Tree, pack};
 ghost use Rattle.timefd_items.specs.Faults as spec;
 ghost use Rattle.timefd_items.specs.Description.{description_tree};
 ghost use Rattle.timefd_items.specs.Reserved.{reserve};
-ghost use Rattle.timefd_parse.specs.declared.description_version.DescriptionVersion.TheVariants.{One, Three};
-ghost use Rattle.timefd_parse.specs.Bytes.{is_version_three};
-ghost use Rattle.timefd_parse.specs.Grammar.{Spells, nesting_limit};
-ghost use Rattle.timefd_parse.specs.Broken.{FaultOf};
-ghost use Rattle.timefd_parse.specs.Answers.{IsOutput, IsAssigned, IsFaultOrMemory, MemoryAlone, ReservesAtMost, HasStrings, Tells};
-ghost use Rattle.timefd_parse.specs.Shown.{IsFault, MemoryOr};
-ghost use Rattle.timefd_parse.specs.Strings.{AreItems};
+ghost use Rattle.timefd_language.specs.declared.description_version.DescriptionVersion.TheVariants.{One, Three};
+ghost use Rattle.timefd_language.specs.Bytes.{is_version_three};
+ghost use Rattle.timefd_language.specs.Grammar.{Spells, nesting_limit};
+ghost use Rattle.timefd_language.specs.Broken.{FaultOf};
+ghost use Rattle.timefd_parse.specs.Answers.{IsOutput, IsAssigned, ReservesAtMost, HasStrings};
+ghost use Rattle.timefd_language.specs.Told.{IsFaultOrMemory, MemoryAlone, Tells};
+ghost use Rattle.timefd_language.specs.Shown.{IsFault, MemoryOr};
+ghost use Rattle.timefd_language.specs.Strings.{AreItems};
 
-use crate::description_version::DescriptionVersion;
-use crate::fault::{Fault, Kind, ReadError};
 use crate::read::{items, members};
 use std::alloc::{AllocError, Global};
 use timefd_items::{
-    BorrowedFormatItem, FormatDescriptionV3, InvalidFormatDescription, NotOpaque, OpaqueCause,
+    BorrowedFormatItem, DescriptionBuilder, FormatDescriptionV3, InvalidFormatDescription,
 };
+use timefd_language::description_version::DescriptionVersion;
+use timefd_language::fault::{Fault, Kind, ReadError};
+use timefd_language::parse_error::{ParseError, told};
 
 /// How many nested descriptions may stand around one another, at most.
 pub const NESTING_LIMIT: u8 = 127;
@@ -34,18 +36,10 @@ pub enum BorrowedOutput<'a> {
     Description(FormatDescriptionV3<'a>),
 }
 
-/// Why a text was not read.
-#[derive(Debug, Drop)]
-pub enum ParseError {
-    /// The text is no description, for this fault.
-    Invalid(InvalidFormatDescription),
-    /// Memory ran out, which says nothing of the text.
-    Memory(AllocError),
-}
-
-/// Reads a text of a version: `time`'s `parse_borrowed`. What it answers lends the text's literals.
+/// Reads a text of a version: `time`'s `parse_borrowed`. What it answers borrows the text's
+/// literals.
 ///
-/// The error is `Invalid` for a text that is none, and `Memory` where memory ran out.
+/// The error is `Invalid` with the fault of the text, or `Memory` where memory ran out.
 pub fn parse_borrowed<'a>(
     alloc: Global,
     version: DescriptionVersion,
@@ -77,7 +71,7 @@ pub fn parse_borrowed<'a>(
 /// Reads a text of a version as `parse_borrowed` does, with at most `limit` nested descriptions
 /// around one another. This call is this port's own.
 ///
-/// The error is `Invalid` for a text that is none, and `Memory` where memory ran out.
+/// The error is `Invalid` with the fault of the text, or `Memory` where memory ran out.
 pub fn parse_borrowed_within<'a>(
     alloc: Global,
     version: DescriptionVersion,
@@ -120,7 +114,7 @@ pub fn parse_borrowed_within<'a>(
 
 /// Reads a text of version 1: `time`'s `parse`.
 ///
-/// The error is `Invalid` for a text that is none, and `Memory` where memory ran out.
+/// The error is `Invalid` with the fault of the text, or `Memory` where memory ran out.
 pub fn parse<'a>(alloc: Global, s: &'a str) -> Result<Vec<BorrowedFormatItem<'a>>, ParseError>
     // What is accepted is spelled so, and what is refused is refused for the fault that the rules
     // assign.
@@ -180,70 +174,12 @@ fn parse_description<'a>(
     ensures empty { s.now ≡ [] → IsOk result }
 {
     let len = s.len();
-    let members = match members(alloc, DescriptionVersion::Three, s, limit, 0) {
-        Ok((members, _)) => members,
-        Err(error) => return Err(told(alloc, error, len)),
-    };
-    match members.packed(alloc).into_opaque(alloc) {
-        Ok(description) => Ok(description),
-        Err(NotOpaque { tree: _, cause }) => match cause {
-            OpaqueCause::Memory => Err(ParseError::Memory(AllocError)),
-            OpaqueCause::TooManyBytes => unreachable!(),
+    let mut builder = DescriptionBuilder::new(alloc);
+    match members(&mut builder, DescriptionVersion::Three, s, limit, 0) {
+        Ok(_) => match builder.finish() {
+            Ok(description) => Ok(description),
+            Err(error) => Err(ParseError::Memory(error)),
         },
+        Err(error) => Err(told(alloc, error, len)),
     }
-}
-
-/// What the caller is told of an error in a text with so many bytes.
-pub fn told(alloc: Global, error: ReadError, len: usize) -> ParseError
-    requires { MemoryOr (λ f. f.remaining ≤ len) error }
-    ensures { Tells len error.entry result }
-{
-    let ReadError::Invalid(fault) = error else {
-        return ParseError::Memory(AllocError);
-    };
-    match placed(alloc, fault, len) {
-        Ok(fault) => ParseError::Invalid(fault),
-        Err(error) => ParseError::Memory(error),
-    }
-}
-
-/// The fault of a text with so many bytes.
-fn placed(alloc: Global, fault: Fault, len: usize) -> Result<InvalidFormatDescription, AllocError>
-    requires { fault.remaining ≤ len }
-    ensures { IfOk result (λ e. (g : spec.Fault) → IsFault len fault.entry g → spec.fault_of e ≡ g) }
-{
-    let index = len - fault.remaining;
-    Ok(match fault.kind {
-        Kind::UnclosedBracket => InvalidFormatDescription::UnclosedOpeningBracket { index },
-        Kind::InvalidName(name) => {
-            let name = String::from_str(alloc, name)?;
-            InvalidFormatDescription::InvalidComponentName { name, index }
-        }
-        Kind::InvalidModifier(value) => {
-            let value = String::from_str(alloc, value)?;
-            InvalidFormatDescription::InvalidModifier { value, index }
-        }
-        Kind::MissingName => InvalidFormatDescription::MissingComponentName { index },
-        Kind::MissingModifier(name) => InvalidFormatDescription::MissingRequiredModifier {
-            name,
-            index,
-        },
-        Kind::Expected(what) => InvalidFormatDescription::Expected { what, index },
-        Kind::NotSupported(what, context) => InvalidFormatDescription::NotSupported {
-            what,
-            context,
-            index,
-        },
-        Kind::DuplicateModifier(name) => InvalidFormatDescription::DuplicateModifier {
-            name,
-            index,
-        },
-        Kind::InvalidCombination(modifier, context) => {
-            InvalidFormatDescription::InvalidModifierCombination {
-                modifier,
-                context,
-                index,
-            }
-        }
-    })
 }

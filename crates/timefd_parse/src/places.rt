@@ -3,7 +3,7 @@
 ghost use Rattle.std.specs.Prelude.{◌≡◌};
 ghost use Rattle.timefd_parse.specs.Places as spec;
 
-use crate::key::Key;
+use timefd_language::key::Key;
 
 /// Where each key stands, by its spelling: how many bytes of the text remain from there on.
 #[derive(Clone, Copy)]

@@ -3,42 +3,40 @@
 ghost use Rattle.std.specs.Prelude.{ℕ, ◌≡◌, ◌≤◌, ◌<◌, ◌∷◌, [], length, IsFalse, MatchOption};
 ghost use Rattle.std.specs.Result.{IfErr};
 ghost use Rattle.std.specs.Str.{IsUtf8};
-ghost use Rattle.timefd_parse.specs.declared.description_version.DescriptionVersion as spec_version;
-ghost use Rattle.timefd_parse.specs.Broken.{BeginsNoEscape};
-ghost use Rattle.timefd_parse.specs.Bytes.{is_version_three};
+ghost use Rattle.timefd_language.specs.declared.description_version.DescriptionVersion as spec_version;
+ghost use Rattle.timefd_language.specs.Broken.{BeginsNoEscape};
+ghost use Rattle.timefd_language.specs.Bytes.{is_version_three};
 ghost use Rattle.timefd_parse.specs.Read.{BeginsRun, BeginsClosing, LeadsOn, ReadsEscape, ReadsPiece, ReadsNext, ReadsMembers, ReadsNested, ReadsItems, IsEnclosed};
-ghost use Rattle.timefd_parse.specs.Fault.{too_highly_nested};
-ghost use Rattle.timefd_parse.specs.Invalid.{IsInvalid};
-ghost use Rattle.timefd_parse.specs.Shown.{IsFault, MemoryOr};
+ghost use Rattle.timefd_language.specs.Fault.{too_highly_nested};
+ghost use Rattle.timefd_language.specs.Invalid.{IsInvalid};
+ghost use Rattle.timefd_language.specs.Shown.{IsFault, MemoryOr};
+ghost use Rattle.timefd_items.specs.Builder.{built};
 ghost use Rattle.timefd_items.specs.Faults.{fault, unclosed_bracket};
+ghost use Rattle.timefd_items.specs.Tree.{literal};
 
 use crate::bare::bare;
-use crate::description_version::DescriptionVersion;
-use crate::fault::{Fault, Kind, ReadError};
+use crate::building::{add, pack};
 use crate::head::read_head;
-use crate::members::{FEW, Members, USUAL};
 use crate::modifiers::Modifiers;
 use crate::piece::Piece;
-use crate::text::{Class, Start, cut, cut_run, escaped, start_of};
 use crate::verdict::{Nested, Span, verdict};
 use std::alloc::Global;
-use timefd_items::{BorrowedFormatItem, FormatDescriptionV3Inner};
+use timefd_items::{BorrowedFormatItem, DescriptionBuilder};
+use timefd_language::description_version::DescriptionVersion;
+use timefd_language::fault::{Fault, Kind, ReadError};
+use timefd_language::text::{Class, Start, cut, cut_run, escaped, start_of};
 
 /// The run that a text begins with.
 #[inline(always)]
-fn run<'a>(version: DescriptionVersion, text: &'a str) -> (Piece<'a>, &'a str)
+fn run<'a>(version: DescriptionVersion, text: &'a str) -> (&'a str, &'a str)
     requires { BeginsRun version text.now }
-    ensures { (limit n : ℕ) → LeadsOn version limit n text.now result.0 result.1.now }
+    ensures { (limit n : ℕ) → LeadsOn version limit n text.now (literal result.0.now) result.1.now }
 {
-    let (run, rest) = cut_run(version, text);
-    (Piece::Literal(run), rest)
+    cut_run(version, text)
 }
 
 /// A `]` outside nested descriptions, where version 3 wants an escape.
-fn closing<'a>(
-    version: DescriptionVersion,
-    text: &'a str,
-) -> Result<(Piece<'a>, &'a str), Fault<'a>>
+fn closing<'a>(version: DescriptionVersion, text: &'a str) -> Result<(&'a str, &'a str), Fault<'a>>
     requires { BeginsClosing text.now }
     ensures { (limit : ℕ) → ReadsEscape version limit 0 text.now result }
 {
@@ -48,8 +46,7 @@ fn closing<'a>(
             remaining: text.len(),
         });
     }
-    let (bracket, rest) = text.split_at(1);
-    Ok((Piece::Literal(bracket), rest))
+    Ok(text.split_at(1))
 }
 
 /// What a backslash and the text behind it begin with: an escape, or in version 1 a run.
@@ -57,7 +54,7 @@ fn backslash<'a>(
     version: DescriptionVersion,
     text: &'a str,
     after: &'a str,
-) -> Result<(Piece<'a>, &'a str), Fault<'a>>
+) -> Result<(&'a str, &'a str), Fault<'a>>
     requires { text.now ≡ 92 ∷ after.now }
     ensures { (limit n : ℕ) → ReadsEscape version limit n text.now result }
 {
@@ -65,7 +62,7 @@ fn backslash<'a>(
         return Ok(run(version, text));
     }
     match escaped(after) {
-        Some((byte, rest)) => Ok((Piece::Literal(byte), rest)),
+        Some((byte, rest)) => Ok((byte, rest)),
         None => {
             let remaining = if after.is_empty() { 1 } else { after.len() };
             Err(Fault {
@@ -128,90 +125,100 @@ fn too_deep<'a>(remaining: usize) -> ReadError<'a>
 #[inline(always)]
 #[cycle(read)]
 fn next_piece<'a>(
-    alloc: Global,
+    builder: &mut DescriptionBuilder<'a>,
     version: DescriptionVersion,
     text: &'a str,
     limit: u8,
     around: u8,
 ) -> Result<Option<(Piece<'a>, &'a str)>, ReadError<'a>>
     requires { around ≤ limit }
-    ensures next { ReadsNext version limit around text.now result }
+    ensures next { ReadsNext version limit around text.now (built builder.old) (built builder.new) result }
     ensures some { IfErr result (λ _. 0 < length text.now) }
 {
     match start_of(text) {
         Start::End => Ok(None),
         Start::Closing(_) if around > 0 => Ok(None),
-        Start::Closing(_) => Ok(Some(closing(version, text)?)),
+        Start::Closing(_) => {
+            let (literal, rest) = closing(version, text)?;
+            Ok(Some((Piece::Literal(literal), rest)))
+        }
         Start::Opening(inside) => {
             if let Some((component, rest)) = bare(version, inside) {
                 return Ok(Some((Piece::Component(component), rest)));
             }
             match doubled(version, inside) {
                 Some((byte, rest)) => Ok(Some((Piece::Literal(byte), rest))),
-                None => Ok(Some(bracket(alloc, version, inside, limit, around)?)),
+                None => Ok(Some(bracket(builder, version, inside, limit, around)?)),
             }
         }
-        Start::Backslash(after) => Ok(Some(backslash(version, text, after)?)),
-        Start::Other => Ok(Some(run(version, text))),
+        Start::Backslash(after) => {
+            let (literal, rest) = backslash(version, text, after)?;
+            Ok(Some((Piece::Literal(literal), rest)))
+        }
+        Start::Other => {
+            let (run, rest) = run(version, text);
+            Ok(Some((Piece::Literal(run), rest)))
+        }
     }
 }
 
-/// The descriptions that a text begins with, and what stands at their end.
+/// How many pieces a text begins with, and what stands at their end. In version 3 they are built.
 #[cycle(read)]
 pub fn members<'a>(
-    alloc: Global,
+    builder: &mut DescriptionBuilder<'a>,
     version: DescriptionVersion,
     text: &'a str,
     limit: u8,
     around: u8,
-) -> Result<(Members<'a>, &'a str), ReadError<'a>>
+) -> Result<(usize, &'a str), ReadError<'a>>
     requires { around ≤ limit }
-    ensures members { ReadsMembers version limit around text.now result }
+    ensures members { ReadsMembers version limit around text.now (built builder.old) (built builder.new) result }
     ensures some { IfErr result (λ _. 0 < length text.now) }
 {
-    let room = if around == 0 { USUAL } else { FEW };
-    let mut members = Members::Empty;
+    let mut count = 0;
     let mut rest = text;
     'pieces: loop {
-        let Some((piece, after)) = next_piece(alloc, version, rest, limit, around)? else {
-            return Ok((members, rest));
+        let Some((piece, after)) = next_piece(builder, version, rest, limit, around)? else {
+            return Ok((count, rest));
         };
-        members.add(alloc, piece.into_description(alloc)?, room)?;
+        add(builder, version, piece)?;
+        count += 1;
         rest = after;
     }
 }
 
-/// The description behind the `[` of a nested one, and what follows its `]`. The bracket around it
-/// begins where `start` bytes remain.
+/// What follows the `]` of the nested description that has this behind its `[`. The bracket around
+/// it begins where `start` bytes remain.
 #[cycle(read)]
 fn nested<'a>(
-    alloc: Global,
+    builder: &mut DescriptionBuilder<'a>,
     version: DescriptionVersion,
     text: &'a str,
     limit: u8,
     around: u8,
     start: usize,
-) -> Result<(FormatDescriptionV3Inner<'a>, &'a str), ReadError<'a>>
+) -> Result<&'a str, ReadError<'a>>
     requires { around ≤ limit }
-    ensures { ReadsNested version limit around start text.now result }
+    ensures { ReadsNested version limit around start text.now (built builder.old) (built builder.new) result }
 {
     if around == limit {
         return Err(too_deep(text.len() + 1));
     }
-    let (members, end) = match members(alloc, version, text, limit, around + 1) {
+    let (count, end) = match members(builder, version, text, limit, around + 1) {
         Ok(read) => read,
         Err(error) => return Err(enclosed(error, start)),
     };
     let Start::Closing(after) = start_of(end) else {
         return Err(unclosed(start));
     };
-    Ok((members.packed(alloc), after))
+    pack(builder, version, count)?;
+    Ok(after)
 }
 
 /// The bracket that has this inside.
 #[cycle(read)]
 fn bracket<'a>(
-    alloc: Global,
+    builder: &mut DescriptionBuilder<'a>,
     version: DescriptionVersion,
     inside: &'a str,
     limit: u8,
@@ -219,7 +226,7 @@ fn bracket<'a>(
 ) -> Result<(Piece<'a>, &'a str), ReadError<'a>>
     requires within { around ≤ limit }
     requires begins { BeginsNoEscape version inside.now }
-    ensures { ReadsPiece version limit around (91 ∷ inside.now) result }
+    ensures { ReadsPiece version limit around (91 ∷ inside.now) (built builder.old) (built builder.new) result }
 {
     let start = inside.len() + 1;
     let strict = version.is_strict();
@@ -227,13 +234,13 @@ fn bracket<'a>(
     let (head, behind) = read_head(strict, inside, &mut modifiers)?;
     let spaced = !head.white.is_empty();
     let remaining = behind.len();
-    let mut members = Members::Empty;
+    let mut count = 0;
     let mut rest = behind;
     'inner: loop {
         match start_of(rest) {
             Start::Opening(text) => {
-                let (description, after) = nested(alloc, version, text, limit, around, start)?;
-                members.add(alloc, description, FEW)?;
+                let after = nested(builder, version, text, limit, around, start)?;
+                count += 1;
                 rest = cut(after, Class::White).1;
             }
             Start::Closing(after) => {
@@ -242,9 +249,9 @@ fn bracket<'a>(
                 let nested = Nested {
                     spaced,
                     remaining,
-                    members,
+                    count,
                 };
-                let piece = verdict(alloc, strict, &head, &modifiers, nested, span)?;
+                let piece = verdict(builder, strict, &head, &modifiers, nested, span)?;
                 return Ok((piece, after));
             }
             _ => return Err(unclosed(start)),
@@ -271,10 +278,11 @@ pub fn items<'a>(
     ensures items { ReadsItems version limit text.now result }
     ensures some { IfErr result (λ _. 0 < length text.now) }
 {
+    let mut builder = DescriptionBuilder::new(alloc);
     let mut items = Vec::with_capacity(alloc, first_room(text))?;
     let mut rest = text;
     'pieces: loop {
-        let Some((piece, after)) = next_piece(alloc, version, rest, limit, 0)? else {
+        let Some((piece, after)) = next_piece(&mut builder, version, rest, limit, 0)? else {
             return Ok(items);
         };
         items.push(piece.into_item())?;

@@ -1,39 +1,39 @@
 //! What a closed bracket is, or the fault of the first rule that it breaks.
 
-ghost use Rattle.std.specs.Prelude.{ℕ, ◌≡◌, ◌+◌, List, Option, Some, None, IfOk, IsTrue};
-ghost use Rattle.std.specs.Result.{IfErr};
+ghost use Rattle.std.specs.Prelude.{ℕ, ◌≡◌, ◌+◌, ◌≤◌, List, Option, Some, None, length, IfErr, IfOk, IsFalse, IsTrue};
+ghost use Rattle.timefd_items.specs.Builder.{built};
 ghost use Rattle.timefd_items.specs.Modern.{modern};
-ghost use Rattle.timefd_parse.specs.Head as spec;
-ghost use Rattle.timefd_parse.specs.Head.{Placed, placed};
-ghost use Rattle.timefd_parse.specs.Names.{row_for};
-ghost use Rattle.timefd_parse.specs.Verdict as rules;
-ghost use Rattle.timefd_parse.specs.Verdict.{Part};
-ghost use Rattle.timefd_parse.specs.declared.name.Name as spec_name;
+ghost use Rattle.timefd_items.specs.Tree.{Tree};
+ghost use Rattle.timefd_language.specs.Head as spec;
+ghost use Rattle.timefd_language.specs.Head.{Placed, placed};
+ghost use Rattle.timefd_language.specs.Names.{row_for};
+ghost use Rattle.timefd_language.specs.Verdict as rules;
+ghost use Rattle.timefd_language.specs.Verdict.{Part};
+ghost use Rattle.timefd_language.specs.declared.name.Name as spec_name;
 ghost use Rattle.timefd_parse.specs.Checked.{Checks, ShowsFault};
 ghost use Rattle.timefd_parse.specs.Heads.{ShowsHead};
-ghost use Rattle.timefd_parse.specs.Invalid.{IsInvalid};
-ghost use Rattle.timefd_parse.specs.Pieces.{AreMembers, IsSound};
-ghost use Rattle.timefd_parse.specs.Judged.{ShowsMembers, ShowsParts, Judged, JudgedComponent, ShowsPlaces, placing};
+ghost use Rattle.timefd_language.specs.Invalid.{IsInvalid};
+ghost use Rattle.timefd_parse.specs.Pieces.{IsBuilt};
+ghost use Rattle.timefd_parse.specs.Judged.{ShowsNested, Judged, JudgedComponent, ShowsPlaces, packed, placing};
 
-use crate::combination::refusals;
-use crate::component::component_of;
-use crate::fault::{Fault, Kind, ReadError};
 use crate::head::Head;
-use crate::members::Members;
 use crate::modifiers::Modifiers;
-use crate::name::{ComponentName, Name};
 use crate::piece::Piece;
 use crate::places::Places;
-use std::alloc::Global;
-use timefd_items::Component;
+use timefd_items::{Component, DescriptionBuilder};
+use timefd_language::combination::refusals;
+use timefd_language::component::component_of;
+use timefd_language::fault::{Fault, Kind, ReadError};
+use timefd_language::name::{ComponentName, Name};
 
 /// The nested descriptions of a bracket.
-#[derive(Drop)]
-pub struct Nested<'a> {
+#[derive(Clone, Copy)]
+pub struct Nested {
     /// Whether white bytes stand before the first, and how much of the text remains from its `[` on.
     pub spaced: bool,
     pub remaining: usize,
-    pub members: Members<'a>,
+    /// How many there are. In version 3 each is a tree, and they are the last that were built.
+    pub count: usize,
 }
 
 /// Where a bracket begins and where it is closed: how many bytes of the text remain.
@@ -45,41 +45,36 @@ pub struct Span {
 
 /// The optional description of a bracket named `optional`.
 fn optional<'a>(
+    builder: &mut DescriptionBuilder<'a>,
     strict: bool,
     modifiers: &Modifiers<'a>,
-    nested: Nested<'a>,
+    nested: Nested,
     span: Span,
 ) -> Result<Piece<'a>, ReadError<'a>>
-    requires { AreMembers nested.members }
-    ensures tree { (place : ℕ) (h : spec.Head) (parts : List Part) → Checks strict (Some spec_name.Name.Optional) span.start modifiers.now (placed h) → ShowsParts span.start nested.entry parts → place + span.end ≡ span.start → Judged span.start result (rules.optional_verdict strict h parts place) }
-    ensures sound { IfOk result (IsSound strict) }
-    ensures invalid { IfErr result IsInvalid }
+    requires { IsTrue strict → nested.count ≤ length (built builder.old) }
+    ensures tree { (place : ℕ) (h : spec.Head) (parts : List Part) (base : List Tree) → Checks strict (Some spec_name.Name.Optional) span.start modifiers.now (placed h) → ShowsNested span.start nested parts → place + span.end ≡ span.start → IsBuilt strict base (built builder.old) (packed parts) → Judged span.start strict base (built builder.new) result (rules.optional_verdict strict h parts place) }
+    ensures invalid { IsFalse strict → IfErr result IsInvalid }
 {
     if let Some(fault) = modifiers.fault {
         return Err(ReadError::Invalid(fault));
     }
-    let Nested {
-        spaced: _,
-        remaining,
-        members,
-    } = nested;
-    let item = match members {
-        Members::Empty => {
-            let kind = Kind::Expected("nested format description");
-            return Err(ReadError::Invalid(Fault {
-                kind,
-                remaining: span.end,
-            }));
-        }
-        Members::One(item) => item,
-        Members::Many(_) => {
-            let kind = Kind::NotSupported(
-                "more than one nested format description",
-                "`optional` components",
-            );
-            return Err(ReadError::Invalid(Fault { kind, remaining }));
-        }
-    };
+    if nested.count == 0 {
+        let kind = Kind::Expected("nested format description");
+        return Err(ReadError::Invalid(Fault {
+            kind,
+            remaining: span.end,
+        }));
+    }
+    if nested.count > 1 {
+        let kind = Kind::NotSupported(
+            "more than one nested format description",
+            "`optional` components",
+        );
+        return Err(ReadError::Invalid(Fault {
+            kind,
+            remaining: nested.remaining,
+        }));
+    }
     if !strict {
         let kind = Kind::NotSupported("optional item", "runtime-parsed format descriptions");
         return Err(ReadError::Invalid(Fault {
@@ -87,21 +82,20 @@ fn optional<'a>(
             remaining: span.start,
         }));
     }
-    let format = modifiers.settings.format;
-    Ok(Piece::Optional { format, item })
+    builder.optional(modifiers.settings.format)?;
+    Ok(Piece::Built)
 }
 
 /// The alternatives of a bracket named `first`.
 fn first<'a>(
-    alloc: Global,
+    builder: &mut DescriptionBuilder<'a>,
     strict: bool,
     modifiers: &Modifiers<'a>,
-    members: Members<'a>,
+    nested: Nested,
     span: Span,
 ) -> Result<Piece<'a>, ReadError<'a>>
-    requires { AreMembers members }
-    ensures tree { (place : ℕ) (h : spec.Head) (parts : List Part) → Checks strict (Some spec_name.Name.First) span.start modifiers.now (placed h) → ShowsMembers members.entry parts → place + span.end ≡ span.start → Judged span.start result (rules.first_verdict strict h parts place) }
-    ensures sound { IfOk result (IsSound strict) }
+    requires { IsTrue strict → nested.count ≤ length (built builder.old) }
+    ensures { (place : ℕ) (h : spec.Head) (parts : List Part) (base : List Tree) → Checks strict (Some spec_name.Name.First) span.start modifiers.now (placed h) → ShowsNested span.start nested parts → place + span.end ≡ span.start → IsBuilt strict base (built builder.old) (packed parts) → Judged span.start strict base (built builder.new) result (rules.first_verdict strict h parts place) }
 {
     if let Some(fault) = modifiers.fault {
         return Err(ReadError::Invalid(fault));
@@ -113,14 +107,15 @@ fn first<'a>(
             remaining: span.start,
         }));
     }
-    if let Members::Empty = members {
+    if nested.count == 0 {
         let kind = Kind::Expected("at least one nested format description");
         return Err(ReadError::Invalid(Fault {
             kind,
             remaining: span.end,
         }));
     }
-    Ok(Piece::First(members.into_items(alloc)?))
+    builder.first(nested.count)?;
+    Ok(Piece::Built)
 }
 
 /// The first key that version 3 refuses with the component.
@@ -165,11 +160,10 @@ fn component<'a>(
 }
 
 /// The fault of nested descriptions that stand where they may not.
-fn placing_fault<'a>(head: &Head<'a>, nested: &Nested<'a>, span: Span) -> Option<Fault<'a>>
-    requires { AreMembers nested.now.members }
-    ensures { (parts : List Part) → ShowsParts span.start nested.now parts → ShowsFault span.start result (placing head.now.name parts) }
+fn placing_fault<'a>(head: &Head<'a>, nested: Nested, span: Span) -> Option<Fault<'a>>
+    ensures { (parts : List Part) → ShowsNested span.start nested parts → ShowsFault span.start result (placing head.now.name parts) }
 {
-    if nested.members.is_empty() {
+    if nested.count == 0 {
         return None;
     }
     if !nested.spaced {
@@ -187,25 +181,24 @@ fn placing_fault<'a>(head: &Head<'a>, nested: &Nested<'a>, span: Span) -> Option
     }
 }
 
-/// What a bracket is.
+/// What a bracket is. In version 3 its nested descriptions become one tree.
 pub fn verdict<'a>(
-    alloc: Global,
+    builder: &mut DescriptionBuilder<'a>,
     strict: bool,
     head: &Head<'a>,
     modifiers: &Modifiers<'a>,
-    nested: Nested<'a>,
+    nested: Nested,
     span: Span,
 ) -> Result<Piece<'a>, ReadError<'a>>
-    requires { AreMembers nested.members }
-    ensures tree { (place : ℕ) (h : spec.Head) (parts : List Part) → ShowsHead strict span.start head.now modifiers.now h → ShowsParts span.start nested.entry parts → place + span.end ≡ span.start → Judged span.start result (rules.verdict strict h parts place) }
-    ensures sound { IfOk result (IsSound strict) }
+    requires { IsTrue strict → nested.count ≤ length (built builder.old) }
+    ensures { (place : ℕ) (h : spec.Head) (parts : List Part) (base : List Tree) → ShowsHead strict span.start head.now modifiers.now h → ShowsNested span.start nested parts → place + span.end ≡ span.start → IsBuilt strict base (built builder.old) (packed parts) → Judged span.start strict base (built builder.new) result (rules.verdict strict h parts place) }
 {
-    if let Some(fault) = placing_fault(head, &nested, span) {
+    if let Some(fault) = placing_fault(head, nested, span) {
         return Err(ReadError::Invalid(fault));
     }
     match head.name {
-        Some(Name::Optional) => optional(strict, modifiers, nested, span),
-        Some(Name::First) => first(alloc, strict, modifiers, nested.members, span),
+        Some(Name::Optional) => optional(builder, strict, modifiers, nested, span),
+        Some(Name::First) => first(builder, strict, modifiers, nested, span),
         Some(Name::Component(name)) => Ok(Piece::Component(component(
             strict, head, modifiers, name,
         )?)),

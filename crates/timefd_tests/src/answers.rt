@@ -16,7 +16,7 @@ fn print_item(rt: &impl Abort, printed: &mut String, item: &BorrowedFormatItem) 
 }
 
 /// The items in turn, each literal in quotes.
-fn print_items(rt: &impl Abort, alloc: Global, items: &[BorrowedFormatItem]) -> String {
+pub fn print_items(rt: &impl Abort, alloc: Global, items: &[BorrowedFormatItem]) -> String {
     let mut printed = String::new(alloc);
     for item in items {
         if !printed.is_empty() {
@@ -37,15 +37,20 @@ fn print_description(rt: &impl Abort, alloc: Global, description: &FormatDescrip
     printed
 }
 
-fn print_error(rt: &impl Abort, alloc: Global, error: ParseError) -> String {
+/// What is printed of a call that answers that memory ran out.
+pub const REFUSED: &str = "memory ran out";
+
+/// The sentence of the fault, or that memory ran out.
+pub fn print_error(rt: &impl Abort, alloc: Global, error: ParseError) -> String {
     match error {
         ParseError::Invalid(fault) => format!(in alloc; "{fault}"),
-        ParseError::Memory(_) => String::from_str(alloc, "memory ran out"),
+        ParseError::Memory(_) => String::from_str(alloc, REFUSED),
     }
     .expect(rt, AMPLE)
 }
 
-fn answer(rt: &impl Abort, alloc: Global, version: DescriptionVersion, text: &str) -> String {
+/// What the text is read as in this version, in print.
+pub fn answer(rt: &impl Abort, alloc: Global, version: DescriptionVersion, text: &str) -> String {
     match parse_borrowed(alloc, version, text) {
         Ok(BorrowedOutput::Items(items)) => print_items(rt, alloc, &items),
         Ok(BorrowedOutput::Description(description)) => print_description(rt, alloc, &description),
@@ -53,7 +58,8 @@ fn answer(rt: &impl Abort, alloc: Global, version: DescriptionVersion, text: &st
     }
 }
 
-fn answer_of_parse(rt: &impl Abort, alloc: Global, text: &str) -> String {
+/// The same by the call that reads version 1 alone.
+pub fn answer_of_parse(rt: &impl Abort, alloc: Global, text: &str) -> String {
     match parse(alloc, text) {
         Ok(items) => print_items(rt, alloc, &items),
         Err(error) => print_error(rt, alloc, error),

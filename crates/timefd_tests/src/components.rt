@@ -1,6 +1,7 @@
 //! How each component prints, and the leaf of a description that it becomes.
 
 use super::printed::expect_printed;
+use super::trees::{expect_description, opaque};
 use std::alloc::Global;
 use std::num::NonZero;
 use std::process::Abort;
@@ -137,7 +138,7 @@ const DEPRECATED: [(Component, &str, &str); 6] = [
     ),
 ];
 
-/// Expects how the component prints, and the leaf that it becomes.
+/// Expects how the component prints, and the leaf that it becomes, also in a description.
 fn expect_component(
     rt: &impl Abort,
     alloc: Global,
@@ -148,6 +149,8 @@ fn expect_component(
     expect_printed(rt, alloc, &component, printed);
     let tree = FormatDescriptionV3Inner::from(component);
     expect_printed(rt, alloc, &tree, leaf);
+    let description = opaque(rt, alloc, tree);
+    expect_description(rt, alloc, &description, leaf);
 }
 
 fn expect_components(

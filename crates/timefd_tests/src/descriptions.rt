@@ -64,3 +64,36 @@ fn printed_refusal(rt: HostRuntime) {
     let expected = "NotOpaque { tree: Day { padding: Zero }, cause: TooManyBytes }";
     expect_printed(&rt, rt.alloc(), &refused, expected);
 }
+
+/// `x[optional [y]][first [a] [b] [c]]`, its parts owned but for `y`, `b` and `c`.
+fn optional_and_three(rt: &impl Abort, alloc: Global) -> FormatDescriptionV3Inner<'static> {
+    let alternatives = vec![in alloc;
+        literal(rt, alloc, "a"),
+        FormatDescriptionV3Inner::BorrowedLiteral("b"),
+        FormatDescriptionV3Inner::BorrowedLiteral("c"),
+    ]
+    .expect(rt, AMPLE);
+    let skipped = FormatDescriptionV3Inner::BorrowedLiteral("y");
+    let members = vec![in alloc;
+        literal(rt, alloc, "x"),
+        optional(rt, alloc, true, skipped),
+        FormatDescriptionV3Inner::OwnedFirst(alternatives),
+    ]
+    .expect(rt, AMPLE);
+    FormatDescriptionV3Inner::OwnedCompound(members)
+}
+
+/// Where `rt try --test --fail-alloc N` refuses the growth of `into_opaque`, the tree that comes
+/// back is the one that was handed in.
+#[test]
+fn a_tree_comes_back_where_memory_is_refused(rt: HostRuntime) {
+    let expected =
+        "Compound([Literal(\"x\"), Optional { should_format: true, item: Literal(\"y\") }, First([Literal(\"a\"), Literal(\"b\"), Literal(\"c\")])])";
+    match optional_and_three(&rt, rt.alloc()).into_opaque(rt.alloc()) {
+        Ok(description) => expect_printed(&rt, rt.alloc(), &description, expected),
+        Err(NotOpaque { tree, cause }) => {
+            assert_eq!(rt; cause, OpaqueCause::Memory);
+            expect_printed(&rt, rt.alloc(), &tree, expected);
+        }
+    }
+}

@@ -71,6 +71,7 @@ const FAULTS_OF_NESTING: &[(&str, &str)] = &[
     ),
     (
         "[foo [x]]",
+        // "in on" is `time`'s wording.
         "nested format descriptions is not supported in on this component at byte index 0",
     ),
     (

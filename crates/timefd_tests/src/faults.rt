@@ -105,6 +105,7 @@ fn worked(rt: &impl Abort, alloc: Global) -> Vec<Row> {
         &mut rows,
         InvalidFormatDescription::NotSupported {
             what: "nested format descriptions",
+            // `time`'s wording.
             context: "on this component",
             index: 0,
         },
@@ -184,6 +185,28 @@ fn copies_equal_their_source_and_no_other(rt: HostRuntime) {
         let copy = faults[at].fault.clone(rt.alloc()).expect(&rt, AMPLE);
         expect_equal_at(&rt, &faults, at, &copy);
     }
+}
+
+/// A name of 256 bytes.
+fn long_name(rt: &impl Abort, alloc: Global) -> String {
+    let mut name = String::new(alloc);
+    for _ in 0..32 {
+        name.push_str("somename").expect(rt, AMPLE);
+    }
+    name
+}
+
+#[test]
+fn copies_of_a_long_name(rt: HostRuntime) {
+    let name = long_name(&rt, rt.alloc());
+    assert_eq!(rt; name.len(), 256);
+    let sentence = format!(in rt.alloc(); "invalid component name `{name}` at byte index 3");
+    let sentence = sentence.expect(&rt, AMPLE);
+    let fault = InvalidFormatDescription::InvalidComponentName { name, index: 3 };
+    let copy = fault.clone(rt.alloc()).expect(&rt, AMPLE);
+    assert!(rt; copy == fault);
+    let printed = format!(in rt.alloc(); "{copy}").expect(&rt, AMPLE);
+    assert_eq!(rt; printed.as_str(), sentence.as_str());
 }
 
 #[test]

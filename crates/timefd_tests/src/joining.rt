@@ -104,7 +104,7 @@ fn add_description(
     }
 }
 
-/// The fault of the error, which is no want of memory.
+/// The fault of the error, which is not that memory ran out.
 fn fault_of(rt: &impl Abort, error: ParseError) -> InvalidFormatDescription {
     match error {
         ParseError::Invalid(fault) => fault,

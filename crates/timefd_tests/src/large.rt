@@ -16,7 +16,7 @@ fn add(rt: &impl Abort, text: &mut String, times: usize, part: &str) {
 }
 
 /// The opening, the middle part and the closing, with the outer two so many times.
-fn around(
+pub fn around(
     rt: &impl Abort,
     alloc: Global,
     times: usize,

@@ -6,6 +6,8 @@
 #[cfg(test)]
 mod answers;
 #[cfg(test)]
+mod builder;
+#[cfg(test)]
 mod components;
 #[cfg(test)]
 mod copies;
@@ -25,10 +27,15 @@ mod large;
 mod lent;
 #[cfg(test)]
 mod limits;
+pub mod longest_literal;
 #[cfg(test)]
 mod modifiers;
 #[cfg(test)]
 mod printed;
+#[cfg(test)]
+mod refused_copies;
+#[cfg(test)]
+mod refused_memory;
 #[cfg(test)]
 mod reservation;
 #[cfg(test)]
@@ -39,3 +46,5 @@ mod trees;
 mod version3;
 #[cfg(test)]
 mod versions;
+#[cfg(test)]
+mod views;

@@ -63,7 +63,8 @@ pub fn opaque<'a>(
     alloc: Global,
     tree: FormatDescriptionV3Inner<'a>,
 ) -> FormatDescriptionV3<'a> {
-    tree.into_opaque(alloc).expect(rt, "the bytes fit")
+    tree.into_opaque(alloc)
+        .expect(rt, "the bytes fit, and memory suffices")
 }
 
 /// Expects that the description prints so, opaque and looked into.

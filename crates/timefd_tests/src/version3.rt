@@ -212,6 +212,7 @@ const FAULTS_OF_NESTING: &[(&str, &str)] = &[
     ),
     (
         "[day [ ]]",
+        // "in on" is `time`'s wording.
         "nested format descriptions is not supported in on this component at byte index 0",
     ),
     ("[day [x", "unclosed opening bracket at byte index 0"),

@@ -8,6 +8,9 @@ use std::alloc::Global;
 use std::io;
 use std::io::{ErrorKind, Read, Write};
 
+/// What a test says where an allocation fails.
+pub const AMPLE: &str = "memory suffices";
+
 /// Counts calls down to the one that fails.
 #[derive(Clone, Copy)]
 pub struct Countdown(pub Option<usize>);

@@ -1,9 +1,10 @@
 //! Texts with their lines.
 
-use super::memory::{Feed, Log, run_over};
+use super::memory::{AMPLE, Feed, Log, run_over};
 use crate::end::RunEnd;
 use crate::kind::Kind;
-use std::test::Fail;
+use std::alloc::Global;
+use std::process::Abort;
 
 /// A text with its line.
 pub struct Row {
@@ -13,7 +14,7 @@ pub struct Row {
     pub end: RunEnd,
 }
 
-pub const ROWS: [Row; 5] = [
+pub const ROWS: &[Row] = &[
     Row {
         kind: Kind::Three,
         text: "due [day]",
@@ -28,6 +29,12 @@ pub const ROWS: [Row; 5] = [
     },
     Row {
         kind: Kind::Two,
+        text: "[day][month]",
+        line: "ok items 2\n",
+        end: RunEnd::Accepted,
+    },
+    Row {
+        kind: Kind::Two,
         text: "[day][foo]",
         line: "invalid component name `foo` at byte index 6\n",
         end: RunEnd::Refused,
@@ -39,58 +46,87 @@ pub const ROWS: [Row; 5] = [
         end: RunEnd::Accepted,
     },
     Row {
+        kind: Kind::One,
+        text: "[[[foo]",
+        line: "invalid component name `foo` at byte index 3\n",
+        end: RunEnd::Refused,
+    },
+    Row {
         kind: Kind::Strftime,
         text: "%F\n",
         line: "ok items 2\n",
         end: RunEnd::Accepted,
     },
+    Row {
+        kind: Kind::Strftime,
+        text: "%d%E",
+        line: "invalid component name `E` at byte index 3\n",
+        end: RunEnd::Refused,
+    },
 ];
 
-pub const KINDS: [Kind; 4] = [Kind::One, Kind::Two, Kind::Three, Kind::Strftime];
+pub const KINDS: &[Kind] = &[Kind::One, Kind::Two, Kind::Three, Kind::Strftime];
+
+/// Bytes that are no UTF-8.
+pub const NO_TEXTS: &[&[u8]] = &[b"\xff", b"\xc3", b"[day]\xed\xa0\x80"];
+
+/// Expects the line of a reader and a writer that move at most so many bytes a call.
+fn expect_line(rt: &impl Abort, alloc: Global, row: &Row, most: usize) {
+    let mut reader = Feed::new(row.text.as_bytes());
+    reader.most = most;
+    let mut writer = Log::new(alloc);
+    writer.most = most;
+    let end = run_over(alloc, row.kind, &mut reader, &mut writer);
+    assert_eq!(rt; end, row.end, "{} by {most}", row.text);
+    assert_eq!(rt;
+        writer.written.as_slice(),
+        row.line.as_bytes(),
+        "{}",
+        row.text
+    );
+    assert!(rt; writer.is_flushed, "{}", row.text);
+}
 
 #[test]
-fn lines(rt: HostRuntime) -> Result<(), Fail> {
-    for row in &ROWS {
-        for most in [1, 2, usize::MAX] {
-            let mut reader = Feed::new(row.text.as_bytes());
-            reader.most = most;
-            let mut writer = Log::new(rt.alloc());
-            writer.most = most;
-            let end = run_over(rt.alloc(), row.kind, &mut reader, &mut writer);
-            assert_eq!(rt; end, row.end, "{} by {most}", row.text);
-            assert_eq!(rt;
-                writer.written.as_slice(),
-                row.line.as_bytes(),
-                "{}",
-                row.text
-            );
-            assert!(rt; writer.is_flushed, "{}", row.text);
-        }
+fn lines(rt: HostRuntime) {
+    for row in ROWS {
+        expect_line(&rt, rt.alloc(), row, 1);
+        expect_line(&rt, rt.alloc(), row, 2);
+        expect_line(&rt, rt.alloc(), row, usize::MAX);
     }
-    Ok(())
 }
 
 // A text of many pieces is one text.
 #[test]
-fn long_text(rt: HostRuntime) -> Result<(), Fail> {
-    let text = vec![in rt.alloc(); b']'; 100_000]?;
+fn long_text(rt: HostRuntime) {
+    let text = vec![in rt.alloc(); b']'; 100_000].expect(&rt, AMPLE);
     let mut writer = Log::new(rt.alloc());
     let end = run_over(rt.alloc(), Kind::One, &mut Feed::new(&text), &mut writer);
     assert_eq!(rt; end, RunEnd::Accepted);
     assert_eq!(rt; writer.written.as_slice(), b"ok items 100000\n".as_slice());
-    Ok(())
+}
+
+/// Expects that the bytes are no text, by a reader that moves at most so many a call.
+fn expect_no_text(rt: &impl Abort, alloc: Global, kind: Kind, bytes: &[u8], most: usize) {
+    let mut reader = Feed::new(bytes);
+    reader.most = most;
+    let mut writer = Log::new(alloc);
+    let end = run_over(alloc, kind, &mut reader, &mut writer);
+    assert_eq!(rt; end, RunEnd::NotUtf8, "{kind:?} {bytes:?}");
+    assert!(rt; writer.written.is_empty(), "{kind:?} {bytes:?}");
+}
+
+/// Expects the same of all bytes that are no text.
+fn expect_no_texts(rt: &impl Abort, alloc: Global, kind: Kind) {
+    for bytes in NO_TEXTS {
+        expect_no_text(rt, alloc, kind, bytes, 1);
+        expect_no_text(rt, alloc, kind, bytes, usize::MAX);
+    }
 }
 
 #[test]
-fn no_text(rt: HostRuntime) -> Result<(), Fail> {
-    let inputs: [&[u8]; 3] = [b"\xff", b"\xc3", b"[day]\xed\xa0\x80"];
+fn no_text(rt: HostRuntime) {
     for kind in KINDS {
-        for bytes in inputs {
-            let mut writer = Log::new(rt.alloc());
-            let end = run_over(rt.alloc(), kind, &mut Feed::new(bytes), &mut writer);
-            assert_eq!(rt; end, RunEnd::NotUtf8, "{kind:?} {bytes:?}");
-            assert!(rt; writer.written.is_empty(), "{kind:?} {bytes:?}");
-        }
+        expect_no_texts(&rt, rt.alloc(), *kind);
     }
-    Ok(())
 }

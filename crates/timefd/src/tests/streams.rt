@@ -1,19 +1,19 @@
 //! The adapters and the transfers, each by itself.
 
-use super::memory::{Countdown, Feed, Log};
+use super::memory::{AMPLE, Countdown, Feed, Log};
 use crate::streams::{Failed, FromReader, Sink, Source, ToWriter};
-use crate::transfer::{ReadError, read_all, write_all};
-use std::test::Fail;
+use crate::transfer::{read_all, write_all};
+use std::alloc::Global;
+use std::process::Abort;
 
 #[test]
-fn flush_reaches_the_writer(rt: HostRuntime) -> Result<(), Fail> {
+fn flush_reaches_the_writer(rt: HostRuntime) {
     let mut log = Log::new(rt.alloc());
     let mut sink = ToWriter::new(&mut log);
     assert_eq!(rt; sink.write(b"day"), Ok(3));
     assert_eq!(rt; sink.flush(), Ok(()));
     assert!(rt; log.is_flushed);
     assert_eq!(rt; log.written.as_slice(), b"day".as_slice());
-    Ok(())
 }
 
 #[test]
@@ -27,19 +27,23 @@ fn failed_reader_is_left_alone(rt: HostRuntime) {
     assert_eq!(rt; feed.left.len(), 3);
 }
 
+/// Expects that a writer that failed, or took no byte, is not called again.
+fn expect_left_alone(rt: &impl Abort, alloc: Global, stalls: bool) {
+    let mut log = Log::new(alloc);
+    log.failure = Countdown(Some(0));
+    log.stalls = stalls;
+    let mut sink = ToWriter::new(&mut log);
+    assert_eq!(rt; sink.write(b"day"), Err(Failed));
+    assert_eq!(rt; sink.write(b"day"), Err(Failed));
+    assert_eq!(rt; sink.flush(), Err(Failed));
+    assert!(rt; log.written.is_empty());
+    assert!(rt; !log.is_flushed);
+}
+
 #[test]
 fn failed_writer_is_left_alone(rt: HostRuntime) {
-    for stalls in [false, true] {
-        let mut log = Log::new(rt.alloc());
-        log.failure = Countdown(Some(0));
-        log.stalls = stalls;
-        let mut sink = ToWriter::new(&mut log);
-        assert_eq!(rt; sink.write(b"day"), Err(Failed));
-        assert_eq!(rt; sink.write(b"day"), Err(Failed));
-        assert_eq!(rt; sink.flush(), Err(Failed));
-        assert!(rt; log.written.is_empty());
-        assert!(rt; !log.is_flushed);
-    }
+    expect_left_alone(&rt, rt.alloc(), false);
+    expect_left_alone(&rt, rt.alloc(), true);
 }
 
 #[test]
@@ -50,14 +54,14 @@ fn empty_write_is_no_failure(rt: HostRuntime) {
 }
 
 #[test]
-fn whole_transfers(rt: HostRuntime) -> Result<(), Fail> {
-    let text = vec![in rt.alloc(); 7; 20_000]?;
-    let bytes = read_all(rt.alloc(), &mut FromReader::new(Feed::new(&text)))?;
+fn whole_transfers(rt: HostRuntime) {
+    let text = vec![in rt.alloc(); 7; 20_000].expect(&rt, AMPLE);
+    let bytes = read_all(rt.alloc(), &mut FromReader::new(Feed::new(&text)));
+    let bytes = bytes.expect(&rt, "no read fails, and memory suffices");
     assert_eq!(rt; bytes, text);
     let mut log = Log::new(rt.alloc());
     log.most = 999;
     assert_eq!(rt; write_all(&mut ToWriter::new(&mut log), &text), Ok(()));
     assert_eq!(rt; log.written, text);
     assert!(rt; log.is_flushed);
-    Ok(())
 }

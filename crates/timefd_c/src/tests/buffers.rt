@@ -32,6 +32,7 @@ const WHOLE: &[(u32, &str, &str)] = &[
     (
         2,
         "[foo [x]]",
+        // "in on" is `time`'s wording.
         "nested format descriptions is not supported in on this component at byte index 0",
     ),
     (

@@ -10,7 +10,7 @@ use crate::component::Component;
 use std::alloc::{AllocError, Global};
 
 impl<'a> FormatDescriptionV3Inner<'a> {
-    /// A copy of the same meaning, which lends what this one lends and owns what it owns. An
+    /// A copy of the same meaning, which borrows what this one borrows and owns what it owns. An
     /// `Err` comes where there is no memory left for it.
     #[cycle(clone)]
     pub fn clone(&self, alloc: Global) -> Result<Self, AllocError>
@@ -64,63 +64,8 @@ impl<'a> FormatDescriptionV3Inner<'a> {
         Ok(copies)
     }
 
-    /// A copy of the same meaning that owns all that it holds.
-    #[cycle(own)]
-    pub(super) fn owned(
-        &self,
-        alloc: Global,
-    ) -> Result<FormatDescriptionV3Inner<'static>, AllocError>
-        ensures { IfOk result (λ copy. inner_tree copy ≡ inner_tree self.now) }
-    {
-        if let Some(component) = self.component() {
-            return Ok(FormatDescriptionV3Inner::from(component));
-        }
-        match self {
-            &FormatDescriptionV3Inner::BorrowedLiteral(text) => {
-                Ok(FormatDescriptionV3Inner::OwnedLiteral(String::from_str(alloc, text)?))
-            }
-            FormatDescriptionV3Inner::OwnedLiteral(text) => {
-                Ok(FormatDescriptionV3Inner::OwnedLiteral(String::from_str(alloc, text)?))
-            }
-            &FormatDescriptionV3Inner::BorrowedCompound(items) => {
-                Ok(FormatDescriptionV3Inner::OwnedCompound(Self::all_owned(items, alloc)?))
-            }
-            FormatDescriptionV3Inner::OwnedCompound(items) => {
-                Ok(FormatDescriptionV3Inner::OwnedCompound(Self::all_owned(items, alloc)?))
-            }
-            &FormatDescriptionV3Inner::BorrowedOptional { format, item } => {
-                owned_optional(alloc, format, item.owned(alloc)?)
-            }
-            FormatDescriptionV3Inner::OwnedOptional { format, item } => {
-                owned_optional(alloc, *format, item.owned(alloc)?)
-            }
-            &FormatDescriptionV3Inner::BorrowedFirst(items) => {
-                Ok(FormatDescriptionV3Inner::OwnedFirst(Self::all_owned(items, alloc)?))
-            }
-            FormatDescriptionV3Inner::OwnedFirst(items) => {
-                Ok(FormatDescriptionV3Inner::OwnedFirst(Self::all_owned(items, alloc)?))
-            }
-            _ => unreachable!(),
-        }
-    }
-
-    #[cycle(own)]
-    fn all_owned(
-        items: &[Self],
-        alloc: Global,
-    ) -> Result<Vec<FormatDescriptionV3Inner<'static>>, AllocError>
-        ensures { IfOk result (λ copies. map inner_tree copies.items ≡ map inner_tree items.now) }
-    {
-        let mut copies = Vec::with_capacity(alloc, items.len())?;
-        'items: for at in 0..items.len() {
-            let copy = items[at].owned(alloc)?;
-            copies.push(copy)?;
-        }
-        Ok(copies)
-    }
-
     /// The component that this is, if it is one.
-    fn component(&self) -> Option<Component>
+    pub(super) fn component(&self) -> Option<Component>
         ensures exact { result ≡ component_in (inner_tree self.now) }
         ensures modern { IfSome result (λ c. modern c ≡ c) }
     {
@@ -213,7 +158,7 @@ impl<'a> FormatDescriptionV3Inner<'a> {
     }
 }
 
-fn owned_optional(
+pub(super) fn owned_optional(
     alloc: Global,
     format: bool,
     item: FormatDescriptionV3Inner<'_>,

@@ -1,12 +1,14 @@
 //! From a tree made by hand to a description.
 
-ghost use Rattle.std.specs.Prelude.{◌≡◌, ◌<◌, ◌≤◌, ◌↔◌, IfOk};
+ghost use Rattle.std.specs.Prelude.{◌≡◌, ◌<◌, ◌≤◌, ◌↔◌, [], map, IfOk, IfSome, IsOk};
 ghost use Rattle.std.specs.Result.{IfErr};
 ghost use Rattle.timefd_items.specs.Meaning.{inner_tree};
-ghost use Rattle.timefd_items.specs.Reserved.{reserve};
+ghost use Rattle.timefd_items.specs.Reserved.{reserve, tree_count};
+ghost use Rattle.timefd_items.specs.Tree.{compound, is_none, no_trees, trees};
 
 use crate::format_description_v3::FormatDescriptionV3;
 use crate::format_description_v3::inner::FormatDescriptionV3Inner;
+use crate::format_description_v3::node_list::NodeList;
 use std::alloc::Global;
 
 /// Why a tree was not made a description.
@@ -29,26 +31,67 @@ pub struct NotOpaque<'a> {
 
 impl<'a> FormatDescriptionV3Inner<'a> {
     ghost use Rattle.timefd_items.specs.Description.{description_tree};
+    ghost use Rattle.timefd_items.specs.NodeTrees.{HasRoom, list_trees};
 
-    /// The description of this tree. An `Err` hands the same tree back; whether its bytes fit
-    /// is looked at before memory is.
-    pub fn into_opaque(self, _alloc: Global) -> Result<FormatDescriptionV3<'a>, NotOpaque<'a>>
+    /// The description of this tree. An `Err` hands the same tree back: whether its bytes fit is
+    /// looked at first, then whether there is memory, and only then is the tree taken apart. The
+    /// compound of none takes no memory.
+    pub fn into_opaque(self, alloc: Global) -> Result<FormatDescriptionV3<'a>, NotOpaque<'a>>
         ensures ok { IfOk result (λ description. description_tree description ≡ inner_tree self.entry) }
         ensures fits { IfOk result (λ description. reserve (inner_tree self.entry) ≤ usize.MAX) }
         ensures kept { IfErr result (λ refused. inner_tree refused.tree ≡ inner_tree self.entry) }
         ensures too_many { IfErr result (λ refused. (refused.cause ≡ OpaqueCause.TooManyBytes) ↔ (usize.MAX < reserve (inner_tree self.entry))) }
-        // A description keeps its tree as it was made, so no memory is taken.
-        ensures memory { IfErr result (λ refused. refused.cause ≡ OpaqueCause.TooManyBytes) }
+        ensures empty { inner_tree self.entry ≡ compound no_trees → IsOk result }
     {
-        match self.bytes_within(usize::MAX) {
-            Some(max_bytes_needed) => Ok(FormatDescriptionV3 {
-                max_bytes_needed,
-                inner: self,
-            }),
-            None => Err(NotOpaque {
+        if self.bytes_within(usize::MAX).is_none() {
+            return Err(NotOpaque {
                 tree: self,
                 cause: OpaqueCause::TooManyBytes,
+            });
+        }
+        if self.is_empty_compound() {
+            return Ok(FormatDescriptionV3::empty(alloc));
+        }
+        match self.room(alloc) {
+            Some(mut list) => {
+                self.flatten(&mut list);
+                Ok(FormatDescriptionV3 { list })
+            }
+            None => Err(NotOpaque {
+                tree: self,
+                cause: OpaqueCause::Memory,
             }),
         }
     }
+
+    fn is_empty_compound(&self) -> bool
+        ensures { result ≡ is_none (inner_tree self.now) }
+    {
+        match self {
+            &FormatDescriptionV3Inner::BorrowedCompound(items) => are_none(items),
+            FormatDescriptionV3Inner::OwnedCompound(items) => are_none(items),
+            _ => false,
+        }
+    }
+
+    /// An empty list with room for its nodes, where there is memory for them. Where there are more
+    /// than a `usize` counts, the greatest room is asked for, which no memory has.
+    fn room(&self, alloc: Global) -> Option<NodeList<'a>>
+        ensures empty { IfSome result (λ list. list_trees list ≡ []) }
+        ensures room { IfSome result (λ list. HasRoom list (tree_count (inner_tree self.now))) }
+    {
+        match self.nodes_within(usize::MAX) {
+            Some(count) => NodeList::with_capacity(alloc, count).ok(),
+            None => {
+                let _ = NodeList::with_capacity(alloc, usize::MAX);
+                None
+            }
+        }
+    }
+}
+
+fn are_none(items: &[FormatDescriptionV3Inner<'_>]) -> bool
+    ensures { result ≡ is_none (compound (trees (map inner_tree items.now))) }
+{
+    items.is_empty()
 }

@@ -3,10 +3,12 @@
 ghost use Rattle.std.specs.Prelude.{◌≡◌, map};
 ghost use Rattle.timefd_items.specs.Meaning.{inner_tree};
 ghost use Rattle.timefd_items.specs.Reserved as spec;
-ghost use Rattle.timefd_items.specs.Reserved.{reserve, reserve_all, within};
+ghost use Rattle.timefd_items.specs.Modern.{modern};
+ghost use Rattle.timefd_items.specs.Reserved.{reserve, reserve_all, reserved, within};
 ghost use Rattle.timefd_items.specs.Tree.{trees};
 
 use super::inner::FormatDescriptionV3Inner;
+use crate::component::Component;
 use timefd_modifier::SubsecondDigits;
 
 fn up_to(bytes: usize, limit: usize) -> Option<usize>
@@ -28,6 +30,16 @@ fn digits_shown(digits: SubsecondDigits) -> usize
         SubsecondDigits::Seven => 7,
         SubsecondDigits::Eight => 8,
         SubsecondDigits::Nine | SubsecondDigits::OneOrMore => 9,
+    }
+}
+
+/// How many bytes the modern form of a component reserves.
+pub(super) fn reserved_bytes(component: Component) -> usize
+    ensures { result ≡ reserved (modern component) }
+{
+    match FormatDescriptionV3Inner::from(component).bytes_within(usize::MAX) {
+        Some(bytes) => bytes,
+        None => unreachable!(),
     }
 }
 

@@ -1,6 +1,7 @@
-use Rattle.std.proofs.Common.{refl}
-use Rattle.timefd_parse.specs.Grammar.{items}
+use Rattle.std.proofs.Common.{◌≤◌, ◌*◌, length, refl, sym, subst}
+use Rattle.timefd_language.specs.Grammar.{items}
 use Rattle.timefd_lift.proofs.Answering.{writes-rewritten, is-rewritten, has-items}
+use Rattle.timefd_lift.proofs.Lengths.{outside-length}
 use Rattle.timefd_lift.proofs.from_one.v1_to_v2.Goals as goal
 
 pub returns-in-Ok-escaped-clause-rewritten : goal.returns-in-Ok-escaped-clause-rewritten
@@ -16,3 +17,7 @@ returns-in-Ok-escaped-clause-spelled c = λ ps spelled.
 
 pub returns-clause-spelled : goal.returns-clause-spelled
 returns-clause-spelled c = λ ps spelled. c.in-Err.ensures.spelled (items ps) (ps, spelled.0, spelled.1, refl)
+
+pub returns-in-Ok-escaped-clause-within : goal.returns-in-Ok-escaped-clause-within
+returns-in-Ok-escaped-clause-within c =
+    subst (λ answer. length answer ≤ 2 * length c.args.s.now) (sym c.in-Ok-escaped.ensures.written) (outside-length c.args.s.now)

@@ -1,7 +1,7 @@
 use Rattle.std.proofs.Common.{◌≡◌, ◌+◌, ◌<◌, length, refl, sym, subst, arith, false-eqb, eqb-true}
 use Rattle.std.proofs.lemmas.Result.{err_from_is_err_and}
-use Rattle.timefd_parse.specs.Broken.{name_wanted_index}
-use Rattle.timefd_parse.specs.Shown.{ReadsWord}
+use Rattle.timefd_language.specs.Broken.{name_wanted_index}
+use Rattle.timefd_parse.specs.ReadModifiers.{ReadsWord}
 use Rattle.timefd_parse.proofs.HeadLemmas.{no_modifiers, nameless_fault, head_found, modifier_fault, modifiers_step, name_wanted_none, name_wanted_some}
 use Rattle.timefd_parse.proofs.head.read_head.Goals as goal
 use Rattle.timefd_parse.proofs.head.read_head.Goals.{then-is_empty-2, else-is_empty-2}

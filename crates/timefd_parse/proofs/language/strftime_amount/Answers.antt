@@ -1,12 +1,11 @@
-use Rattle.std.proofs.Common.{refl, ◌∙◌}
-use Rattle.timefd_parse.proofs.AmountLemmas.{items-counted, assigned-in-strftime}
+use Rattle.timefd_strftime.proofs.DirectiveLemmas.{counted_once, counted_unrefused}
 use Rattle.timefd_parse.proofs.language.strftime_amount.Goals as goal
 
-pub returns-in-Ok-clause-found : goal.returns-in-Ok-clause-found
-returns-in-Ok-clause-found c = (_, c.in-Ok.ensures.found, c.len.ensures ∙ items-counted c.in-Ok.items _ refl)
+pub returns-in-Some-clause-found : goal.returns-in-Some-clause-found
+returns-in-Some-clause-found c = c.in-Some.ensures
 
-pub returns-in-Ok-clause-spelled : goal.returns-in-Ok-clause-spelled
-returns-in-Ok-clause-spelled c = λ list s. c.len.ensures ∙ items-counted c.in-Ok.items _ (c.in-Ok.ensures.spelled list s)
+pub returns-in-Some-clause-spelled : goal.returns-in-Some-clause-spelled
+returns-in-Some-clause-spelled c = λ list s. counted_once c.args.text.now _ c.in-Some.ensures list s
 
-pub returns-in-Err-clause-fault : goal.returns-in-Err-clause-fault
-returns-in-Err-clause-fault c = assigned-in-strftime 0 _ _ c.in-Err.ensures.fault
+pub returns-in-Some-clause-refused : goal.returns-in-Some-clause-refused
+returns-in-Some-clause-refused c = λ f h. counted_unrefused c.args.text.now _ c.in-Some.ensures f h

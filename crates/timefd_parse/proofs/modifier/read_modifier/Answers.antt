@@ -1,5 +1,5 @@
 use Rattle.std.proofs.Common.{ap, length, refl, sym, arith, false-eqb, eqb-true}
-use Rattle.timefd_parse.specs.Bytes.{is_key_byte, is_word_byte}
+use Rattle.timefd_language.specs.Bytes.{is_key_byte, is_word_byte}
 use Rattle.timefd_parse.proofs.ModifierLemmas.{one_or_more, no_word, word_of_parts, behind_length, misfit_no_colon, misfit_no_key, misfit_no_value}
 use Rattle.timefd_parse.proofs.modifier.read_modifier.Goals as goal
 

@@ -1,9 +1,9 @@
 use Rattle.std.proofs.Common.{List, refl, sym, subst}
 use Rattle.timefd_items.specs.Faults.{Fault}
 use Rattle.timefd_items.specs.Tree.{Tree}
-use Rattle.timefd_parse.specs.Answers.{IsFaultOrMemory, MemoryAlone}
-use Rattle.timefd_parse.specs.Broken.{FaultOf}
-use Rattle.timefd_parse.specs.Grammar.{Spells}
+use Rattle.timefd_language.specs.Told.{IsFaultOrMemory, MemoryAlone}
+use Rattle.timefd_language.specs.Broken.{FaultOf}
+use Rattle.timefd_language.specs.Grammar.{Spells}
 use Rattle.timefd_parse.proofs.ParseLemmas.{items_output}
 use Rattle.timefd_parse.proofs.ReadLemmas.{not_three}
 use Rattle.timefd_parse.proofs.parsing.parse_borrowed_within.Goals as goal

@@ -1,30 +1,48 @@
-use Rattle.std.proofs.Common.{◌∙◌, ◌≤◌, length, ap, arith}
-use Rattle.timefd_items.specs.Meaning.{inner_tree}
-use Rattle.timefd_items.specs.Reserved.{reserve}
-use Rattle.timefd_items.specs.Tree.{pack}
-use Rattle.timefd_parse.proofs.ParseLemmas.{same_list, no_fault_in, told_assigned, told_spelled, told_refused, reserves_at_most}
+use Rattle.std.proofs.Common.{◌∙◌, ◌≤◌, ◌++◌, length, refl, sym, ap, subst, arith}
+use Rattle.timefd_items.specs.Builder.{built}
+use Rattle.timefd_items.specs.Reserved.{reserve_all}
+use Rattle.timefd_items.specs.Tree.{pack, trees}
+use Rattle.timefd_parse.proofs.ParseLemmas.{items_spelled, same_list, none_read, no_fault_in, told_assigned, told_spelled, told_refused, reserves_at_most}
+use Rattle.timefd_parse.proofs.BuildingLemmas.{list_within}
 use Rattle.timefd_parse.proofs.parsing.parse_description.Goals as goal
 
-pub returns-in-Err-clause-fault : goal.returns-in-Err-clause-fault
-returns-in-Err-clause-fault c = told_assigned _ _ _ _ _ c.in-Err.ensures.members c.told.ensures
+pub returns-clause-fault : goal.returns-clause-fault
+returns-clause-fault c = told_assigned _ _ _ _ _ c.in-Err.ensures.members c.told.ensures
 
-pub returns-in-Err-clause-spelled : goal.returns-in-Err-clause-spelled
-returns-in-Err-clause-spelled c = λ list s. told_spelled _ _ _ _ _ list c.in-Err.ensures.members c.told.ensures s
+pub returns-clause-spelled : goal.returns-clause-spelled
+returns-clause-spelled c = λ list s. told_spelled _ _ _ _ _ list c.in-Err.ensures.members c.told.ensures s
 
-pub returns-in-Err-clause-refused : goal.returns-in-Err-clause-refused
-returns-in-Err-clause-refused c = λ f h. told_refused _ _ _ _ _ f c.in-Err.ensures.members c.told.ensures h
+pub returns-clause-refused : goal.returns-clause-refused
+returns-clause-refused c = λ f h. told_refused _ _ _ _ _ f c.in-Err.ensures.members c.told.ensures h
 
-pub returns-in-Ok-into_opaque-clause-spelled : goal.returns-in-Ok-into_opaque-clause-spelled
-returns-in-Ok-into_opaque-clause-spelled c = λ list s.
-    c.in-Ok-into_opaque.ensures.ok ∙ c.packed.ensures ∙ ap pack (same_list _ _ _ _ _ list c.in-Ok.ensures.members.0 s)
+-- all trees of the text reserve no more bytes than it has
+pub finish-requires : goal.finish-requires
+finish-requires c =
+    let m = c.in-Ok.ensures.members in
+    let most : reserve_all (trees (built c.members.new.builder)) ≤ length c.args.s.now =
+    subst (λ ts. reserve_all (trees ts) ≤ length c.args.s.now) (sym (m.3 refl ∙ ap (λ ts. ts ++ m.0) c.new-builder.ensures)) (list_within _ _ _ _ m.0 _ refl m.1) in
+    omega (arith, most)
 
-pub returns-in-Ok-into_opaque-clause-refused : goal.returns-in-Ok-into_opaque-clause-refused
-returns-in-Ok-into_opaque-clause-refused c = λ f h. no_fault_in _ _ _ _ _ f c.in-Ok.ensures.members.0 h
+pub returns-in-Ok-finish-clause-found : goal.returns-in-Ok-finish-clause-found
+returns-in-Ok-finish-clause-found c =
+    let m = c.in-Ok.ensures.members in
+    (m.0, items_spelled _ _ _ _ _ m.1, c.in-Ok-finish.ensures.ok ∙ ap pack (m.3 refl ∙ ap (λ ts. ts ++ m.0) c.new-builder.ensures))
 
-pub returns-in-Ok-into_opaque-clause-reserved : goal.returns-in-Ok-into_opaque-clause-reserved
-returns-in-Ok-into_opaque-clause-reserved c = reserves_at_most _ _ _ _ _ c.in-Ok.ensures.members.0 (c.in-Ok-into_opaque.ensures.ok ∙ c.packed.ensures)
+pub returns-in-Ok-finish-clause-spelled : goal.returns-in-Ok-finish-clause-spelled
+returns-in-Ok-finish-clause-spelled c = λ list s.
+    let m = c.in-Ok.ensures.members in
+    c.in-Ok-finish.ensures.ok ∙ ap pack (m.3 refl ∙ ap (λ ts. ts ++ m.0) c.new-builder.ensures ∙ same_list _ _ _ _ _ list m.1 s)
 
-pub unreachable-requires : goal.unreachable-requires
-unreachable-requires c =
-    let most : reserve (inner_tree c.packed.result) ≤ length c.args.s.now = reserves_at_most _ _ _ _ _ c.in-Ok.ensures.members.0 c.packed.ensures in
-    omega (arith, most, c.in-Err-into_opaque.ensures.too_many.0 c.in-TooManyBytes.is)
+pub returns-in-Ok-finish-clause-refused : goal.returns-in-Ok-finish-clause-refused
+returns-in-Ok-finish-clause-refused c = λ f h. no_fault_in _ _ _ _ _ f c.in-Ok.ensures.members.1 h
+
+pub returns-in-Ok-finish-clause-reserved : goal.returns-in-Ok-finish-clause-reserved
+returns-in-Ok-finish-clause-reserved c =
+    let m = c.in-Ok.ensures.members in
+    reserves_at_most _ _ _ _ _ m.1 (c.in-Ok-finish.ensures.ok ∙ ap pack (m.3 refl ∙ ap (λ ts. ts ++ m.0) c.new-builder.ensures))
+
+-- a description of the empty text takes no memory
+pub returns-in-Ok-clause-empty : goal.returns-in-Ok-clause-empty
+returns-in-Ok-clause-empty c = λ e.
+    let m = c.in-Ok.ensures.members in
+    c.in-Err-finish.ensures.empty (m.3 refl ∙ ap (λ ts. ts ++ m.0) c.new-builder.ensures ∙ none_read _ _ _ _ _ m.1 e)

@@ -1,7 +1,10 @@
-use Rattle.std.proofs.Common.{length, ◌≤◌, ◌+◌, ◌*◌}
+use Rattle.std.proofs.Common.{◌≡◌, List, length, ◌≤◌, ◌+◌, ◌*◌}
 use denote.Text.{Utf8}
 use denote.Shadow.{shadow}
-use Rattle.timefd_parse.specs.Pieces.{members_trees, AreMembers}
+use Rattle.timefd_items.specs.Builder.{built}
+use Rattle.timefd_items.specs.Tree.{Tree}
+use Rattle.timefd_language.specs.Bytes.{is_version_three}
+use Rattle.timefd_parse.specs.Pieces.{IsBuilt}
 use Rattle.timefd_parse.proofs.ReadLemmas.{Continues}
 use Rattle.timefd_parse.proofs.NestedLemmas.{BracketBefore}
 use Rattle.timefd_parse.proofs.read.+read.Given as goal
@@ -21,7 +24,9 @@ decreases-members l = 2 * length l.text.now + 1
 -- the head, and the nested descriptions so far
 abbrev pub invariant-bracket-inner : goal.invariant-bracket-inner
 invariant-bracket-inner l =
-    shadow (Utf8 l.rest) × (length l.rest ≤ length l.inside) × BracketBefore l.version l.limit l.around l.inside l.head l.modifiers l.spaced l.remaining (members_trees l.members) l.rest × AreMembers l.members
+    shadow (Utf8 l.rest) × (l.count + length l.rest ≤ length l.inside) × (read : List Tree)
+    × BracketBefore l.version l.limit l.around l.inside l.head l.modifiers l.spaced l.remaining read l.rest
+    × (l.count ≡ length read) × IsBuilt (is_version_three l.version) (built l.initial.builder) (built l.builder) read
 
 abbrev pub decreases-bracket-inner : goal.decreases-bracket-inner
 decreases-bracket-inner l = length l.rest
@@ -29,7 +34,9 @@ decreases-bracket-inner l = length l.rest
 -- the pieces so far
 abbrev pub invariant-members-pieces : goal.invariant-members-pieces
 invariant-members-pieces l =
-    shadow (Utf8 l.rest) × (length l.rest ≤ length l.text) × Continues l.version l.limit l.around l.text (members_trees l.members) l.rest × AreMembers l.members
+    shadow (Utf8 l.rest) × (l.count + length l.rest ≤ length l.text) × (done : List Tree)
+    × Continues l.version l.limit l.around l.text done l.rest
+    × (l.count ≡ length done) × IsBuilt (is_version_three l.version) (built l.initial.builder) (built l.builder) done
 
 abbrev pub decreases-members-pieces : goal.decreases-members-pieces
 decreases-members-pieces l = length l.rest

@@ -1,5 +1,5 @@
 use Rattle.std.proofs.Common.{◌≡◌, ◌+◌, ◌∙◌, ◌∷◌, ap, length, refl, sym, arith, eqb-true, false-eqb}
-use Rattle.timefd_parse.specs.Broken.{escape_index}
+use Rattle.timefd_language.specs.Broken.{escape_index}
 use Rattle.timefd_parse.proofs.ReadLemmas.{escape_leads, escape_fault, escape_none, escape_some, special_escape, not_one}
 use Rattle.timefd_parse.proofs.read.backslash.Goals as goal
 use Rattle.timefd_parse.proofs.read.backslash.Goals.{then-is_empty, else-is_empty}

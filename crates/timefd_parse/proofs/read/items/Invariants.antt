@@ -1,6 +1,6 @@
 use Rattle.std.proofs.Common.{◌≤◌, length, map, IsTrue, IsUtf8}
 use Rattle.timefd_items.specs.Meaning.{item_tree}
-use Rattle.timefd_parse.specs.Strings.{are_of_strings}
+use Rattle.timefd_language.specs.Strings.{are_of_strings}
 use Rattle.timefd_parse.proofs.ReadLemmas.{Continues}
 use Rattle.timefd_parse.proofs.read.items.Given as goal
 

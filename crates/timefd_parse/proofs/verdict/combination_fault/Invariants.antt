@@ -1,9 +1,9 @@
 use Rattle.std.proofs.Common.{◌≡◌, ℕ, List, map, drop}
-use Rattle.timefd_parse.specs.Combinations.{refusals}
-use Rattle.timefd_parse.specs.Head.{Placed}
-use Rattle.timefd_parse.specs.Lookup.{refusal_for}
+use Rattle.timefd_language.specs.Combinations.{refusals}
+use Rattle.timefd_language.specs.Head.{Placed}
+use Rattle.timefd_language.specs.Lookup.{refusal_for}
 use Rattle.timefd_parse.specs.Judged.{ShowsPlaces}
-use Rattle.timefd_parse.specs.Verdict.{combined}
+use Rattle.timefd_language.specs.Verdict.{combined}
 use Rattle.timefd_parse.proofs.verdict.combination_fault.Given as goal
 
 -- those that were looked at refuse nothing

@@ -1,6 +1,6 @@
-use Rattle.timefd_parse.specs.Head.{placed}
+use Rattle.timefd_language.specs.Head.{placed}
 use Rattle.timefd_parse.proofs.VerdictLemmas.{component_bad, component_missing, component_refused, component_found, places_shown}
-use Rattle.timefd_parse.proofs.ModernPieces.{name_modern}
+use Rattle.timefd_language.proofs.ModernPieces.{name_modern}
 use Rattle.timefd_parse.proofs.verdict.component.Goals as goal
 
 pub returns-in-Some-clause-tree : goal.returns-in-Some-clause-tree

@@ -1,6 +1,6 @@
 use Rattle.std.proofs.Common.{sym, ap, ◌≡◌, ◌∙◌, true, false, is_some}
 use Rattle.std.proofs.lemmas.Bool.{true≢false}
-use Rattle.timefd_parse.specs.Lookup.{key_for}
+use Rattle.timefd_language.specs.Lookup.{key_for}
 use Rattle.timefd_parse.specs.Checked.{first_place}
 use Rattle.timefd_parse.proofs.CheckLemmas.{at_unknown, at_again, at_good, at_bad_value, place_known}
 use Rattle.timefd_parse.proofs.modifiers.Modifiers.check.Goals as goal

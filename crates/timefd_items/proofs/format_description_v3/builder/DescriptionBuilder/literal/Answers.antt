@@ -1,0 +1,17 @@
+use Rattle.std.proofs.Common.{◌≡◌, ◌∙◌, ◌++◌, ◌∷◌, [], ap, arith}
+use Rattle.timefd_items.specs.Builder.{built}
+use Rattle.timefd_items.specs.NodeTrees.{list_trees}
+use Rattle.timefd_items.specs.Tree.{literal}
+use Rattle.timefd_items.proofs.BuilderLemmas.{few_trees, largest-one_more, length-one_more}
+use Rattle.timefd_items.proofs.format_description_v3.builder.DescriptionBuilder.literal.Goals as goal
+
+pub overflow_add-self : goal.overflow_add-self
+overflow_add-self c = omega (arith, few_trees c.args.self.now.list, c.args.self.now.counted)
+
+pub invariant_of-self-2 : goal.invariant_of-self-2
+invariant_of-self-2 c =
+    let is : list_trees c.literal.new.self ≡ built c.args.self.now ++ literal c.args.text.now ∷ [] = c.literal.ensures.behind ∙ ap (λ ts. ts ++ literal c.args.text.now ∷ []) c.reserve.ensures.kept in
+    record {
+      counted = omega (arith, c.args.self.now.counted, length-one_more (built c.args.self.now) (list_trees c.literal.new.self) (literal c.args.text.now) is);
+      each_fits = largest-one_more (built c.args.self.now) (list_trees c.literal.new.self) (literal c.args.text.now) _ is c.args.self.now.each_fits (omega arith);
+    }

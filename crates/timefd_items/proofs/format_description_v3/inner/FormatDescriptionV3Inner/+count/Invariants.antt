@@ -1,0 +1,12 @@
+use Rattle.std.proofs.Common.{◌≡◌, map, ◌+◌, ◌≤◌, drop}
+use Rattle.timefd_items.specs.Meaning.{inner_tree}
+use Rattle.timefd_items.specs.Reserved.{trees_count}
+use Rattle.timefd_items.specs.Tree.{trees}
+use Rattle.timefd_items.proofs.format_description_v3.inner.FormatDescriptionV3Inner.+count.Given as goal
+
+-- the total and what is left are the whole
+abbrev pub invariant-all_nodes_within-items : goal.invariant-all_nodes_within-items
+invariant-all_nodes_within-items l = record {
+  within : l.total ≤ l.limit;
+  whole : l.total + trees_count (trees (map inner_tree (drop l.at l.items))) ≡ trees_count (trees (map inner_tree l.items));
+}

@@ -1,0 +1,13 @@
+use Rattle.std.proofs.Common.{[]}
+use Rattle.timefd_items.proofs.NodeLemmas.{fit_take}
+use Rattle.timefd_items.proofs.ViewLemmas.{one}
+use Rattle.timefd_items.proofs.format_description_v3.view.split_one.Goals as goal
+
+pub returns-clause-fit : goal.returns-clause-fit
+returns-clause-fit c = fit_take [] c.args.nodes.now _ c.requires.fit
+
+pub returns-clause-members : goal.returns-clause-members
+returns-clause-members c = (one c.args.nodes.now _ c.requires.fit c.requires.one c.requires.there c.index-nodes-count.is).members
+
+pub returns-clause-tree : goal.returns-clause-tree
+returns-clause-tree c = (one c.args.nodes.now _ c.requires.fit c.requires.one c.requires.there c.index-nodes-count.is).tree

@@ -1,0 +1,147 @@
+//! Descriptions put together part by part.
+
+ghost use Rattle.std.specs.Prelude.{◌≡◌, ◌-◌, ◌^◌, ◌≤◌, length};
+ghost use Rattle.timefd_items.specs.NodeTrees.{list_trees};
+ghost use Rattle.timefd_items.specs.Nodes.{largest};
+
+use super::FormatDescriptionV3;
+use super::node_list::NodeList;
+use super::tally::ending_tally;
+use crate::component::Component;
+use std::alloc::{AllocError, Global};
+
+/// A description that is put together part by part: trees side by side, to which literals and
+/// components are added, and of which the last become one. After an `Err`, which comes where there
+/// is no memory left, they are as they were. It is this port's own.
+#[derive(Drop)]
+pub struct DescriptionBuilder<'a> {
+    list: NodeList<'a>,
+    len: usize,
+    ghost counted: { len ≡ length (list_trees list) },
+    // So the sum of what their nodes keep is the sum of what they reserve.
+    ghost each_fits: { largest (list_trees list) ≤ 2 ^ 64 - 1 },
+}
+
+impl<'a> DescriptionBuilder<'a> {
+    ghost use Rattle.std.specs.Prelude.{◌≡◌, ◌++◌, ◌∷◌, [], nat_le, IfOk, IsOk, OnErr, OnOk};
+    ghost use Rattle.timefd_items.specs.Builder.{built};
+    ghost use Rattle.timefd_items.specs.Description.{description_tree};
+    ghost use Rattle.timefd_items.specs.Modern.{modern};
+    ghost use Rattle.timefd_items.specs.Nodes.{before, ending};
+    ghost use Rattle.timefd_items.specs.Reserved.{reserve_all};
+    ghost use Rattle.timefd_items.specs.Tree as spec;
+    ghost use Rattle.timefd_items.specs.Tree.{first, literal, optional, pack, trees};
+
+    /// No trees. It takes no memory.
+    pub fn new(alloc: Global) -> Self
+        ensures { built result ≡ [] }
+    {
+        DescriptionBuilder {
+            list: NodeList::new(alloc),
+            len: 0,
+        }
+    }
+
+    /// Makes room for so many parts at once, where a caller knows how many it will add: literals,
+    /// components, and trees made of the last ones. Without it room grows as it is needed.
+    pub fn reserve(&mut self, count: usize) -> Result<(), AllocError>
+        ensures kept { built self.new ≡ built self.old }
+        ensures no_memory { count ≡ 0 → IsOk result }
+    {
+        self.list.reserve(count)
+    }
+
+    /// How many trees there are.
+    pub fn len(&self) -> usize
+        ensures { result ≡ length (built self.now) }
+    {
+        self.len
+    }
+
+    /// Whether a `usize` counts the bytes that the last trees, so many, reserve.
+    pub fn fits(&self, count: usize) -> bool
+        requires { count ≤ length (built self.now) }
+        ensures { result ≡ nat_le (reserve_all (trees (ending count (built self.now)))) usize.MAX }
+    {
+        ending_tally(self.list.nodes(), count).bytes.is_some()
+    }
+
+    /// Adds a literal.
+    pub fn literal(&mut self, text: &'a str) -> Result<(), AllocError>
+        ensures added { OnOk result (built self.new ≡ built self.old ++ literal text.now ∷ []) }
+        ensures kept { OnErr result (built self.new ≡ built self.old) }
+    {
+        self.list.reserve(1)?;
+        self.list.literal(text);
+        self.len += 1;
+        Ok(())
+    }
+
+    /// Adds a component, in its modern form.
+    pub fn component(&mut self, component: Component) -> Result<(), AllocError>
+        ensures added { OnOk result (built self.new ≡ built self.old ++ spec.component (modern component) ∷ []) }
+        ensures kept { OnErr result (built self.new ≡ built self.old) }
+    {
+        self.list.reserve(1)?;
+        self.list.component(component);
+        self.len += 1;
+        Ok(())
+    }
+
+    /// Makes the last trees, so many, one: a tree alone stays what it is, and takes no memory, and
+    /// any other number becomes their compound. The bytes that they reserve have to fit.
+    #[tactic(auto, using(crate::proofs::BuilderLemmas::one_stays))]
+    pub fn pack(&mut self, count: usize) -> Result<(), AllocError>
+        requires there { count ≤ length (built self.old) }
+        requires fits { reserve_all (trees (ending count (built self.old))) ≤ usize.MAX }
+        ensures packed { OnOk result (built self.new ≡ before count (built self.old) ++ pack (ending count (built self.old)) ∷ []) }
+        ensures kept { OnErr result (built self.new ≡ built self.old) }
+        ensures one { count ≡ 1 → IsOk result }
+    {
+        if count == 1 {
+            return Ok(());
+        }
+        self.list.reserve(1)?;
+        self.list.compound(count);
+        self.len = self.len - count + 1;
+        Ok(())
+    }
+
+    /// Makes the last tree one that a parser may skip.
+    pub fn optional(&mut self, format: bool) -> Result<(), AllocError>
+        requires { 1 ≤ length (built self.old) }
+        ensures made { OnOk result (built self.new ≡ before 1 (built self.old) ++ optional format (pack (ending 1 (built self.old))) ∷ []) }
+        ensures kept { OnErr result (built self.new ≡ built self.old) }
+    {
+        self.list.reserve(1)?;
+        self.list.optional(format);
+        Ok(())
+    }
+
+    /// Makes the last trees, so many, the alternatives of one.
+    pub fn first(&mut self, count: usize) -> Result<(), AllocError>
+        requires { count ≤ length (built self.old) }
+        ensures made { OnOk result (built self.new ≡ before count (built self.old) ++ first (trees (ending count (built self.old))) ∷ []) }
+        ensures kept { OnErr result (built self.new ≡ built self.old) }
+    {
+        self.list.reserve(1)?;
+        self.list.first(count);
+        self.len = self.len - count + 1;
+        Ok(())
+    }
+
+    /// The description of all trees as one, whose bytes have to fit. That of none takes no memory,
+    /// and an `Err` drops the trees.
+    pub fn finish(self) -> Result<FormatDescriptionV3<'a>, AllocError>
+        requires { reserve_all (trees (built self)) ≤ usize.MAX }
+        ensures ok { IfOk result (λ description. description_tree description ≡ pack (built self.entry)) }
+        ensures empty { built self.entry ≡ [] → IsOk result }
+    {
+        let DescriptionBuilder { mut list, len } = self;
+        if len > 1 {
+            list.reserve(1)?;
+            list.compound(len);
+        }
+        Ok(FormatDescriptionV3 { list })
+    }
+}

@@ -1,0 +1,58 @@
+//! Faults inside the reader: they borrow their words and take no memory.
+
+ghost use Rattle.std.specs.Prelude.{◌≡◌};
+ghost use Rattle.timefd_language.specs.declared.fault.ReadError.TheVariants.{Invalid, Memory};
+
+use std::alloc::{AllocError, AllocFailed};
+
+/// Why a text is refused.
+#[derive(Clone, Copy)]
+pub enum Kind<'a> {
+    UnclosedBracket,
+    InvalidName(&'a str),
+    InvalidModifier(&'a str),
+    MissingName,
+    MissingModifier(&'static str),
+    Expected(&'static str),
+    NotSupported(&'static str, &'static str),
+    DuplicateModifier(&'static str),
+    InvalidCombination(&'static str, &'static str),
+}
+
+/// A fault, and how many bytes of the text remain from its place on.
+#[derive(Clone, Copy)]
+pub struct Fault<'a> {
+    pub kind: Kind<'a>,
+    pub remaining: usize,
+}
+
+/// Why the reader stops.
+#[derive(Drop)]
+pub enum ReadError<'a> {
+    Invalid(Fault<'a>),
+    Memory,
+}
+
+impl<'a> From<Fault<'a>> for ReadError<'a> {
+    ghost from_gives = { λ f e. e ≡ Invalid f };
+
+    fn from(fault: Fault<'a>) -> ReadError<'a> {
+        ReadError::Invalid(fault)
+    }
+}
+
+impl<'a> From<AllocError> for ReadError<'a> {
+    ghost from_gives = { λ _ e. e ≡ Memory };
+
+    fn from(_error: AllocError) -> ReadError<'a> {
+        ReadError::Memory
+    }
+}
+
+impl<'a, T: Drop> From<AllocFailed<T>> for ReadError<'a> {
+    ghost from_gives = { λ _ e. e ≡ Memory };
+
+    fn from(_error: AllocFailed<T>) -> ReadError<'a> {
+        ReadError::Memory
+    }
+}

@@ -1,0 +1,131 @@
+//! The keys of modifiers.
+
+ghost use Rattle.std.specs.Prelude.{◌≡◌, map, option_map};
+ghost use Rattle.timefd_language.specs.Names.{row_for};
+ghost use Rattle.timefd_language.specs.Values.{key_in};
+ghost use Rattle.timefd_language.specs.Lookup.{key_for, keys_for};
+
+use crate::name::{ComponentName, Name};
+use crate::same::same;
+
+/// The key of a modifier, with what it sets: several components have a key `repr`, each its own.
+#[derive(Clone, Copy)]
+pub enum Key {
+    /// How a number is filled on the left.
+    Padding,
+    /// What becomes of input behind the description.
+    TrailingInput,
+    /// Whether hours are those of a clock of 24 or of 12 hours.
+    HourRepr,
+    /// How many bytes are ignored.
+    Count,
+    /// How a month is written.
+    MonthRepr,
+    /// Whether names are read with their case.
+    CaseSensitive,
+    /// Whether a sign always stands.
+    Sign,
+    /// Whether `AM` and `PM` are written in upper case.
+    Case,
+    /// How many digits of a second are written.
+    Digits,
+    /// The unit of a Unix timestamp.
+    Precision,
+    /// How a weekday is written.
+    WeekdayRepr,
+    /// Whether weekdays are counted from 1.
+    OneIndexed,
+    /// How weeks are numbered.
+    WeekNumberRepr,
+    /// How much of a year is written.
+    YearRepr,
+    /// Which years are meant.
+    Range,
+    /// Whether years are those of the calendar or of ISO weeks.
+    Base,
+    /// Whether an optional item is formatted.
+    Format,
+}
+
+impl Key {
+    /// The key as it is written.
+    #[inline]
+    pub fn spelling(self) -> &'static str
+        ensures { result.now ≡ (key_for self).key }
+    {
+        match self {
+            Key::Padding => "padding",
+            Key::TrailingInput => "trailing_input",
+            Key::Count => "count",
+            Key::HourRepr
+            | Key::MonthRepr
+            | Key::WeekdayRepr
+            | Key::WeekNumberRepr
+            | Key::YearRepr => "repr",
+            Key::CaseSensitive => "case_sensitive",
+            Key::Sign => "sign",
+            Key::Case => "case",
+            Key::Digits => "digits",
+            Key::Precision => "precision",
+            Key::OneIndexed => "one_indexed",
+            Key::Range => "range",
+            Key::Base => "base",
+            Key::Format => "format",
+        }
+    }
+}
+
+/// The keys that a bracket of this name takes.
+#[inline]
+fn keys(name: Name) -> &'static [Key]
+    ensures { map key_for result.now ≡ keys_for name }
+{
+    match name {
+        Name::Optional => &[Key::Format],
+        Name::First => &[],
+        Name::Component(name) => component_keys(name),
+    }
+}
+
+#[inline]
+fn component_keys(name: ComponentName) -> &'static [Key]
+    ensures { map key_for result.now ≡ (row_for name).keys }
+{
+    match name {
+        ComponentName::Day
+        | ComponentName::Minute
+        | ComponentName::OffsetMinute
+        | ComponentName::OffsetSecond
+        | ComponentName::Ordinal
+        | ComponentName::Second => &[Key::Padding],
+        ComponentName::End => &[Key::TrailingInput],
+        ComponentName::Hour => &[Key::Padding, Key::HourRepr],
+        ComponentName::Ignore => &[Key::Count],
+        ComponentName::Month => &[Key::Padding, Key::MonthRepr, Key::CaseSensitive],
+        ComponentName::OffsetHour => &[Key::Sign, Key::Padding],
+        ComponentName::Period => &[Key::Case, Key::CaseSensitive],
+        ComponentName::Subsecond => &[Key::Digits],
+        ComponentName::UnixTimestamp => &[Key::Precision, Key::Sign],
+        ComponentName::Weekday => &[Key::WeekdayRepr, Key::OneIndexed, Key::CaseSensitive],
+        ComponentName::WeekNumber => &[Key::Padding, Key::WeekNumberRepr],
+        ComponentName::Year => &[
+            Key::Padding,
+            Key::YearRepr,
+            Key::Range,
+            Key::Base,
+            Key::Sign,
+        ],
+    }
+}
+
+/// The key that a word is, in a bracket of this name.
+pub fn key_of(name: Name, strict: bool, word: &str) -> Option<Key>
+    ensures { option_map key_for result ≡ key_in strict word.now (keys_for name) }
+{
+    for key in keys(name) {
+        if same(strict, key.spelling(), word) {
+            return Some(*key);
+        }
+    }
+    None
+}

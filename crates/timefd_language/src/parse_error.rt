@@ -1,0 +1,74 @@
+//! The error of the public calls, and how it is made of a fault.
+
+ghost use Rattle.std.specs.Prelude.{◌≡◌, ◌≤◌, IfOk};
+ghost use Rattle.timefd_items.specs.Faults as spec;
+ghost use Rattle.timefd_language.specs.Shown.{IsFault, MemoryOr};
+ghost use Rattle.timefd_language.specs.Told.{Tells};
+
+use crate::fault::{Fault, Kind, ReadError};
+use std::alloc::{AllocError, Global};
+use timefd_items::InvalidFormatDescription;
+
+/// Why a text was not read.
+#[derive(Debug, Drop)]
+pub enum ParseError {
+    /// The text is no description, for this fault.
+    Invalid(InvalidFormatDescription),
+    /// Memory ran out, which says nothing of the text.
+    Memory(AllocError),
+}
+
+/// What the caller is told of an error in a text with so many bytes.
+pub fn told(alloc: Global, error: ReadError, len: usize) -> ParseError
+    requires { MemoryOr (λ f. f.remaining ≤ len) error }
+    ensures { Tells len error.entry result }
+{
+    let ReadError::Invalid(fault) = error else {
+        return ParseError::Memory(AllocError);
+    };
+    match placed(alloc, fault, len) {
+        Ok(fault) => ParseError::Invalid(fault),
+        Err(error) => ParseError::Memory(error),
+    }
+}
+
+/// The fault of a text with so many bytes.
+fn placed(alloc: Global, fault: Fault, len: usize) -> Result<InvalidFormatDescription, AllocError>
+    requires { fault.remaining ≤ len }
+    ensures { IfOk result (λ e. (g : spec.Fault) → IsFault len fault.entry g → spec.fault_of e ≡ g) }
+{
+    let index = len - fault.remaining;
+    Ok(match fault.kind {
+        Kind::UnclosedBracket => InvalidFormatDescription::UnclosedOpeningBracket { index },
+        Kind::InvalidName(name) => {
+            let name = String::from_str(alloc, name)?;
+            InvalidFormatDescription::InvalidComponentName { name, index }
+        }
+        Kind::InvalidModifier(value) => {
+            let value = String::from_str(alloc, value)?;
+            InvalidFormatDescription::InvalidModifier { value, index }
+        }
+        Kind::MissingName => InvalidFormatDescription::MissingComponentName { index },
+        Kind::MissingModifier(name) => InvalidFormatDescription::MissingRequiredModifier {
+            name,
+            index,
+        },
+        Kind::Expected(what) => InvalidFormatDescription::Expected { what, index },
+        Kind::NotSupported(what, context) => InvalidFormatDescription::NotSupported {
+            what,
+            context,
+            index,
+        },
+        Kind::DuplicateModifier(name) => InvalidFormatDescription::DuplicateModifier {
+            name,
+            index,
+        },
+        Kind::InvalidCombination(modifier, context) => {
+            InvalidFormatDescription::InvalidModifierCombination {
+                modifier,
+                context,
+                index,
+            }
+        }
+    })
+}

@@ -1,0 +1,169 @@
+//! Steps over a text: the longest stretch of a class of bytes, and what a text begins with.
+
+ghost use Rattle.std.specs.Prelude.{◌≡◌, ◌≤◌, ◌<◌, length, ◌==◌, ◌∷◌, MatchOption, slice_index, ℕ, IsTrue, [], ⊤};
+ghost use Rattle.std.specs.List.{prefix_len};
+ghost use Rattle.std.specs.Str.{IsUtf8};
+ghost use Rattle.timefd_language.specs.Bytes as spec;
+ghost use Rattle.timefd_language.specs.Bytes.{is_run_byte, StopsBefore};
+ghost use Rattle.timefd_language.specs.Cut.{class_test, IsCut, BeginsWith};
+
+use crate::description_version::DescriptionVersion;
+use crate::search::len_before;
+
+/// A set of bytes. Where a stretch of its bytes ends, a character ends.
+#[derive(Clone, Copy)]
+pub enum Class {
+    /// White bytes.
+    White,
+    /// Bytes of a name, or of a modifier.
+    Word,
+    /// Bytes of a modifier's key: those of a word, without the colon.
+    Key,
+    /// Bytes of a literal in versions 2 and 3.
+    Run,
+    /// Bytes of a literal in version 1, where a backslash stands for itself.
+    RunWithBackslash,
+    /// Bytes of a literal of strftime.
+    Plain,
+}
+
+/// What a text begins with, and what follows it.
+#[derive(Clone, Copy)]
+pub enum Start<'a> {
+    End,
+    Opening(&'a str),
+    Closing(&'a str),
+    Backslash(&'a str),
+    Other,
+}
+
+#[inline(always)]
+fn is_white(byte: u8) -> bool
+    ensures { result ≡ spec.is_white byte }
+{
+    byte == b'\t' || byte == b'\n' || byte == 12 || byte == b'\r' || byte == b' '
+}
+
+#[inline(always)]
+fn is_special(byte: u8) -> bool
+    ensures { result ≡ spec.is_special byte }
+{
+    byte == b'[' || byte == b']' || byte == b'\\'
+}
+
+#[inline(always)]
+fn is_in(class: Class, byte: u8) -> bool
+    ensures { result ≡ class_test class byte }
+{
+    match class {
+        Class::White => is_white(byte),
+        Class::Word => !is_special(byte) && !is_white(byte),
+        Class::Key => byte != b':' && !is_special(byte) && !is_white(byte),
+        Class::Run => !is_special(byte),
+        Class::RunWithBackslash => !is_special(byte) || byte == b'\\',
+        Class::Plain => byte != b'%',
+    }
+}
+
+/// How many bytes are looked at one by one: a stretch that is longer is a literal.
+const NEAR: usize = 8;
+
+/// How many bytes at the front are in the class, if that is one of literals.
+#[inline(always)]
+fn literal_len(bytes: &[u8], class: Class) -> Option<usize>
+    ensures { MatchOption result ⊤ (λ n. (n ≡ prefix_len (class_test class) bytes.now) × (n ≤ length bytes.now)) }
+{
+    match class {
+        Class::Run => Some(len_before(bytes, b'[', b']', b'\\')),
+        Class::RunWithBackslash => Some(len_before(bytes, b'[', b']', b'[')),
+        Class::Plain => Some(len_before(bytes, b'%', b'%', b'%')),
+        Class::White | Class::Word | Class::Key => None,
+    }
+}
+
+/// How many bytes at the front are in the class.
+#[inline(always)]
+fn run_len(bytes: &[u8], class: Class) -> usize
+    ensures len { result ≡ prefix_len (class_test class) bytes.now }
+    ensures within { result ≤ length bytes.now }
+{
+    for (at, byte) in bytes.iter().enumerate() {
+        if at == NEAR
+            && let Some(len) = literal_len(bytes, class)
+        {
+            return len;
+        }
+        if !is_in(class, *byte) {
+            return at;
+        }
+    }
+    bytes.len()
+}
+
+/// The longest front of bytes of the class, and the rest.
+#[inline(always)]
+pub fn cut(text: &str, class: Class) -> (&str, &str)
+    ensures parts { IsCut (class_test class) text.now result.0.now result.1.now }
+    ensures utf8 { IsUtf8 result.1.now }
+{
+    text.split_at(run_len(text.as_bytes(), class))
+}
+
+/// The longest front that is one literal of the version, and the rest.
+#[inline(always)]
+pub fn cut_run(version: DescriptionVersion, text: &str) -> (&str, &str)
+    ensures parts { IsCut (is_run_byte version) text.now result.0.now result.1.now }
+    ensures utf8 { IsUtf8 result.1.now }
+{
+    match version {
+        DescriptionVersion::One => cut(text, Class::RunWithBackslash),
+        DescriptionVersion::Two | DescriptionVersion::Three => cut(text, Class::Run),
+    }
+}
+
+/// What follows the first byte, which is ASCII.
+#[inline(always)]
+pub fn tail(text: &str) -> &str
+    requires there { 0 < length text.now }
+    requires ascii { slice_index text.now 0 < 128 }
+    ensures rest { text.now ≡ slice_index text.now 0 ∷ result.now }
+    ensures utf8 { IsUtf8 result.now }
+{
+    &text[1..]
+}
+
+/// What a text begins with.
+#[inline(always)]
+pub fn start_of(text: &str) -> Start<'_>
+    ensures { BeginsWith result text.now }
+{
+    match text.as_bytes() {
+        [] => Start::End,
+        [b'[', ..] => Start::Opening(tail(text)),
+        [b']', ..] => Start::Closing(tail(text)),
+        [b'\\', ..] => Start::Backslash(tail(text)),
+        [_, ..] => Start::Other,
+    }
+}
+
+/// What follows a colon, if the text begins with one.
+#[inline(always)]
+pub fn behind_colon(text: &str) -> Option<&str>
+    ensures { MatchOption result (StopsBefore (λ b. b == 58) text.now) (λ rest. text.now ≡ 58 ∷ rest.now) }
+{
+    match text.as_bytes() {
+        [b':', ..] => Some(tail(text)),
+        _ => None,
+    }
+}
+
+/// The first byte and the rest, if the first is an ASCII byte that the escapes of versions 2 and 3 stand for.
+#[inline(always)]
+pub fn escaped(text: &str) -> Option<(&str, &str)>
+    ensures { MatchOption result (StopsBefore spec.is_special text.now) (λ x. (b : ℕ) × IsTrue (spec.is_special b) × (x.0.now ≡ b ∷ []) × (text.now ≡ b ∷ x.1.now) × IsUtf8 x.1.now) }
+{
+    match text.as_bytes() {
+        [byte, ..] if is_special(*byte) => Some(text.split_at(1)),
+        _ => None,
+    }
+}

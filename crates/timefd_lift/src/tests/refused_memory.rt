@@ -1,0 +1,56 @@
+//! Texts rewritten twice, where one allocation may be refused. `gate/memory` runs this test once
+//! for each allocation, and refuses that one.
+
+use crate::v1_to_v2;
+use std::alloc::Global;
+use std::process::Abort;
+use timefd_parse::ParseError;
+
+const AMPLE: &str = "memory suffices";
+
+const REFUSED: &str = "memory ran out";
+
+/// What the text is rewritten to, or the sentence of its fault, or that memory ran out.
+fn answer(rt: &impl Abort, alloc: Global, text: &str) -> String {
+    match v1_to_v2(alloc, text) {
+        Ok(text) => Ok(text),
+        Err(ParseError::Invalid(fault)) => format!(in alloc; "{fault}"),
+        Err(ParseError::Memory(_)) => String::from_str(alloc, REFUSED),
+    }
+    .expect(rt, AMPLE)
+}
+
+/// Expects that one of two calls answers so, and that the other does too or is refused memory.
+fn expect_one_at_least(rt: &impl Abort, alloc: Global, text: &str, expected: &str) {
+    let first = answer(rt, alloc, text);
+    let second = answer(rt, alloc, text);
+    if first.as_str() == REFUSED {
+        assert_eq!(rt; second.as_str(), expected, "{text} behind a refusal");
+        return;
+    }
+    assert_eq!(rt; first.as_str(), expected, "{text}");
+    if second.as_str() != REFUSED {
+        assert_eq!(rt; second.as_str(), expected, "{text} a second time");
+    }
+}
+
+/// Texts, and what they are rewritten to or the sentence of their fault.
+const ROWS: &[(&str, &str)] = &[
+    ("", ""),
+    ("[[day]]", "\\[day\\]\\]"),
+    ("[[[day]]\\", "\\[[day]\\]\\\\"),
+    ("\u{e9}\\\u{e9}", "\u{e9}\\\\\u{e9}"),
+    ("[YEAR Repr:Century]", "[YEAR Repr:Century]"),
+    (
+        "[optional [x]]",
+        "optional item is not supported in runtime-parsed format descriptions at byte index 0",
+    ),
+    ("a[foo]", "invalid component name `foo` at byte index 2"),
+];
+
+#[test]
+fn rewriting(rt: HostRuntime) {
+    for (text, expected) in ROWS {
+        expect_one_at_least(&rt, rt.alloc(), text, expected);
+    }
+}

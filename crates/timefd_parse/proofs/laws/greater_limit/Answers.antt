@@ -1,5 +1,0 @@
-use Rattle.timefd_parse.proofs.Limits.{greater_limit_law}
-use Rattle.timefd_parse.proofs.laws.greater_limit.Goals as goal
-
-pub returns : goal.returns
-returns c = greater_limit_law

@@ -1,5 +1,0 @@
-use Rattle.timefd_parse.proofs.Reserved.{reserves_within_law}
-use Rattle.timefd_parse.proofs.laws.reserves_within.Goals as goal
-
-pub returns : goal.returns
-returns c = reserves_within_law

@@ -1,5 +1,0 @@
-use Rattle.timefd_parse.proofs.StrftimeReader.{strftime_joining_law}
-use Rattle.timefd_parse.proofs.laws.strftime_joining.Goals as goal
-
-pub returns : goal.returns
-returns c = strftime_joining_law

@@ -1,5 +1,0 @@
-use Rattle.timefd_parse.proofs.ModernPieces.{strftime_modernity_law}
-use Rattle.timefd_parse.proofs.laws.strftime_modernity.Goals as goal
-
-pub returns : goal.returns
-returns c = strftime_modernity_law

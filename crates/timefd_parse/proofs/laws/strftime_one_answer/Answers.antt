@@ -1,5 +1,0 @@
-use Rattle.timefd_parse.proofs.StrftimeReader.{strftime_one_answer_law}
-use Rattle.timefd_parse.proofs.laws.strftime_one_answer.Goals as goal
-
-pub returns : goal.returns
-returns c = strftime_one_answer_law

@@ -1,5 +1,0 @@
-use Rattle.timefd_parse.proofs.StrftimeReader.{strftime_shift_law}
-use Rattle.timefd_parse.proofs.laws.strftime_shift.Goals as goal
-
-pub returns : goal.returns
-returns c = strftime_shift_law

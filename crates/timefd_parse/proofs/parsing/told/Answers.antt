@@ -1,7 +1,0 @@
-use Rattle.std.proofs.Common.{sym, subst}
-use Rattle.timefd_parse.specs.declared.parsing.ParseError.TheVariants.{Invalid}
-use Rattle.timefd_parse.specs.Answers.{Tells}
-use Rattle.timefd_parse.proofs.parsing.told.Goals as goal
-
-pub returns-in-Ok : goal.returns-in-Ok
-returns-in-Ok c = subst (λ e. Tells c.args.len e (Invalid c.in-Ok.fault)) (sym c.in-Invalid.is) c.in-Ok.ensures

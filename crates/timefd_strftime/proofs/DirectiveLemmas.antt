@@ -1,0 +1,220 @@
+-- Directives, read one at a time.
+use Rattle.std.proofs.Common.{◌≡◌, ℕ, ◌+◌, ◌<◌, true, append-nil, append_assoc, List, [], ◌∷◌, ◌++◌, Option, Some, None, length, map, get_or, drop, refl, sym, ap, ◌∙◌, subst, arith, length-append, IsTrue, IsUtf8}
+use Rattle.std.proofs.lemmas.Bool.{and_from, and_parts, both_ways}
+use Rattle.std.proofs.lemmas.List.{map-append}
+use Rattle.std.proofs.lemmas.Bool.Decides.{nat_tests}
+use Rattle.std.specs.Borrow.{Bor}
+use Rattle.std.specs.Char.{is_ascii}
+use Rattle.timefd_modifier.specs.declared.enums.Padding.{Padding}
+use Rattle.timefd_items.specs.declared.borrowed_format_item.BorrowedFormatItem.{BorrowedFormatItem}
+use Rattle.timefd_items.specs.Faults.{Fault}
+use Rattle.timefd_items.specs.Meaning.{item_tree}
+use Rattle.timefd_items.specs.Tree.{Text, Tree, literal}
+use Rattle.timefd_language.specs.Bytes.{OneOrMore, StopsBefore}
+use Rattle.timefd_language.specs.Letters.{Flag, unflagged, flagged, item_of}
+use Rattle.timefd_strftime.specs.declared.letter.Letter.{Letter}
+use Rattle.timefd_strftime.specs.LetterMeaning.{IsLetter, flag_padding, letter_tree}
+use Rattle.timefd_language.specs.Strftime.{percent, is_flag, is_plain, flag_text, Directives, no_directives, plain, directive, directives_text, directive_items, IsBehind, AreDirectives, SpellsStrftime, cut_short, unknown, cut_index, ill_text, unknown_kind, ill_fault, StrftimeFaultOf}
+use Rattle.timefd_language.specs.Strings.{is_of_strings, are_of_strings}
+use Rattle.timefd_language.specs.Laws.{HasOneStrftimeAnswer}
+use Rattle.timefd_language.specs.declared.fault.Fault as code_fault
+use Rattle.timefd_language.specs.declared.fault.ReadError.{ReadError}
+use Rattle.timefd_language.specs.declared.fault.ReadError.TheVariants as errors
+use Rattle.timefd_language.specs.declared.parse_error.ParseError.{ParseError}
+use Rattle.timefd_language.specs.declared.parse_error.ParseError.TheVariants.{Invalid, Memory}
+use Rattle.timefd_language.specs.Fault.{raised, expected_escape}
+use Rattle.timefd_language.specs.Cut.{IsCut}
+use Rattle.timefd_strftime.specs.StrftimeReading.{MayFollow, BeginsWithFlag, Leads, LeadsTo, HasItems, IsStrftimeFaultAt, IsStrftimeFaultIn, IsRestOf}
+use Rattle.timefd_language.specs.Shown.{kind_of, IsFault, MemoryOr}
+use Rattle.timefd_language.specs.Told.{IsFaultOrMemory, MemoryAlone, Tells}
+use Rattle.timefd_strftime.specs.StrftimeAnswers.{IsStrftimeFault}
+use Rattle.timefd_language.proofs.StrftimeReader.{directive_regrouped, begins_no_plain, strftime_one_answer_law}
+
+pub ascii_below : (b : ℕ) → is_ascii b ≡ true → b < 128
+ascii_below b e = grind (arith, nat_tests)
+
+pub first_and_rest : (text : Text) → 0 < length text → text ≡ get_or text 0 0 ∷ drop 1 text
+first_and_rest [] some = absurd (omega arith)
+first_and_rest (b ∷ text) some = refl
+
+pub none_left : (text : Text) → length text < 1 → text ≡ []
+none_left [] none = refl
+none_left (b ∷ text) none = absurd (omega arith)
+
+-- Directives.
+
+is_behind : (f : Flag) (b : ℕ) (rest after : Text) → rest ≡ b ∷ after → MayFollow f rest → IsBehind f b
+is_behind unflagged b rest after e h = subst (StopsBefore is_flag) e h
+is_behind (flagged c) b rest after e h = tt
+
+-- what a letter stands for behind the flag leads on
+letter_leads : (behind rest after : Text) (padding : Option Padding) (b : ℕ) (tree : Tree) (h : BeginsWithFlag behind padding rest) → rest ≡ b ∷ after
+    → item_of h.0 b ≡ Some tree → Leads (percent ∷ behind) tree after
+letter_leads behind rest after padding b tree h e of = λ front tail are i. (
+  directive h.0 b tree front,
+  (h.1, is_behind h.0 b rest after e h.4, of, are),
+  ap (λ t. percent ∷ t) (h.3 ∙ ap (λ t. flag_text h.0 ++ t) (e ∙ ap (λ t. b ∷ t) i)) ∙ sym (directive_regrouped h.0 b (directives_text front) tail),
+  refl,
+)
+
+pub directive_leads : (behind rest after : Text) (padding : Option Padding) (b : ℕ) (tree : Tree) (item : Flag → Tree) → BeginsWithFlag behind padding rest
+    → rest ≡ b ∷ after → ((f : Flag) → item_of f b ≡ Some (item f)) → ((f : Flag) → flag_padding f ≡ padding → tree ≡ item f) → Leads (percent ∷ behind) tree after
+directive_leads behind rest after padding b tree item h e of is = letter_leads behind rest after padding b tree h e (of h.0 ∙ ap Some (sym (is h.0 h.2)))
+
+pub directive_leads_to : (behind rest after : Text) (padding : Option Padding) (b : ℕ) (letter : Letter) → BeginsWithFlag behind padding rest
+    → rest ≡ b ∷ after → IsLetter b (Some letter) → IsUtf8 after → LeadsTo (percent ∷ behind) after
+directive_leads_to behind rest after padding b letter h e of utf8 = record {
+  tree = letter_tree letter h.0;
+  leads = letter_leads behind rest after padding b (letter_tree letter h.0) h e (of h.0);
+  left = record { shorter = omega (arith, ap length h.3, length-append (flag_text h.0) rest, ap length e); utf8 = utf8 };
+}
+
+pub directive_unknown : (behind rest : Text) (padding : Option Padding) (bad : code_fault.Fault) → BeginsWithFlag behind padding rest → 0 < length rest
+    → ((f : Flag) → item_of f (get_or rest 0 0) ≡ None) → kind_of bad.kind ≡ unknown_kind (get_or rest 0 0) → bad.remaining ≡ length rest → IsStrftimeFaultAt (percent ∷ behind) bad
+directive_unknown behind rest padding bad h some none kind place =
+    let e : rest ≡ get_or rest 0 0 ∷ drop 1 rest = first_and_rest rest some in (
+      unknown h.0 (get_or rest 0 0) (drop 1 rest),
+      (h.1, is_behind h.0 (get_or rest 0 0) rest (drop 1 rest) e h.4, none h.0),
+      ap (λ t. percent ∷ t) (h.3 ∙ ap (λ t. flag_text h.0 ++ t) e),
+      record { kind = sym kind; place = omega (arith, place, ap length h.3, length-append (flag_text h.0) rest) },
+    )
+
+pub directive_cut_short : (behind rest : Text) (padding : Option Padding) (bad : code_fault.Fault) → BeginsWithFlag behind padding rest → rest ≡ []
+    → kind_of bad.kind ≡ expected_escape → ((f : Flag) → flag_padding f ≡ padding → cut_index f + bad.remaining ≡ 1 + length (flag_text f)) → IsStrftimeFaultAt (percent ∷ behind) bad
+directive_cut_short behind rest padding bad h none kind place = (
+  cut_short h.0,
+  h.1,
+  ap (λ t. percent ∷ t) (h.3 ∙ ap (λ t. flag_text h.0 ++ t) none ∙ append-nil (flag_text h.0)),
+  record { kind = sym kind; place = omega (arith, place h.0 h.2, ap length h.3, length-append (flag_text h.0) rest, ap length none) },
+)
+
+-- Runs.
+
+run_some : (text front rest : Text) (b : ℕ) (more : Text) → IsCut is_plain text front rest → text ≡ b ∷ more → IsTrue (is_plain b) → OneOrMore is_plain front
+run_some text [] rest b more is e passes = absurd (both_ways (is_plain b) (subst (StopsBefore is_plain) (sym is.whole ∙ e) is.stops) passes)
+run_some text (c ∷ front) rest b more is e passes = is.passes
+
+pub run_leads : (text front rest : Text) (b : ℕ) (more : Text) → IsCut is_plain text front rest → text ≡ b ∷ more → IsTrue (is_plain b) → Leads text (literal front) rest
+run_leads text bytes rest b more is e passes = λ front tail are f. (
+  plain bytes front,
+  (run_some text bytes rest b more is e passes, begins_no_plain front tail are (subst (StopsBefore is_plain) f is.stops), are),
+  is.whole ∙ ap (λ t. bytes ++ t) f ∙ sym (append_assoc bytes (directives_text front) tail),
+  refl,
+)
+
+some_length : (front : Text) → OneOrMore is_plain front → 0 < length front
+some_length [] some = absurd some
+some_length (b ∷ front) some = omega arith
+
+pub run_leads_to : (text front rest : Text) (b : ℕ) (more : Text) → IsCut is_plain text front rest → text ≡ b ∷ more → IsTrue (is_plain b) → IsUtf8 rest → LeadsTo text rest
+run_leads_to text bytes rest b more is e passes utf8 = record {
+  tree = literal bytes;
+  leads = run_leads text bytes rest b more is e passes;
+  left = record { shorter = omega (arith, ap length is.whole, length-append bytes rest, some_length bytes (run_some text bytes rest b more is e passes)); utf8 = utf8 };
+}
+
+pub leads_from : (text same : Text) (rest after : Bor (List ℕ)) → text ≡ same → after ≡ rest → LeadsTo same rest.now → LeadsTo text after.now
+leads_from text same rest after e a to =
+    subst (λ (r : Bor (List ℕ)). LeadsTo text r.now) (sym a) (subst (λ (t : Text). LeadsTo t rest.now) (sym e) to)
+
+-- What was read of a text so far: what the rest begins with, the text begins with behind the trees.
+abbrev pub Continues : Text → List Tree → Text → Type 0
+Continues text done rest =
+    (front : Directives) (tail : Text) → AreDirectives front → rest ≡ directives_text front ++ tail
+    → (whole : Directives) × AreDirectives whole × (text ≡ directives_text whole ++ tail) × (directive_items whole ≡ done ++ directive_items front)
+
+pub continues_first : (text : Text) → Continues text [] text
+continues_first text = λ front tail are e. (front, are, e, refl)
+
+pub continues_more : (text rest after : Text) (done : List BorrowedFormatItem) (item : BorrowedFormatItem) → Continues text (map item_tree done) rest
+    → Leads rest (item_tree item) after → Continues text (map item_tree (done ++ item ∷ [])) after
+continues_more text rest after done item before leads =
+    subst (λ (trees : List Tree). Continues text trees after) (sym (map-append item_tree done (item ∷ []))) (λ front tail are e.
+    let a = leads front tail are e in
+    let w = before a.0 tail a.1 a.2 in
+    (w.0, w.1, w.2, w.3 ∙ ap (λ ts. map item_tree done ++ ts) a.3 ∙ sym (append_assoc (map item_tree done) (item_tree item ∷ []) (directive_items front))))
+
+pub all_read : (text rest : Text) (done : List Tree) → Continues text done rest → rest ≡ [] → SpellsStrftime text done
+all_read text rest done before end =
+    let w = before no_directives rest tt refl in
+    (w.0, w.1, w.2 ∙ ap (λ t. directives_text w.0 ++ t) end ∙ append-nil (directives_text w.0), sym (w.3 ∙ append-nil done))
+
+-- so many pieces of a text were read, up to the rest
+abbrev pub CountsTo : Text → ℕ → Text → Type 0
+CountsTo text n rest = (done : List Tree) × Continues text done rest × (n ≡ length done)
+
+pub counts_none : (text : Text) → CountsTo text 0 text
+counts_none text = ([], continues_first text, refl)
+
+pub counts_more : (text rest after : Text) (n : ℕ) → CountsTo text n rest → LeadsTo rest after → CountsTo text (n + 1) after
+counts_more text rest after n before to = (
+  before.0 ++ to.tree ∷ [],
+  λ front tail are e. (
+      let a = to.leads front tail are e in
+      let w = before.1 a.0 tail a.1 a.2 in
+      (w.0, w.1, w.2, w.3 ∙ ap (λ ts. before.0 ++ ts) a.3 ∙ sym (append_assoc before.0 (to.tree ∷ []) (directive_items front)))),
+  omega (arith, before.2, length-append before.0 (to.tree ∷ [])),
+)
+
+pub all_counted : (text rest : Text) (n : ℕ) → CountsTo text n rest → rest ≡ [] → HasItems text n
+all_counted text rest n before end = (before.0, all_read text rest before.0 before.1 end, before.2)
+
+pub fault_behind : (text rest : Text) (done : List Tree) (f : code_fault.Fault) → Continues text done rest → IsStrftimeFaultAt rest f → IsStrftimeFaultIn text f
+fault_behind text rest done f before bad =
+    let w = before no_directives rest tt refl in
+    (w.0, bad.0, w.1, bad.1, w.2 ∙ ap (λ t. directives_text w.0 ++ t) bad.2, subst (λ (t : Text). IsFault (length t) f (ill_fault bad.0)) bad.2 bad.3)
+
+-- Whole texts.
+
+pub record WholeFault (text : Text) (f : code_fault.Fault) : Type 0 where
+  pub g : Fault
+  pub assigned : StrftimeFaultOf text g
+  pub is : IsFault (length text) f g
+
+pub whole_fault : (text : Text) (f : code_fault.Fault) → IsStrftimeFaultIn text f → WholeFault text f
+whole_fault text f h = record {
+  g = raised (ill_fault h.1) (length (directives_text h.0));
+  assigned = (h.0, h.1, h.2, h.3, h.4, refl);
+  is = record { kind = h.5.kind; place = omega (arith, h.5.place, ap length h.4, length-append (directives_text h.0) (ill_text h.1)) };
+}
+
+pub one : (text : Text) → HasOneStrftimeAnswer text
+one text = (strftime_one_answer_law text).1
+
+pub counted_once : (text : Text) (n : ℕ) → HasItems text n → (list : List Tree) → SpellsStrftime text list → n ≡ length list
+counted_once text n found list s = found.2 ∙ ap length ((one text).one_list found.0 list found.1 s)
+
+pub counted_unrefused : (text : Text) (n : ℕ) → HasItems text n → (f : Fault) → StrftimeFaultOf text f → ⊥
+counted_unrefused text n found f h = (one text).not_both found.0 f found.1 h
+
+-- What the caller is told.
+
+pub told_strftime : (text : Text) (e : ReadError) (r : ParseError) → MemoryOr (IsStrftimeFaultIn text) e → Tells (length text) e r → IsStrftimeFault text r
+told_strftime text e (Memory m) h told = tt
+told_strftime text errors.Memory (Invalid x) h told = absurd told
+told_strftime text (errors.Invalid f) (Invalid x) h told =
+    let w = whole_fault text f h in
+    subst (StrftimeFaultOf text) (sym (told w.g w.is)) w.assigned
+
+pub told_strftime_spelled : (text : Text) (e : ReadError) (r : ParseError) (list : List Tree) → MemoryOr (IsStrftimeFaultIn text) e → Tells (length text) e r → SpellsStrftime text list → MemoryAlone r
+told_strftime_spelled text e (Memory m) list h told s = tt
+told_strftime_spelled text errors.Memory (Invalid x) list h told s = told
+told_strftime_spelled text (errors.Invalid f) (Invalid x) list h told s =
+    let w = whole_fault text f h in
+    (one text).not_both list w.g s w.assigned
+
+pub told_strftime_refused : (text : Text) (e : ReadError) (r : ParseError) (f : Fault) → MemoryOr (IsStrftimeFaultIn text) e → Tells (length text) e r → StrftimeFaultOf text f → IsFaultOrMemory f r
+told_strftime_refused text e (Memory m) f h told is = tt
+told_strftime_refused text errors.Memory (Invalid x) f h told is = absurd told
+told_strftime_refused text (errors.Invalid g) (Invalid x) f h told is =
+    let w = whole_fault text g h in
+    told w.g w.is ∙ (one text).one_fault w.g f w.assigned is
+
+-- an item and what follows it
+pub record IsPiece (text : Text) (piece : BorrowedFormatItem × Bor (List ℕ)) : Type 0 where
+  pub leads : Leads text (item_tree piece.0) piece.1.now
+  pub rest : IsRestOf text piece.1.now
+  pub strings : IsTrue (is_of_strings piece.0)
+
+pub piece_at : (text same : Text) (piece : BorrowedFormatItem × Bor (List ℕ)) → text ≡ same → IsPiece same piece → IsPiece text piece
+piece_at text same piece e is = subst (λ (t : Text). IsPiece t piece) (sym e) is

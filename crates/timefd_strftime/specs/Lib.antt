@@ -1,0 +1,4 @@
+pub mod LetterMeaning
+pub mod LentLists
+pub mod StrftimeReading
+pub mod StrftimeAnswers

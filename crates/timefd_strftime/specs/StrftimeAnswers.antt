@@ -1,0 +1,12 @@
+-- How an answer of the public call of strftime stands to a text.
+use Rattle.std.specs.Prelude.{⊤}
+use Rattle.timefd_items.specs.Faults.{fault_of}
+use Rattle.timefd_items.specs.Tree.{Text}
+use Rattle.timefd_language.specs.declared.parse_error.ParseError.{ParseError}
+use Rattle.timefd_language.specs.declared.parse_error.ParseError.TheVariants.{Invalid, Memory}
+use Rattle.timefd_language.specs.Strftime.{StrftimeFaultOf}
+
+-- a fault that the rules assign to the text, or out of memory
+abbrev pub IsStrftimeFault : Text → ParseError → Type 0
+IsStrftimeFault text (Invalid f) = StrftimeFaultOf text (fault_of f)
+IsStrftimeFault text (Memory e) = ⊤

@@ -1,0 +1,16 @@
+//! Reads the texts of strftime. Users take it from `timefd_parse`.
+#![tactic(auto)]
+
+mod count;
+mod directive;
+mod item;
+mod letter;
+mod parsing;
+mod tables;
+mod text;
+
+pub use count::count_of;
+pub use parsing::parse_strftime_borrowed;
+pub use tables::StrftimeTables;
+pub use timefd_items::BorrowedFormatItem;
+pub use timefd_language::ParseError;

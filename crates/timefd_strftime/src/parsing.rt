@@ -1,0 +1,97 @@
+//! The texts of strftime.
+
+ghost use Rattle.std.specs.Prelude.{◌≡◌, ◌<◌, [], List, IfOk, IsOk, IsTrue, MatchResult, length};
+ghost use Rattle.std.specs.Result.{IfErr};
+ghost use Rattle.timefd_items.specs.Faults as spec;
+ghost use Rattle.timefd_items.specs.Meaning.{item_tree, item_trees};
+ghost use Rattle.timefd_items.specs.Tree.{Tree};
+ghost use Rattle.timefd_strftime.specs.declared.text.PieceStart.TheVariants.{Literal};
+ghost use Rattle.timefd_language.specs.Told.{IsFaultOrMemory, MemoryAlone};
+ghost use Rattle.timefd_language.specs.Strftime.{SpellsStrftime, StrftimeFaultOf};
+ghost use Rattle.timefd_strftime.specs.StrftimeAnswers.{IsStrftimeFault};
+ghost use Rattle.timefd_language.specs.Shown.{MemoryOr};
+ghost use Rattle.timefd_strftime.specs.StrftimeReading.{BeginsPiece, IsStrftimeFaultIn, IsRestOf, Leads};
+ghost use Rattle.timefd_language.specs.Strings.{are_of_strings, is_of_strings};
+
+use crate::directive::directive;
+use crate::item::literal_item;
+use crate::tables::StrftimeTables;
+use crate::text::{PieceStart, piece_start_of};
+use std::alloc::Global;
+use timefd_items::BorrowedFormatItem;
+use timefd_language::fault::ReadError;
+use timefd_language::parse_error::{ParseError, told};
+use timefd_language::text::{Class, cut};
+
+/// Reads a text of strftime: `time`'s `parse_strftime_borrowed`. The items of composite letters borrow
+/// the tables' lists.
+///
+/// The error is `Invalid` with the fault of the text, or `Memory` where memory ran out.
+pub fn parse_strftime_borrowed<'a>(
+    alloc: Global,
+    tables: &'a StrftimeTables<'a>,
+    s: &'a str,
+) -> Result<Vec<BorrowedFormatItem<'a>>, ParseError>
+    // What is accepted is spelled so, and what is refused is refused for the fault that the rules assign.
+    ensures found { IfOk result (λ items. SpellsStrftime s.now (item_trees items.items)) }
+    ensures fault { IfErr result (IsStrftimeFault s.now) }
+
+    // What is spelled is accepted, and what has a fault is refused for it, unless memory runs out.
+    ensures spelled { (list : List Tree) → SpellsStrftime s.now list → MatchResult result (λ items. item_trees items.items ≡ list) MemoryAlone }
+    ensures refused { (f : spec.Fault) → StrftimeFaultOf s.now f → MatchResult result (λ _. ⊥) (IsFaultOrMemory f) }
+
+    // No literal is one of bytes, not even in a composite letter's list.
+    ensures strings { IfOk result (λ items. IsTrue (are_of_strings items.items)) }
+
+    // The empty text takes no memory.
+    ensures empty { s.now ≡ [] → IsOk result }
+{
+    match items(alloc, tables, s) {
+        Ok(items) => Ok(items),
+        Err(error) => Err(told(alloc, error, s.len())),
+    }
+}
+
+/// The items of a text.
+fn items<'a>(
+    alloc: Global,
+    tables: &'a StrftimeTables<'a>,
+    text: &'a str,
+) -> Result<Vec<BorrowedFormatItem<'a>>, ReadError<'a>>
+    ensures found { IfOk result (λ items. SpellsStrftime text.now (item_trees items.items)) }
+    ensures fault { IfErr result (MemoryOr (IsStrftimeFaultIn text.now)) }
+    ensures strings { IfOk result (λ items. IsTrue (are_of_strings items.items)) }
+    ensures some { IfErr result (λ _. 0 < length text.now) }
+{
+    let mut items = Vec::with_capacity(alloc, first_room(text))?;
+    let mut rest = text;
+    'items: loop {
+        let piece = match piece_start_of(rest) {
+            PieceStart::End => return Ok(items),
+            PieceStart::Directive(behind) => directive(tables, behind)?,
+            PieceStart::Literal => run(rest),
+        };
+        items.push(piece.0)?;
+        rest = piece.1;
+    }
+}
+
+/// Room for the items of a text of usual length, of which one has a byte or two.
+#[inline(always)]
+fn first_room(text: &str) -> usize
+    ensures { text.now ≡ [] → result ≡ 0 }
+{
+    text.len().min(16)
+}
+
+/// The literal before the first `%`, and the rest.
+#[inline(always)]
+fn run<'a>(text: &'a str) -> (BorrowedFormatItem<'a>, &'a str)
+    requires { BeginsPiece Literal text.now }
+    ensures leads { Leads text.now (item_tree result.0) result.1.now }
+    ensures rest { IsRestOf text.now result.1.now }
+    ensures strings { IsTrue (is_of_strings result.0) }
+{
+    let (front, rest) = cut(text, Class::Plain);
+    (literal_item(front), rest)
+}

@@ -1,0 +1,5 @@
+pub mod PlaceLemmas
+pub mod WrittenLemmas
+pub mod NumberLemmas
+pub mod UpgradeLemmas
+pub mod ReadLemmas

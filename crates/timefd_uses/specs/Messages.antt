@@ -1,0 +1,25 @@
+-- The message of a linter.
+use Rattle.std.specs.Prelude.{ℕ, ◌≡◌, ◌+◌, ◌-◌, ◌++◌, take, replicate, codes}
+use Rattle.std.specs.Fmt.{decimal, char_count}
+use Rattle.timefd_items.specs.Faults.{Fault}
+use Rattle.timefd_items.specs.Sentences.{sentence}
+use Rattle.timefd_items.specs.Tree.{Text}
+use Rattle.timefd_uses.specs.Places.{newlines, begun_line}
+
+-- the line of a place, and its column, in front of which a text stands
+abbrev pub line_behind : Text → ℕ
+line_behind front = newlines front + 1
+
+abbrev pub column_behind : Text → ℕ
+column_behind front = char_count (begun_line front) + 1
+
+-- the message on a fault at a line and a column, with the line that is shown
+abbrev pub message : Text → ℕ → ℕ → Text → Text → Text
+message name line column sentence shown =
+    name ++ (codes ":" ++ (decimal line ++ (codes ":" ++ (decimal column ++ (codes ": " ++ (sentence
+    ++ (codes "\n" ++ (shown ++ (codes "\n" ++ ((replicate (column - 1) 32 ++ codes "^") ++ codes "\n"))))))))))
+
+-- The message names the fault's line and column, and has its sentence and a caret under its column.
+abbrev pub IsMessage : Text → Text → Fault → Text → Type 0
+IsMessage name text f result =
+    (shown : Text) × (result ≡ message name (line_behind (take f.index text)) (column_behind (take f.index text)) (sentence f) shown)

@@ -1,0 +1,27 @@
+//! A date, as these callers hold one.
+
+ghost use Rattle.std.specs.Prelude.{◌≡◌, ◌≤◌, IfSome};
+
+/// A day of a month of the years 0 to 9999. How many days the month has is not looked at.
+#[derive(Clone, Copy)]
+pub struct Date {
+    pub year: u16,
+    pub month: u8,
+    pub day: u8,
+    ghost year_fits: { year ≤ 9999 },
+    ghost month_is_one: { (1 ≤ month) × (month ≤ 12) },
+    ghost day_is_one: { (1 ≤ day) × (day ≤ 31) },
+}
+
+impl Date {
+    /// The date of these numbers, where they are ones of a date.
+    pub fn new(year: u16, month: u8, day: u8) -> Option<Date>
+        ensures { IfSome result (λ date. (date.year ≡ year) × (date.month ≡ month) × (date.day ≡ day)) }
+    {
+        if year <= 9999 && 1 <= month && month <= 12 && 1 <= day && day <= 31 {
+            Some(Date { year, month, day })
+        } else {
+            None
+        }
+    }
+}

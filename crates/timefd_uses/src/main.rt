@@ -1,0 +1,23 @@
+//! What callers of the format descriptions do with them, each in a module of its own: write a date
+//! by a description, read one by a list of items, show where a text is at fault, and rewrite a
+//! description of version 1. `main` runs each on a few texts and prints what it answers.
+#![tactic(auto)]
+
+mod component;
+mod date;
+mod lint;
+mod place;
+mod read;
+mod samples;
+mod upgrade;
+mod write;
+mod write_items;
+
+use std::io;
+
+fn main(rt: HostRuntime) -> io::Result<()> {
+    samples::written(&rt, rt.alloc())?;
+    samples::read(&rt, rt.alloc())?;
+    samples::found(&rt, rt.alloc())?;
+    samples::upgraded(&rt, rt.alloc())
+}

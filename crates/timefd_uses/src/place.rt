@@ -1,0 +1,67 @@
+//! The line and the column of a byte index.
+
+ghost use Rattle.std.specs.Prelude.{◌≡◌, ◌+◌, ◌<◌, ◌^◌, ◌++◌, ◌==◌, if◌then◌else◌, take, replicate, codes, IfOk, string_bytes};
+ghost use Rattle.std.specs.Fmt.{char_count, is_char_start};
+ghost use Rattle.timefd_uses.specs.Places.{newlines, begun_line};
+
+use std::alloc::{AllocError, Global};
+
+/// A place in a text, as editors name it.
+#[derive(Clone, Copy)]
+pub struct Place {
+    /// The line, from 1.
+    pub line: usize,
+    /// The column in characters, from 1.
+    pub column: usize,
+}
+
+impl Place {
+    /// The place behind a byte that stands here.
+    fn behind(self, byte: u8) -> Place
+        requires { (self.line < 2 ^ 63) × (self.column < 2 ^ 63) }
+        ensures line { result.line ≡ self.line + (if byte == 10 then 1 else 0) }
+        ensures column { result.column ≡ (if byte == 10 then 1 else self.column + (if is_char_start byte then 1 else 0)) }
+    {
+        if byte == b'\n' {
+            Place {
+                line: self.line + 1,
+                column: 1,
+            }
+        } else if byte < 0x80 || byte >= 0xC0 {
+            Place {
+                line: self.line,
+                column: self.column + 1,
+            }
+        } else {
+            self
+        }
+    }
+}
+
+/// The place of the byte at an index, or behind the last byte where there is none: one more line
+/// than newlines stand before it, and one more column than characters stand before it in its line.
+pub fn place_of(text: &str, index: usize) -> Place
+    ensures line { result.line ≡ newlines (take index text.now) + 1 }
+    ensures column { result.column ≡ char_count (begun_line (take index text.now)) + 1 }
+{
+    let mut place = Place { line: 1, column: 1 };
+    for (at, byte) in text.as_bytes().iter().enumerate() {
+        if at == index {
+            return place;
+        }
+        place = place.behind(*byte);
+    }
+    place
+}
+
+/// A caret behind so many spaces.
+pub fn caret_line(alloc: Global, spaces: usize) -> Result<String, AllocError>
+    ensures { IfOk result (λ line. string_bytes line ≡ replicate spaces 32 ++ codes "^") }
+{
+    let mut line = String::new(alloc);
+    'spaces: while line.len() < spaces {
+        line.push_str(" ")?;
+    }
+    line.push_str("^")?;
+    Ok(line)
+}

@@ -1,0 +1,115 @@
+//! Reads a date by the items of a description of version 1.
+
+ghost use Rattle.std.specs.Prelude.{◌≡◌, ◌++◌, IfOk, IfSome};
+ghost use Rattle.std.specs.Str.{IsUtf8};
+ghost use Rattle.timefd_uses.specs.Read.{IsNumberAhead};
+
+use crate::date::Date;
+use timefd_items::modifier::Padding;
+use timefd_items::{BorrowedFormatItem, Component};
+
+/// Why a text is not read as a date.
+#[derive(Debug, Clone, Copy)]
+pub enum ReadError {
+    /// The items have a part that isn't read here.
+    NotRead,
+    /// The text is none of these items.
+    NoMatch,
+    /// The items don't tell year, month and day, or the text tells no date.
+    NoDate,
+}
+
+/// The numbers that were read so far.
+#[derive(Clone, Copy)]
+struct Numbers {
+    year: Option<u16>,
+    month: Option<u16>,
+    day: Option<u16>,
+}
+
+/// The date that the text is by these items, which it has to be to its end.
+pub fn read_date(items: &[BorrowedFormatItem<'_>], text: &str) -> Result<Date, ReadError> {
+    let mut numbers = Numbers {
+        year: None,
+        month: None,
+        day: None,
+    };
+    let mut rest = text;
+    'items: for at in 0..items.len() {
+        rest = match items[at] {
+            BorrowedFormatItem::StringLiteral(literal) => behind_literal(rest, literal)?,
+            BorrowedFormatItem::Component(component) => behind_number(
+                &mut numbers,
+                rest,
+                component,
+            )?,
+            _ => return Err(ReadError::NotRead),
+        };
+    }
+    if rest.is_empty() {
+        date_of(numbers).ok_or(ReadError::NoDate)
+    } else {
+        Err(ReadError::NoMatch)
+    }
+}
+
+/// What stands behind the literal, with which the text has to begin.
+fn behind_literal<'a>(text: &'a str, literal: &str) -> Result<&'a str, ReadError>
+    ensures rest { IfOk result (λ rest. text.now ≡ literal.now ++ rest.now) }
+    ensures utf8 { IfOk result (λ rest. IsUtf8 rest.now) }
+{
+    match text.strip_prefix(literal) {
+        Some(rest) => Ok(rest),
+        None => Err(ReadError::NoMatch),
+    }
+}
+
+/// What stands behind the number of a component, which is kept. It is filled with zeros: two digits
+/// for a day and a month, and four for a year, with no sign.
+fn behind_number<'a>(
+    numbers: &mut Numbers,
+    text: &'a str,
+    component: Component,
+) -> Result<&'a str, ReadError>
+    ensures utf8 { IfOk result (λ rest. IsUtf8 rest.now) }
+{
+    match component {
+        Component::Day(day) if day.padding == Padding::Zero => {
+            let (value, rest) = number(text, 2).ok_or(ReadError::NoMatch)?;
+            numbers.day = Some(value);
+            Ok(rest)
+        }
+        Component::MonthNumerical(month) if month.padding == Padding::Zero => {
+            let (value, rest) = number(text, 2).ok_or(ReadError::NoMatch)?;
+            numbers.month = Some(value);
+            Ok(rest)
+        }
+        Component::CalendarYearFullExtendedRange(year)
+            if year.padding == Padding::Zero && !year.sign_is_mandatory => {
+            let (value, rest) = number(text, 4).ok_or(ReadError::NoMatch)?;
+            numbers.year = Some(value);
+            Ok(rest)
+        }
+        _ => Err(ReadError::NotRead),
+    }
+}
+
+/// The number that the first `width` bytes are in decimal, and what stands behind them.
+fn number(text: &str, width: usize) -> Option<(u16, &str)>
+    ensures value { IfSome result (λ x. IsNumberAhead width text.now x.0 x.1.now) }
+    ensures utf8 { IfSome result (λ x. IsUtf8 x.1.now) }
+{
+    let (digits, rest) = text.split_at_checked(width)?;
+    if digits.starts_with('+') {
+        return None;
+    }
+    let value = digits.parse::<u16>().ok()?;
+    Some((value, rest))
+}
+
+/// The date of the numbers that were read.
+fn date_of(numbers: Numbers) -> Option<Date> {
+    let month = u8::try_from(numbers.month?).ok()?;
+    let day = u8::try_from(numbers.day?).ok()?;
+    Date::new(numbers.year?, month, day)
+}

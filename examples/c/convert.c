@@ -1,0 +1,63 @@
+/* Rewrites a few texts of version 1 as ones of version 2. ../run.sh builds and runs it. */
+
+#include "../timefd.h"
+
+#include <stdio.h>
+#include <stdlib.h>
+#include <string.h>
+
+static const char *const TEXTS[] = {
+    "", "[[day]]", "[[[day]]\\", "a]b", "\xc3\xa9\\\xc3\xa9", "[YEAR Repr:Century]", "[optional [x]]", "a[day", "\xff",
+};
+
+/* What is said where no text was written. */
+static void print_refusal(timefd_answer answer) {
+    switch (answer.status) {
+    case TIMEFD_REFUSED:
+        printf("refused at %zu\n", answer.value);
+        break;
+    case TIMEFD_NOT_UTF8:
+        puts("no UTF-8");
+        break;
+    default:
+        puts("out of memory");
+    }
+}
+
+static void print_converted(const char *text) {
+    size_t len = strlen(text);
+    size_t room = 2 * len;
+    uint8_t *buffer = calloc(room + 1, 1); /* one more, since no pointer may be null */
+    if (buffer == NULL) {
+        puts("out of memory");
+        return;
+    }
+    timefd_answer answer = timefd_v1_to_v2((const uint8_t *)text, len, buffer, room);
+    if (answer.status == TIMEFD_ACCEPTED) {
+        printf("\"%s\" is \"%.*s\"\n", text, (int)answer.written, (const char *)buffer);
+    } else {
+        print_refusal(answer);
+    }
+    free(buffer);
+}
+
+/* A buffer that is too short is kept, and the answer says how long it has to be. */
+static void print_short(const char *text) {
+    uint8_t buffer[] = "....";
+    timefd_answer answer = timefd_v1_to_v2((const uint8_t *)text, strlen(text), buffer, 4);
+    if (answer.status == TIMEFD_ACCEPTED) {
+        printf("\"%s\" needs %zu bytes, and of 4 got %zu: \"%s\"\n", text, answer.value, answer.written,
+               (const char *)buffer);
+    } else {
+        print_refusal(answer);
+    }
+}
+
+int main(void) {
+    for (size_t i = 0; i < sizeof TEXTS / sizeof TEXTS[0]; i++) {
+        print_converted(TEXTS[i]);
+    }
+    print_short("a]b");
+    print_short("a]]b");
+    return 0;
+}

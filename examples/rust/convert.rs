@@ -1,0 +1,64 @@
+//! Rewrites a few texts of version 1 as ones of version 2. `../run.sh` builds and runs it.
+
+// Another program uses the rest of the module.
+#[allow(dead_code)]
+mod timefd;
+
+use timefd::Answer;
+
+const TEXTS: [&[u8]; 9] = [
+    b"",
+    b"[[day]]",
+    b"[[[day]]\\",
+    b"a]b",
+    b"\xc3\xa9\\\xc3\xa9",
+    b"[YEAR Repr:Century]",
+    b"[optional [x]]",
+    b"a[day",
+    b"\xff",
+];
+
+/// What is said where no text was written.
+fn print_refusal(answer: &Answer) {
+    match answer.status {
+        timefd::REFUSED => println!("refused at {}", answer.value),
+        timefd::NOT_UTF8 => println!("no UTF-8"),
+        _ => println!("out of memory"),
+    }
+}
+
+fn print_converted(text: &[u8]) {
+    let mut buffer = vec![0; 2 * text.len()];
+    let answer = timefd::v1_to_v2(text, &mut buffer);
+    if answer.status == timefd::ACCEPTED {
+        let text = String::from_utf8_lossy(text);
+        let converted = String::from_utf8_lossy(&buffer[..answer.written]);
+        println!("\"{text}\" is \"{converted}\"");
+    } else {
+        print_refusal(&answer);
+    }
+}
+
+/// A buffer that is too short is kept, and the answer says how long it has to be.
+fn print_short(text: &str) {
+    let mut buffer = *b"....";
+    let answer = timefd::v1_to_v2(text.as_bytes(), &mut buffer);
+    if answer.status == timefd::ACCEPTED {
+        println!(
+            "\"{text}\" needs {} bytes, and of 4 got {}: \"{}\"",
+            answer.value,
+            answer.written,
+            String::from_utf8_lossy(&buffer)
+        );
+    } else {
+        print_refusal(&answer);
+    }
+}
+
+fn main() {
+    for text in TEXTS {
+        print_converted(text);
+    }
+    print_short("a]b");
+    print_short("a]]b");
+}

@@ -1,0 +1,129 @@
+/* Refuses each allocation of each call of the static library in turn. gate/library builds it, with malloc, realloc and
+   free of the library led to the functions below, and runs it. */
+
+#include "../examples/timefd.h"
+
+#include <inttypes.h>
+#include <stdbool.h>
+#include <stdio.h>
+#include <string.h>
+
+enum { ROOM = 128 };
+
+void *__real_malloc(size_t size);
+void *__real_realloc(void *block, size_t size);
+void __real_free(void *block);
+void *__wrap_malloc(size_t size);
+void *__wrap_realloc(void *block, size_t size);
+void __wrap_free(void *block);
+
+static size_t asked;   /* how many blocks a call asked for so far */
+static size_t refused; /* which of them is refused, counted from 1, or 0 */
+static size_t held;    /* how many blocks are not freed */
+
+void *__wrap_malloc(size_t size) {
+    asked++;
+    void *block = asked == refused ? NULL : __real_malloc(size);
+    held += block != NULL;
+    return block;
+}
+
+void *__wrap_realloc(void *block, size_t size) {
+    asked++;
+    void *moved = asked == refused ? NULL : __real_realloc(block, size);
+    held += block == NULL && moved != NULL;
+    return moved;
+}
+
+void __wrap_free(void *block) {
+    held -= block != NULL;
+    __real_free(block);
+}
+
+struct sample {
+    uint32_t kind; /* 0 for timefd_v1_to_v2 */
+    const char *text;
+};
+
+static const struct sample SAMPLES[] = {
+    {0, ""},
+    {0, "[[[day]]\\"},
+    {0, "a]b"},
+    {0, "]]]]]]]]]]]]]]]]]]]]]]]]]]]]]]]]]]]]]]]]]]]]]]]]"},
+    {0, "[YEAR Repr:Century]"},
+    {0, "[foo]"},
+    {0, "[optional [x]]"},
+    {0, "a[day"},
+    {TIMEFD_VERSION_1, "[[[day]"},
+    {TIMEFD_VERSION_1, "[foo bar"},
+    {TIMEFD_VERSION_2, "[year]-[month]-[day] at [hour]:[minute]:[second]"},
+    {TIMEFD_VERSION_2, "[hour repr:99 repr:12]"},
+    {TIMEFD_VERSION_3, "[first [a] [[day]] [c[optional [[year]-[month]]]]]"},
+    {TIMEFD_VERSION_3, "x[optional format:false [[weekday]]]y[first [a] [bcd]]"},
+    {TIMEFD_VERSION_3, "[hour repr:12 repr:24]"},
+    {TIMEFD_STRFTIME, "%c and %Y-%m-%d"},
+    {TIMEFD_STRFTIME, "%O"},
+};
+
+struct outcome {
+    timefd_answer answer;
+    uint8_t buffer[ROOM];
+};
+
+/* One call, whose allocation with this number is refused. */
+static struct outcome outcome_of(const struct sample *sample, size_t number) {
+    struct outcome outcome;
+    const uint8_t *text = (const uint8_t *)sample->text;
+    size_t len = strlen(sample->text);
+    memset(&outcome, 0, sizeof outcome);
+    memset(outcome.buffer, '.', ROOM);
+    asked = 0;
+    refused = number;
+    outcome.answer = sample->kind == 0 ? timefd_v1_to_v2(text, len, outcome.buffer, ROOM)
+                                       : timefd_check(sample->kind, text, len, outcome.buffer, ROOM);
+    refused = 0;
+    return outcome;
+}
+
+static bool is_same(const struct outcome *a, const struct outcome *b) {
+    return a->answer.status == b->answer.status && a->answer.value == b->answer.value &&
+           a->answer.sentence_len == b->answer.sentence_len && a->answer.written == b->answer.written &&
+           memcmp(a->buffer, b->buffer, ROOM) == 0;
+}
+
+/* Whether each outcome is the ample one, or that memory ran out and nothing else; and how many were refused. */
+static bool holds(const struct sample *sample, size_t *count) {
+    struct outcome ample = outcome_of(sample, 0);
+    struct outcome out = ample;
+    out.answer = (timefd_answer){.status = TIMEFD_NO_MEMORY};
+    memset(out.buffer, '.', ROOM);
+    if (ample.answer.status == TIMEFD_NO_MEMORY || held != 0) {
+        return false;
+    }
+    for (size_t number = 1;; number++) {
+        struct outcome one = outcome_of(sample, number);
+        bool none_refused = asked < number;
+        struct outcome next = outcome_of(sample, 0);
+        bool fits = is_same(&one, &ample) || (!none_refused && is_same(&one, &out));
+        if (!fits || !is_same(&next, &ample) || held != 0) {
+            return false;
+        }
+        if (none_refused) {
+            return true;
+        }
+        ++*count;
+    }
+}
+
+int main(void) {
+    size_t failed = 0;
+    size_t count = 0;
+    for (size_t i = 0; i < sizeof SAMPLES / sizeof SAMPLES[0]; i++) {
+        if (!holds(&SAMPLES[i], &count)) {
+            failed++;
+            fprintf(stderr, "gate/library: %" PRIu32 ": %s\n", SAMPLES[i].kind, SAMPLES[i].text);
+        }
+    }
+    printf("gate/library: %zu refused allocations, %zu texts failed\n", count, failed);
+    return failed != 0;
+}
