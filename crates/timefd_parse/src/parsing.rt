@@ -15,7 +15,7 @@ ghost use Rattle.timefd_language.specs.Told.{IsFaultOrMemory, MemoryAlone, Tells
 ghost use Rattle.timefd_language.specs.Shown.{IsFault, MemoryOr};
 ghost use Rattle.timefd_language.specs.Strings.{AreItems};
 
-use crate::read::{items, members};
+use crate::read::{first_room, items, members};
 use std::alloc::{AllocError, Global};
 use timefd_items::{
     BorrowedFormatItem, DescriptionBuilder, FormatDescriptionV3, InvalidFormatDescription,
@@ -175,6 +175,9 @@ fn parse_description<'a>(
 {
     let len = s.len();
     let mut builder = DescriptionBuilder::new(alloc);
+    if let Err(error) = builder.reserve(first_room(s)) {
+        return Err(ParseError::Memory(error));
+    }
     match members(&mut builder, DescriptionVersion::Three, s, limit, 0) {
         Ok(_) => match builder.finish() {
             Ok(description) => Ok(description),

@@ -261,7 +261,7 @@ fn bracket<'a>(
 
 /// Room for the items of a text of usual length, of which one has three bytes or more on average.
 #[inline(always)]
-fn first_room(text: &str) -> usize
+pub fn first_room(text: &str) -> usize
     ensures { text.now ≡ [] → result ≡ 0 }
 {
     text.len().div_ceil(4).min(16)

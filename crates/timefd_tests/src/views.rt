@@ -144,5 +144,9 @@ fn many_members(rt: HostRuntime) {
     let text = format!(in alloc; "[first {alternatives}]").expect(&rt, AMPLE);
     let description = described(&rt, alloc, text.as_str());
     assert_eq!(rt; members(&rt, description.view()).in_turn().count(), 50_000);
-    assert_eq!(rt; description.view().walk().count(), 50_001);
+    let mut parts: usize = 0;
+    for _ in description.view().walk() {
+        parts = parts.saturating_add(1);
+    }
+    assert_eq!(rt; parts, 50_001);
 }

@@ -7,31 +7,31 @@ use Rattle.timefd_parse.proofs.BuildingLemmas.{list_within}
 use Rattle.timefd_parse.proofs.parsing.parse_description.Goals as goal
 
 pub returns-clause-fault : goal.returns-clause-fault
-returns-clause-fault c = told_assigned _ _ _ _ _ c.in-Err.ensures.members c.told.ensures
+returns-clause-fault c = told_assigned _ _ _ _ _ c.in-Err-members.ensures.members c.told.ensures
 
 pub returns-clause-spelled : goal.returns-clause-spelled
-returns-clause-spelled c = λ list s. told_spelled _ _ _ _ _ list c.in-Err.ensures.members c.told.ensures s
+returns-clause-spelled c = λ list s. told_spelled _ _ _ _ _ list c.in-Err-members.ensures.members c.told.ensures s
 
 pub returns-clause-refused : goal.returns-clause-refused
-returns-clause-refused c = λ f h. told_refused _ _ _ _ _ f c.in-Err.ensures.members c.told.ensures h
+returns-clause-refused c = λ f h. told_refused _ _ _ _ _ f c.in-Err-members.ensures.members c.told.ensures h
 
 -- all trees of the text reserve no more bytes than it has
 pub finish-requires : goal.finish-requires
 finish-requires c =
     let m = c.in-Ok.ensures.members in
     let most : reserve_all (trees (built c.members.new.builder)) ≤ length c.args.s.now =
-    subst (λ ts. reserve_all (trees ts) ≤ length c.args.s.now) (sym (m.3 refl ∙ ap (λ ts. ts ++ m.0) c.new-builder.ensures)) (list_within _ _ _ _ m.0 _ refl m.1) in
+    subst (λ ts. reserve_all (trees ts) ≤ length c.args.s.now) (sym (m.3 refl ∙ ap (λ ts. ts ++ m.0) (c.reserve.ensures.kept ∙ c.new-builder.ensures))) (list_within _ _ _ _ m.0 _ refl m.1) in
     omega (arith, most)
 
 pub returns-in-Ok-finish-clause-found : goal.returns-in-Ok-finish-clause-found
 returns-in-Ok-finish-clause-found c =
     let m = c.in-Ok.ensures.members in
-    (m.0, items_spelled _ _ _ _ _ m.1, c.in-Ok-finish.ensures.ok ∙ ap pack (m.3 refl ∙ ap (λ ts. ts ++ m.0) c.new-builder.ensures))
+    (m.0, items_spelled _ _ _ _ _ m.1, c.in-Ok-finish.ensures.ok ∙ ap pack (m.3 refl ∙ ap (λ ts. ts ++ m.0) (c.reserve.ensures.kept ∙ c.new-builder.ensures)))
 
 pub returns-in-Ok-finish-clause-spelled : goal.returns-in-Ok-finish-clause-spelled
 returns-in-Ok-finish-clause-spelled c = λ list s.
     let m = c.in-Ok.ensures.members in
-    c.in-Ok-finish.ensures.ok ∙ ap pack (m.3 refl ∙ ap (λ ts. ts ++ m.0) c.new-builder.ensures ∙ same_list _ _ _ _ _ list m.1 s)
+    c.in-Ok-finish.ensures.ok ∙ ap pack (m.3 refl ∙ ap (λ ts. ts ++ m.0) (c.reserve.ensures.kept ∙ c.new-builder.ensures) ∙ same_list _ _ _ _ _ list m.1 s)
 
 pub returns-in-Ok-finish-clause-refused : goal.returns-in-Ok-finish-clause-refused
 returns-in-Ok-finish-clause-refused c = λ f h. no_fault_in _ _ _ _ _ f c.in-Ok.ensures.members.1 h
@@ -39,10 +39,10 @@ returns-in-Ok-finish-clause-refused c = λ f h. no_fault_in _ _ _ _ _ f c.in-Ok.
 pub returns-in-Ok-finish-clause-reserved : goal.returns-in-Ok-finish-clause-reserved
 returns-in-Ok-finish-clause-reserved c =
     let m = c.in-Ok.ensures.members in
-    reserves_at_most _ _ _ _ _ m.1 (c.in-Ok-finish.ensures.ok ∙ ap pack (m.3 refl ∙ ap (λ ts. ts ++ m.0) c.new-builder.ensures))
+    reserves_at_most _ _ _ _ _ m.1 (c.in-Ok-finish.ensures.ok ∙ ap pack (m.3 refl ∙ ap (λ ts. ts ++ m.0) (c.reserve.ensures.kept ∙ c.new-builder.ensures)))
 
 -- a description of the empty text takes no memory
 pub returns-in-Ok-clause-empty : goal.returns-in-Ok-clause-empty
 returns-in-Ok-clause-empty c = λ e.
     let m = c.in-Ok.ensures.members in
-    c.in-Err-finish.ensures.empty (m.3 refl ∙ ap (λ ts. ts ++ m.0) c.new-builder.ensures ∙ none_read _ _ _ _ _ m.1 e)
+    c.in-Err-finish.ensures.empty (m.3 refl ∙ ap (λ ts. ts ++ m.0) (c.reserve.ensures.kept ∙ c.new-builder.ensures) ∙ none_read _ _ _ _ _ m.1 e)
