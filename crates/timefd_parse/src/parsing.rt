@@ -15,7 +15,7 @@ ghost use Rattle.timefd_language.specs.Told.{IsFaultOrMemory, MemoryAlone, Tells
 ghost use Rattle.timefd_language.specs.Shown.{IsFault, MemoryOr};
 ghost use Rattle.timefd_language.specs.Strings.{AreItems};
 
-use crate::read::{first_room, items, members};
+use crate::read::{items, members, node_room};
 use std::alloc::{AllocError, Global};
 use timefd_items::{
     BorrowedFormatItem, DescriptionBuilder, FormatDescriptionV3, InvalidFormatDescription,
@@ -175,7 +175,7 @@ fn parse_description<'a>(
 {
     let len = s.len();
     let mut builder = DescriptionBuilder::new(alloc);
-    if let Err(error) = builder.reserve(first_room(s)) {
+    if let Err(error) = builder.reserve(node_room(s)) {
         return Err(ParseError::Memory(error));
     }
     match members(&mut builder, DescriptionVersion::Three, s, limit, 0) {

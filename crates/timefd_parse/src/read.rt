@@ -261,10 +261,18 @@ fn bracket<'a>(
 
 /// Room for the items of a text of usual length, of which one has three bytes or more on average.
 #[inline(always)]
-pub fn first_room(text: &str) -> usize
+fn first_room(text: &str) -> usize
     ensures { text.now ≡ [] → result ≡ 0 }
 {
     text.len().div_ceil(4).min(16)
+}
+
+/// The same for the nodes of a description, which has one more where it has several pieces.
+#[inline(always)]
+pub fn node_room(text: &str) -> usize
+    ensures { text.now ≡ [] → result ≡ 0 }
+{
+    text.len().div_ceil(3).min(16)
 }
 
 /// The items of a whole text of version 1 or 2.

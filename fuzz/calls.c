@@ -1,0 +1,105 @@
+/* The three functions of the library, each in a call that looks at what stands around it. */
+
+#include "fuzz.h"
+
+#include <stdlib.h>
+#include <string.h>
+
+void *__real_malloc(size_t size);
+void *__real_realloc(void *block, size_t size);
+void __real_free(void *block);
+void *__wrap_malloc(size_t size);
+void *__wrap_realloc(void *block, size_t size);
+void __wrap_free(void *block);
+
+/* No UTF-8 has this byte, so no call writes it. */
+enum { FILL = 0xff };
+
+/* How many blocks were taken more often than freed since the call began. */
+static long held;
+
+void *__wrap_malloc(size_t size) {
+    void *block = __real_malloc(size);
+    held += block != NULL;
+    return block;
+}
+
+void *__wrap_realloc(void *block, size_t size) {
+    void *moved = __real_realloc(block, size);
+    held += block == NULL && moved != NULL;
+    return moved;
+}
+
+void __wrap_free(void *block) {
+    held -= block != NULL;
+    __real_free(block);
+}
+
+/* The text in a block of exactly its length, so that a memory checker sees what is read behind
+   it. */
+static uint8_t *lend(uint32_t kind, const struct text *text) {
+    remember(kind, text);
+    uint8_t *bytes = __real_malloc(text->len + (text->len == 0));
+    if (bytes == NULL) {
+        abort();
+    }
+    memcpy(bytes, text->bytes, text->len);
+    held = 0;
+    return bytes;
+}
+
+static void take_back(uint32_t kind, const struct text *text, uint8_t *bytes) {
+    expect(held == 0, kind, text, "all memory to be freed once");
+    expect(memcmp(bytes, text->bytes, text->len) == 0, kind, text,
+           "that the text is not written to");
+    __real_free(bytes);
+}
+
+static bool is_filled(const uint8_t *bytes, size_t len) {
+    for (size_t i = 0; i < len; i++) {
+        if (bytes[i] != FILL) {
+            return false;
+        }
+    }
+    return true;
+}
+
+/* Fills what a call with this room may reach by a mistake, and gives the buffer that it is for. */
+static uint8_t *fill(struct buffer *buffer, size_t room) {
+    memset(buffer->guarded, FILL, GUARD + room + GUARD);
+    return buffer->guarded + GUARD;
+}
+
+static void check_filled(uint32_t kind, const struct text *text, const struct buffer *buffer,
+                         size_t room, size_t written) {
+    const uint8_t *front = buffer->guarded + GUARD;
+    bool is_kept = written <= room && is_filled(buffer->guarded, GUARD) &&
+                   is_filled(front + written, room - written + GUARD);
+    expect(is_kept, kind, text, "that nothing is written but the bytes that are told");
+}
+
+timefd_answer judge(uint32_t kind, const struct text *text) {
+    uint8_t *bytes = lend(kind, text);
+    timefd_answer answer = timefd_judge(kind, bytes, text->len);
+    take_back(kind, text, bytes);
+    return answer;
+}
+
+timefd_answer check(uint32_t kind, const struct text *text, struct buffer *sentence,
+                    size_t room) {
+    uint8_t *bytes = lend(kind, text);
+    uint8_t *front = fill(sentence, room);
+    timefd_answer answer = timefd_check(kind, bytes, text->len, front, room);
+    take_back(kind, text, bytes);
+    check_filled(kind, text, sentence, room, answer.written);
+    return answer;
+}
+
+timefd_answer convert(const struct text *text, struct buffer *buffer, size_t room) {
+    uint8_t *bytes = lend(0, text);
+    uint8_t *front = fill(buffer, room);
+    timefd_answer answer = timefd_v1_to_v2(bytes, text->len, front, room);
+    take_back(0, text, bytes);
+    check_filled(0, text, buffer, room, answer.written);
+    return answer;
+}

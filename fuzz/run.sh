@@ -1,0 +1,26 @@
+#!/bin/sh
+# Tries texts in each language, and ends with status 1 where the static library says of one what
+# doesn't fit what it says of others.
+#
+#     fuzz/run.sh [COUNT] [SEED]              COUNT texts of each of four sorts: 300000, from seed 1
+#     fuzz/run.sh --valgrind [COUNT] [SEED]   the same under valgrind's memcheck: 1000
+set -eu
+cd "$(dirname "$0")"
+libc=$(dirname "$(rt doc)")/c/liblibc_c.a
+library=../crates/timefd_c/out/libtimefd_c.a
+count=300000
+checker=
+if [ "${1:-}" = --valgrind ]; then
+    shift
+    count=1000
+    checker='valgrind --quiet --error-exitcode=1'
+    command -v valgrind > /dev/null || {
+        echo 'run.sh: valgrind is not installed' >&2
+        exit 2
+    }
+fi
+mkdir -p out
+[ -e "$library" ] || (cd ../crates/timefd_c && rt lib > /dev/null)
+cc -std=c11 -Wall -Wextra -Werror -g -O2 -Wl,--wrap=malloc,--wrap=realloc,--wrap=free \
+    -o out/fuzz ./*.c "$library" "$libc"
+$checker out/fuzz "${1:-$count}" "${2:-1}"

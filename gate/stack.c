@@ -1,0 +1,70 @@
+/* Calls the library on a thread with a stack of 128 KiB, a common default, over texts nested as deep as they may be, and deeper.
+   A stack that is too small ends the process by a signal. */
+#include "../examples/timefd.h"
+
+#include <pthread.h>
+#include <stdio.h>
+#include <stdlib.h>
+#include <string.h>
+
+enum { STACK = 128 * 1024, DEEPEST = 127, DEEPER = 20000, BUFFER = 256 };
+
+typedef struct text {
+    char *bytes;
+    size_t len;
+} text;
+
+static int failed;
+
+/* So many nested descriptions around a component with a modifier; the closing brackets only where asked. */
+static text nested(size_t depth, int closed) {
+    static const char inside[] = "[day padding:none]";
+    text made = {malloc(depth * 13 + sizeof inside), 0};
+    if (made.bytes == NULL)
+        exit(2);
+    for (size_t at = 0; at < depth; at++, made.len += 11)
+        memcpy(made.bytes + made.len, "[optional [", 11);
+    memcpy(made.bytes + made.len, inside, sizeof inside - 1);
+    made.len += sizeof inside - 1;
+    for (size_t at = 0; closed && at < depth; at++, made.len += 2)
+        memcpy(made.bytes + made.len, "]]", 2);
+    return made;
+}
+
+static void expect(const char *what, uint32_t kind, uint32_t expected, timefd_answer answer) {
+    if (answer.status != expected) {
+        printf("stack: %s of kind %u answered status %u, not %u\n", what, kind, answer.status, expected);
+        failed = 1;
+    }
+}
+
+static void call_each(text given, uint32_t in_three) {
+    const uint8_t *bytes = (const uint8_t *)given.bytes;
+    uint8_t buffer[BUFFER] = {0};
+    for (uint32_t kind = TIMEFD_VERSION_1; kind <= TIMEFD_VERSION_3; kind++) {
+        uint32_t expected = kind == TIMEFD_VERSION_3 ? in_three : TIMEFD_REFUSED;
+        expect("judge", kind, expected, timefd_judge(kind, bytes, given.len));
+        expect("check", kind, expected, timefd_check(kind, bytes, given.len, buffer, BUFFER));
+    }
+    expect("v1_to_v2", TIMEFD_VERSION_1, TIMEFD_REFUSED, timefd_v1_to_v2(bytes, given.len, buffer, BUFFER));
+    free(given.bytes);
+}
+
+static void *run(void *unused) {
+    call_each(nested(DEEPEST, 1), TIMEFD_ACCEPTED);
+    call_each(nested(DEEPEST, 0), TIMEFD_REFUSED);
+    call_each(nested(DEEPER, 1), TIMEFD_REFUSED);
+    return unused;
+}
+
+int main(void) {
+    pthread_attr_t attributes;
+    pthread_t thread;
+    if (pthread_attr_init(&attributes) != 0 || pthread_attr_setstacksize(&attributes, STACK) != 0)
+        return 2;
+    if (pthread_create(&thread, &attributes, run, NULL) != 0 || pthread_join(thread, NULL) != 0)
+        return 2;
+    if (!failed)
+        printf("stack: texts nested %d deep and deeper were read on a stack of %d bytes\n", DEEPEST, STACK);
+    return failed;
+}
