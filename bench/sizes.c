@@ -3,7 +3,6 @@
 
 #include "sizes.h"
 
-#include <stdbool.h>
 #include <stdio.h>
 #include <stdlib.h>
 #include <string.h>
@@ -14,56 +13,12 @@
 
 enum { CALLS = 5 };
 
-static const char *const LANGUAGES[] = {"", "1", "2", "3", "strftime"};
-
-struct text {
-    char *bytes;
-    size_t len;
-    size_t parts;
-};
-
 /* What one text took. */
 struct taken {
     bool is_right;
     double seconds;
     double memory; /* in bytes */
 };
-
-static char deepest[13 * NESTING_LIMIT + 2];
-
-static void make_deepest(void) {
-    for (int i = 0; i < NESTING_LIMIT; i++) {
-        strcat(deepest, "[optional [");
-    }
-    strcat(deepest, "x");
-    for (int i = 0; i < NESTING_LIMIT; i++) {
-        strcat(deepest, "]]");
-    }
-}
-
-static void *allocate(size_t len) {
-    void *bytes = malloc(len);
-    if (bytes == NULL) {
-        fprintf(stderr, "sizes: no memory for a text of %zu bytes\n", len);
-        exit(2);
-    }
-    return bytes;
-}
-
-/* The text of at least so many bytes. */
-static struct text make_text(const struct family *family, size_t size) {
-    const char *part = family->part == NULL ? deepest : family->part;
-    size_t opening = strlen(family->opening), each = strlen(part), closing = strlen(family->closing);
-    struct text text = {.parts = (size + each - 1) / each};
-    text.len = opening + text.parts * each + closing;
-    text.bytes = allocate(text.len);
-    memcpy(text.bytes, family->opening, opening);
-    for (size_t i = 0; i < text.parts; i++) {
-        memcpy(text.bytes + opening + i * each, part, each);
-    }
-    memcpy(text.bytes + text.len - closing, family->closing, closing);
-    return text;
-}
 
 static double processor_seconds(void) {
     struct timespec now;
@@ -76,10 +31,6 @@ static double most_memory(void) {
     struct rusage used;
     getrusage(RUSAGE_SELF, &used);
     return (double)used.ru_maxrss * 1024;
-}
-
-static bool is_expected(const struct family *family, const struct text *text, timefd_answer answer) {
-    return answer.status == family->status && answer.value == family->each * text->parts + family->beside;
 }
 
 /* Reads the text a few times: the least time of these, and the memory that the process held beyond the text. */
@@ -180,7 +131,6 @@ static bool print_large(void) {
 }
 
 int main(int count, char **words) {
-    make_deepest();
     bool is_large = count == 2 && strcmp(words[1], "--large") == 0;
     bool is_right = is_large ? print_large() : print_table(words + 1);
     if (!is_right) {

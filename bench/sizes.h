@@ -1,34 +1,9 @@
-/* Texts of any size, which are a part again and again between an opening and a closing, and what they are. */
+/* The texts that somebody who means harm would hand in. */
 
 #ifndef SIZES_H
 #define SIZES_H
 
-#include "../examples/timefd.h"
-
-/* The depth at which nested descriptions are too many. */
-enum { NESTING_LIMIT = 127 };
-
-/* Sets of languages. */
-enum {
-    ONE = 1 << TIMEFD_VERSION_1,
-    TWO = 1 << TIMEFD_VERSION_2,
-    THREE = 1 << TIMEFD_VERSION_3,
-    STRFTIME = 1 << TIMEFD_STRFTIME,
-    VERSIONS = ONE | TWO | THREE,
-};
-
-struct family {
-    const char *name;
-    unsigned languages;
-    const char *opening;
-    const char *part; /* none: the deepest accepted description */
-    const char *closing;
-
-    /* The expected answer: the value is so much for each part, and so much beside that. */
-    uint32_t status;
-    size_t each;
-    size_t beside;
-};
+#include "texts.h"
 
 static const struct family FAMILIES[] = {
     {"opening brackets", ONE, "", "[[", "", TIMEFD_ACCEPTED, 1, 0},

@@ -22,7 +22,7 @@ read_by_the_program() {
 }
 
 (cd ../crates/timefd_c && rt lib > /dev/null)
-cc -std=gnu11 -Wall -Wextra -Werror -O2 -o out/sizes sizes.c ../crates/timefd_c/out/libtimefd_c.a "$libc"
+cc -std=gnu11 -Wall -Wextra -Werror -O2 -o out/sizes sizes.c texts.c ../crates/timefd_c/out/libtimefd_c.a "$libc"
 [ $# -gt 0 ] || set -- 1000000 10000000
 out/sizes "$@"
 if [ "$1" = --large ]; then

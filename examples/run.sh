@@ -1,5 +1,6 @@
 #!/bin/sh
 # Builds the static library, links the C and the Rust programs with it, and compares what they print with what they have to.
+# Then tests the crate of `bindings/rust` and the programs over it. Cargo fetches nothing.
 set -eu
 
 cd "$(dirname "$0")"
@@ -27,8 +28,9 @@ build_and_compare() {
     compare "$1_rust" "$2"
 }
 
+# Compares what out/NAME prints, given a file if there is one, with another file.
 compare() {
-    "out/$1" > "out/$1.txt" || fail "out/$1 ended with status $?"
+    "out/$1" ${3:+"$3"} > "out/$1.txt" || fail "out/$1 ended with status $?"
     diff -u "$2" "out/$1.txt" || fail "out/$1 printed something else than $2"
     echo "run.sh: out/$1 printed what is expected"
 }
@@ -39,6 +41,10 @@ build_and_compare first expected_first.txt
 build_and_compare check expected.txt
 build_and_compare convert expected_convert.txt
 
+# Nodes come to C alone here.
+cc -std=c11 -Wall -Wextra -Werror -O2 -o out/nodes_c c/nodes.c "$library" "$libc"
+compare nodes_c expected_nodes.txt
+
 # The linters end with status 1, since they find something in formats.txt.
 build lint
 for linter in lint_c lint_rust; do
@@ -48,3 +54,24 @@ for linter in lint_c lint_rust; do
     diff -u expected_lint.txt "out/$linter.txt" || fail "out/$linter printed something else than expected_lint.txt"
     echo "run.sh: out/$linter printed what is expected"
 done
+
+cc -std=c11 -Wall -Wextra -Werror -O2 -o out/format_c c/format.c c/civil.c c/component.c "$library" "$libc"
+compare format_c expected_format.txt dates.txt
+
+# Formats, lints and tests a Cargo package, and builds it.
+check_package() {
+    (
+        cd "$1" &&
+            cargo fmt --check &&
+            cargo clippy --offline --locked --quiet --all-targets -- -D warnings &&
+            cargo test --offline --locked --quiet &&
+            cargo build --offline --locked --quiet
+    ) || fail "the package $1 has a fault"
+}
+
+check_package ../bindings/rust
+check_package dates
+cp dates/target/debug/format out/format_rust
+cp dates/target/debug/read out/read_rust
+compare format_rust expected_format.txt dates.txt
+compare read_rust expected_read.txt reads.txt

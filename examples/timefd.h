@@ -1,15 +1,22 @@
-/* What texts are as format descriptions, and texts of version 1 as ones of version 2: the three functions of the static
-   library libtimefd_c.a. */
+/* What texts are as format descriptions, the nodes of such a description, and texts of version 1 as ones of version 2: the
+   five functions of the static library libtimefd_c.a. */
 
 #ifndef TIMEFD_H
 #define TIMEFD_H
 
+#include <stdbool.h>
 #include <stddef.h>
 #include <stdint.h>
 
 #ifdef __cplusplus
 extern "C" {
 #endif
+
+/* The number of this header's version, 0.1.0: a million for each major one, a thousand for each minor one. */
+#define TIMEFD_VERSION 1000u
+
+/* The number of the library's version. Where it isn't TIMEFD_VERSION, this is the header of another library. */
+uint32_t timefd_version(void);
 
 /* The languages: the three versions of format descriptions, and the conversion specifications of strftime. */
 #define TIMEFD_VERSION_1 1u
@@ -72,6 +79,111 @@ timefd_answer timefd_check(uint32_t kind, const uint8_t *text, size_t len, uint8
 
    The buffer is as that of timefd_check. */
 timefd_answer timefd_v1_to_v2(const uint8_t *text, size_t len, uint8_t *buffer, size_t room);
+
+/* What a node is. */
+#define TIMEFD_LITERAL 1u   /* bytes of the buffer of literals, as they stand */
+#define TIMEFD_COMPONENT 2u /* a component with its modifiers */
+#define TIMEFD_COMPOUND 3u  /* its members in turn */
+#define TIMEFD_OPTIONAL 4u  /* one member, which a parser may skip */
+#define TIMEFD_FIRST 5u     /* alternatives: a parser takes the first that fits, a formatter the first of all */
+
+/* The components. Those that the library of Rust calls deprecated come as what they stand for. */
+#define TIMEFD_DAY 1u
+#define TIMEFD_MONTH_SHORT 2u
+#define TIMEFD_MONTH_LONG 3u
+#define TIMEFD_MONTH_NUMERICAL 4u
+#define TIMEFD_ORDINAL 5u
+#define TIMEFD_WEEKDAY_SHORT 6u
+#define TIMEFD_WEEKDAY_LONG 7u
+#define TIMEFD_WEEKDAY_SUNDAY 8u
+#define TIMEFD_WEEKDAY_MONDAY 9u
+#define TIMEFD_WEEK_NUMBER_ISO 10u
+#define TIMEFD_WEEK_NUMBER_SUNDAY 11u
+#define TIMEFD_WEEK_NUMBER_MONDAY 12u
+#define TIMEFD_CALENDAR_YEAR_FULL_EXTENDED_RANGE 13u
+#define TIMEFD_CALENDAR_YEAR_FULL_STANDARD_RANGE 14u
+#define TIMEFD_CALENDAR_YEAR_CENTURY_EXTENDED_RANGE 15u
+#define TIMEFD_CALENDAR_YEAR_CENTURY_STANDARD_RANGE 16u
+#define TIMEFD_ISO_YEAR_FULL_EXTENDED_RANGE 17u
+#define TIMEFD_ISO_YEAR_FULL_STANDARD_RANGE 18u
+#define TIMEFD_ISO_YEAR_CENTURY_EXTENDED_RANGE 19u
+#define TIMEFD_ISO_YEAR_CENTURY_STANDARD_RANGE 20u
+#define TIMEFD_CALENDAR_YEAR_LAST_TWO 21u
+#define TIMEFD_ISO_YEAR_LAST_TWO 22u
+#define TIMEFD_HOUR_12 23u
+#define TIMEFD_HOUR_24 24u
+#define TIMEFD_MINUTE 25u
+#define TIMEFD_PERIOD 26u
+#define TIMEFD_SECOND 27u
+#define TIMEFD_SUBSECOND 28u
+#define TIMEFD_OFFSET_HOUR 29u
+#define TIMEFD_OFFSET_MINUTE 30u
+#define TIMEFD_OFFSET_SECOND 31u
+#define TIMEFD_IGNORE 32u
+#define TIMEFD_UNIX_TIMESTAMP_SECOND 33u
+#define TIMEFD_UNIX_TIMESTAMP_MILLISECOND 34u
+#define TIMEFD_UNIX_TIMESTAMP_MICROSECOND 35u
+#define TIMEFD_UNIX_TIMESTAMP_NANOSECOND 36u
+#define TIMEFD_END 37u
+
+/* The values of modifiers. Each is 0 where the component doesn't have it. */
+#define TIMEFD_PADDING_SPACE 1u
+#define TIMEFD_PADDING_ZERO 2u
+#define TIMEFD_PADDING_NONE 3u
+#define TIMEFD_FALSE 1u
+#define TIMEFD_TRUE 2u
+#define TIMEFD_ONE_OR_MORE 10u /* digits; else 1 to 9 */
+#define TIMEFD_PROHIBIT 1u     /* trailing input is refused */
+#define TIMEFD_DISCARD 2u      /* trailing input is dropped */
+
+/* A part of a description. */
+typedef struct timefd_node {
+    uint32_t what;             /* one of the five above */
+    uint32_t component;        /* which component, or 0 */
+    uint8_t padding;           /* TIMEFD_PADDING_SPACE, TIMEFD_PADDING_ZERO or TIMEFD_PADDING_NONE */
+    uint8_t sign_is_mandatory; /* TIMEFD_FALSE or TIMEFD_TRUE, as the next three */
+    uint8_t case_sensitive;
+    uint8_t one_indexed;
+    uint8_t is_uppercase;
+    uint8_t digits;         /* 1 to 9, or TIMEFD_ONE_OR_MORE */
+    uint8_t trailing_input; /* TIMEFD_PROHIBIT or TIMEFD_DISCARD */
+    uint8_t format;         /* of an optional: whether a formatter writes it, TIMEFD_FALSE or TIMEFD_TRUE */
+    uint32_t ignored;       /* how many bytes a parser skips, 1 to 65535 */
+    size_t start;           /* of a literal the index of its first byte in the buffer of literals; of any other node the index
+                               of the first node of its members, which is its own index where it has none */
+    size_t count;           /* how many bytes a literal has, and how many members any other node */
+    size_t bytes;           /* the bytes that are reserved for it, the length of the longest text that it can be shown as;
+                               SIZE_MAX where there are more */
+} timefd_node;
+
+/* What is said of a text by timefd_read. */
+typedef struct timefd_read_answer {
+    uint32_t status; /* one of the five, and the value that timefd_judge has */
+    size_t value;
+    size_t nodes;    /* how many nodes an accepted text has, or else 0 */
+    size_t literals; /* how many bytes its literals have together, or else 0 */
+    bool written;    /* whether both buffers had room for all of them */
+} timefd_read_answer;
+
+/* Says what timefd_judge says, and writes the nodes of a description to the front of the `node_room` nodes at `nodes`, and
+   the bytes of its literals in turn to the front of the `literal_room` bytes at `literals`, with no 0 between or behind them.
+   If either has no room for all, or the text is not accepted, both are as they were. The answer tells how much room is
+   needed, so a program may come again with more; for version 3 len + 1 nodes are always enough. What is behind the fronts is
+   as it was.
+
+   Each node stands behind those of its members. In version 3 the last node is the whole description: of one part that part,
+   else a compound, and that of the empty text has no members. The members of the node with the index i are found from the
+   last one back: its node is that with the index i - 1, and behind the nodes of the member before it, whose node has the
+   index start - 1 of that one (of a literal or a component, which have no nodes but their own, it is the index before).
+   Of versions 1 and 2 and of strftime the nodes are those of the items in turn; versions 1 and 2 have literals and
+   components alone, and strftime has compounds of these.
+
+   The buffers have been set to something before, and neither pointer is null, not even where there is no room: a buffer of
+   one node and one byte is enough then, with the lengths 0. They overlap neither one another nor the text, and while the
+   call runs nobody else reads or writes them. There are at most PTRDIFF_MAX / sizeof(timefd_node) nodes. It takes the stack
+   that timefd_judge takes, and calls on several threads share malloc alone. */
+timefd_read_answer timefd_read(uint32_t kind, const uint8_t *text, size_t len, timefd_node *nodes, size_t node_room,
+                               uint8_t *literals, size_t literal_room);
 
 #ifdef __cplusplus
 }

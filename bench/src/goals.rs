@@ -5,13 +5,13 @@ use crate::kind::Kind;
 use crate::measured::{Measured, Pairs, Row};
 
 /// How many times as fast as the reader of `time` versions 1 and 2 are.
-const BESIDE_TIME: f64 = 2.0;
+const BESIDE_TIME: f64 = 2.2;
 /// How many times as fast as the iterator of `chrono` strftime is.
 const BESIDE_CHRONO: f64 = 4.0;
 /// How many times the time of version 2 version 3 takes.
 const VERSION_3: f64 = 1.2;
 /// Gigabytes in a second of a literal of 100 kB.
-const LITERAL: f64 = 10.0;
+const LITERAL: f64 = 14.0;
 /// How many times the time of a byte at 1 kB that at 100 kB is.
 const FLAT: f64 = 1.2;
 

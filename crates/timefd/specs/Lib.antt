@@ -1,7 +1,6 @@
 pub mod Status
 pub mod Kinds
 pub mod Arguments
-pub mod Streams
 pub mod Line
 pub mod Replies
 pub mod Runs

@@ -1,13 +1,10 @@
 -- What a run does to its reader and its writer.
 use Rattle.std.specs.Prelude.{Option, ⊤}
-use Rattle.std.specs.Io.KnownBytes.{Appends, Consumes, IsAtEnd}
-use Rattle.timefd_items.specs.Tree.{Text}
+use Rattle.std.specs.Io.KnownBytes.{Appends}
+use Rattle.timefd_streams.specs.Transfers.{ReadsAll}
+use Rattle.timefd_component.specs.Tree.{Text}
 use Rattle.timefd.specs.declared.end.RunEnd.{RunEnd}
 use Rattle.timefd.specs.declared.end.RunEnd.TheVariants.{Accepted, Refused, Memory, ReadFailed, WriteFailed, NotUtf8}
-
--- The bytes are all that the reader had left.
-abbrev pub ReadsAll : Option Text → Option Text → Text → Type 0
-ReadsAll old new bytes = Consumes old new bytes × IsAtEnd new
 
 -- The reader is read to its end, and its bytes are so.
 abbrev pub EndsAt : (Text → Type 0) → Option Text → Option Text → Type 0

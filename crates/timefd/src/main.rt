@@ -9,15 +9,13 @@ mod kind;
 mod program;
 mod reply;
 mod run;
-mod streams;
 #[cfg(test)]
 mod tests;
-mod transfer;
 
 use program::execute;
 use std::env;
 use std::process::ExitCode;
-use streams::{FromReader, ToWriter};
+use timefd_streams::{FromReader, ToWriter};
 
 // The status where the arguments can't be had.
 const NO_ARGUMENTS: u8 = 3;

@@ -7,8 +7,8 @@ ghost use Rattle.timefd.specs.Runs.{Answers, EndsAt};
 
 use crate::kind::arguments;
 use crate::run::run_within;
-use crate::streams::{Sink, Source};
 use std::alloc::Global;
+use timefd_streams::{Sink, Source};
 
 /// The status where the arguments ask for nothing that the program does.
 pub const WRONG_ARGUMENTS: u8 = 2;

@@ -1,7 +1,7 @@
 -- What is answered of a conversion that was made, and of a text that has a fault.
 use Rattle.std.proofs.Common.{ℕ, ◌≡◌, ◌≤◌, ◌<◌, ◌*◌, ◌++◌, [], length, drop, IsUtf8, refl, ap, sym, subst, ◌∙◌, arith}
-use Rattle.timefd_items.specs.Tree.{Text}
-use Rattle.timefd_items.specs.Faults.{Fault}
+use Rattle.timefd_component.specs.Tree.{Text}
+use Rattle.timefd_fault.specs.Faults.{Fault}
 use Rattle.timefd_language.specs.declared.description_version.DescriptionVersion.TheVariants.{One}
 use Rattle.timefd_language.specs.Broken.{FaultOf}
 use Rattle.timefd_language.specs.Grammar.{Pieces, nesting_limit}

@@ -1,2 +1,4 @@
 pub mod VerdictLemmas
 pub mod ConversionLemmas
+pub mod ReadingLemmas
+pub mod ReportLemmas

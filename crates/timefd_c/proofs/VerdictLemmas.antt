@@ -1,7 +1,7 @@
 -- What a verdict says, its answer says.
 use Rattle.std.proofs.Common.{◌≡◌, List, [], Option, None, IsSome, IsUtf8, refl, ap, arith}
-use Rattle.timefd_items.specs.Faults.{Fault, fault_of}
-use Rattle.timefd_items.specs.Tree.{Text, Tree}
+use Rattle.timefd_fault.specs.Faults.{Fault, fault_of}
+use Rattle.timefd_component.specs.Tree.{Text, Tree}
 use Rattle.timefd_parse.specs.declared.language.Language.{Language}
 use Rattle.timefd_c.specs.declared.verdict.Verdict.{Verdict}
 use Rattle.timefd_c.specs.declared.verdict.Verdict.TheVariants.{Accepted, Refused, NotUtf8, NoMemory, UnknownKind}

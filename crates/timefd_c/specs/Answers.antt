@@ -1,9 +1,9 @@
 -- What is answered to C.
 use Rattle.std.specs.Prelude.{ℕ, ◌≡◌, ◌≢◌, ◌≤◌, ◌↔◌, [], List, Option, None, IsSome, IsUtf8}
-use Rattle.timefd_items.specs.Tree.{Text, Tree}
-use Rattle.timefd_items.specs.Faults.{Fault, fault_of}
+use Rattle.timefd_component.specs.Tree.{Text, Tree}
+use Rattle.timefd_fault.specs.Faults.{Fault, fault_of}
 use Rattle.timefd_parse.specs.declared.language.Language.{Language}
-use Rattle.timefd_items.specs.Sentences.{sentence}
+use Rattle.timefd_fault.specs.Sentences.{sentence}
 use Rattle.timefd_c.specs.declared.answer.TheConstants.{ACCEPTED, REFUSED, NOT_UTF8, NO_MEMORY, UNKNOWN_KIND}
 use Rattle.timefd_c.specs.declared.answer.Answer.{Answer}
 use Rattle.timefd_c.specs.declared.verdict.Verdict.{Verdict}

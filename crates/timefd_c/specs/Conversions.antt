@@ -1,7 +1,7 @@
 -- What is answered to C of a text of version 1 that is rewritten as one of version 2.
 use Rattle.std.specs.Prelude.{◌≡◌, ◌≢◌, ◌≤◌, ◌<◌, ◌*◌, ◌++◌, ◌↔◌, [], Some, length, drop, IsUtf8}
-use Rattle.timefd_items.specs.Tree.{Text}
-use Rattle.timefd_items.specs.Faults.{Fault}
+use Rattle.timefd_component.specs.Tree.{Text}
+use Rattle.timefd_fault.specs.Faults.{Fault}
 use Rattle.timefd_language.specs.declared.description_version.DescriptionVersion.TheVariants.{One}
 use Rattle.timefd_parse.specs.declared.language.Language.TheVariants.{Version}
 use Rattle.timefd_lift.specs.Answers.{IsRewritten, HasItemsOf}

@@ -2,3 +2,5 @@ pub mod Languages
 pub mod Verdicts
 pub mod Answers
 pub mod Conversions
+pub mod Reports
+pub mod Reading

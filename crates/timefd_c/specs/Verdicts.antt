@@ -1,7 +1,7 @@
 -- How a verdict stands to bytes.
 use Rattle.std.specs.Prelude.{ℕ, ◌≡◌, Option, None, List, IsSome, IsUtf8, ⊤}
-use Rattle.timefd_items.specs.Tree.{Text, Tree}
-use Rattle.timefd_items.specs.Faults.{Fault, fault_of}
+use Rattle.timefd_component.specs.Tree.{Text, Tree}
+use Rattle.timefd_fault.specs.Faults.{Fault, fault_of}
 use Rattle.timefd_parse.specs.declared.language.Language.{Language}
 use Rattle.timefd_c.specs.declared.verdict.Verdict.{Verdict}
 use Rattle.timefd_c.specs.declared.verdict.Verdict.TheVariants.{Accepted, Refused, NotUtf8, NoMemory, UnknownKind}

@@ -1,6 +1,6 @@
 //! What is answered to C.
 
-ghost use Rattle.std.specs.Prelude.{◌≡◌};
+ghost use Rattle.std.specs.Prelude.{◌≡◌, false};
 
 /// The status of a text that is a description. The value counts its items, or in version 3 the
 /// bytes that it reserves.
@@ -44,6 +44,38 @@ impl Answer {
             value,
             sentence_len: 0,
             written: 0,
+        }
+    }
+}
+
+/// What is said of a text that is read as nodes.
+#[repr(C)]
+#[derive(Debug, Clone, Copy, PartialEq, Eq)]
+pub struct ReadAnswer {
+    /// One of the five statuses.
+    pub status: u32,
+    /// What the status counts: items, reserved bytes, or the bytes before the fault.
+    pub value: usize,
+    /// How many nodes an accepted text has, or else 0.
+    pub nodes: usize,
+    /// How many bytes its literals have together, or else 0.
+    pub literals: usize,
+    /// Whether both buffers had room for all of them, and were written.
+    pub written: bool,
+}
+
+impl ReadAnswer {
+    /// The answer with this status and value, where nothing was written.
+    #[inline(always)]
+    pub(crate) fn plain(status: u32, value: usize) -> ReadAnswer
+        ensures { result ≡ record { status = status; value = value; nodes = 0; literals = 0; written = false } }
+    {
+        ReadAnswer {
+            status,
+            value,
+            nodes: 0,
+            literals: 0,
+            written: false,
         }
     }
 }

@@ -1,16 +1,21 @@
 //! The readers for C, and for Rust outside of this workspace: two functions that say of the bytes
 //! of a text what they are in a language, which a number names, and one that rewrites a text of
-//! version 1 as one of version 2. `examples/timefd.h` declares them.
+//! version 1 as one of version 2, and one that writes the nodes of a description.
+//! `examples/timefd.h` declares them.
 #![tactic(auto)]
 
 mod answer;
 mod exports;
+mod nodes;
 mod numbers;
+mod read;
 mod sentence;
 #[cfg(test)]
 mod tests;
 mod verdict;
 mod whole;
 
-pub use answer::{ACCEPTED, Answer, NO_MEMORY, NOT_UTF8, REFUSED, UNKNOWN_KIND};
+pub use answer::{ACCEPTED, Answer, NO_MEMORY, NOT_UTF8, REFUSED, ReadAnswer, UNKNOWN_KIND};
 pub use exports::{timefd_check, timefd_judge, timefd_v1_to_v2};
+pub use nodes::{VERSION, timefd_read, timefd_version};
+pub use timefd_c_nodes::Node;

@@ -2,7 +2,7 @@
 
 ghost use Rattle.std.specs.Prelude.{◌≡◌, ◌<◌, ◌≤◌, ◌++◌, ℕ, length, take, drop, IfOk, IsErr, string_bytes};
 ghost use Rattle.std.specs.Str.{IsCharBoundary};
-ghost use Rattle.timefd_items.specs.Sentences.{error_sentence};
+ghost use Rattle.timefd_fault.specs.Sentences.{error_sentence};
 
 use std::alloc::{AllocError, Global};
 use timefd_items::InvalidFormatDescription;

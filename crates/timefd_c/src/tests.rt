@@ -3,3 +3,5 @@
 mod answers;
 mod buffers;
 mod conversions;
+mod node_buffers;
+mod nodes;

@@ -1,8 +1,8 @@
 //! What is said of bytes.
 
 ghost use Rattle.std.specs.Prelude.{◌≡◌, [], List, Some, None, IsSome, IsUtf8};
-ghost use Rattle.timefd_items.specs.Tree.{Tree};
-ghost use Rattle.timefd_items.specs.Faults.{Fault};
+ghost use Rattle.timefd_component.specs.Tree.{Tree};
+ghost use Rattle.timefd_fault.specs.Faults.{Fault};
 ghost use Rattle.timefd_c.specs.Answers.{answer_of};
 ghost use Rattle.timefd_c.specs.Languages.{SpellsIn, FaultIn, amount};
 ghost use Rattle.timefd_c.specs.Verdicts.{Says, Accepts, Refuses, IsAccepted};

@@ -2,13 +2,13 @@
 use Rattle.std.proofs.Common.{◌≡◌, ◌∙◌, ℕ, zero, suc, ◌+◌, ◌-◌, ◌^◌, ◌<◌, ◌≤◌, Bool, true, false, if◌then◌else◌, nat_le, List, [], ◌∷◌, ◌++◌, length, take, drop, Some, None, is_some, refl, sym, ap, arith, length-append}
 use Rattle.std.proofs.lemmas.Bool.Decides.{nat_tests}
 use Rattle.std.proofs.lemmas.List.{take-append-drop}
-use Rattle.timefd_items.specs.declared.format_description_v3.node_list.NodeList.{NodeList}
-use Rattle.timefd_items.specs.Nodes.{Part, arity, before, ending, grown, grown_by, kept_bytes, largest, made}
-use Rattle.timefd_items.specs.NodeTrees.{list_parts, list_trees}
-use Rattle.timefd_items.specs.Reserved.{reserve, reserve_all, reserve_first, within}
-use Rattle.timefd_items.specs.Tallies.{kept_sum, sum_within}
-use Rattle.timefd_items.specs.Tree.{Tree, trees, pack}
-use Rattle.timefd_items.proofs.NodeLemmas.{length-before, length-ending, length-parts}
+use Rattle.timefd_node_list.specs.declared.node_list.NodeList.{NodeList}
+use Rattle.timefd_node_list.specs.Nodes.{Part, arity, before, ending, grown, grown_by, kept_bytes, largest, made}
+use Rattle.timefd_node_list.specs.NodeTrees.{list_parts, list_trees}
+use Rattle.timefd_component.specs.Reserved.{reserve, reserve_all, reserve_first, within}
+use Rattle.timefd_node_list.specs.Tallies.{kept_sum, sum_within}
+use Rattle.timefd_component.specs.Tree.{Tree, trees, pack}
+use Rattle.timefd_node_list.proofs.NodeLemmas.{length-before, length-ending, length-parts}
 
 -- How many they are.
 length-grown : (ts : List Tree) (p : Part) → length (grown ts p) ≤ length ts + 1
@@ -59,7 +59,7 @@ first_of (u ∷ us) = omega arith
 pub first-ending : (k : ℕ) (ts : List Tree) (most : ℕ) → largest ts ≤ most → reserve_first (trees (ending k ts)) ≤ most
 first-ending k ts most h = omega (arith, h, largest-drop (length ts - k) ts, first_of (ending k ts))
 
-one_packed : (us : List Tree) → length us ≡ 1 → reserve (pack us) ≡ reserve_first (trees us)
+pub one_packed : (us : List Tree) → length us ≡ 1 → reserve (pack us) ≡ reserve_first (trees us)
 one_packed [] h = absurd (omega (arith, h))
 one_packed (u ∷ []) h = refl
 one_packed (u ∷ v ∷ us) h = absurd (omega (arith, h))

@@ -1,30 +1,11 @@
--- The tree that an item or a description means.
-use Rattle.std.specs.Prelude.{Bool, true, false, List, map, string_bytes, box_value}
-use Rattle.timefd_items.specs.declared.component.Component.TheVariants.{Day, MonthShort, MonthLong, MonthNumerical, Ordinal, WeekdayShort, WeekdayLong, WeekdaySunday, WeekdayMonday, WeekNumberIso, WeekNumberSunday, WeekNumberMonday, CalendarYearFullExtendedRange, CalendarYearFullStandardRange, CalendarYearCenturyExtendedRange, CalendarYearCenturyStandardRange, IsoYearFullExtendedRange, IsoYearFullStandardRange, IsoYearCenturyExtendedRange, IsoYearCenturyStandardRange, CalendarYearLastTwo, IsoYearLastTwo, Hour12, Hour24, Minute, Period, Second, Subsecond, OffsetHour, OffsetMinute, OffsetSecond, Ignore, UnixTimestampSecond, UnixTimestampMillisecond, UnixTimestampMicrosecond, UnixTimestampNanosecond, End}
-use Rattle.timefd_items.specs.declared.borrowed_format_item.BorrowedFormatItem.{BorrowedFormatItem}
-use Rattle.timefd_items.specs.declared.borrowed_format_item.BorrowedFormatItem.TheOpen.{BorrowedFormatItem-F}
-use Rattle.timefd_items.specs.declared.borrowed_format_item.BorrowedFormatItem.TheOpen as item
-use Rattle.timefd_items.specs.declared.borrowed_format_item.BorrowedFormatItem.TheFolds.{fold-BorrowedFormatItem}
+-- The tree that a description means.
+use Rattle.std.specs.Prelude.{Bool, true, false, string_bytes, box_value}
+use Rattle.timefd_component.specs.declared.component.Component.TheVariants.{Day, MonthShort, MonthLong, MonthNumerical, Ordinal, WeekdayShort, WeekdayLong, WeekdaySunday, WeekdayMonday, WeekNumberIso, WeekNumberSunday, WeekNumberMonday, CalendarYearFullExtendedRange, CalendarYearFullStandardRange, CalendarYearCenturyExtendedRange, CalendarYearCenturyStandardRange, IsoYearFullExtendedRange, IsoYearFullStandardRange, IsoYearCenturyExtendedRange, IsoYearCenturyStandardRange, CalendarYearLastTwo, IsoYearLastTwo, Hour12, Hour24, Minute, Period, Second, Subsecond, OffsetHour, OffsetMinute, OffsetSecond, Ignore, UnixTimestampSecond, UnixTimestampMillisecond, UnixTimestampMicrosecond, UnixTimestampNanosecond, End}
 use Rattle.timefd_items.specs.declared.format_description_v3.inner.FormatDescriptionV3Inner.{FormatDescriptionV3Inner}
 use Rattle.timefd_items.specs.declared.format_description_v3.inner.FormatDescriptionV3Inner.TheOpen.{FormatDescriptionV3Inner-F}
 use Rattle.timefd_items.specs.declared.format_description_v3.inner.FormatDescriptionV3Inner.TheOpen as inner
 use Rattle.timefd_items.specs.declared.format_description_v3.inner.FormatDescriptionV3Inner.TheFolds.{fold-FormatDescriptionV3Inner}
-use Rattle.timefd_items.specs.Tree.{Tree, component, literal, compound, optional, first, trees}
-
--- one item, with the tree of each inner item in its place
-abbrev pub item_step : BorrowedFormatItem-F Tree → Tree
-item_step (item.Literal bytes) = literal bytes.now
-item_step (item.StringLiteral text) = literal text.now
-item_step (item.Component c) = component c
-item_step (item.Compound members) = compound (trees members.now)
-item_step (item.Optional member) = optional true member.now
-item_step (item.First members) = first (trees members.now)
-
-abbrev pub item_tree : BorrowedFormatItem → Tree
-item_tree = fold-BorrowedFormatItem Tree item_step
-
-abbrev pub item_trees : List BorrowedFormatItem → List Tree
-item_trees = map item_tree
+use Rattle.timefd_component.specs.Tree.{Tree, component, literal, compound, optional, first, trees}
 
 -- one description, with the tree of each inner one in its place
 abbrev pub inner_step : FormatDescriptionV3Inner-F Tree → Tree

@@ -1,30 +1,23 @@
 //! A description of version 3, whose reserved bytes are known.
 
 ghost use Rattle.std.specs.Prelude.{◌-◌, ◌^◌, ◌≤◌, length};
-ghost use Rattle.timefd_items.specs.NodeTrees.{list_trees};
-ghost use Rattle.timefd_items.specs.Reserved.{reserve};
-ghost use Rattle.timefd_items.specs.Tree.{pack};
+ghost use Rattle.timefd_node_list.specs.NodeTrees.{list_trees};
+ghost use Rattle.timefd_component.specs.Reserved.{reserve};
+ghost use Rattle.timefd_component.specs.Tree.{pack};
 
 pub mod builder;
 mod copies;
 mod debug;
 mod flatten;
-pub mod in_turn;
 pub mod inner;
 mod inner_trees;
-pub mod members;
-mod node;
-mod node_list;
 pub mod opaque;
 mod reserved;
-mod tally;
-pub mod view;
-pub mod walk;
 
 use inner::FormatDescriptionV3Inner;
-use node_list::NodeList;
 use std::alloc::{AllocError, Global};
-use view::View;
+use timefd_node_list::View;
+use timefd_node_list::node_list::NodeList;
 
 /// A description of version 3, as a formatter takes it: a tree whose reserved bytes a `usize`
 /// counts. `FormatDescriptionV3Inner::into_opaque` makes one. It is the struct of that name of
@@ -41,9 +34,9 @@ impl<'a> FormatDescriptionV3<'a> {
     ghost use Rattle.std.specs.Prelude.{◌≡◌, IfOk};
     ghost use Rattle.timefd_items.specs.Description.{description_tree};
     ghost use Rattle.timefd_items.specs.Meaning.{inner_tree};
-    ghost use Rattle.timefd_items.specs.Texts.{Renders};
-    ghost use Rattle.timefd_items.specs.Tree.{Text, compound, no_trees};
-    ghost use Rattle.timefd_items.specs.Views.{view_tree};
+    ghost use Rattle.timefd_component.specs.Texts.{Renders};
+    ghost use Rattle.timefd_component.specs.Tree.{Text, compound, no_trees};
+    ghost use Rattle.timefd_node_list.specs.Views.{view_tree};
 
     fn empty(alloc: Global) -> Self
         ensures { description_tree result ≡ compound no_trees }

@@ -1,11 +1,11 @@
 -- All components of a text are modern.
 use Rattle.std.proofs.Common.{ℕ, suc, ◌+◌, ◌≡◌, sym, ◌⊎◌, inl, inr, cond, Bool, true, false, List, [], ◌∷◌, ◌++◌, map, Result, Ok, Option, Some, None, length, refl, subst, codes}
 use Rattle.std.specs.declared.num.NonZeroU16.{NonZeroU16}
-use Rattle.timefd_items.specs.declared.component.Component.{Component}
-use Rattle.timefd_items.specs.Tree.{Text, Tree, optional, first, trees, pack}
-use Rattle.timefd_items.specs.Faults.{Kind, Fault}
-use Rattle.timefd_items.specs.Modern.{modern, IsModern, AreModern}
-use Rattle.timefd_items.proofs.ModernLemmas.{modern_twice_law}
+use Rattle.timefd_component.specs.declared.component.Component.{Component}
+use Rattle.timefd_component.specs.Tree.{Text, Tree, optional, first, trees, pack}
+use Rattle.timefd_fault.specs.Faults.{Kind, Fault}
+use Rattle.timefd_component.specs.Modern.{modern, IsModern, AreModern}
+use Rattle.timefd_component.proofs.ModernLemmas.{modern_twice_law}
 use Rattle.timefd_language.specs.declared.description_version.DescriptionVersion.{DescriptionVersion}
 use Rattle.timefd_language.specs.Bytes.{named, same, is_version_three}
 use Rattle.timefd_language.specs.Head.{Head, head_text, placed}

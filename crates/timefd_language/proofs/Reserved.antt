@@ -3,16 +3,16 @@ use Rattle.std.proofs.lemmas.Bool.{true≢false}
 use Rattle.std.proofs.Common.{IsTrue, sym, ℕ, suc, ◌≡◌, ◌+◌, ◌≤◌, ◌⊎◌, inl, inr, cond, Bool, true, false, List, [], ◌∷◌, ◌++◌, map, Result, Ok, length, length-append, refl, ap, subst, arith, codes}
 use Rattle.timefd_language.specs.declared.description_version.DescriptionVersion.{DescriptionVersion}
 use Rattle.timefd_language.specs.declared.description_version.DescriptionVersion.TheVariants.{One, Two, Three}
-use Rattle.timefd_items.specs.Tree.{Text, Tree, component, optional, first, trees, pack}
+use Rattle.timefd_component.specs.Tree.{Text, Tree, component, optional, first, trees, pack}
 use Rattle.timefd_language.specs.Bytes.{same, right, left, is_run_byte, is_version_three}
-use Rattle.timefd_items.specs.Faults.{Fault}
+use Rattle.timefd_fault.specs.Faults.{Fault}
 use Rattle.timefd_language.specs.Fault.{optional_item, expected_nested, expected_alternative}
 use Rattle.timefd_language.specs.Head.{Head, IsHead, head_text, placed}
 use Rattle.timefd_language.specs.Values.{format}
 use Rattle.timefd_language.specs.Names.{row_of}
 use Rattle.timefd_language.specs.Verdict.{Part, ◌or◌, behind, bad_modifiers, touching, too_many, nested_wanted, refuse, any_modifier, is_formatted, only, optional_verdict, first_verdict, component_verdict, nested_refused, verdict}
 use Rattle.timefd_language.specs.Grammar.{Pieces, no_pieces, run, escape, closing, bracket, Nested, no_nested, nested, spelling, nested_text, items, ArePieces, AreNested, parts_from}
-use Rattle.timefd_items.specs.Reserved.{reserved, reserve, reserve_all, reserve_first, tree_count, trees_count}
+use Rattle.timefd_component.specs.Reserved.{reserved, reserve, reserve_all, reserve_first, tree_count, trees_count}
 use Rattle.timefd_language.specs.Laws.{ReservesWithin}
 use Rattle.timefd_language.proofs.Sizes.{length_one}
 use Rattle.timefd_language.proofs.Roomy.{unless_ok, behind_ok, component-room}

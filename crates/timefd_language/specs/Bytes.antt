@@ -1,7 +1,7 @@
 -- Bytes, and stretches of them.
 use Rattle.std.specs.Prelude.{ℕ, ◌+◌, Bool, true, false, not, ◌&&◌, ◌||◌, ◌==◌, nat_le, if◌then◌else◌, List, [], ◌∷◌, map, Option, Some, None, IsTrue, IsFalse, ⊤}
 use Rattle.std.specs.List.{list_all}
-use Rattle.timefd_items.specs.Tree.{Text}
+use Rattle.timefd_component.specs.Tree.{Text}
 use Rattle.timefd_language.specs.declared.description_version.DescriptionVersion.{DescriptionVersion}
 use Rattle.timefd_language.specs.declared.description_version.DescriptionVersion.TheVariants.{One, Two, Three}
 

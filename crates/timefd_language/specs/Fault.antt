@@ -1,6 +1,6 @@
 -- The words of faults, and how a fault of a part becomes one of the whole.
 use Rattle.std.specs.Prelude.{ℕ, ◌+◌, codes, []}
-use Rattle.timefd_items.specs.Faults.{Kind, Fault, fault, unclosed_bracket, expected, not_supported}
+use Rattle.timefd_fault.specs.Faults.{Kind, Fault, fault, unclosed_bracket, expected, not_supported}
 
 -- the fault of a text that begins k bytes further on
 abbrev pub raised : Fault → ℕ → Fault

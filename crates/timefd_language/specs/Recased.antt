@@ -1,6 +1,6 @@
 -- Pieces whose heads differ in the case of letters alone.
 use Rattle.std.specs.Prelude.{◌≡◌, List, [], ◌∷◌, map}
-use Rattle.timefd_items.specs.Tree.{Text}
+use Rattle.timefd_component.specs.Tree.{Text}
 use Rattle.timefd_language.specs.Bytes.{lowered}
 use Rattle.timefd_language.specs.Head.{Modifier, Head}
 use Rattle.timefd_language.specs.Grammar.{Pieces, no_pieces, run, escape, closing, bracket}

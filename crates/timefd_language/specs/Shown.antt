@@ -1,8 +1,8 @@
 -- How the faults of the code stand to those of the rules.
 use Rattle.std.specs.Prelude.{ℕ, ◌≡◌, ◌+◌, length, ⊤}
-use Rattle.timefd_items.specs.Tree.{Text}
+use Rattle.timefd_component.specs.Tree.{Text}
 use Rattle.timefd_language.specs.Broken.{Broken, IsBroken, broken_text, broken_fault}
-use Rattle.timefd_items.specs.Faults.{Kind, Fault, unclosed_bracket, invalid_name, invalid_modifier, missing_name, missing_modifier, expected, not_supported, duplicate_modifier, invalid_combination}
+use Rattle.timefd_fault.specs.Faults.{Kind, Fault, unclosed_bracket, invalid_name, invalid_modifier, missing_name, missing_modifier, expected, not_supported, duplicate_modifier, invalid_combination}
 use Rattle.timefd_language.specs.declared.description_version.DescriptionVersion.{DescriptionVersion}
 use Rattle.timefd_language.specs.declared.fault.Kind as code
 use Rattle.timefd_language.specs.declared.fault.Kind.TheVariants as kinds

@@ -1,7 +1,7 @@
 -- The texts of strftime.
 use Rattle.std.specs.Prelude.{ℕ, ◌≡◌, ◌+◌, Bool, not, ◌==◌, ◌||◌, nat_lt, codes, if◌then◌else◌, List, [], ◌∷◌, ◌++◌, length, Some, None, IsTrue, IsFalse, ⊤}
-use Rattle.timefd_items.specs.Tree.{Text, Tree, literal}
-use Rattle.timefd_items.specs.Faults.{Kind, Fault, fault, not_supported, invalid_name}
+use Rattle.timefd_component.specs.Tree.{Text, Tree, literal}
+use Rattle.timefd_fault.specs.Faults.{Kind, Fault, fault, not_supported, invalid_name}
 use Rattle.timefd_language.specs.Bytes.{OneOrMore}
 use Rattle.timefd_language.specs.Fault.{raised, expected_escape}
 use Rattle.timefd_language.specs.Letters.{Flag, unflagged, flagged, item_of}

@@ -1,6 +1,6 @@
 -- What an error of the public calls says.
 use Rattle.std.specs.Prelude.{ℕ, ◌≡◌, ⊤}
-use Rattle.timefd_items.specs.Faults.{Fault, fault_of}
+use Rattle.timefd_fault.specs.Faults.{Fault, fault_of}
 use Rattle.timefd_language.specs.declared.fault.ReadError.{ReadError}
 use Rattle.timefd_language.specs.declared.fault.ReadError.TheVariants as errors
 use Rattle.timefd_language.specs.declared.parse_error.ParseError.{ParseError}

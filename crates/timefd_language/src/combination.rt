@@ -5,7 +5,7 @@ ghost use Rattle.timefd_language.specs.Combinations as spec;
 ghost use Rattle.timefd_language.specs.Lookup.{refusal_for};
 
 use crate::key::Key;
-use timefd_items::Component;
+use timefd_component::Component;
 
 /// A key that is refused, and the words that say where.
 #[derive(Clone, Copy)]

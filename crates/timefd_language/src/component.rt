@@ -1,13 +1,13 @@
 //! The component that a name and its modifiers are.
 
 ghost use Rattle.std.specs.Prelude.{◌≡◌, codes, MatchOption, Ok, Err};
-ghost use Rattle.timefd_items.specs.Faults.{missing_modifier};
+ghost use Rattle.timefd_fault.specs.Faults.{missing_modifier};
 ghost use Rattle.timefd_language.specs.Names as spec;
 ghost use Rattle.timefd_language.specs.Names.{row_for};
 
 use crate::name::ComponentName;
 use crate::setting::Settings;
-use timefd_items::Component;
+use timefd_component::Component;
 use timefd_modifier as modifier;
 
 /// The component of a name with these settings; none only for `ignore` without a count.

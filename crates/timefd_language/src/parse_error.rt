@@ -1,13 +1,13 @@
 //! The error of the public calls, and how it is made of a fault.
 
 ghost use Rattle.std.specs.Prelude.{◌≡◌, ◌≤◌, IfOk};
-ghost use Rattle.timefd_items.specs.Faults as spec;
+ghost use Rattle.timefd_fault.specs.Faults as spec;
 ghost use Rattle.timefd_language.specs.Shown.{IsFault, MemoryOr};
 ghost use Rattle.timefd_language.specs.Told.{Tells};
 
 use crate::fault::{Fault, Kind, ReadError};
 use std::alloc::{AllocError, Global};
-use timefd_items::InvalidFormatDescription;
+use timefd_fault::InvalidFormatDescription;
 
 /// Why a text was not read.
 #[derive(Debug, Drop)]

@@ -1,6 +1,6 @@
 -- What is said of a text that was written byte after byte, where version 1 spells the text that it was made of.
 use Rattle.std.proofs.Common.{◌≡◌, List, ap, sym, ◌∙◌}
-use Rattle.timefd_items.specs.Tree.{Text, Tree, joined}
+use Rattle.timefd_component.specs.Tree.{Text, Tree, joined}
 use Rattle.timefd_language.specs.declared.description_version.DescriptionVersion.TheVariants.{One}
 use Rattle.timefd_language.specs.Grammar.{Pieces, Spells, nesting_limit}
 use Rattle.timefd_language.specs.Laws.{Lifting}

@@ -1,7 +1,7 @@
 -- Versions 1 and 2 accept no bracket with a nested description.
 use Rattle.std.proofs.Common.{ℕ, ◌≡◌, cond, Bool, true, false, List, [], ◌∷◌, Result, Ok, Option, Some, None, codes}
-use Rattle.timefd_items.specs.Tree.{Tree}
-use Rattle.timefd_items.specs.Faults.{Fault, fault}
+use Rattle.timefd_component.specs.Tree.{Tree}
+use Rattle.timefd_fault.specs.Faults.{Fault, fault}
 use Rattle.timefd_language.specs.Bytes.{same}
 use Rattle.timefd_language.specs.Fault.{optional_item, first_item}
 use Rattle.timefd_language.specs.Head.{Head, placed}

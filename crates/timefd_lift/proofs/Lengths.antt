@@ -1,6 +1,6 @@
 -- What is written of a text is at most twice as long.
 use Rattle.std.proofs.Common.{ℕ, ◌≤◌, ◌+◌, ◌*◌, ◌==◌, cond, Bool, true, false, [], ◌∷◌, length, arith}
-use Rattle.timefd_items.specs.Tree.{Text}
+use Rattle.timefd_component.specs.Tree.{Text}
 use Rattle.timefd_language.specs.Bytes.{left, right, backslash, is_special}
 use Rattle.timefd_lift.specs.Bytewise.{outside, behind_left, inside}
 

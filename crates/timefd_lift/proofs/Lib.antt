@@ -3,3 +3,13 @@ pub mod Rewriting
 pub mod Answering
 pub mod Scanning
 pub mod Lengths
+pub mod Heads
+pub mod DateHeads
+pub mod YearHeads
+pub mod TimeHeads
+pub mod CountText
+pub mod ComponentHeads
+pub mod Leaves
+pub mod Anew
+pub mod PlainItems
+pub mod Appending

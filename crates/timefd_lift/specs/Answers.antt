@@ -2,7 +2,7 @@
 use Rattle.std.specs.Prelude.{◌≡◌, List, Result, Ok, Err, string_bytes}
 use Rattle.std.specs.declared.string.String.{String}
 use Rattle.std.specs.declared.alloc.Global.{Global}
-use Rattle.timefd_items.specs.Tree.{Text, Tree, joined}
+use Rattle.timefd_component.specs.Tree.{Text, Tree, joined}
 use Rattle.timefd_language.specs.declared.description_version.DescriptionVersion.TheVariants.{One, Two}
 use Rattle.timefd_language.specs.declared.parse_error.ParseError.{ParseError}
 use Rattle.timefd_language.specs.Told.{MemoryAlone}

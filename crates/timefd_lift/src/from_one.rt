@@ -2,7 +2,7 @@
 
 ghost use Rattle.std.specs.Prelude.{◌≡◌, ◌≤◌, ◌*◌, [], length, IfOk, IsOk, MatchResult, string_bytes};
 ghost use Rattle.std.specs.Result.{IfErr};
-ghost use Rattle.timefd_items.specs.Faults as spec;
+ghost use Rattle.timefd_fault.specs.Faults as spec;
 ghost use Rattle.timefd_language.specs.declared.description_version.DescriptionVersion.TheVariants.{One};
 ghost use Rattle.timefd_language.specs.Grammar.{Pieces, nesting_limit};
 ghost use Rattle.timefd_language.specs.Broken.{FaultOf};

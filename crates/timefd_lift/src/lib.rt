@@ -1,10 +1,16 @@
 //! Rewrites format descriptions from one version of the language to the next.
 #![tactic(auto)]
 
+mod component;
 mod escape;
 mod from_one;
+mod from_two;
+mod item;
+pub mod laws;
+mod modifier;
 
 pub use from_one::v1_to_v2;
+pub use from_two::v2_to_v3;
 
 #[cfg(test)]
 mod tests;

@@ -1,5 +1,6 @@
 //! Texts of version 1 with what they are rewritten to, and the items of both.
 
+mod from_two;
 mod refused_memory;
 
 use crate::v1_to_v2;

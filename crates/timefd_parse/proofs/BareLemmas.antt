@@ -1,7 +1,7 @@
 -- Brackets that hold the name of a component and nothing else.
 use Rattle.std.proofs.Common.{◌≡◌, ℕ, Bool, true, false, List, [], ◌∷◌, ◌++◌, length, None, Some, Ok, refl, ap, ◌∙◌, arith, append_assoc, append-nil, length-append, IsUtf8}
-use Rattle.timefd_items.specs.declared.component.Component.{Component}
-use Rattle.timefd_items.specs.Tree.{Text, component}
+use Rattle.timefd_component.specs.declared.component.Component.{Component}
+use Rattle.timefd_component.specs.Tree.{Text, component}
 use Rattle.timefd_language.specs.declared.description_version.DescriptionVersion.{DescriptionVersion}
 use Rattle.timefd_language.specs.declared.name.ComponentName.{ComponentName}
 use Rattle.timefd_language.specs.declared.name.Name.{Name}

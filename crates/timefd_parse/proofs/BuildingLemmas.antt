@@ -3,12 +3,12 @@ use Rattle.std.proofs.Common.{◌≡◌, ◌∙◌, ℕ, ◌+◌, ◌≤◌, Boo
 use Rattle.std.proofs.lemmas.Bool.{true≢false}
 use Rattle.std.proofs.lemmas.Result.{on_ok_weaker}
 use Rattle.std.specs.Borrow.{Bor}
-use Rattle.timefd_items.specs.declared.component.Component as items
-use Rattle.timefd_items.specs.Modern.{modern}
-use Rattle.timefd_items.specs.Nodes.{before, ending}
-use Rattle.timefd_items.specs.Reserved.{reserve_all}
-use Rattle.timefd_items.specs.Tree.{Text, Tree, component, literal, pack, trees}
-use Rattle.timefd_items.proofs.NodeLemmas.{before-append, ending-append}
+use Rattle.timefd_component.specs.declared.component.Component as items
+use Rattle.timefd_component.specs.Modern.{modern}
+use Rattle.timefd_node_list.specs.Nodes.{before, ending}
+use Rattle.timefd_component.specs.Reserved.{reserve_all}
+use Rattle.timefd_component.specs.Tree.{Text, Tree, component, literal, pack, trees}
+use Rattle.timefd_node_list.proofs.NodeLemmas.{before-append, ending-append}
 use Rattle.timefd_language.specs.declared.description_version.DescriptionVersion.{DescriptionVersion}
 use Rattle.timefd_parse.specs.declared.piece.Piece.{Piece}
 use Rattle.timefd_parse.specs.declared.piece.Piece.TheVariants.{Literal, Component, Built}

@@ -2,7 +2,7 @@
 use Rattle.std.proofs.Common.{◌≡◌, ℕ, ◌+◌, ◌<◌, Bool, List, [], ◌∷◌, ◌++◌, length, Option, refl, sym, ap, ◌∙◌, subst, arith, append_assoc, append-nil, length-append}
 use Rattle.std.specs.List.{list_all}
 use Rattle.std.proofs.lemmas.Bool.{and_parts, true≢false}
-use Rattle.timefd_items.specs.Tree.{Text}
+use Rattle.timefd_component.specs.Tree.{Text}
 use Rattle.timefd_language.specs.declared.description_version.DescriptionVersion.{DescriptionVersion}
 use Rattle.timefd_parse.specs.declared.modifier.Modifier as code
 use Rattle.timefd_parse.specs.declared.modifiers.Modifiers as code_modifiers

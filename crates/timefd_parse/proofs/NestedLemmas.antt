@@ -15,8 +15,8 @@ use Rattle.timefd_parse.specs.declared.head.Head as code_head
 use Rattle.timefd_parse.specs.declared.modifiers.Modifiers as code_modifiers
 use Rattle.timefd_parse.specs.declared.piece.Piece.{Piece}
 use Rattle.timefd_parse.specs.declared.verdict.Nested as code_nested
-use Rattle.timefd_items.specs.Tree.{Text, Tree, pack}
-use Rattle.timefd_items.specs.Faults.{Fault, fault, unclosed_bracket}
+use Rattle.timefd_component.specs.Tree.{Text, Tree, pack}
+use Rattle.timefd_fault.specs.Faults.{Fault, fault, unclosed_bracket}
 use Rattle.timefd_language.specs.Bytes.{left, right, backslash, is_run_byte, is_version_three, is_white, ZeroOrMore, StopsBefore}
 use Rattle.timefd_language.specs.Fault.{enclosed, too_highly_nested}
 use Rattle.timefd_language.specs.Head.{Head, head_text, modifiers_text}

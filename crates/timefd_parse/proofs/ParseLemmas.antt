@@ -3,10 +3,10 @@ use Rattle.std.proofs.Common.{◌≡◌, ℕ, ◌≤◌, List, [], ◌++◌, len
 use Rattle.std.specs.declared.vec.Vec.{Vec}
 use Rattle.std.specs.declared.alloc.Global.{Global}
 use Rattle.std.proofs.lemmas.Bool.{true≢false}
-use Rattle.timefd_items.specs.Faults.{Fault}
-use Rattle.timefd_items.specs.Reserved.{reserve}
-use Rattle.timefd_items.specs.Tree.{Text, Tree, pack}
-use Rattle.timefd_items.specs.declared.borrowed_format_item.BorrowedFormatItem.{BorrowedFormatItem}
+use Rattle.timefd_fault.specs.Faults.{Fault}
+use Rattle.timefd_component.specs.Reserved.{reserve}
+use Rattle.timefd_component.specs.Tree.{Text, Tree, pack}
+use Rattle.timefd_format_item.specs.declared.borrowed_format_item.BorrowedFormatItem.{BorrowedFormatItem}
 use Rattle.timefd_language.specs.declared.description_version.DescriptionVersion.{DescriptionVersion}
 use Rattle.timefd_language.specs.declared.description_version.DescriptionVersion.TheVariants.{One, Two, Three}
 use Rattle.timefd_language.specs.declared.fault.Fault as code_fault

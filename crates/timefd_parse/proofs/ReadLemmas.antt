@@ -9,8 +9,8 @@ use Rattle.timefd_language.specs.declared.description_version.DescriptionVersion
 use Rattle.timefd_language.specs.declared.fault.Fault as code_fault
 use Rattle.timefd_language.specs.declared.fault.ReadError.{ReadError}
 use Rattle.timefd_language.specs.declared.fault.ReadError.TheVariants as errors
-use Rattle.timefd_items.specs.Tree.{Text, Tree, literal}
-use Rattle.timefd_items.specs.Faults.{fault}
+use Rattle.timefd_component.specs.Tree.{Text, Tree, literal}
+use Rattle.timefd_fault.specs.Faults.{fault}
 use Rattle.timefd_language.specs.Bytes.{left, right, backslash, is_special, is_run_byte, is_version_one, is_version_three, OneOrMore, StopsBefore}
 use Rattle.timefd_language.specs.Fault.{expected_escape, expected_closing_escape}
 use Rattle.timefd_language.specs.Grammar.{Pieces, no_pieces, run, escape, closing, bracket, ArePieces, BeginsNoRun, IsEscape, spelling, items}

@@ -2,11 +2,11 @@
 use Rattle.std.proofs.Common.{◌++◌, ◌<◌, ◌≡◌, ℕ, ◌+◌, Bool, true, false, not, if◌then◌else◌, codes, List, [], ◌∷◌, length, map, Option, Some, None, option_map, Result, Ok, Err, refl, sym, ap, ◌∙◌, subst, arith}
 use Rattle.std.proofs.lemmas.List.{length-map}
 use Rattle.std.specs.Borrow.{Bor}
-use Rattle.timefd_items.specs.declared.component.Component.{Component}
-use Rattle.timefd_items.specs.Faults.{Kind, Fault, fault, missing_modifier, invalid_combination}
-use Rattle.timefd_items.specs.Tree.{Tree, component, optional, first, trees, pack}
-use Rattle.timefd_items.specs.Nodes.{before, ending}
-use Rattle.timefd_items.proofs.NodeLemmas.{before-append, ending-append}
+use Rattle.timefd_component.specs.declared.component.Component.{Component}
+use Rattle.timefd_fault.specs.Faults.{Kind, Fault, fault, missing_modifier, invalid_combination}
+use Rattle.timefd_component.specs.Tree.{Tree, component, optional, first, trees, pack}
+use Rattle.timefd_node_list.specs.Nodes.{before, ending}
+use Rattle.timefd_node_list.proofs.NodeLemmas.{before-append, ending-append}
 use Rattle.timefd_language.specs.declared.fault.Fault as code_fault
 use Rattle.timefd_language.specs.declared.fault.Kind.TheVariants as kinds
 use Rattle.timefd_parse.specs.declared.head.Head as code_head

@@ -1,10 +1,10 @@
 -- How an answer of the public calls stands to a text.
 use Rattle.std.specs.Prelude.{ℕ, ◌≡◌, ◌≤◌, List, map, IsTrue, ⊤}
-use Rattle.timefd_items.specs.Tree.{Text, Tree, pack}
-use Rattle.timefd_items.specs.Meaning.{item_tree}
+use Rattle.timefd_component.specs.Tree.{Text, Tree, pack}
+use Rattle.timefd_format_item.specs.Meaning.{item_tree}
 use Rattle.timefd_items.specs.Description.{description_tree}
-use Rattle.timefd_items.specs.Faults.{Fault, fault_of}
-use Rattle.timefd_items.specs.Reserved.{reserve}
+use Rattle.timefd_fault.specs.Faults.{Fault, fault_of}
+use Rattle.timefd_component.specs.Reserved.{reserve}
 use Rattle.timefd_language.specs.declared.description_version.DescriptionVersion.{DescriptionVersion}
 use Rattle.timefd_language.specs.declared.description_version.DescriptionVersion.TheVariants.{One, Two, Three}
 use Rattle.timefd_parse.specs.declared.parsing.BorrowedOutput.{BorrowedOutput}

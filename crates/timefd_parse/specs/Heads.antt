@@ -2,7 +2,7 @@
 use Rattle.std.specs.Prelude.{ℕ, ◌≡◌, ◌+◌, Bool, List, ◌∷◌, ◌++◌, length, Result, MatchResult}
 use Rattle.std.specs.Borrow.{Bor}
 use Rattle.std.specs.Str.{IsUtf8}
-use Rattle.timefd_items.specs.Tree.{Text}
+use Rattle.timefd_component.specs.Tree.{Text}
 use Rattle.timefd_language.specs.declared.description_version.DescriptionVersion.{DescriptionVersion}
 use Rattle.timefd_language.specs.declared.fault.Fault as code_fault
 use Rattle.timefd_parse.specs.declared.head.Head as code_head

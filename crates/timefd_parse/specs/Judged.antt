@@ -1,8 +1,8 @@
 -- How what the code makes of a closed bracket stands to the verdict of the rules.
 use Rattle.std.specs.Prelude.{ℕ, ◌≡◌, ◌+◌, Bool, List, [], ◌∷◌, length, map, Option, Some, None, Result, Ok, Err, MatchResult}
-use Rattle.timefd_items.specs.declared.component.Component.{Component}
-use Rattle.timefd_items.specs.Faults.{Fault}
-use Rattle.timefd_items.specs.Tree.{Tree, component, pack}
+use Rattle.timefd_component.specs.declared.component.Component.{Component}
+use Rattle.timefd_fault.specs.Faults.{Fault}
+use Rattle.timefd_component.specs.Tree.{Tree, component, pack}
 use Rattle.timefd_language.specs.declared.fault.Fault as code_fault
 use Rattle.timefd_language.specs.declared.fault.ReadError as code_error
 use Rattle.timefd_language.specs.declared.key.Key as code_key

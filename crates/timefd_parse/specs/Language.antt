@@ -1,8 +1,8 @@
 -- The languages, and what a text is in each.
 use Rattle.std.specs.Prelude.{ℕ, List, length, ⊤}
-use Rattle.timefd_items.specs.Tree.{Text, Tree, pack}
-use Rattle.timefd_items.specs.Faults.{Fault, fault_of}
-use Rattle.timefd_items.specs.Reserved.{reserve}
+use Rattle.timefd_component.specs.Tree.{Text, Tree, pack}
+use Rattle.timefd_fault.specs.Faults.{Fault, fault_of}
+use Rattle.timefd_component.specs.Reserved.{reserve}
 use Rattle.timefd_language.specs.declared.description_version.DescriptionVersion.TheVariants.{One, Two, Three}
 use Rattle.timefd_parse.specs.declared.language.Language.{Language}
 use Rattle.timefd_parse.specs.declared.language.Language.TheVariants.{Version, Strftime}

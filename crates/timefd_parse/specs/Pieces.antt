@@ -1,7 +1,7 @@
 -- How the pieces of the code stand to trees, and to the trees that are built of them.
 use Rattle.std.specs.Prelude.{◌≡◌, Bool, List, [], ◌∷◌, ◌++◌, IsTrue, ⊤}
-use Rattle.timefd_items.specs.Modern.{modern}
-use Rattle.timefd_items.specs.Tree.{Tree, component, literal}
+use Rattle.timefd_component.specs.Modern.{modern}
+use Rattle.timefd_component.specs.Tree.{Tree, component, literal}
 use Rattle.timefd_parse.specs.declared.piece.Piece as code
 use Rattle.timefd_parse.specs.declared.piece.Piece.TheVariants.{Literal, Component, Built}
 

@@ -5,7 +5,7 @@ use Rattle.timefd_language.specs.Bytes.{colon, is_word_byte, is_key_byte, OneOrM
 use Rattle.std.specs.Prelude.{ℕ, ◌≡◌, ◌+◌, ◌<◌, List, ◌∷◌, ◌++◌, length, Option, Some, None, Result, MatchResult, ⊤}
 use Rattle.std.specs.Borrow.{Bor}
 use Rattle.std.specs.Str.{IsUtf8}
-use Rattle.timefd_items.specs.Tree.{Text}
+use Rattle.timefd_component.specs.Tree.{Text}
 use Rattle.timefd_language.specs.declared.fault.Fault as code_fault
 use Rattle.timefd_parse.specs.declared.modifier.Modifier as code_modifier
 use Rattle.timefd_language.specs.Head.{Placed}

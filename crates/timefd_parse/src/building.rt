@@ -3,10 +3,10 @@
 
 ghost use Rattle.std.specs.Prelude.{◌≡◌, ◌≤◌, ◌∷◌, [], List, length, IsTrue, OnOk};
 ghost use Rattle.timefd_items.specs.Builder.{built};
-ghost use Rattle.timefd_items.specs.Nodes.{ending};
-ghost use Rattle.timefd_items.specs.Reserved.{reserve_all};
-ghost use Rattle.timefd_items.specs.Tree as spec;
-ghost use Rattle.timefd_items.specs.Tree.{Tree, trees};
+ghost use Rattle.timefd_node_list.specs.Nodes.{ending};
+ghost use Rattle.timefd_component.specs.Reserved.{reserve_all};
+ghost use Rattle.timefd_component.specs.Tree as spec;
+ghost use Rattle.timefd_component.specs.Tree.{Tree, trees};
 ghost use Rattle.timefd_language.specs.Bytes.{is_version_three};
 ghost use Rattle.timefd_parse.specs.Pieces.{IsBuilt, IsPiece};
 

@@ -1,7 +1,7 @@
 //! The head of a bracket: its name and its modifiers.
 
 ghost use Rattle.std.specs.Prelude.{ℕ, ◌≡◌, ◌∷◌, [], MatchResult, Option};
-ghost use Rattle.timefd_items.specs.Tree.{Text};
+ghost use Rattle.timefd_component.specs.Tree.{Text};
 ghost use Rattle.timefd_language.specs.Bytes.{is_version_three};
 ghost use Rattle.timefd_parse.specs.Checked.{Checks};
 ghost use Rattle.timefd_parse.specs.Heads.{ReadsHead};

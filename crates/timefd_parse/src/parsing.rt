@@ -2,10 +2,10 @@
 
 ghost use Rattle.std.specs.Prelude.{◌≡◌, ◌≤◌, [], List, length, IfOk, IsOk, IsFalse, MatchResult, map};
 ghost use Rattle.std.specs.Result.{IfErr};
-ghost use Rattle.timefd_items.specs.Tree.{Tree, pack};
-ghost use Rattle.timefd_items.specs.Faults as spec;
+ghost use Rattle.timefd_component.specs.Tree.{Tree, pack};
+ghost use Rattle.timefd_fault.specs.Faults as spec;
 ghost use Rattle.timefd_items.specs.Description.{description_tree};
-ghost use Rattle.timefd_items.specs.Reserved.{reserve};
+ghost use Rattle.timefd_component.specs.Reserved.{reserve};
 ghost use Rattle.timefd_language.specs.declared.description_version.DescriptionVersion.TheVariants.{One, Three};
 ghost use Rattle.timefd_language.specs.Bytes.{is_version_three};
 ghost use Rattle.timefd_language.specs.Grammar.{Spells, nesting_limit};
@@ -15,7 +15,7 @@ ghost use Rattle.timefd_language.specs.Told.{IsFaultOrMemory, MemoryAlone, Tells
 ghost use Rattle.timefd_language.specs.Shown.{IsFault, MemoryOr};
 ghost use Rattle.timefd_language.specs.Strings.{AreItems};
 
-use crate::read::{items, members, node_room};
+use crate::read::{Context, items, members, node_room};
 use std::alloc::{AllocError, Global};
 use timefd_items::{
     BorrowedFormatItem, DescriptionBuilder, FormatDescriptionV3, InvalidFormatDescription,
@@ -151,7 +151,12 @@ fn parse_items<'a>(
         → MatchResult result (λ _. ⊥) (IsFaultOrMemory f) }
     ensures empty { s.now ≡ [] → IsOk result }
 {
-    match items(alloc, version, s, limit) {
+    let context = Context {
+        version,
+        limit,
+        around: 0,
+    };
+    match items(alloc, context, s) {
         Ok(items) => Ok(items),
         Err(error) => Err(told(alloc, error, s.len())),
     }
@@ -178,7 +183,12 @@ fn parse_description<'a>(
     if let Err(error) = builder.reserve(node_room(s)) {
         return Err(ParseError::Memory(error));
     }
-    match members(&mut builder, DescriptionVersion::Three, s, limit, 0) {
+    let context = Context {
+        version: DescriptionVersion::Three,
+        limit,
+        around: 0,
+    };
+    match members(&mut builder, context, s) {
         Ok(_) => match builder.finish() {
             Ok(description) => Ok(description),
             Err(error) => Err(ParseError::Memory(error)),

@@ -1,7 +1,7 @@
 //! What a piece of a text is.
 
 ghost use Rattle.std.specs.Prelude.{IsTrue};
-ghost use Rattle.timefd_items.specs.Meaning.{item_tree};
+ghost use Rattle.timefd_format_item.specs.Meaning.{item_tree};
 
 use timefd_items::{BorrowedFormatItem, Component};
 

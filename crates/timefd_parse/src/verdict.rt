@@ -2,8 +2,8 @@
 
 ghost use Rattle.std.specs.Prelude.{ℕ, ◌≡◌, ◌+◌, ◌≤◌, List, Option, Some, None, length, IfErr, IfOk, IsFalse, IsTrue};
 ghost use Rattle.timefd_items.specs.Builder.{built};
-ghost use Rattle.timefd_items.specs.Modern.{modern};
-ghost use Rattle.timefd_items.specs.Tree.{Tree};
+ghost use Rattle.timefd_component.specs.Modern.{modern};
+ghost use Rattle.timefd_component.specs.Tree.{Tree};
 ghost use Rattle.timefd_language.specs.Head as spec;
 ghost use Rattle.timefd_language.specs.Head.{Placed, placed};
 ghost use Rattle.timefd_language.specs.Names.{row_for};

@@ -6,10 +6,10 @@ use Rattle.std.proofs.lemmas.Bool.Decides.{nat_tests}
 use Rattle.std.specs.Borrow.{Bor}
 use Rattle.std.specs.Char.{is_ascii}
 use Rattle.timefd_modifier.specs.declared.enums.Padding.{Padding}
-use Rattle.timefd_items.specs.declared.borrowed_format_item.BorrowedFormatItem.{BorrowedFormatItem}
-use Rattle.timefd_items.specs.Faults.{Fault}
-use Rattle.timefd_items.specs.Meaning.{item_tree}
-use Rattle.timefd_items.specs.Tree.{Text, Tree, literal}
+use Rattle.timefd_format_item.specs.declared.borrowed_format_item.BorrowedFormatItem.{BorrowedFormatItem}
+use Rattle.timefd_fault.specs.Faults.{Fault}
+use Rattle.timefd_format_item.specs.Meaning.{item_tree}
+use Rattle.timefd_component.specs.Tree.{Text, Tree, literal}
 use Rattle.timefd_language.specs.Bytes.{OneOrMore, StopsBefore}
 use Rattle.timefd_language.specs.Letters.{Flag, unflagged, flagged, item_of}
 use Rattle.timefd_strftime.specs.declared.letter.Letter.{Letter}

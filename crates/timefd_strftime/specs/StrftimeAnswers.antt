@@ -1,7 +1,7 @@
 -- How an answer of the public call of strftime stands to a text.
 use Rattle.std.specs.Prelude.{⊤}
-use Rattle.timefd_items.specs.Faults.{fault_of}
-use Rattle.timefd_items.specs.Tree.{Text}
+use Rattle.timefd_fault.specs.Faults.{fault_of}
+use Rattle.timefd_component.specs.Tree.{Text}
 use Rattle.timefd_language.specs.declared.parse_error.ParseError.{ParseError}
 use Rattle.timefd_language.specs.declared.parse_error.ParseError.TheVariants.{Invalid, Memory}
 use Rattle.timefd_language.specs.Strftime.{StrftimeFaultOf}

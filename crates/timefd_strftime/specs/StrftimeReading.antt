@@ -3,9 +3,9 @@ use Rattle.std.specs.Prelude.{ℕ, ◌≡◌, ◌<◌, List, [], ◌∷◌, ◌+
 use Rattle.std.specs.Borrow.{Bor}
 use Rattle.std.specs.Str.{IsUtf8}
 use Rattle.timefd_modifier.specs.declared.enums.Padding.{Padding}
-use Rattle.timefd_items.specs.declared.borrowed_format_item.BorrowedFormatItem.{BorrowedFormatItem}
-use Rattle.timefd_items.specs.Meaning.{item_tree}
-use Rattle.timefd_items.specs.Tree.{Text, Tree}
+use Rattle.timefd_format_item.specs.declared.borrowed_format_item.BorrowedFormatItem.{BorrowedFormatItem}
+use Rattle.timefd_format_item.specs.Meaning.{item_tree}
+use Rattle.timefd_component.specs.Tree.{Text, Tree}
 use Rattle.timefd_strftime.specs.declared.text.PieceStart.{PieceStart}
 use Rattle.timefd_strftime.specs.declared.text.PieceStart.TheVariants.{End, Directive, Literal}
 use Rattle.timefd_language.specs.declared.fault.Fault.{Fault}

@@ -1,7 +1,7 @@
 //! A directive of strftime: `%`, an optional flag and a letter.
 
 ghost use Rattle.std.specs.Prelude.{◌≡◌, ◌+◌, ◌<◌, ◌∷◌, IfOk, IsTrue, length, slice_index};
-ghost use Rattle.timefd_items.specs.Meaning.{item_tree};
+ghost use Rattle.timefd_format_item.specs.Meaning.{item_tree};
 ghost use Rattle.timefd_strftime.specs.LetterMeaning.{flag_padding, letter_tree};
 ghost use Rattle.timefd_language.specs.Letters.{Flag};
 ghost use Rattle.timefd_language.specs.Fault.{expected_escape};
@@ -14,7 +14,7 @@ use crate::item::{component_item, compound_item, literal_item};
 use crate::letter::{Letter, letter_of, padded};
 use crate::tables::StrftimeTables;
 use crate::text::cut_flag;
-use timefd_items::BorrowedFormatItem;
+use timefd_format_item::BorrowedFormatItem;
 use timefd_language::fault::{Fault, Kind};
 use timefd_language::text::tail;
 use timefd_modifier::Padding;

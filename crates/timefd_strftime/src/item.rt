@@ -1,11 +1,12 @@
 //! The items that strftime gives.
 
 ghost use Rattle.std.specs.Prelude.{◌≡◌, IsTrue};
-ghost use Rattle.timefd_items.specs.Meaning.{item_tree, item_trees};
-ghost use Rattle.timefd_items.specs.Tree.{component, compound, literal, trees};
+ghost use Rattle.timefd_format_item.specs.Meaning.{item_tree, item_trees};
+ghost use Rattle.timefd_component.specs.Tree.{component, compound, literal, trees};
 ghost use Rattle.timefd_language.specs.Strings.{are_of_strings, is_of_strings};
 
-use timefd_items::{BorrowedFormatItem, Component};
+use timefd_component::Component;
+use timefd_format_item::BorrowedFormatItem;
 
 pub fn literal_item(text: &str) -> BorrowedFormatItem<'_>
     ensures tree { item_tree result ≡ literal text.now }

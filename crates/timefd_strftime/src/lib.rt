@@ -12,5 +12,5 @@ mod text;
 pub use count::count_of;
 pub use parsing::parse_strftime_borrowed;
 pub use tables::StrftimeTables;
-pub use timefd_items::BorrowedFormatItem;
+pub use timefd_format_item::BorrowedFormatItem;
 pub use timefd_language::ParseError;

@@ -2,9 +2,9 @@
 
 ghost use Rattle.std.specs.Prelude.{◌≡◌, ◌<◌, [], List, IfOk, IsOk, IsTrue, MatchResult, length};
 ghost use Rattle.std.specs.Result.{IfErr};
-ghost use Rattle.timefd_items.specs.Faults as spec;
-ghost use Rattle.timefd_items.specs.Meaning.{item_tree, item_trees};
-ghost use Rattle.timefd_items.specs.Tree.{Tree};
+ghost use Rattle.timefd_fault.specs.Faults as spec;
+ghost use Rattle.timefd_format_item.specs.Meaning.{item_tree, item_trees};
+ghost use Rattle.timefd_component.specs.Tree.{Tree};
 ghost use Rattle.timefd_strftime.specs.declared.text.PieceStart.TheVariants.{Literal};
 ghost use Rattle.timefd_language.specs.Told.{IsFaultOrMemory, MemoryAlone};
 ghost use Rattle.timefd_language.specs.Strftime.{SpellsStrftime, StrftimeFaultOf};
@@ -18,7 +18,7 @@ use crate::item::literal_item;
 use crate::tables::StrftimeTables;
 use crate::text::{PieceStart, piece_start_of};
 use std::alloc::Global;
-use timefd_items::BorrowedFormatItem;
+use timefd_format_item::BorrowedFormatItem;
 use timefd_language::fault::ReadError;
 use timefd_language::parse_error::{ParseError, told};
 use timefd_language::text::{Class, cut};

@@ -2,14 +2,15 @@
 
 ghost use Rattle.timefd_modifier.specs.declared.enums.Padding.{Padding};
 ghost use Rattle.std.specs.Prelude.{◌≡◌, IsTrue};
-ghost use Rattle.timefd_items.specs.Meaning.{item_tree};
+ghost use Rattle.timefd_format_item.specs.Meaning.{item_tree};
 ghost use Rattle.timefd_language.specs.Letters as spec;
 ghost use Rattle.timefd_strftime.specs.LetterMeaning.{composite_list, field_tree};
 ghost use Rattle.timefd_language.specs.Strings.{AreItems, are_items_once, is_of_strings};
 
 use crate::item::{component_item, literal_item};
 use crate::letter::{Composite, Field, calendar_year, padded};
-use timefd_items::{BorrowedFormatItem, Component};
+use timefd_component::Component;
+use timefd_format_item::BorrowedFormatItem;
 use timefd_modifier::{MonthShort, OffsetHour, OffsetMinute, Padding, Period, WeekdayShort};
 
 /// The lists that the composite letters of strftime stand for, which the items of a text borrow.

@@ -1,6 +1,6 @@
 -- The longest literal of some trees.
 use Rattle.std.specs.Prelude.{ℕ, List, [], ◌∷◌, length, max}
-use Rattle.timefd_items.specs.Tree.{Tree, literal}
+use Rattle.timefd_component.specs.Tree.{Tree, literal}
 
 -- how many bytes a tree has as a literal
 abbrev pub literal_bytes : Tree → ℕ

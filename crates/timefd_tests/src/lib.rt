@@ -1,24 +1,14 @@
-//! Tests of the crates below through their public calls: rows of values and of texts, as tables
-//! of data, in few test functions. They stand at the top, since a crate with tests is proved
-//! twice, with them and without.
+//! Tests of the readers through their public calls: rows of texts, as tables of data, in few test
+//! functions. They stand at the top, since a crate with tests is proved twice, with them and
+//! without.
 #![tactic(auto)]
 
 #[cfg(test)]
 mod answers;
 #[cfg(test)]
-mod builder;
-#[cfg(test)]
-mod components;
-#[cfg(test)]
 mod copies;
 #[cfg(test)]
-mod descriptions;
-#[cfg(test)]
 mod every_version;
-#[cfg(test)]
-mod faults;
-#[cfg(test)]
-mod items;
 #[cfg(test)]
 mod joining;
 #[cfg(test)]
@@ -29,19 +19,11 @@ mod lent;
 mod limits;
 pub mod longest_literal;
 #[cfg(test)]
-mod modifiers;
-#[cfg(test)]
 mod printed;
-#[cfg(test)]
-mod refused_copies;
 #[cfg(test)]
 mod refused_memory;
 #[cfg(test)]
-mod reservation;
-#[cfg(test)]
 mod strftime;
-#[cfg(test)]
-mod trees;
 #[cfg(test)]
 mod version3;
 #[cfg(test)]

@@ -2,7 +2,7 @@
 
 ghost use Rattle.std.specs.Prelude.{◌≡◌};
 ghost use Rattle.timefd_items.specs.Description.{description_tree};
-ghost use Rattle.timefd_items.specs.Views.{view_tree, walked};
+ghost use Rattle.timefd_node_list.specs.Views.{view_tree, walked};
 ghost use Rattle.timefd_tests.specs.Longest.{literal_bytes, longest};
 
 use timefd_items::{FormatDescriptionV3, Shape, View};

@@ -9,7 +9,7 @@ use std::process::Abort;
 use timefd_parse::{DescriptionVersion, StrftimeTables, parse_strftime_borrowed};
 
 /// Expects that one call answered so, and that the other did too or was refused memory.
-pub fn expect_one_at_least(rt: &impl Abort, first: String, second: String, expected: &str) {
+fn expect_one_at_least(rt: &impl Abort, first: String, second: String, expected: &str) {
     if first.as_str() == REFUSED {
         assert_eq!(rt; second.as_str(), expected, "behind a refusal");
         return;

@@ -1,7 +1,7 @@
 -- What is rewritten has no fault in version 2.
 use Rattle.std.proofs.Common.{◌≡◌, List, refl, subst}
-use Rattle.timefd_items.specs.declared.invalid_format_description.InvalidFormatDescription.{InvalidFormatDescription}
-use Rattle.timefd_items.specs.Tree.{Text, Tree}
+use Rattle.timefd_fault.specs.declared.invalid_format_description.InvalidFormatDescription.{InvalidFormatDescription}
+use Rattle.timefd_component.specs.Tree.{Text, Tree}
 use Rattle.timefd_language.specs.declared.description_version.DescriptionVersion.TheVariants.{Two}
 use Rattle.timefd_language.specs.declared.parse_error.ParseError.{ParseError}
 use Rattle.timefd_language.specs.declared.parse_error.ParseError.TheVariants.{Invalid}

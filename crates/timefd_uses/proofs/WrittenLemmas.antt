@@ -1,6 +1,6 @@
 -- What is appended, one tree after another.
 use Rattle.std.proofs.Common.{ℕ, ◌≡◌, ◌+◌, ◌<◌, List, [], ◌∷◌, ◌++◌, length, drop, map, get_or, refl, sym, ap, subst, ◌∙◌, append_assoc, append-nil, add-one, drop-cons}
-use Rattle.timefd_items.specs.Tree.{Text, Tree, Trees, no_trees, more_trees, trees}
+use Rattle.timefd_component.specs.Tree.{Text, Tree, Trees, no_trees, more_trees, trees}
 use Rattle.timefd_uses.specs.Written.{Appends, AppendsAll}
 
 pub appends-none : (out : Text) → AppendsAll no_trees out out

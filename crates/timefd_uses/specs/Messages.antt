@@ -1,9 +1,9 @@
 -- The message of a linter.
 use Rattle.std.specs.Prelude.{ℕ, ◌≡◌, ◌+◌, ◌-◌, ◌++◌, take, replicate, codes}
 use Rattle.std.specs.Fmt.{decimal, char_count}
-use Rattle.timefd_items.specs.Faults.{Fault}
-use Rattle.timefd_items.specs.Sentences.{sentence}
-use Rattle.timefd_items.specs.Tree.{Text}
+use Rattle.timefd_fault.specs.Faults.{Fault}
+use Rattle.timefd_fault.specs.Sentences.{sentence}
+use Rattle.timefd_component.specs.Tree.{Text}
 use Rattle.timefd_uses.specs.Places.{newlines, begun_line}
 
 -- the line of a place, and its column, in front of which a text stands

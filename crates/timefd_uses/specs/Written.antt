@@ -1,7 +1,7 @@
 -- What a writer appends by a description.
 use Rattle.std.specs.Prelude.{◌≡◌, ◌++◌}
-use Rattle.timefd_items.specs.Texts.{Renders, RendersAll}
-use Rattle.timefd_items.specs.Tree.{Text, Tree, Trees}
+use Rattle.timefd_component.specs.Texts.{Renders, RendersAll}
+use Rattle.timefd_component.specs.Tree.{Text, Tree, Trees}
 
 -- a rendering of the tree stands behind what was there
 abbrev pub Appends : Tree → Text → Text → Type 0

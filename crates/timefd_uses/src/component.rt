@@ -1,7 +1,7 @@
 //! The text of a component of a date.
 
 ghost use Rattle.std.specs.Prelude.{◌≡◌, ◌++◌, IfOk, string_bytes};
-ghost use Rattle.timefd_items.specs.Texts.{IsText, filled, plus_where};
+ghost use Rattle.timefd_component.specs.Texts.{IsText, filled, plus_where};
 
 use crate::date::Date;
 use std::alloc::{AllocError, Global};

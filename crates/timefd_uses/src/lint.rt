@@ -1,8 +1,8 @@
 //! Shows where a text is no description, as a linter does.
 
 ghost use Rattle.std.specs.Prelude.{◌≡◌, List, None, IfOk, IfSome, string_bytes};
-ghost use Rattle.timefd_items.specs.Faults as spec;
-ghost use Rattle.timefd_items.specs.Tree.{Tree};
+ghost use Rattle.timefd_fault.specs.Faults as spec;
+ghost use Rattle.timefd_component.specs.Tree.{Tree};
 ghost use Rattle.timefd_language.specs.Broken.{FaultOf};
 ghost use Rattle.timefd_language.specs.Grammar.{Spells, nesting_limit};
 ghost use Rattle.timefd_uses.specs.Messages.{IsMessage};

@@ -3,9 +3,9 @@
 ghost use Rattle.std.specs.Prelude.{◌≤◌, map, length, IfOk, OnOk, string_bytes};
 ghost use Rattle.timefd_items.specs.Description.{description_tree};
 ghost use Rattle.timefd_items.specs.Meaning.{inner_tree};
-ghost use Rattle.timefd_items.specs.Reserved.{reserve};
-ghost use Rattle.timefd_items.specs.Texts.{Renders};
-ghost use Rattle.timefd_items.specs.Tree.{component, trees};
+ghost use Rattle.timefd_component.specs.Reserved.{reserve};
+ghost use Rattle.timefd_component.specs.Texts.{Renders};
+ghost use Rattle.timefd_component.specs.Tree.{component, trees};
 ghost use Rattle.timefd_uses.specs.Written.{Appends, AppendsAll};
 
 use crate::component::{WriteError, component_text};

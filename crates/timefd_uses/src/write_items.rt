@@ -2,9 +2,9 @@
 //! copy.
 
 ghost use Rattle.std.specs.Prelude.{IfOk, OnOk, string_bytes};
-ghost use Rattle.timefd_items.specs.Meaning.{item_tree, item_trees};
-ghost use Rattle.timefd_items.specs.Texts.{RendersAll};
-ghost use Rattle.timefd_items.specs.Tree.{trees};
+ghost use Rattle.timefd_format_item.specs.Meaning.{item_tree, item_trees};
+ghost use Rattle.timefd_component.specs.Texts.{RendersAll};
+ghost use Rattle.timefd_component.specs.Tree.{trees};
 ghost use Rattle.timefd_uses.specs.Written.{Appends, AppendsAll};
 
 use crate::component::WriteError;

@@ -4,10 +4,10 @@ use super::memory::{Feed, Log};
 use crate::end::RunEnd;
 use crate::kind::Kind;
 use crate::run::run_within;
-use crate::streams::{FromReader, ToWriter};
 use std::alloc::Global;
 use std::process::Abort;
 use timefd_parse::NESTING_LIMIT;
+use timefd_streams::{FromReader, ToWriter};
 
 /// A kind, a limit and a text, with the line of the run.
 type Row = (Kind, u8, &'static str, &'static str);

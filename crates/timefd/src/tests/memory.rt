@@ -3,10 +3,10 @@
 use crate::end::RunEnd;
 use crate::kind::Kind;
 use crate::run::run;
-use crate::streams::{FromReader, ToWriter};
 use std::alloc::Global;
 use std::io;
 use std::io::{ErrorKind, Read, Write};
+use timefd_streams::{FromReader, ToWriter};
 
 /// What a test says where an allocation fails.
 pub const AMPLE: &str = "memory suffices";

@@ -3,9 +3,9 @@
 use super::arguments::owned;
 use super::memory::{Countdown, Feed, Log};
 use crate::program::execute;
-use crate::streams::{FromReader, ToWriter};
 use std::alloc::Global;
 use std::process::Abort;
+use timefd_streams::{FromReader, ToWriter};
 
 /// A run of the program with these arguments: the status that it ends with.
 fn ends(

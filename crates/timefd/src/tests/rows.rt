@@ -99,11 +99,11 @@ fn lines(rt: HostRuntime) {
 // A text of many pieces is one text.
 #[test]
 fn long_text(rt: HostRuntime) {
-    let text = vec![in rt.alloc(); b']'; 100_000].expect(&rt, AMPLE);
+    let text = vec![in rt.alloc(); b']'; 200_000].expect(&rt, AMPLE);
     let mut writer = Log::new(rt.alloc());
     let end = run_over(rt.alloc(), Kind::One, &mut Feed::new(&text), &mut writer);
     assert_eq!(rt; end, RunEnd::Accepted);
-    assert_eq!(rt; writer.written.as_slice(), b"ok items 100000\n".as_slice());
+    assert_eq!(rt; writer.written.as_slice(), b"ok items 200000\n".as_slice());
 }
 
 /// Expects that the bytes are no text, by a reader that moves at most so many a call.

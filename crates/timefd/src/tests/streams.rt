@@ -1,10 +1,10 @@
 //! The adapters and the transfers, each by itself.
 
 use super::memory::{AMPLE, Countdown, Feed, Log};
-use crate::streams::{Failed, FromReader, Sink, Source, ToWriter};
-use crate::transfer::{read_all, write_all};
 use std::alloc::Global;
 use std::process::Abort;
+use timefd_streams::transfer::{read_all, write_all};
+use timefd_streams::{Failed, FromReader, Sink, Source, ToWriter};
 
 #[test]
 fn flush_reaches_the_writer(rt: HostRuntime) {

@@ -1,14 +1,15 @@
 //! Descriptions put together part by part.
 
-ghost use Rattle.std.specs.Prelude.{◌≡◌, ◌-◌, ◌^◌, ◌≤◌, length};
-ghost use Rattle.timefd_items.specs.NodeTrees.{list_trees};
-ghost use Rattle.timefd_items.specs.Nodes.{largest};
+ghost use Rattle.std.specs.Prelude.{◌≡◌, ◌-◌, ◌^◌, ◌≤◌, None, if◌then◌else◌, length};
+ghost use Rattle.timefd_node_list.specs.NodeTrees.{list_trees};
+ghost use Rattle.timefd_node_list.specs.Nodes.{largest};
+ghost use Rattle.timefd_node_list.specs.Tallies.{IsSum, IsSum-prop};
 
 use super::FormatDescriptionV3;
-use super::node_list::NodeList;
-use super::tally::ending_tally;
-use crate::component::Component;
 use std::alloc::{AllocError, Global};
+use timefd_component::Component;
+use timefd_node_list::node_list::NodeList;
+use timefd_node_list::tally::{ending_tally, sum_within};
 
 /// A description that is put together part by part: trees side by side, to which literals and
 /// components are added, and of which the last become one. After an `Err`, which comes where there
@@ -17,20 +18,23 @@ use std::alloc::{AllocError, Global};
 pub struct DescriptionBuilder<'a> {
     list: NodeList<'a>,
     len: usize,
+    // The bytes that all of them reserve, where that is known.
+    bytes: Option<usize>,
     ghost counted: { len ≡ length (list_trees list) },
     // So the sum of what their nodes keep is the sum of what they reserve.
     ghost each_fits: { largest (list_trees list) ≤ 2 ^ 64 - 1 },
+    ghost summed: { IsSum (list_trees list) bytes } by { IsSum-prop (list_trees list) bytes },
 }
 
 impl<'a> DescriptionBuilder<'a> {
     ghost use Rattle.std.specs.Prelude.{◌≡◌, ◌++◌, ◌∷◌, [], nat_le, IfOk, IsOk, OnErr, OnOk};
     ghost use Rattle.timefd_items.specs.Builder.{built};
     ghost use Rattle.timefd_items.specs.Description.{description_tree};
-    ghost use Rattle.timefd_items.specs.Modern.{modern};
-    ghost use Rattle.timefd_items.specs.Nodes.{before, ending};
-    ghost use Rattle.timefd_items.specs.Reserved.{reserve_all};
-    ghost use Rattle.timefd_items.specs.Tree as spec;
-    ghost use Rattle.timefd_items.specs.Tree.{first, literal, optional, pack, trees};
+    ghost use Rattle.timefd_component.specs.Modern.{modern};
+    ghost use Rattle.timefd_node_list.specs.Nodes.{before, ending};
+    ghost use Rattle.timefd_component.specs.Reserved.{reserve_all};
+    ghost use Rattle.timefd_component.specs.Tree as spec;
+    ghost use Rattle.timefd_component.specs.Tree.{first, literal, optional, pack, trees};
 
     /// No trees. It takes no memory.
     pub fn new(alloc: Global) -> Self
@@ -39,6 +43,7 @@ impl<'a> DescriptionBuilder<'a> {
         DescriptionBuilder {
             list: NodeList::new(alloc),
             len: 0,
+            bytes: Some(0),
         }
     }
 
@@ -74,6 +79,7 @@ impl<'a> DescriptionBuilder<'a> {
         self.list.reserve(1)?;
         self.list.literal(text);
         self.len += 1;
+        self.bytes = sum_within(self.bytes, text.len());
         Ok(())
     }
 
@@ -83,8 +89,9 @@ impl<'a> DescriptionBuilder<'a> {
         ensures kept { OnErr result (built self.new ≡ built self.old) }
     {
         self.list.reserve(1)?;
-        self.list.component(component);
+        let bytes = self.list.component(component);
         self.len += 1;
+        self.bytes = sum_within(self.bytes, bytes);
         Ok(())
     }
 
@@ -115,6 +122,7 @@ impl<'a> DescriptionBuilder<'a> {
     {
         self.list.reserve(1)?;
         self.list.optional(format);
+        self.bytes = sum_if(self.bytes, format);
         Ok(())
     }
 
@@ -127,6 +135,7 @@ impl<'a> DescriptionBuilder<'a> {
         self.list.reserve(1)?;
         self.list.first(count);
         self.len = self.len - count + 1;
+        self.bytes = None;
         Ok(())
     }
 
@@ -137,11 +146,25 @@ impl<'a> DescriptionBuilder<'a> {
         ensures ok { IfOk result (λ description. description_tree description ≡ pack (built self.entry)) }
         ensures empty { built self.entry ≡ [] → IsOk result }
     {
-        let DescriptionBuilder { mut list, len } = self;
+        let DescriptionBuilder {
+            mut list,
+            len,
+            bytes,
+        } = self;
         if len > 1 {
             list.reserve(1)?;
-            list.compound(len);
+            match bytes {
+                Some(bytes) => list.compound_of_all(len, bytes),
+                None => list.compound(len),
+            }
         }
         Ok(FormatDescriptionV3 { list })
     }
+}
+
+/// The sum, if the last of what it counts is formatted, and so still counts.
+fn sum_if(sum: Option<usize>, format: bool) -> Option<usize>
+    ensures { result ≡ (if format then sum else None) }
+{
+    if format { sum } else { None }
 }

@@ -2,12 +2,12 @@
 
 ghost use Rattle.std.specs.Prelude.{◌≡◌, IfOk, IfSome, map};
 ghost use Rattle.timefd_items.specs.Meaning.{inner_tree};
-ghost use Rattle.timefd_items.specs.Modern.{modern};
-ghost use Rattle.timefd_items.specs.Tree.{component_in, optional};
+ghost use Rattle.timefd_component.specs.Modern.{modern};
+ghost use Rattle.timefd_component.specs.Tree.{component_in, optional};
 
 use super::inner::FormatDescriptionV3Inner;
-use crate::component::Component;
 use std::alloc::{AllocError, Global};
+use timefd_component::Component;
 
 impl<'a> FormatDescriptionV3Inner<'a> {
     /// A copy of the same meaning, which borrows what this one borrows and owns what it owns. An

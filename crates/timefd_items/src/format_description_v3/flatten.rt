@@ -2,12 +2,12 @@
 
 ghost use Rattle.std.specs.Prelude.{◌≡◌, ◌+◌, ◌≤◌, ◌∷◌, [], map, true, IsFalse, IsTrue};
 ghost use Rattle.timefd_items.specs.Meaning.{inner_tree, owns};
-ghost use Rattle.timefd_items.specs.NodeTrees.{Adds, HasRoom};
-ghost use Rattle.timefd_items.specs.Reserved.{tree_count, trees_count, within};
-ghost use Rattle.timefd_items.specs.Tree.{trees};
+ghost use Rattle.timefd_node_list.specs.NodeTrees.{Adds, HasRoom};
+ghost use Rattle.timefd_component.specs.Reserved.{tree_count, trees_count, within};
+ghost use Rattle.timefd_component.specs.Tree.{trees};
 
 use crate::format_description_v3::inner::FormatDescriptionV3Inner;
-use crate::format_description_v3::node_list::NodeList;
+use timefd_node_list::node_list::NodeList;
 
 fn and_one(nodes: usize, limit: usize) -> Option<usize>
     ensures { result ≡ within limit (1 + nodes) }
@@ -140,7 +140,8 @@ impl<'a> FormatDescriptionV3Inner<'a> {
         ensures { Adds list.old list.new (inner_tree self.now ∷ []) }
     {
         if let Some(component) = self.component() {
-            return list.component(component);
+            list.component(component);
+            return;
         }
         match self {
             &FormatDescriptionV3Inner::BorrowedLiteral(text) => list.literal(text),

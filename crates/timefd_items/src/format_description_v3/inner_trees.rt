@@ -2,13 +2,13 @@
 
 ghost use Rattle.std.specs.Prelude.{◌≡◌, ◌≤◌, [], IfOk, OnOk, length, map};
 ghost use Rattle.timefd_items.specs.Meaning.{inner_tree};
-ghost use Rattle.timefd_items.specs.Nodes.{Fit, arity, before, ending, grown_by, made, part};
-ghost use Rattle.timefd_items.specs.Tree as spec;
+ghost use Rattle.timefd_node_list.specs.Nodes.{Fit, arity, before, ending, grown_by, made, part};
+ghost use Rattle.timefd_component.specs.Tree as spec;
 
 use crate::format_description_v3::copies::owned_optional;
 use crate::format_description_v3::inner::FormatDescriptionV3Inner;
-use crate::format_description_v3::node::Node;
 use std::alloc::{AllocError, Global};
+use timefd_node_list::node::Node;
 
 /// The trees that nodes are. An `Err` comes where there is no memory left for them.
 pub fn all_trees<'a>(

@@ -2,45 +2,16 @@
 
 ghost use Rattle.std.specs.Prelude.{◌≡◌, map};
 ghost use Rattle.timefd_items.specs.Meaning.{inner_tree};
-ghost use Rattle.timefd_items.specs.Reserved as spec;
-ghost use Rattle.timefd_items.specs.Modern.{modern};
-ghost use Rattle.timefd_items.specs.Reserved.{reserve, reserve_all, reserved, within};
-ghost use Rattle.timefd_items.specs.Tree.{trees};
+ghost use Rattle.timefd_component.specs.Reserved.{reserve, reserve_all, within};
+ghost use Rattle.timefd_component.specs.Tree.{trees};
 
 use super::inner::FormatDescriptionV3Inner;
-use crate::component::Component;
-use timefd_modifier::SubsecondDigits;
+use timefd_component::reserved::reserved_bytes;
 
 fn up_to(bytes: usize, limit: usize) -> Option<usize>
     ensures { result ≡ within limit bytes }
 {
     if bytes <= limit { Some(bytes) } else { None }
-}
-
-fn digits_shown(digits: SubsecondDigits) -> usize
-    ensures { result ≡ spec.digits_shown digits }
-{
-    match digits {
-        SubsecondDigits::One => 1,
-        SubsecondDigits::Two => 2,
-        SubsecondDigits::Three => 3,
-        SubsecondDigits::Four => 4,
-        SubsecondDigits::Five => 5,
-        SubsecondDigits::Six => 6,
-        SubsecondDigits::Seven => 7,
-        SubsecondDigits::Eight => 8,
-        SubsecondDigits::Nine | SubsecondDigits::OneOrMore => 9,
-    }
-}
-
-/// How many bytes the modern form of a component reserves.
-pub(super) fn reserved_bytes(component: Component) -> usize
-    ensures { result ≡ reserved (modern component) }
-{
-    match FormatDescriptionV3Inner::from(component).bytes_within(usize::MAX) {
-        Some(bytes) => bytes,
-        None => unreachable!(),
-    }
 }
 
 impl FormatDescriptionV3Inner<'_> {
@@ -49,48 +20,10 @@ impl FormatDescriptionV3Inner<'_> {
     pub fn bytes_within(&self, limit: usize) -> Option<usize>
         ensures { result ≡ within limit (reserve (inner_tree self.now)) }
     {
+        if let Some(component) = self.component() {
+            return up_to(reserved_bytes(component), limit);
+        }
         match self {
-            FormatDescriptionV3Inner::Ignore(_) | FormatDescriptionV3Inner::End(_) => up_to(
-                0, limit,
-            ),
-            FormatDescriptionV3Inner::WeekdaySunday(_)
-            | FormatDescriptionV3Inner::WeekdayMonday(_) => up_to(1, limit),
-            FormatDescriptionV3Inner::Day(_)
-            | FormatDescriptionV3Inner::MonthNumerical(_)
-            | FormatDescriptionV3Inner::WeekNumberIso(_)
-            | FormatDescriptionV3Inner::WeekNumberSunday(_)
-            | FormatDescriptionV3Inner::WeekNumberMonday(_)
-            | FormatDescriptionV3Inner::CalendarYearLastTwo(_)
-            | FormatDescriptionV3Inner::IsoYearLastTwo(_)
-            | FormatDescriptionV3Inner::Hour12(_)
-            | FormatDescriptionV3Inner::Hour24(_)
-            | FormatDescriptionV3Inner::Minute(_)
-            | FormatDescriptionV3Inner::Second(_)
-            | FormatDescriptionV3Inner::OffsetMinute(_)
-            | FormatDescriptionV3Inner::OffsetSecond(_)
-            | FormatDescriptionV3Inner::Period(_) => up_to(2, limit),
-            FormatDescriptionV3Inner::MonthShort(_)
-            | FormatDescriptionV3Inner::Ordinal(_)
-            | FormatDescriptionV3Inner::WeekdayShort(_)
-            | FormatDescriptionV3Inner::CalendarYearCenturyStandardRange(_)
-            | FormatDescriptionV3Inner::IsoYearCenturyStandardRange(_)
-            | FormatDescriptionV3Inner::OffsetHour(_) => up_to(3, limit),
-            FormatDescriptionV3Inner::CalendarYearFullStandardRange(_)
-            | FormatDescriptionV3Inner::CalendarYearCenturyExtendedRange(_)
-            | FormatDescriptionV3Inner::IsoYearFullStandardRange(_)
-            | FormatDescriptionV3Inner::IsoYearCenturyExtendedRange(_) => up_to(5, limit),
-            FormatDescriptionV3Inner::CalendarYearFullExtendedRange(_)
-            | FormatDescriptionV3Inner::IsoYearFullExtendedRange(_) => up_to(7, limit),
-            FormatDescriptionV3Inner::MonthLong(_) | FormatDescriptionV3Inner::WeekdayLong(_) =>
-                up_to(9, limit),
-            FormatDescriptionV3Inner::UnixTimestampSecond(_) => up_to(15, limit),
-            FormatDescriptionV3Inner::UnixTimestampMillisecond(_) => up_to(18, limit),
-            FormatDescriptionV3Inner::UnixTimestampMicrosecond(_) => up_to(21, limit),
-            FormatDescriptionV3Inner::UnixTimestampNanosecond(_) => up_to(24, limit),
-            FormatDescriptionV3Inner::Subsecond(subsecond) => up_to(
-                digits_shown(subsecond.digits),
-                limit,
-            ),
             &FormatDescriptionV3Inner::BorrowedLiteral(text) => up_to(text.len(), limit),
             &FormatDescriptionV3Inner::BorrowedCompound(items) => Self::sum_within(items, limit),
             &FormatDescriptionV3Inner::BorrowedOptional { format, item } => {
@@ -117,6 +50,7 @@ impl FormatDescriptionV3Inner<'_> {
                 [] => Some(0),
                 [first, ..] => first.bytes_within(limit),
             },
+            _ => unreachable!(),
         }
     }
 

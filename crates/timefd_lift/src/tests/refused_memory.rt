@@ -1,18 +1,23 @@
 //! Texts rewritten twice, where one allocation may be refused. `gate/memory` runs this test once
 //! for each allocation, and refuses that one.
 
-use crate::v1_to_v2;
+use crate::{v1_to_v2, v2_to_v3};
 use std::alloc::Global;
 use std::process::Abort;
-use timefd_parse::ParseError;
+use timefd_parse::{DescriptionVersion, ParseError};
 
 const AMPLE: &str = "memory suffices";
 
 const REFUSED: &str = "memory ran out";
 
-/// What the text is rewritten to, or the sentence of its fault, or that memory ran out.
-fn answer(rt: &impl Abort, alloc: Global, text: &str) -> String {
-    match v1_to_v2(alloc, text) {
+/// What the text of version 1 or 2 is rewritten to, or the sentence of its fault, or that memory
+/// ran out.
+fn answer(rt: &impl Abort, alloc: Global, version: DescriptionVersion, text: &str) -> String {
+    let rewritten = match version {
+        DescriptionVersion::One => v1_to_v2(alloc, text),
+        _ => v2_to_v3(alloc, text),
+    };
+    match rewritten {
         Ok(text) => Ok(text),
         Err(ParseError::Invalid(fault)) => format!(in alloc; "{fault}"),
         Err(ParseError::Memory(_)) => String::from_str(alloc, REFUSED),
@@ -21,9 +26,15 @@ fn answer(rt: &impl Abort, alloc: Global, text: &str) -> String {
 }
 
 /// Expects that one of two calls answers so, and that the other does too or is refused memory.
-fn expect_one_at_least(rt: &impl Abort, alloc: Global, text: &str, expected: &str) {
-    let first = answer(rt, alloc, text);
-    let second = answer(rt, alloc, text);
+fn expect_one_at_least(
+    rt: &impl Abort,
+    alloc: Global,
+    version: DescriptionVersion,
+    text: &str,
+    expected: &str,
+) {
+    let first = answer(rt, alloc, version, text);
+    let second = answer(rt, alloc, version, text);
     if first.as_str() == REFUSED {
         assert_eq!(rt; second.as_str(), expected, "{text} behind a refusal");
         return;
@@ -34,8 +45,8 @@ fn expect_one_at_least(rt: &impl Abort, alloc: Global, text: &str, expected: &st
     }
 }
 
-/// Texts, and what they are rewritten to or the sentence of their fault.
-const ROWS: &[(&str, &str)] = &[
+/// Texts of version 1, and what they are rewritten to or the sentence of their fault.
+const OF_ONE: &[(&str, &str)] = &[
     ("", ""),
     ("[[day]]", "\\[day\\]\\]"),
     ("[[[day]]\\", "\\[[day]\\]\\\\"),
@@ -48,9 +59,21 @@ const ROWS: &[(&str, &str)] = &[
     ("a[foo]", "invalid component name `foo` at byte index 2"),
 ];
 
+/// Texts of version 2, and what they are rewritten to or the sentence of their fault.
+const OF_TWO: &[(&str, &str)] = &[
+    ("", ""),
+    ("[YEAR]", "[year range:extended]"),
+    ("a]b", "a\\]b"),
+    ("[ignore count:65535]", "[ignore count:65535]"),
+    ("a[foo]", "invalid component name `foo` at byte index 2"),
+];
+
 #[test]
 fn rewriting(rt: HostRuntime) {
-    for (text, expected) in ROWS {
-        expect_one_at_least(&rt, rt.alloc(), text, expected);
+    for (text, expected) in OF_ONE {
+        expect_one_at_least(&rt, rt.alloc(), DescriptionVersion::One, text, expected);
+    }
+    for (text, expected) in OF_TWO {
+        expect_one_at_least(&rt, rt.alloc(), DescriptionVersion::Two, text, expected);
     }
 }

@@ -1,5 +1,5 @@
 use Rattle.std.proofs.Common.{◌≡◌, ◌∙◌, true, false, IsUtf8, string_bytes, sym, subst}
-use Rattle.timefd_items.specs.Faults.{fault_of}
+use Rattle.timefd_fault.specs.Faults.{fault_of}
 use Rattle.timefd_language.specs.declared.description_version.DescriptionVersion.TheVariants.{One}
 use Rattle.timefd_parse.specs.Answers.{IsAssigned}
 use Rattle.timefd_language.specs.Told.{IsFaultOrMemory, MemoryAlone}

@@ -1,6 +1,6 @@
 use Rattle.std.proofs.Common.{◌≡◌, List, IfOk, IfErr, MatchResult, sym, subst}
-use Rattle.timefd_items.specs.Faults.{Fault}
-use Rattle.timefd_items.specs.Tree.{Tree}
+use Rattle.timefd_fault.specs.Faults.{Fault}
+use Rattle.timefd_component.specs.Tree.{Tree}
 use Rattle.timefd_language.specs.Told.{IsFaultOrMemory, MemoryAlone}
 use Rattle.timefd_parse.specs.Language.{SpellsIn, FaultIn, amount, IsAssignedIn}
 use Rattle.timefd_parse.proofs.language.amount_within.Goals as goal

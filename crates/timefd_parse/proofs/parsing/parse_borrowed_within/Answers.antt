@@ -1,6 +1,6 @@
 use Rattle.std.proofs.Common.{List, refl, sym, subst}
-use Rattle.timefd_items.specs.Faults.{Fault}
-use Rattle.timefd_items.specs.Tree.{Tree}
+use Rattle.timefd_fault.specs.Faults.{Fault}
+use Rattle.timefd_component.specs.Tree.{Tree}
 use Rattle.timefd_language.specs.Told.{IsFaultOrMemory, MemoryAlone}
 use Rattle.timefd_language.specs.Broken.{FaultOf}
 use Rattle.timefd_language.specs.Grammar.{Spells}

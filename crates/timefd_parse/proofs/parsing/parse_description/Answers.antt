@@ -1,7 +1,7 @@
 use Rattle.std.proofs.Common.{◌∙◌, ◌≤◌, ◌++◌, length, refl, sym, ap, subst, arith}
 use Rattle.timefd_items.specs.Builder.{built}
-use Rattle.timefd_items.specs.Reserved.{reserve_all}
-use Rattle.timefd_items.specs.Tree.{pack, trees}
+use Rattle.timefd_component.specs.Reserved.{reserve_all}
+use Rattle.timefd_component.specs.Tree.{pack, trees}
 use Rattle.timefd_parse.proofs.ParseLemmas.{items_spelled, same_list, none_read, no_fault_in, told_assigned, told_spelled, told_refused, reserves_at_most}
 use Rattle.timefd_parse.proofs.BuildingLemmas.{list_within}
 use Rattle.timefd_parse.proofs.parsing.parse_description.Goals as goal

@@ -1,6 +1,6 @@
 use Rattle.std.proofs.Common.{refl, arith}
 use Rattle.timefd_items.specs.Builder.{built}
-use Rattle.timefd_items.specs.Faults.{fault}
+use Rattle.timefd_fault.specs.Faults.{fault}
 use Rattle.timefd_language.specs.Fault.{first_item, expected_alternative}
 use Rattle.timefd_parse.proofs.CheckLemmas.{none_shown}
 use Rattle.timefd_parse.proofs.VerdictLemmas.{first_lax, first_empty, first_made, parts_none}

@@ -1,6 +1,6 @@
 use Rattle.std.proofs.Common.{refl, arith}
 use Rattle.timefd_items.specs.Builder.{built}
-use Rattle.timefd_items.specs.Faults.{fault}
+use Rattle.timefd_fault.specs.Faults.{fault}
 use Rattle.timefd_language.specs.Fault.{expected_nested, optional_item}
 use Rattle.timefd_parse.proofs.CheckLemmas.{none_shown}
 use Rattle.timefd_parse.proofs.VerdictLemmas.{parts_none, parts_one, parts_many, optional_none, optional_many, optional_lax, optional_made}

@@ -1,5 +1,5 @@
 use Rattle.std.proofs.Common.{ap}
-use Rattle.timefd_items.specs.Faults.{fault, invalid_name}
+use Rattle.timefd_fault.specs.Faults.{fault, invalid_name}
 use Rattle.timefd_language.specs.Head.{name_index}
 use Rattle.timefd_parse.proofs.VerdictLemmas.{verdict_misplaced, verdict_by_name}
 use Rattle.timefd_parse.proofs.verdict.verdict.Goals as goal

@@ -1,5 +1,5 @@
 use Rattle.std.proofs.Common.{Some, get_or, subst}
-use Rattle.timefd_items.specs.Tree.{Text}
+use Rattle.timefd_component.specs.Tree.{Text}
 use Rattle.timefd_strftime.specs.LetterMeaning.{IsLetter}
 use Rattle.timefd_strftime.proofs.DirectiveLemmas.{directive_leads_to}
 use Rattle.timefd_strftime.proofs.count.behind_directive.Goals as goal

@@ -1,5 +1,5 @@
 use Rattle.std.proofs.Common.{Some, None, get_or, subst, arith, refl}
-use Rattle.timefd_items.specs.Tree.{Text}
+use Rattle.timefd_component.specs.Tree.{Text}
 use Rattle.timefd_strftime.specs.LetterMeaning.{IsLetter, letter_tree}
 use Rattle.timefd_strftime.proofs.DirectiveLemmas.{none_left, directive_leads, directive_unknown, directive_cut_short}
 use Rattle.timefd_strftime.proofs.directive.directive.Goals as goal

@@ -1,8 +1,8 @@
 use Rattle.std.proofs.Common.{List, map, sym, subst, arith, IsTrue}
 use Rattle.std.proofs.lemmas.Result.{err_from_is_err_and}
-use Rattle.timefd_items.specs.declared.borrowed_format_item.BorrowedFormatItem.{BorrowedFormatItem}
-use Rattle.timefd_items.specs.Meaning.{item_tree}
-use Rattle.timefd_items.specs.Tree.{Text}
+use Rattle.timefd_format_item.specs.declared.borrowed_format_item.BorrowedFormatItem.{BorrowedFormatItem}
+use Rattle.timefd_format_item.specs.Meaning.{item_tree}
+use Rattle.timefd_component.specs.Tree.{Text}
 use Rattle.timefd_strftime.specs.StrftimeReading.{IsStrftimeFaultAt, IsRestOf}
 use Rattle.timefd_language.specs.Strings.{are_of_strings}
 use Rattle.timefd_strftime.proofs.DirectiveLemmas.{Continues, IsPiece, all_read, continues_more, fault_behind, piece_at}

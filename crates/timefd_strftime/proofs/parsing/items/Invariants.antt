@@ -1,7 +1,7 @@
 use Rattle.std.proofs.Common.{length, map, ◌≤◌, IsTrue}
 use denote.Text.{Utf8}
 use denote.Shadow.{shadow}
-use Rattle.timefd_items.specs.Meaning.{item_tree}
+use Rattle.timefd_format_item.specs.Meaning.{item_tree}
 use Rattle.timefd_language.specs.Strings.{are_of_strings}
 use Rattle.timefd_strftime.proofs.DirectiveLemmas.{Continues}
 use Rattle.timefd_strftime.proofs.parsing.items.Given as goal

@@ -1,5 +1,5 @@
 use Rattle.std.proofs.Common.{sym, subst}
-use Rattle.timefd_items.specs.Tree.{Tree}
+use Rattle.timefd_component.specs.Tree.{Tree}
 use Rattle.timefd_strftime.specs.StrftimeReading.{Leads}
 use Rattle.timefd_strftime.proofs.DirectiveLemmas.{run_leads}
 use Rattle.timefd_strftime.proofs.parsing.run.Goals as goal

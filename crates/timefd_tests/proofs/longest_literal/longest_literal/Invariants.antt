@@ -1,7 +1,7 @@
 use Rattle.std.proofs.Common.{◌≡◌, max}
 use Rattle.timefd_items.specs.Description.{description_tree}
-use Rattle.timefd_items.specs.Turns.{walk_trees}
-use Rattle.timefd_items.specs.Views.{walked}
+use Rattle.timefd_node_list.specs.Turns.{walk_trees}
+use Rattle.timefd_node_list.specs.Views.{walked}
 use Rattle.timefd_tests.specs.Longest.{longest}
 use Rattle.timefd_tests.proofs.longest_literal.longest_literal.Given as goal
 

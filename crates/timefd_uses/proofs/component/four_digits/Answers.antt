@@ -1,6 +1,6 @@
 use Rattle.std.proofs.Common.{◌≡◌, IfOk, string_bytes, sym, ap, subst, ◌∙◌}
 use Rattle.std.specs.Fmt.{styled_decimal}
-use Rattle.timefd_items.specs.Texts.{filled}
+use Rattle.timefd_component.specs.Texts.{filled}
 use Rattle.timefd_uses.proofs.NumberLemmas.{zeros_filled, spaces_filled}
 use Rattle.timefd_uses.proofs.component.four_digits.Goals as goal
 

@@ -1,6 +1,6 @@
 use Rattle.std.proofs.Common.{map, string_bytes}
 use Rattle.timefd_items.specs.Meaning.{inner_tree}
-use Rattle.timefd_items.specs.Tree.{trees}
+use Rattle.timefd_component.specs.Tree.{trees}
 use Rattle.timefd_uses.proofs.WrittenLemmas.{completes_step}
 use Rattle.timefd_uses.proofs.write.+write.Goals as goal
 

@@ -1,6 +1,6 @@
 use Rattle.std.proofs.Common.{map, string_bytes}
-use Rattle.timefd_items.specs.Meaning.{item_tree}
-use Rattle.timefd_items.specs.Tree.{trees}
+use Rattle.timefd_format_item.specs.Meaning.{item_tree}
+use Rattle.timefd_component.specs.Tree.{trees}
 use Rattle.timefd_uses.proofs.WrittenLemmas.{completes_step}
 use Rattle.timefd_uses.proofs.write_items.+items.Goals as goal
 

@@ -1,4 +1,4 @@
-use Rattle.timefd_items.proofs.NodeListLemmas.{last_taken, last_left}
+use Rattle.timefd_items.proofs.InnerLemmas.{last_taken, last_left}
 use Rattle.timefd_items.proofs.format_description_v3.inner_trees.take_last.Goals as goal
 
 pub returns-clause-taken : goal.returns-clause-taken

@@ -1,8 +1,8 @@
 use Rattle.std.proofs.Common.{ℕ, ◌≡◌, ◌∙◌, ◌++◌, ◌∷◌, [], ap, arith}
 use Rattle.timefd_items.specs.Builder.{built}
-use Rattle.timefd_items.specs.Nodes.{before, ending}
-use Rattle.timefd_items.specs.NodeTrees.{list_trees}
-use Rattle.timefd_items.specs.Tree.{Tree, first, trees}
+use Rattle.timefd_node_list.specs.Nodes.{before, ending}
+use Rattle.timefd_node_list.specs.NodeTrees.{list_trees}
+use Rattle.timefd_component.specs.Tree.{Tree, first, trees}
 use Rattle.timefd_items.proofs.BuilderLemmas.{few_trees, largest-made, length-made, first-ending}
 use Rattle.timefd_items.proofs.format_description_v3.builder.DescriptionBuilder.first.Goals as goal
 
@@ -18,4 +18,5 @@ invariant_of-self-2 c =
       counted = omega (arith, c.args.self.now.counted, length-made k (built c.args.self.now) (list_trees c.first.new.self) t is);
       each_fits = largest-made k (built c.args.self.now) (list_trees c.first.new.self) t _ is c.args.self.now.each_fits
           (first-ending k (built c.args.self.now) _ c.args.self.now.each_fits);
+      summed = tt;
     }

@@ -1,8 +1,10 @@
-use Rattle.std.proofs.Common.{◌≡◌, ◌∙◌, ◌++◌, ◌∷◌, [], ap, arith}
+use Rattle.std.proofs.Common.{◌≡◌, ◌∙◌, ◌++◌, ◌∷◌, [], ap, arith, refl, subst, sym}
 use Rattle.timefd_items.specs.Builder.{built}
-use Rattle.timefd_items.specs.NodeTrees.{list_trees}
-use Rattle.timefd_items.specs.Tree.{literal}
+use Rattle.timefd_node_list.specs.NodeTrees.{list_trees}
+use Rattle.timefd_node_list.specs.Tallies.{IsSum}
+use Rattle.timefd_component.specs.Tree.{literal}
 use Rattle.timefd_items.proofs.BuilderLemmas.{few_trees, largest-one_more, length-one_more}
+use Rattle.timefd_node_list.proofs.SumLemmas.{sum-one_more}
 use Rattle.timefd_items.proofs.format_description_v3.builder.DescriptionBuilder.literal.Goals as goal
 
 pub overflow_add-self : goal.overflow_add-self
@@ -14,4 +16,5 @@ invariant_of-self-2 c =
     record {
       counted = omega (arith, c.args.self.now.counted, length-one_more (built c.args.self.now) (list_trees c.literal.new.self) (literal c.args.text.now) is);
       each_fits = largest-one_more (built c.args.self.now) (list_trees c.literal.new.self) (literal c.args.text.now) _ is c.args.self.now.each_fits (omega arith);
+      summed = subst (λ s. IsSum (list_trees c.literal.new.self) s) (sym c.sum_within-self.ensures) (sum-one_more (built c.args.self.now) (list_trees c.literal.new.self) (literal c.args.text.now) c.args.self.now.bytes _ is refl c.args.self.now.summed);
     }

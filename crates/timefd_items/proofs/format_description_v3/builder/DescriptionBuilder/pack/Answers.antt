@@ -1,9 +1,10 @@
 use Rattle.std.proofs.Common.{ℕ, ◌≡◌, ◌∙◌, ◌++◌, ◌∷◌, [], ap, arith}
 use Rattle.timefd_items.specs.Builder.{built}
-use Rattle.timefd_items.specs.Nodes.{before, ending}
-use Rattle.timefd_items.specs.NodeTrees.{list_trees}
-use Rattle.timefd_items.specs.Tree.{Tree, compound, trees}
+use Rattle.timefd_node_list.specs.Nodes.{before, ending}
+use Rattle.timefd_node_list.specs.NodeTrees.{list_trees}
+use Rattle.timefd_component.specs.Tree.{Tree, compound, trees}
 use Rattle.timefd_items.proofs.BuilderLemmas.{few_trees, largest-made, length-made}
+use Rattle.timefd_node_list.proofs.SumLemmas.{sum-packed}
 use Rattle.timefd_items.proofs.format_description_v3.builder.DescriptionBuilder.pack.Goals as goal
 
 pub overflow_add-self : goal.overflow_add-self
@@ -17,4 +18,5 @@ invariant_of-self-2 c =
     record {
       counted = omega (arith, c.args.self.now.counted, length-made k (built c.args.self.now) (list_trees c.compound.new.self) t is);
       each_fits = largest-made k (built c.args.self.now) (list_trees c.compound.new.self) t _ is c.args.self.now.each_fits (omega (arith, c.requires.fits));
+      summed = sum-packed k (built c.args.self.now) (list_trees c.compound.new.self) c.args.self.now.bytes is c.args.self.now.summed;
     }

@@ -1,7 +1,7 @@
 use Rattle.std.proofs.Common.{map}
 use Rattle.std.specs.Vec.Iter.{into_iter_items}
 use Rattle.timefd_items.specs.Meaning.{inner_tree}
-use Rattle.timefd_items.proofs.NodeListLemmas.{Adding}
+use Rattle.timefd_items.proofs.InnerLemmas.{Adding}
 use Rattle.timefd_items.proofs.format_description_v3.inner.FormatDescriptionV3Inner.+flatten.Given as goal
 
 -- the trees that the iterator has left are left to be added

@@ -1,6 +1,6 @@
 use Rattle.std.proofs.Common.{map, drop}
 use Rattle.timefd_items.specs.Meaning.{inner_tree}
-use Rattle.timefd_items.proofs.NodeListLemmas.{Adding}
+use Rattle.timefd_items.proofs.InnerLemmas.{Adding}
 use Rattle.timefd_items.proofs.format_description_v3.inner.FormatDescriptionV3Inner.+flatten_lent.Given as goal
 
 -- the trees from this one on are left to be added

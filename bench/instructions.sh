@@ -1,0 +1,46 @@
+#!/bin/sh
+# Prints how many instructions one call of `timefd_judge` takes, as callgrind counts them: the difference of 520 calls and 20
+# by 500. It needs valgrind.
+set -eu
+cd "$(dirname "$0")"
+libc=$(dirname "$(rt doc)")/c/liblibc_c.a
+mkdir -p out
+
+(cd ../crates/timefd_c && rt lib > /dev/null)
+cc -std=gnu11 -Wall -Wextra -Werror -O2 -o out/instructions instructions.c ../crates/timefd_c/out/libtimefd_c.a "$libc"
+
+# count KIND TIMES TEXT
+count() {
+    valgrind --tool=callgrind --callgrind-out-file=/dev/null out/instructions "$1" "$2" "$3" 2>&1 \
+        | sed -n 's/.*Collected : //p'
+}
+
+# row NAME KIND TEXT
+row() {
+    echo "| $1 | $((($(count "$2" 520 "$3") - $(count "$2" 20 "$3") + 250) / 500)) |"
+}
+
+date='[year]-[month]-[day]'
+moment="${date}T[hour]:[minute]:[second]"
+zone='[offset_hour sign:mandatory]:[offset_minute]'
+rfc2822='[weekday repr:short], [day] [month repr:short] [year] [hour]:[minute]:[second] [offset_hour sign:mandatory][offset_minute]'
+longest=$(head -c 100035 /dev/zero | tr '\0' a)
+
+echo '| Text | Instructions |'
+echo '|---|---|'
+row 'version 1, `[day]`' 1 '[day]'
+row 'version 1, ISO date' 1 "$date"
+row 'version 1, ISO date and time' 1 "$moment"
+row 'version 1, RFC 2822' 1 "$rfc2822"
+row 'version 2, ISO date and time' 2 "$moment"
+row 'version 3, `[day]`' 3 '[day]'
+row 'version 3, ISO date' 3 "$date"
+row 'version 3, ISO date and time' 3 "$moment"
+row 'version 3, RFC 3339' 3 "$moment.[subsecond]$zone"
+row 'version 3, RFC 2822' 3 "$rfc2822"
+row 'version 3, ISO date and time with an optional and a `first`' 3 \
+    "${moment}[optional [.[subsecond]]][first [Z] [$zone]]"
+row 'strftime, `%Y-%m-%d %H:%M:%S`' 4 '%Y-%m-%d %H:%M:%S'
+row 'strftime, `%d`' 4 '%d'
+row 'strftime, `%Y-%m-%d %Q`, which has a fault' 4 '%Y-%m-%d %Q'
+row 'version 1, a literal of 100 kB' 1 "$longest"

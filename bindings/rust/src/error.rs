@@ -1,0 +1,82 @@
+//! Why a text is not read.
+
+use std::error::Error;
+use std::fmt;
+
+use crate::buffer;
+use crate::sys;
+
+/// Why a text is not read. It shows itself as a sentence.
+///
+/// ```
+/// use timefd::{FormatDescription, Version};
+///
+/// let error = FormatDescription::parse(Version::Three, "[year]-[mnth]").unwrap_err();
+/// assert_eq!(error.index(), Some(8));
+/// assert_eq!(error.to_string(), "invalid component name `mnth` at byte index 8");
+/// ```
+#[derive(Debug, Clone, PartialEq, Eq)]
+#[non_exhaustive]
+pub enum ParseError {
+    /// The text is no description.
+    Invalid {
+        /// The index of the byte at fault: how many bytes of the text stand before it.
+        index: usize,
+        /// What is wrong there. The library writes it, and it is proved to be the sentence of the
+        /// fault that the rules assign to the text.
+        sentence: Box<str>,
+    },
+    /// Memory ran out. That says nothing of the text.
+    OutOfMemory,
+}
+
+impl ParseError {
+    /// The index of the byte at fault: how many bytes of the text stand before it. `None` where
+    /// memory ran out.
+    pub fn index(&self) -> Option<usize> {
+        match self {
+            Self::Invalid { index, .. } => Some(*index),
+            Self::OutOfMemory => None,
+        }
+    }
+
+    /// What a text is not read for, from the status of a call that doesn't accept it in the
+    /// language of a number.
+    pub(crate) fn of(kind: u32, text: &str, status: u32) -> Self {
+        match status {
+            sys::REFUSED => Self::fault(kind, text).unwrap_or(Self::OutOfMemory),
+            sys::NO_MEMORY => Self::OutOfMemory,
+            _ => unreachable!("the status {status} of a text in UTF-8"),
+        }
+    }
+
+    /// The fault of a text that is refused. `None` where memory ran out.
+    fn fault(kind: u32, text: &str) -> Option<Self> {
+        let mut sentence = buffer::filled(SENTENCE_ROOM, 0)?;
+        let mut answer = sys::check(kind, text, &mut sentence);
+        if answer.status == sys::REFUSED && answer.written < answer.sentence_len {
+            sentence = buffer::filled(answer.sentence_len, 0)?;
+            answer = sys::check(kind, text, &mut sentence);
+        }
+        if answer.status != sys::REFUSED {
+            return None; // It is refused, so memory ran out.
+        }
+        sentence.truncate(answer.written);
+        let sentence = String::from_utf8(sentence).expect("a sentence is text");
+        Some(Self::Invalid { index: answer.value, sentence: sentence.into_boxed_str() })
+    }
+}
+
+/// Room for each sentence that names nothing long.
+const SENTENCE_ROOM: usize = 128;
+
+impl fmt::Display for ParseError {
+    fn fmt(&self, f: &mut fmt::Formatter<'_>) -> fmt::Result {
+        match self {
+            Self::Invalid { sentence, .. } => f.write_str(sentence),
+            Self::OutOfMemory => f.write_str("out of memory"),
+        }
+    }
+}
+
+impl Error for ParseError {}

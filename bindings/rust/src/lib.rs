@@ -1,0 +1,45 @@
+//! Reads the format descriptions of `time` (`[year]-[month]-[day]`, versions 1, 2 and 3) and those
+//! of strftime (`%Y-%m-%d`) into their nodes, or answers the one fault that the rules assign, with
+//! its byte index.
+//!
+//! The reading is done by a static library whose every function is proved; this crate gives it a
+//! face in Rust, and is itself only tested. [`FormatDescription`] is where to begin:
+//!
+//! ```
+//! use timefd::{FormatDescription, Part, Version};
+//!
+//! let description = FormatDescription::parse(Version::Three, "due [day]")?;
+//! for part in description.parts() {
+//!     match part {
+//!         Part::Literal(text) => println!("{text:?}"),
+//!         Part::Component(component) => println!("{component:?}"),
+//!     }
+//! }
+//! println!("at most {} bytes", description.max_bytes_needed());
+//! # Ok::<(), timefd::ParseError>(())
+//! ```
+//!
+//! Calls may come from any thread. Reading a text that is nested as deep as it may be, 127 deep,
+//! takes some 100 KiB of stack.
+
+mod buffer;
+mod component;
+mod convert;
+mod decode;
+mod description;
+mod entry;
+mod error;
+mod modifier;
+mod node;
+mod sys;
+mod version;
+mod walks;
+
+pub use component::Component;
+pub use convert::v1_to_v2;
+pub use description::FormatDescription;
+pub use error::ParseError;
+pub use modifier::{Padding, SubsecondDigits, TrailingInput};
+pub use node::{Item, Members, Node};
+pub use version::Version;
+pub use walks::{Nodes, Part, Parts};

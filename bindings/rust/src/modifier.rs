@@ -1,0 +1,94 @@
+//! The values of modifiers, each with the number that the static library gives it.
+
+/// How a number that is shorter than its field is filled on the left.
+#[derive(Debug, Clone, Copy, PartialEq, Eq, Hash)]
+pub enum Padding {
+    /// By spaces.
+    Space,
+    /// By zeros.
+    Zero,
+    /// Not at all.
+    None,
+}
+
+impl Padding {
+    pub(crate) fn from_number(number: u8) -> Option<Self> {
+        match number {
+            1 => Some(Self::Space),
+            2 => Some(Self::Zero),
+            3 => Some(Self::None),
+            _ => None,
+        }
+    }
+}
+
+/// How many digits of a fraction of a second are shown.
+#[derive(Debug, Clone, Copy, PartialEq, Eq, Hash)]
+pub enum SubsecondDigits {
+    /// One: tenths of a second.
+    One,
+    /// Two: hundredths of a second.
+    Two,
+    /// Three: milliseconds.
+    Three,
+    /// Four.
+    Four,
+    /// Five.
+    Five,
+    /// Six: microseconds.
+    Six,
+    /// Seven.
+    Seven,
+    /// Eight.
+    Eight,
+    /// Nine: nanoseconds.
+    Nine,
+    /// As many of nine as stand before the zeros at the end, and at least one.
+    OneOrMore,
+}
+
+impl SubsecondDigits {
+    pub(crate) fn from_number(number: u8) -> Option<Self> {
+        match number {
+            1 => Some(Self::One),
+            2 => Some(Self::Two),
+            3 => Some(Self::Three),
+            4 => Some(Self::Four),
+            5 => Some(Self::Five),
+            6 => Some(Self::Six),
+            7 => Some(Self::Seven),
+            8 => Some(Self::Eight),
+            9 => Some(Self::Nine),
+            10 => Some(Self::OneOrMore),
+            _ => None,
+        }
+    }
+}
+
+/// What becomes of input behind the end.
+#[derive(Debug, Clone, Copy, PartialEq, Eq, Hash)]
+pub enum TrailingInput {
+    /// It is refused.
+    Prohibit,
+    /// It is dropped unread.
+    Discard,
+}
+
+impl TrailingInput {
+    pub(crate) fn from_number(number: u8) -> Option<Self> {
+        match number {
+            1 => Some(Self::Prohibit),
+            2 => Some(Self::Discard),
+            _ => None,
+        }
+    }
+}
+
+/// A modifier that is true or false.
+pub(crate) fn boolean(number: u8) -> Option<bool> {
+    match number {
+        1 => Some(false),
+        2 => Some(true),
+        _ => None,
+    }
+}

@@ -1,0 +1,135 @@
+//! The static library behind safe functions. All that is unsafe stands here; the header `timefd.h`
+//! says what the calls are and what a caller keeps to.
+//!
+//! Why the calls are sound, beside what each says:
+//!
+//! - A slice's pointer is never null, and its length is at most `isize::MAX`, which is what the
+//!   header asks of both.
+//! - A `&[u8]` is written by nobody while it is borrowed, and a `&mut [u8]` or `&mut [RawNode]` is
+//!   set to something, is used by nobody else and overlaps nothing else, as the header asks of
+//!   texts and buffers.
+//! - No call keeps a pointer, takes a lock or keeps anything for the next one, so that they may
+//!   come from any thread.
+//! - Each struct is `repr(C)` with the fields of the header in their order, and the library is of
+//!   that header's version: each call is made only once `timefd_version` has said so.
+
+/// The version of the header that this module is written for.
+const VERSION: u32 = 1000;
+
+/// The number of strftime, beside those of [`Version`](crate::Version).
+pub(crate) const STRFTIME: u32 = 4;
+
+pub(crate) const ACCEPTED: u32 = 0;
+pub(crate) const REFUSED: u32 = 1;
+pub(crate) const NO_MEMORY: u32 = 3;
+
+pub(crate) const LITERAL: u32 = 1;
+pub(crate) const COMPONENT: u32 = 2;
+pub(crate) const COMPOUND: u32 = 3;
+pub(crate) const OPTIONAL: u32 = 4;
+pub(crate) const FIRST: u32 = 5;
+
+/// `timefd_node` of the header, which says what each field means.
+#[repr(C)]
+#[derive(Debug, Clone, Copy, Default)]
+pub(crate) struct RawNode {
+    pub(crate) what: u32,
+    pub(crate) component: u32,
+    pub(crate) padding: u8,
+    pub(crate) sign_is_mandatory: u8,
+    pub(crate) case_sensitive: u8,
+    pub(crate) one_indexed: u8,
+    pub(crate) is_uppercase: u8,
+    pub(crate) digits: u8,
+    pub(crate) trailing_input: u8,
+    pub(crate) format: u8,
+    pub(crate) ignored: u32,
+    pub(crate) start: usize,
+    pub(crate) count: usize,
+    pub(crate) bytes: usize,
+}
+
+/// `timefd_answer` of the header.
+#[repr(C)]
+pub(crate) struct Answer {
+    pub(crate) status: u32,
+    pub(crate) value: usize,
+    pub(crate) sentence_len: usize,
+    pub(crate) written: usize,
+}
+
+/// `timefd_read_answer` of the header.
+#[repr(C)]
+pub(crate) struct ReadAnswer {
+    pub(crate) status: u32,
+    pub(crate) value: usize,
+    pub(crate) nodes: usize,
+    pub(crate) literals: usize,
+    pub(crate) written: bool,
+}
+
+unsafe extern "C" {
+    safe fn timefd_version() -> u32;
+    fn timefd_read(
+        kind: u32,
+        text: *const u8,
+        len: usize,
+        nodes: *mut RawNode,
+        node_room: usize,
+        literals: *mut u8,
+        literal_room: usize,
+    ) -> ReadAnswer;
+    fn timefd_check(
+        kind: u32,
+        text: *const u8,
+        len: usize,
+        sentence: *mut u8,
+        room: usize,
+    ) -> Answer;
+    fn timefd_v1_to_v2(text: *const u8, len: usize, buffer: *mut u8, room: usize) -> Answer;
+}
+
+/// Stops a program that was linked with another library.
+fn expect_version() {
+    let found = timefd_version();
+    assert_eq!(found, VERSION, "libtimefd_c.a is of another version than this crate");
+}
+
+/// What the text is in a language, with its nodes and the bytes of its literals where both buffers
+/// have room.
+pub(crate) fn read(
+    kind: u32,
+    text: &str,
+    nodes: &mut [RawNode],
+    literals: &mut [u8],
+) -> ReadAnswer {
+    expect_version();
+    // SAFETY: the pointers and the lengths are those of three slices that are borrowed for the
+    // call, two of them for it alone.
+    unsafe {
+        timefd_read(
+            kind,
+            text.as_ptr(),
+            text.len(),
+            nodes.as_mut_ptr(),
+            nodes.len(),
+            literals.as_mut_ptr(),
+            literals.len(),
+        )
+    }
+}
+
+/// What the text is in a language, with the front of the sentence of its fault.
+pub(crate) fn check(kind: u32, text: &str, sentence: &mut [u8]) -> Answer {
+    expect_version();
+    // SAFETY: the pointers and the lengths are those of two slices that are borrowed for the call,
+    // the second for it alone.
+    unsafe { timefd_check(kind, text.as_ptr(), text.len(), sentence.as_mut_ptr(), sentence.len()) }
+}
+
+/// The text of version 2 for a text of version 1, where the buffer has room for all of it.
+pub(crate) fn v1_to_v2(text: &str, buffer: &mut [u8]) -> Answer {
+    expect_version();
+    // SAFETY: as in `check`.
+    unsafe { timefd_v1_to_v2(text.as_ptr(), text.len(), buffer.as_mut_ptr(), buffer.len()) }
+}

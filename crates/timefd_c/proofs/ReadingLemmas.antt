@@ -1,0 +1,120 @@
+-- What is answered of a text that was read as nodes, and of one that has a fault.
+use Rattle.std.proofs.Common.{ℕ, ◌≡◌, ◌+◌, ◌≤◌, length, List, Option, Some, None, IsSome, IsUtf8, false, true, refl, ap, subst, arith}
+use Rattle.timefd_component.specs.Tree.{Text, Tree, pack}
+use Rattle.timefd_fault.specs.Faults.{Fault, fault_of}
+use Rattle.timefd_fault.specs.declared.invalid_format_description.InvalidFormatDescription.{InvalidFormatDescription}
+use Rattle.timefd_parse.specs.declared.language.Language.{Language}
+use Rattle.timefd_language.specs.Grammar.{nesting_limit}
+use Rattle.timefd_parse.specs.Language.{SpellsIn, FaultIn}
+use Rattle.timefd_c_nodes.specs.declared.node.Node.{Node}
+use Rattle.timefd_c.specs.declared.answer.TheConstants.{ACCEPTED, REFUSED, NOT_UTF8, NO_MEMORY, UNKNOWN_KIND}
+use Rattle.timefd_c.specs.declared.answer.ReadAnswer.{ReadAnswer}
+use Rattle.timefd_c.specs.declared.read.Report.{Report}
+use Rattle.timefd_language.specs.declared.description_version.DescriptionVersion.TheVariants.{One, Two, Three}
+use Rattle.timefd_parse.specs.declared.language.Language.TheVariants.{Version, Strftime}
+use Rattle.timefd_language.proofs.Reserved.{reserves_within_law}
+use Rattle.timefd_c_nodes.proofs.TreeLemmas.{walked_length}
+use Rattle.timefd_c.specs.Reports.{IsReport, parts}
+use Rattle.timefd_c.specs.Reading.{Reads}
+
+abbrev pub told : Report → ReadAnswer
+told r = record { status = ACCEPTED; value = r.value; nodes = r.nodes; literals = r.literals; written = r.written }
+
+abbrev pub silent : ℕ → ℕ → ReadAnswer
+silent status value = record { status = status; value = value; nodes = 0; literals = 0; written = false }
+
+-- a text of version 3 has at most one node more than bytes
+three_within : (language : Language) (bytes : Text) (list : List Tree) (nodes : ℕ) → SpellsIn language nesting_limit bytes list
+    → ◌≡◌ {A = Option Language} (Some language) (Some (Version Three)) → nodes ≡ length (parts language list) → nodes ≤ length bytes + 1
+three_within (Version One) bytes list nodes spelled three is = absurd cc
+three_within (Version Two) bytes list nodes spelled three is = absurd cc
+three_within (Version Three) bytes list nodes spelled three is =
+    omega (arith, is, (reserves_within_law nesting_limit 0 bytes list spelled).1, walked_length (pack list))
+three_within Strftime bytes list nodes spelled three is = absurd cc
+
+pub reported : (language : Language) (bytes : Text) (ns ms : List Node) (a b : Text) (r : Report) → IsUtf8 bytes
+    → ((list : List Tree) × SpellsIn language nesting_limit bytes list × IsReport language list ns ms a b r)
+    → ((list : List Tree) → SpellsIn language nesting_limit bytes list → IsReport language list ns ms a b r)
+    → ((f : Fault) → FaultIn language nesting_limit bytes f → ⊥)
+    → Reads (Some language) bytes ns ms a b (told r)
+reported language bytes ns ms a b r utf8 found spelled no_fault = record {
+  accepted = λ e. (found.0, (utf8, found.1), found.2);
+  refused = λ e. absurd (omega (arith, e));
+  spelled = λ list d more. (refl, spelled list d.1);
+  faulty = λ f h more. absurd (no_fault f h.1);
+  unknown_kind = (λ e. absurd (omega (arith, e)), λ none. let is : Some language ≡ None = none in absurd cc);
+  not_utf8 = (λ e. absurd (omega (arith, e)), λ x. absurd (x.1 utf8));
+  status = omega arith;
+  no_value = λ accepted refused. absurd (accepted refl);
+  within = λ e three. three_within language bytes found.0 r.nodes found.1 three found.2.nodes;
+  nodes_kept = λ accepted. absurd (accepted refl);
+  literals_kept = λ accepted. absurd (accepted refl);
+  none_counted = λ accepted. absurd (accepted refl);
+}
+
+pub faulted : (language : Language) (bytes : Text) (ns : List Node) (a : Text) (f : Fault) → IsUtf8 bytes → FaultIn language nesting_limit bytes f
+    → ((list : List Tree) → SpellsIn language nesting_limit bytes list → ⊥)
+    → ((g : Fault) → FaultIn language nesting_limit bytes g → f ≡ g)
+    → Reads (Some language) bytes ns ns a a (silent REFUSED f.index)
+faulted language bytes ns a f utf8 has not_spelled one = record {
+  accepted = λ e. absurd (omega (arith, e));
+  refused = λ e. (f, (utf8, has), refl);
+  spelled = λ list d more. absurd (not_spelled list d.1);
+  faulty = λ g h more. (refl, ap (λ x. x.index) (one g h.1));
+  unknown_kind = (λ e. absurd (omega (arith, e)), λ none. let is : Some language ≡ None = none in absurd cc);
+  not_utf8 = (λ e. absurd (omega (arith, e)), λ x. absurd (x.1 utf8));
+  status = omega arith;
+  no_value = λ accepted refused. absurd (refused refl);
+  within = λ e. absurd (omega (arith, e));
+  nodes_kept = λ accepted. refl;
+  literals_kept = λ accepted. refl;
+  none_counted = λ accepted. (refl, refl, refl);
+}
+
+pub unread : (language : Option Language) (bytes : Text) (ns : List Node) (a : Text) → IsSome language → IsUtf8 bytes → Reads language bytes ns ns a a (silent NO_MEMORY 0)
+unread language bytes ns a some utf8 = record {
+  accepted = λ e. absurd (omega (arith, e));
+  refused = λ e. absurd (omega (arith, e));
+  spelled = λ list d more. absurd (more refl);
+  faulty = λ f h more. absurd (more refl);
+  unknown_kind = (λ e. absurd (omega (arith, e)), λ none. let no : false ≡ true = subst IsSome none some in absurd cc);
+  not_utf8 = (λ e. absurd (omega (arith, e)), λ x. absurd (x.1 utf8));
+  status = omega arith;
+  no_value = λ accepted refused. refl;
+  within = λ e. absurd (omega (arith, e));
+  nodes_kept = λ accepted. refl;
+  literals_kept = λ accepted. refl;
+  none_counted = λ accepted. (refl, refl, refl);
+}
+
+pub no_text : (language : Language) (bytes : Text) (ns : List Node) (a : Text) → ¬ (IsUtf8 bytes) → Reads (Some language) bytes ns ns a a (silent NOT_UTF8 0)
+no_text language bytes ns a invalid = record {
+  accepted = λ e. absurd (omega (arith, e));
+  refused = λ e. absurd (omega (arith, e));
+  spelled = λ list d more. absurd (invalid d.0);
+  faulty = λ f h more. absurd (invalid h.0);
+  unknown_kind = (λ e. absurd (omega (arith, e)), λ none. let is : Some language ≡ None = none in absurd cc);
+  not_utf8 = (λ e. (refl, invalid), λ x. refl);
+  status = omega arith;
+  no_value = λ accepted refused. refl;
+  within = λ e. absurd (omega (arith, e));
+  nodes_kept = λ accepted. refl;
+  literals_kept = λ accepted. refl;
+  none_counted = λ accepted. (refl, refl, refl);
+}
+
+pub no_language : (bytes : Text) (ns : List Node) (a : Text) → Reads None bytes ns ns a a (silent UNKNOWN_KIND 0)
+no_language bytes ns a = record {
+  accepted = λ e. absurd (omega (arith, e));
+  refused = λ e. absurd (omega (arith, e));
+  spelled = λ list d more. absurd d.1;
+  faulty = λ f h more. absurd h.1;
+  unknown_kind = (λ e. refl, λ none. refl);
+  not_utf8 = (λ e. absurd (omega (arith, e)), λ x. let no : false ≡ true = x.0 in absurd cc);
+  status = omega arith;
+  no_value = λ accepted refused. refl;
+  within = λ e. absurd (omega (arith, e));
+  nodes_kept = λ accepted. refl;
+  literals_kept = λ accepted. refl;
+  none_counted = λ accepted. (refl, refl, refl);
+}

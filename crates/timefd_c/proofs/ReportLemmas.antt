@@ -1,0 +1,102 @@
+-- What is reported of a description.
+use Rattle.std.proofs.Common.{◌≡◌, ◌∙◌, ℕ, ◌≤◌, ◌++◌, ◌↔◌, Bool, true, false, IsTrue, IfOk, MatchResult, Result, Ok, Err, List, map, length, drop, refl, sym, ap, subst, arith}
+use Rattle.std.proofs.lemmas.List.{length-map}
+use Rattle.std.specs.Result.{IfErr}
+use Rattle.std.specs.declared.alloc.Global.{Global}
+use Rattle.std.specs.declared.vec.Vec.{Vec}
+use Rattle.timefd_items.specs.Description.{description_tree}
+use Rattle.timefd_items.specs.declared.format_description_v3.FormatDescriptionV3.{FormatDescriptionV3}
+use Rattle.timefd_language.specs.declared.parse_error.ParseError.{ParseError}
+use Rattle.timefd_language.specs.Told.{MemoryAlone}
+use Rattle.timefd_format_item.specs.declared.borrowed_format_item.BorrowedFormatItem.{BorrowedFormatItem}
+use Rattle.timefd_format_item.specs.Meaning.{item_tree, item_trees}
+use Rattle.timefd_component.specs.Reserved.{reserve}
+use Rattle.timefd_component.specs.Tree.{Text, Tree, trees, pack}
+use Rattle.timefd_node_list.specs.Views.{walked, walked_all}
+use Rattle.timefd_language.specs.declared.description_version.DescriptionVersion.{DescriptionVersion}
+use Rattle.timefd_language.specs.declared.description_version.DescriptionVersion.TheVariants.{One, Two, Three}
+use Rattle.timefd_parse.specs.declared.language.Language.TheVariants.{Version, Strftime}
+use Rattle.timefd_parse.specs.declared.parsing.BorrowedOutput.TheVariants.{Items, Description}
+use Rattle.timefd_parse.specs.Answers.{IsOutput}
+use Rattle.timefd_c_nodes.specs.declared.node.Node.{Node}
+use Rattle.timefd_c_nodes.specs.declared.size.Size.{Size}
+use Rattle.timefd_c_nodes.specs.Encoding.{nodes_from, literals_of}
+use Rattle.timefd_c_nodes.specs.Sizes.{IsSize}
+use Rattle.timefd_c.specs.declared.read.Report.{Report}
+use Rattle.timefd_c.specs.Reports.{Reports, IsReport}
+
+abbrev pub report : ℕ → Size → Bool → Report
+report value size written = record { value = value; nodes = size.nodes; literals = size.literals; written = written }
+
+-- both buffers have room
+abbrev pub Fit : Size → List Node → Text → Type 0
+Fit size ns a = (size.nodes ≤ length ns) × (size.literals ≤ length a)
+
+sized : (ts : List Tree) (size : Size) (ns : List Node) (a : Text) → IsSize ts size → (length ts ≤ length ns) × (length (literals_of ts) ≤ length a) → Fit size ns a
+sized ts size ns a is h = (omega (arith, is.0, h.0), omega (arith, is.1, h.1))
+
+unsized : (ts : List Tree) (size : Size) (ns : List Node) (a : Text) → IsSize ts size → Fit size ns a → (length ts ≤ length ns) × (length (literals_of ts) ≤ length a)
+unsized ts size ns a is h = (omega (arith, is.0, h.0), omega (arith, is.1, h.1))
+
+pub reports_kept : (ts : List Tree) (value : ℕ) (size : Size) (ns : List Node) (a : Text) (t : Bool) → IsSize ts size → (IsTrue t ↔ Fit size ns a) → t ≡ false
+    → Reports ts value ns ns a a (report value size false)
+reports_kept ts value size ns a t is fits off = record {
+  value = refl;
+  nodes = is.0;
+  literals = is.1;
+  room = (λ h. let no : false ≡ true = h in absurd cc, λ h. let no : t ≡ true = fits.1 (sized ts size ns a is h) in absurd cc);
+  nodes_written = λ h. let no : false ≡ true = h in absurd cc;
+  literals_written = λ h. let no : false ≡ true = h in absurd cc;
+  kept = λ h. (refl, refl);
+}
+
+pub reports_written : (ts : List Tree) (value : ℕ) (size : Size) (ns ms : List Node) (a b : Text) (t : Bool) → IsSize ts size → (IsTrue t ↔ Fit size ns a) → t ≡ true
+    → ms ≡ nodes_from 0 0 ts ++ drop (length ts) ns → b ≡ literals_of ts ++ drop (length (literals_of ts)) a
+    → Reports ts value ns ms a b (report value size true)
+reports_written ts value size ns ms a b t is fits on nodes literals = record {
+  value = refl;
+  nodes = is.0;
+  literals = is.1;
+  room = (λ h. unsized ts size ns a is (fits.0 on), λ h. refl);
+  nodes_written = λ h. nodes;
+  literals_written = λ h. literals;
+  kept = λ h. let no : true ≡ false = h in absurd cc;
+}
+
+-- The reports on outputs of each language.
+
+pub items_report : (items : List BorrowedFormatItem) (list : List Tree) (ns ms : List Node) (a b : Text) (r : Report) → map item_tree items ≡ list
+    → Reports (walked_all (trees (item_trees items))) (length items) ns ms a b r → Reports (walked_all (trees list)) (length list) ns ms a b r
+items_report items list ns ms a b r is reports =
+    subst (λ l. Reports (walked_all (trees l)) (length l) ns ms a b r) is
+    (subst (λ n. Reports (walked_all (trees (item_trees items))) n ns ms a b r) (sym (length-map items item_tree)) reports)
+
+pub tree_report : (t u : Tree) (ns ms : List Node) (a b : Text) (r : Report) → t ≡ u → Reports (walked t) (reserve t) ns ms a b r → Reports (walked u) (reserve u) ns ms a b r
+tree_report t u ns ms a b r is reports = subst (λ x. Reports (walked x) (reserve x) ns ms a b r) is reports
+
+-- What is spelled is reported, or memory ran out; and what is spelled has no fault.
+
+pub items_spelled : (v : DescriptionVersion) (list : List Tree) (vec : Vec BorrowedFormatItem Global) (lent : List BorrowedFormatItem) (ns ms : List Node) (a b : Text) (r : Result Report ParseError)
+    → lent ≡ vec.items → IsOutput v list (Items vec)
+    → IfOk r (Reports (walked_all (trees (item_trees lent))) (length lent) ns ms a b) → IfErr r MemoryAlone
+    → MatchResult r (IsReport (Version v) list ns ms a b) MemoryAlone
+items_spelled One list vec lent ns ms a b (Ok x) e is reports memory = items_report lent list ns ms a b x (ap (λ xs. map item_tree xs) e ∙ is) reports
+items_spelled Two list vec lent ns ms a b (Ok x) e is reports memory = items_report lent list ns ms a b x (ap (λ xs. map item_tree xs) e ∙ is) reports
+items_spelled Three list vec lent ns ms a b (Ok x) e is reports memory = absurd is
+items_spelled v list vec lent ns ms a b (Err x) e is reports memory = memory
+
+pub description_spelled : (v : DescriptionVersion) (list : List Tree) (d : FormatDescriptionV3) (ns ms : List Node) (a b : Text) (r : Result Report ParseError)
+    → IsOutput v list (Description d)
+    → IfOk r (Reports (walked (description_tree d)) (reserve (description_tree d)) ns ms a b) → IfErr r MemoryAlone
+    → MatchResult r (IsReport (Version v) list ns ms a b) MemoryAlone
+description_spelled One list d ns ms a b (Ok x) is reports memory = absurd is
+description_spelled Two list d ns ms a b (Ok x) is reports memory = absurd is
+description_spelled Three list d ns ms a b (Ok x) is reports memory = tree_report (description_tree d) (pack list) ns ms a b x is reports
+description_spelled v list d ns ms a b (Err x) is reports memory = memory
+
+pub strftime_spelled : (list : List Tree) (items lent : List BorrowedFormatItem) (ns ms : List Node) (a b : Text) (r : Result Report ParseError)
+    → lent ≡ items → map item_tree items ≡ list
+    → IfOk r (Reports (walked_all (trees (item_trees lent))) (length lent) ns ms a b) → IfErr r MemoryAlone
+    → MatchResult r (IsReport Strftime list ns ms a b) MemoryAlone
+strftime_spelled list items lent ns ms a b (Ok x) e is reports memory = items_report lent list ns ms a b x (ap (λ xs. map item_tree xs) e ∙ is) reports
+strftime_spelled list items lent ns ms a b (Err x) e is reports memory = memory

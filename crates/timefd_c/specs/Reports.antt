@@ -1,0 +1,34 @@
+-- What is said and written of a description that is read as nodes.
+use Rattle.std.specs.Prelude.{ℕ, ◌≡◌, ◌≤◌, ◌++◌, ◌↔◌, IsTrue, IsFalse, List, length, drop}
+use Rattle.timefd_component.specs.Tree.{Text, Tree, trees, pack}
+use Rattle.timefd_node_list.specs.Views.{walked, walked_all}
+use Rattle.timefd_language.specs.declared.description_version.DescriptionVersion.TheVariants.{One, Two, Three}
+use Rattle.timefd_parse.specs.declared.language.Language.{Language}
+use Rattle.timefd_parse.specs.declared.language.Language.TheVariants.{Version, Strftime}
+use Rattle.timefd_parse.specs.Language.{amount}
+use Rattle.timefd_c_nodes.specs.declared.node.Node.{Node}
+use Rattle.timefd_c_nodes.specs.Encoding.{nodes_from, literals_of}
+use Rattle.timefd_c.specs.declared.read.Report.{Report}
+
+-- All parts of a description, each behind its members: those of the items in turn, and in version 3 of the one tree that
+-- they are packed to.
+abbrev pub parts : Language → List Tree → List Tree
+parts (Version One) list = walked_all (trees list)
+parts (Version Two) list = walked_all (trees list)
+parts (Version Three) list = walked (pack list)
+parts Strftime list = walked_all (trees list)
+
+-- These parts are reported, and where both buffers have room their nodes and literals stand at the fronts.
+pub record Reports (ts : List Tree) (counted : ℕ) (nodes_before nodes_after : List Node) (before after : Text) (r : Report) : Type 0 where
+  pub value : r.value ≡ counted
+  pub nodes : r.nodes ≡ length ts
+  pub literals : r.literals ≡ length (literals_of ts)
+  pub room : IsTrue r.written ↔ ((length ts ≤ length nodes_before) × (length (literals_of ts) ≤ length before))
+  pub nodes_written : IsTrue r.written → nodes_after ≡ nodes_from 0 0 ts ++ drop (length ts) nodes_before
+  pub literals_written : IsTrue r.written → after ≡ literals_of ts ++ drop (length (literals_of ts)) before
+  pub kept : IsFalse r.written → (nodes_after ≡ nodes_before) × (after ≡ before)
+
+-- the report on a text that spells the list in the language
+abbrev pub IsReport : Language → List Tree → List Node → List Node → Text → Text → Report → Type 0
+IsReport language list nodes_before nodes_after before after r =
+    Reports (parts language list) (amount language list) nodes_before nodes_after before after r

@@ -1,0 +1,34 @@
+-- What is written to the buffers.
+use Rattle.std.specs.Prelude.{ℕ, ◌≡◌, ◌+◌, ◌≤◌, ◌++◌, List, [], ◌∷◌, length, set, take, drop}
+use Rattle.timefd_component.specs.Tree.{Text, Tree}
+use Rattle.timefd_c_nodes.specs.declared.node.Node.{Node}
+use Rattle.timefd_c_nodes.specs.declared.place.Place.{Place}
+use Rattle.timefd_c_nodes.specs.Encoding.{node_for, own_text, literals_of}
+
+-- bytes with some of them replaced from an index on
+abbrev pub overwritten : ℕ → Text → Text → Text
+overwritten at text bytes = take at bytes ++ text ++ drop (at + length text) bytes
+
+-- nodes once those of some trees are written, of which the first has this index
+abbrev pub nodes_written : ℕ → ℕ → List Tree → List Node → List Node
+nodes_written at used [] nodes = nodes
+nodes_written at used (t ∷ ts) nodes =
+    nodes_written (at + 1) (used + length (own_text t)) ts (set nodes at (node_for at used t))
+
+-- bytes once the literals of some trees are written
+abbrev pub literals_written : ℕ → List Tree → Text → Text
+literals_written used [] bytes = bytes
+literals_written used (t ∷ ts) bytes =
+    literals_written (used + length (own_text t)) ts (overwritten used (own_text t) bytes)
+
+-- there is room for these trees behind a place
+abbrev pub HasRoom : List Tree → Place → List Node → Text → Type 0
+HasRoom ts at nodes literals =
+    (at.nodes + length ts ≤ length nodes) × (at.literals + length (literals_of ts) ≤ length literals)
+
+-- these trees are written from one place to the other
+pub record Writes (ts : List Tree) (from to : Place) (nodes_before nodes_after : List Node) (before after : Text) : Type 0 where
+  pub nodes : nodes_after ≡ nodes_written from.nodes from.literals ts nodes_before
+  pub literals : after ≡ literals_written from.literals ts before
+  pub node_at : to.nodes ≡ from.nodes + length ts
+  pub literal_at : to.literals ≡ from.literals + length (literals_of ts)

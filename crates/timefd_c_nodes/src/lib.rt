@@ -1,0 +1,17 @@
+//! Descriptions as nodes of fixed size, for programs in C. This is this port's own: the crate
+//! `timefd_c` hands it on.
+#![tactic(auto)]
+
+mod component;
+mod items;
+pub mod laws;
+mod node;
+mod part;
+mod place;
+mod size;
+mod view;
+
+pub use items::write_items;
+pub use node::Node;
+pub use size::{Size, items_size};
+pub use view::{view_size, write_view};

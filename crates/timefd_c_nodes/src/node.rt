@@ -1,0 +1,140 @@
+//! One node, as C sees it.
+
+ghost use Rattle.std.specs.Prelude.{◌≡◌};
+ghost use Rattle.timefd_c_nodes.specs.Encoding as spec;
+
+/// What a node is: bytes of the buffer of literals.
+pub const LITERAL: u32 = 1;
+
+/// What a node is: a component with its modifiers.
+pub const COMPONENT: u32 = 2;
+
+/// What a node is: its members in turn.
+pub const COMPOUND: u32 = 3;
+
+/// What a node is: its one member, which a parser may skip.
+pub const OPTIONAL: u32 = 4;
+
+/// What a node is: its members as alternatives.
+pub const FIRST: u32 = 5;
+
+/// A part of a description. A field that says nothing of such a part is 0.
+#[repr(C)]
+#[derive(Debug, Clone, Copy, PartialEq, Eq)]
+pub struct Node {
+    /// What it is: one of the five numbers.
+    pub what: u32,
+    /// Which component: 1 to 37, in the order of `Component`.
+    pub component: u32,
+    /// The padding of a component: 1 spaces, 2 zeros, 3 none.
+    pub padding: u8,
+    /// Whether a component always shows its sign: 1 no, 2 yes.
+    pub sign_is_mandatory: u8,
+    /// Whether a component is read in its own case alone: 1 no, 2 yes.
+    pub case_sensitive: u8,
+    /// Whether a component counts days of the week from one: 1 no, 2 yes.
+    pub one_indexed: u8,
+    /// Whether a component is shown in capitals: 1 no, 2 yes.
+    pub is_uppercase: u8,
+    /// The digits of a fraction of a second: 1 to 9, and 10 for one or more.
+    pub digits: u8,
+    /// What becomes of input behind the end: 1 it is refused, 2 it is dropped.
+    pub trailing_input: u8,
+    /// Whether a formatter writes what is optional: 1 no, 2 yes.
+    pub format: u8,
+    /// How many bytes a parser skips: 1 to 65535.
+    pub ignored: u32,
+    /// Of a literal the index of its first byte among the literals, of any other node the index of
+    /// the first node of its members, which is its own where it has none.
+    pub start: usize,
+    /// How many bytes a literal has, and how many members any other node.
+    pub count: usize,
+    /// The bytes that are reserved for it, at most `usize::MAX`.
+    pub bytes: usize,
+}
+
+impl Node {
+    /// The node of which nothing is known but what it is.
+    #[inline(always)]
+    pub const fn blank(what: u32) -> Node
+        ensures { result ≡ spec.blank what }
+    {
+        Node {
+            what,
+            component: 0,
+            padding: 0,
+            sign_is_mandatory: 0,
+            case_sensitive: 0,
+            one_indexed: 0,
+            is_uppercase: 0,
+            digits: 0,
+            trailing_input: 0,
+            format: 0,
+            ignored: 0,
+            start: 0,
+            count: 0,
+            bytes: 0,
+        }
+    }
+
+    /// The node of a literal whose first byte has this index among the literals.
+    #[inline(always)]
+    pub fn literal(start: usize, len: usize) -> Node
+        ensures { result ≡ spec.literal_node start len }
+    {
+        Node {
+            start,
+            count: len,
+            bytes: len,
+            ..Node::blank(LITERAL)
+        }
+    }
+
+    /// The node of members in turn.
+    #[inline(always)]
+    pub fn compound(start: usize, count: usize, bytes: usize) -> Node
+        ensures { result ≡ spec.compound_node start count bytes }
+    {
+        Node {
+            start,
+            count,
+            bytes,
+            ..Node::blank(COMPOUND)
+        }
+    }
+
+    /// The node of a member that a parser may skip.
+    #[inline(always)]
+    pub fn optional(start: usize, format: bool, bytes: usize) -> Node
+        ensures { result ≡ spec.optional_node start format bytes }
+    {
+        Node {
+            format: flag_number(format),
+            start,
+            count: 1,
+            bytes,
+            ..Node::blank(OPTIONAL)
+        }
+    }
+
+    /// The node of alternatives.
+    #[inline(always)]
+    pub fn first(start: usize, count: usize, bytes: usize) -> Node
+        ensures { result ≡ spec.first_node start count bytes }
+    {
+        Node {
+            start,
+            count,
+            bytes,
+            ..Node::blank(FIRST)
+        }
+    }
+}
+
+/// The number of a flag: 0 is left for a node that has none.
+#[inline(always)]
+pub fn flag_number(flag: bool) -> u8
+    ensures { result ≡ spec.flag_number flag }
+{
+    if flag { 2 } else { 1 }
+}

@@ -1,0 +1,3 @@
+mod SentenceLemmas
+pub mod FaultEqualityLemmas
+pub mod Rows

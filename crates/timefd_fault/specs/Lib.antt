@@ -1,0 +1,4 @@
+pub mod Faults
+pub mod Sentences
+pub mod Equality
+pub mod Laws

@@ -1,0 +1,4 @@
+pub mod Meaning
+pub mod Equality
+pub mod TreeEquality
+pub mod Laws

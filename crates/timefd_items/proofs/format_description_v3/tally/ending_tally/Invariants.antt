@@ -1,8 +1,0 @@
-use Rattle.std.proofs.Common.{map, []}
-use Rattle.timefd_items.specs.Nodes.{ending, grown_by, part}
-use Rattle.timefd_items.specs.Tallies.{IsTally}
-use Rattle.timefd_items.proofs.format_description_v3.tally.ending_tally.Given as goal
-
--- the tally is that of the trees so far
-abbrev pub invariant-trees : goal.invariant-trees
-invariant-trees l = IsTally (ending l.at (grown_by [] (map part l.nodes))) l.tally

@@ -1,0 +1,14 @@
+//! What a value prints, to be compared with what is expected.
+
+use std::alloc::Global;
+use std::fmt::Debug;
+use std::process::Abort;
+
+/// What a test says where an allocation fails.
+pub const AMPLE: &str = "memory suffices";
+
+/// Expects that the value prints so.
+pub fn expect_printed<T: Debug>(rt: &impl Abort, alloc: Global, value: &T, expected: &str) {
+    let printed = format!(in alloc; "{value:?}").expect(rt, AMPLE);
+    assert_eq!(rt; printed.as_str(), expected);
+}

@@ -1,0 +1,145 @@
+//! Copies made twice, where one allocation may be refused. `gate/memory` runs these tests once for
+//! each allocation, and refuses that one: what is copied is as it was, whatever is refused.
+
+use super::printed::{AMPLE, expect_printed};
+use super::trees::{expect_description, lend, literal, opaque, optional};
+use std::alloc::{AllocError, Global};
+use std::fmt::Debug;
+use std::process::Abort;
+use timefd_items::{
+    FormatDescriptionV3, FormatDescriptionV3Inner, InvalidFormatDescription, NotOpaque, OpaqueCause,
+};
+use timefd_modifier::{Day, Padding};
+
+const DAY: FormatDescriptionV3Inner<'static> = FormatDescriptionV3Inner::Day(Day {
+    padding: Padding::Zero,
+});
+
+/// What is printed of a call that answers that memory ran out.
+const REFUSED: &str = "memory ran out";
+
+/// Expects that one call answered so, and that the other did too or was refused memory.
+fn expect_one_at_least(rt: &impl Abort, first: String, second: String, expected: &str) {
+    if first.as_str() == REFUSED {
+        assert_eq!(rt; second.as_str(), expected, "behind a refusal");
+        return;
+    }
+    assert_eq!(rt; first.as_str(), expected);
+    if second.as_str() != REFUSED {
+        assert_eq!(rt; second.as_str(), expected, "a second time");
+    }
+}
+
+/// The copy, in print, or that memory ran out.
+fn print_copy<T: Debug>(rt: &impl Abort, alloc: Global, copy: &Result<T, AllocError>) -> String {
+    match copy {
+        Ok(copy) => format!(in alloc; "{copy:?}"),
+        Err(AllocError) => String::from_str(alloc, REFUSED),
+    }
+    .expect(rt, AMPLE)
+}
+
+/// `x[optional [y]][first [a] [[day]] [c]]`, its parts owned but for `y` and `c`.
+fn worked(rt: &impl Abort, alloc: Global) -> FormatDescriptionV3Inner<'static> {
+    let alternatives = vec![in alloc;
+        literal(rt, alloc, "a"),
+        DAY,
+        FormatDescriptionV3Inner::BorrowedLiteral("c"),
+    ]
+    .expect(rt, AMPLE);
+    let skipped = FormatDescriptionV3Inner::BorrowedLiteral("y");
+    let members = vec![in alloc;
+        literal(rt, alloc, "x"),
+        optional(rt, alloc, true, skipped),
+        FormatDescriptionV3Inner::OwnedFirst(alternatives),
+    ]
+    .expect(rt, AMPLE);
+    FormatDescriptionV3Inner::OwnedCompound(members)
+}
+
+const WORKED: &str =
+    "Compound([Literal(\"x\"), Optional { should_format: true, item: Literal(\"y\") }, First([Literal(\"a\"), Day { padding: Zero }, Literal(\"c\")])])";
+
+#[test]
+fn to_owned(rt: HostRuntime) {
+    let alloc = rt.alloc();
+    let description = opaque(&rt, alloc, worked(&rt, alloc));
+    let first = print_copy(&rt, alloc, &description.to_owned(alloc));
+    let second = print_copy(&rt, alloc, &description.to_owned(alloc));
+    expect_one_at_least(&rt, first, second, WORKED);
+    expect_description(&rt, alloc, &description, WORKED);
+}
+
+#[test]
+fn to_inner(rt: HostRuntime) {
+    let alloc = rt.alloc();
+    let description = opaque(&rt, alloc, worked(&rt, alloc));
+    let first = print_copy(&rt, alloc, &description.to_inner(alloc));
+    let second = print_copy(&rt, alloc, &description.to_inner(alloc));
+    expect_one_at_least(&rt, first, second, WORKED);
+    expect_printed(&rt, alloc, &description, WORKED);
+}
+
+#[test]
+fn clone_of_a_description(rt: HostRuntime) {
+    let alloc = rt.alloc();
+    let description = opaque(&rt, alloc, worked(&rt, alloc));
+    let first = print_copy(&rt, alloc, &description.clone(alloc));
+    let second = print_copy(&rt, alloc, &description.clone(alloc));
+    expect_one_at_least(&rt, first, second, WORKED);
+    expect_description(&rt, alloc, &description, WORKED);
+}
+
+#[test]
+fn clone_of_a_tree(rt: HostRuntime) {
+    let alloc = rt.alloc();
+    let tree = worked(&rt, alloc);
+    let first = print_copy(&rt, alloc, &tree.clone(alloc));
+    let second = print_copy(&rt, alloc, &tree.clone(alloc));
+    expect_one_at_least(&rt, first, second, WORKED);
+    expect_printed(&rt, alloc, &tree, WORKED);
+}
+
+/// Expects the description of the tree, or that the tree comes back and then is made one.
+fn expect_opaque(
+    rt: &impl Abort,
+    alloc: Global,
+    tree: FormatDescriptionV3Inner<'static>,
+    expected: &str,
+) {
+    match tree.into_opaque(alloc) {
+        Ok(description) => expect_description(rt, alloc, &description, expected),
+        Err(NotOpaque { tree, cause }) => {
+            assert_eq!(rt; cause, OpaqueCause::Memory);
+            expect_printed(rt, alloc, &tree, expected);
+            let description = opaque(rt, alloc, tree);
+            expect_description(rt, alloc, &description, expected);
+        }
+    }
+}
+
+#[test]
+fn into_opaque(rt: HostRuntime) {
+    expect_opaque(&rt, rt.alloc(), worked(&rt, rt.alloc()), WORKED);
+    let lent = FormatDescriptionV3Inner::BorrowedOptional {
+        format: false,
+        item: lend(&rt, rt.alloc(), worked(&rt, rt.alloc())),
+    };
+    let expected =
+        "Optional { should_format: false, item: Compound([Literal(\"x\"), Optional { should_format: true, item: Literal(\"y\") }, First([Literal(\"a\"), Day { padding: Zero }, Literal(\"c\")])]) }";
+    expect_opaque(&rt, rt.alloc(), lent, expected);
+}
+
+#[test]
+fn clone_of_a_fault(rt: HostRuntime) {
+    let alloc = rt.alloc();
+    let fault = InvalidFormatDescription::InvalidComponentName {
+        name: String::from_str(alloc, "foo").expect(&rt, AMPLE),
+        index: 1,
+    };
+    let expected = "InvalidComponentName { name: \"foo\", index: 1 }";
+    let first = print_copy(&rt, alloc, &fault.clone(alloc));
+    let second = print_copy(&rt, alloc, &fault.clone(alloc));
+    expect_one_at_least(&rt, first, second, expected);
+    expect_printed(&rt, alloc, &fault, expected);
+}

@@ -1,0 +1,10 @@
+use Rattle.std.proofs.Common.{◌≡◌, ◌++◌, drop, string_bytes}
+use Rattle.timefd_format_item.specs.Meaning.{item_trees}
+use Rattle.timefd_lift.specs.Plain.{ArePlainItems}
+use Rattle.timefd_lift.specs.Written.{written}
+use Rattle.timefd_lift.proofs.from_two.written.Given as goal
+
+-- what is written so far, and the items that are left, are what is written of all
+abbrev pub invariant-items : goal.invariant-items
+invariant-items l =
+    ArePlainItems (drop l.at l.items) × (string_bytes l.answer ++ written (item_trees (drop l.at l.items)) ≡ written (item_trees l.items))

@@ -1,0 +1,17 @@
+-- What holds of the texts of version 3 that are written.
+use Rattle.std.specs.Prelude.{ℕ, List, [], ◌∷◌}
+use Rattle.timefd_component.specs.declared.component.Component.{Component}
+use Rattle.timefd_component.specs.Modern.{modern}
+use Rattle.timefd_component.specs.Tree.{Text, Tree, component}
+use Rattle.timefd_language.specs.declared.description_version.DescriptionVersion.TheVariants.{Two, Three}
+use Rattle.timefd_language.specs.Grammar.{Spells}
+use Rattle.timefd_lift.specs.Plain.{IsCounted}
+use Rattle.timefd_lift.specs.Written.{component_text, written}
+
+-- The text of a component version 3 reads as that component, or as the one that a deprecated one stands for.
+abbrev pub ComponentsRead : Type 0
+ComponentsRead = (limit : ℕ) (c : Component) → IsCounted c → Spells Three limit 0 (component_text (modern c)) (component (modern c) ∷ [])
+
+-- What version 2 spells version 3 spells, once it is written.
+abbrev pub Writing : Type 0
+Writing = (limit : ℕ) (text : Text) (list : List Tree) → Spells Two limit 0 text list → Spells Three limit 0 (written list) list

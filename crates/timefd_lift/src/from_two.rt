@@ -1,0 +1,72 @@
+//! Texts of version 2 as texts of version 3.
+
+ghost use Rattle.std.specs.Prelude.{◌≡◌, [], List, IfOk, IsOk, MatchResult, string_bytes};
+ghost use Rattle.std.specs.Result.{IfErr};
+ghost use Rattle.timefd_fault.specs.Faults as spec;
+ghost use Rattle.timefd_format_item.specs.Meaning.{item_trees};
+ghost use Rattle.timefd_component.specs.Tree.{Tree};
+ghost use Rattle.timefd_language.specs.declared.description_version.DescriptionVersion.TheVariants.{Two};
+ghost use Rattle.timefd_language.specs.Grammar.{Spells, nesting_limit};
+ghost use Rattle.timefd_language.specs.Broken.{FaultOf};
+ghost use Rattle.timefd_parse.specs.Answers.{IsAssigned};
+ghost use Rattle.timefd_language.specs.Told.{IsFaultOrMemory};
+ghost use Rattle.timefd_lift.specs.Answers.{IsTextOrMemory};
+ghost use Rattle.timefd_lift.specs.Modernized.{IsWrittenOf, KeepsItemsOf};
+ghost use Rattle.timefd_lift.specs.Plain.{ArePlainItems};
+ghost use Rattle.timefd_lift.specs.Written as text;
+
+use crate::item::push_item;
+use crate::laws::writing;
+use std::alloc::{AllocError, Global};
+use timefd_items::BorrowedFormatItem;
+use timefd_parse::{BorrowedOutput, DescriptionVersion, ParseError, parse_borrowed};
+
+/// The text of version 3 that means what a text of version 2 means, written anew: each component in
+/// small letters with its modifiers in one order, those alone that aren't version 3's default, and
+/// `[`, `]` and `\` of literals behind a `\`.
+///
+/// The error is the fault that version 2 finds in the text, or `Memory` where memory ran out. This
+/// call is this port's own.
+pub fn v2_to_v3(alloc: Global, s: &str) -> Result<String, ParseError>
+    // What is answered is the text written anew, which has the same items. What is refused is
+    // refused for the fault that the rules of version 2 assign.
+    ensures rewritten { IfOk result (λ answer. IsWrittenOf s.now (string_bytes answer)) }
+    ensures same_items { IfOk result (λ answer. KeepsItemsOf s.now (string_bytes answer)) }
+    ensures fault { IfErr result (IsAssigned Two nesting_limit s.now) }
+
+    // What version 2 spells is written anew, and what has a fault is refused for it, unless memory
+    // runs out.
+    ensures spelled { (list : List Tree) → Spells Two nesting_limit 0 s.now list → IsTextOrMemory (text.written list) result }
+    ensures refused { (f : spec.Fault) → FaultOf Two nesting_limit s.now f → MatchResult result (λ _. ⊥) (IsFaultOrMemory f) }
+
+    // The empty text takes no memory.
+    ensures empty { s.now ≡ [] → IsOk result }
+{
+    // The law by which version 3 spells the same items.
+    writing();
+    match parse_borrowed(alloc, DescriptionVersion::Two, s) {
+        Ok(BorrowedOutput::Items(items)) => match written(alloc, s.len(), &items) {
+            Ok(answer) => Ok(answer),
+            Err(error) => Err(ParseError::Memory(error)),
+        },
+        Ok(BorrowedOutput::Description(_)) => unreachable!(),
+        Err(error) => Err(error),
+    }
+}
+
+/// The text of the items, with room for so many bytes at first.
+fn written(
+    alloc: Global,
+    room: usize,
+    items: &[BorrowedFormatItem<'_>],
+) -> Result<String, AllocError>
+    requires { ArePlainItems items.now }
+    ensures written { IfOk result (λ answer. string_bytes answer ≡ text.written (item_trees items.now)) }
+    ensures empty { items.now ≡ [] → room ≡ 0 → IsOk result }
+{
+    let mut answer = String::with_capacity(alloc, room)?;
+    'items: for at in 0..items.len() {
+        push_item(alloc, &mut answer, &items[at])?;
+    }
+    Ok(answer)
+}

@@ -1,0 +1,75 @@
+//! The modifiers of version 3 that stand in a bracket behind its name, each where it isn't the
+//! default.
+
+ghost use Rattle.std.specs.Prelude.{◌≡◌};
+ghost use Rattle.timefd_lift.specs.Written as spec;
+
+use timefd_items::modifier::{Padding, SubsecondDigits, TrailingInput};
+
+pub fn padded(padding: Padding) -> &'static str
+    ensures { result.now ≡ spec.padded padding }
+{
+    match padding {
+        Padding::Zero => "",
+        Padding::Space => " padding:space",
+        Padding::None => " padding:none",
+    }
+}
+
+pub fn signed(is_mandatory: bool) -> &'static str
+    ensures { result.now ≡ spec.signed is_mandatory }
+{
+    if is_mandatory { " sign:mandatory" } else { "" }
+}
+
+pub fn cased(is_case_sensitive: bool) -> &'static str
+    ensures { result.now ≡ spec.cased is_case_sensitive }
+{
+    if is_case_sensitive {
+        ""
+    } else {
+        " case_sensitive:false"
+    }
+}
+
+pub fn indexed(is_one_indexed: bool) -> &'static str
+    ensures { result.now ≡ spec.indexed is_one_indexed }
+{
+    if is_one_indexed {
+        ""
+    } else {
+        " one_indexed:false"
+    }
+}
+
+pub fn lettered(is_uppercase: bool) -> &'static str
+    ensures { result.now ≡ spec.lettered is_uppercase }
+{
+    if is_uppercase { "" } else { " case:lower" }
+}
+
+pub fn numbered(digits: SubsecondDigits) -> &'static str
+    ensures { result.now ≡ spec.numbered digits }
+{
+    match digits {
+        SubsecondDigits::OneOrMore => "",
+        SubsecondDigits::One => " digits:1",
+        SubsecondDigits::Two => " digits:2",
+        SubsecondDigits::Three => " digits:3",
+        SubsecondDigits::Four => " digits:4",
+        SubsecondDigits::Five => " digits:5",
+        SubsecondDigits::Six => " digits:6",
+        SubsecondDigits::Seven => " digits:7",
+        SubsecondDigits::Eight => " digits:8",
+        SubsecondDigits::Nine => " digits:9",
+    }
+}
+
+pub fn trailed(trailing_input: TrailingInput) -> &'static str
+    ensures { result.now ≡ spec.trailed trailing_input }
+{
+    match trailing_input {
+        TrailingInput::Prohibit => "",
+        TrailingInput::Discard => " trailing_input:discard",
+    }
+}

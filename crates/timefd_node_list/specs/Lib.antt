@@ -1,0 +1,5 @@
+pub mod Nodes
+pub mod NodeTrees
+pub mod Tallies
+pub mod Views
+pub mod Turns

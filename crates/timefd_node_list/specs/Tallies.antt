@@ -1,0 +1,37 @@
+-- What is known of trees side by side.
+use Rattle.std.specs.Prelude.{ℕ, ◌≡◌, ◌+◌, ◌-◌, ◌^◌, List, [], ◌∷◌, Option, Some, None, ⊤}
+use Rattle.std.specs.Coded.{Unit-prop}
+use Rattle.std.proofs.Props.{props}
+use Rattle.timefd_node_list.specs.declared.tally.Tally.{Tally}
+use Rattle.timefd_node_list.specs.Nodes.{kept_bytes}
+use Rattle.timefd_component.specs.Reserved.{reserve, reserve_all, reserve_first, trees_count, within}
+use Rattle.timefd_component.specs.Tree.{Tree, trees}
+
+-- what a node keeps of a sum
+abbrev pub kept_of : Option ℕ → ℕ
+kept_of (Some bytes) = bytes
+kept_of None = 2 ^ 64 - 1
+
+-- a sum and so many more, where a `usize` counts them
+abbrev pub sum_within : Option ℕ → ℕ → Option ℕ
+sum_within (Some sum) bytes = within (2 ^ 64 - 1) (sum + bytes)
+sum_within None bytes = None
+
+-- the sum of what the nodes of these trees keep
+abbrev pub kept_sum : List Tree → Option ℕ
+kept_sum [] = Some 0
+kept_sum (t ∷ ts) = sum_within (kept_sum ts) (kept_bytes (reserve t))
+
+pub record IsTally (ts : List Tree) (t : Tally) : Type 0 where
+  pub nodes : t.nodes ≡ trees_count (trees ts)
+  pub bytes : t.bytes ≡ kept_sum ts
+  pub first : t.first ≡ kept_bytes (reserve_first (trees ts))
+
+-- it is what these trees reserve, where it is known
+abbrev pub IsSum : List Tree → Option ℕ → Type 0
+IsSum ts None = ⊤
+IsSum ts (Some sum) = sum ≡ reserve_all (trees ts)
+
+pub IsSum-prop : (ts : List Tree) (sum : Option ℕ) → IsProp (IsSum ts sum)
+IsSum-prop ts None = Unit-prop
+IsSum-prop ts (Some sum) = Prim.hlevel props

@@ -1,0 +1,64 @@
+//! How a list of nodes prints under `{:?}`: a lent and an owned text of one content alike.
+
+ghost use Rattle.std.specs.Prelude.{◌≤◌, [], length, map};
+ghost use Rattle.timefd_node_list.specs.Nodes.{Fit, grown_by, part};
+
+use crate::node::Node;
+use crate::tally::{split_last, without_ending};
+use std::fmt;
+use timefd_component::debug::ModifiersOf;
+
+/// The last tree of these nodes.
+#[cycle(debug_nodes)]
+pub fn write_last<W: fmt::Write>(nodes: &[Node<'_>], f: &mut fmt::Formatter<W>) -> fmt::Result
+    requires fit { Fit [] (map part nodes.now) }
+    requires there { 1 ≤ length nodes.now }
+{
+    let (inner, last) = split_last(nodes);
+    match last {
+        &Node::Literal(text) => write!(f, "Literal({text:?})"),
+        Node::OwnedLiteral(text) => write!(f, "Literal({text:?})"),
+        Node::Component(component, _) => {
+            let leaf = ModifiersOf(component.modern());
+            write!(f, "{leaf:?}")
+        }
+        Node::Compound(members) => {
+            f.write_str("Compound([")?;
+            write_ending(inner, members.count, f)?;
+            f.write_str("])")
+        }
+        Node::Optional { format, .. } => {
+            write!(f, "Optional {{ should_format: {format:?}, item: ")?;
+            write_last(inner, f)?;
+            f.write_str(" }")
+        }
+        Node::First(members) => {
+            f.write_str("First([")?;
+            write_ending(inner, members.count, f)?;
+            f.write_str("])")
+        }
+    }
+}
+
+/// The last trees of these nodes, so many. They are found from the end on and written from the
+/// front, so half of them are skipped at a time, and not each of them again for each before it.
+#[cycle(debug_nodes)]
+fn write_ending<W: fmt::Write>(
+    nodes: &[Node<'_>],
+    count: usize,
+    f: &mut fmt::Formatter<W>,
+) -> fmt::Result
+    requires fit { Fit [] (map part nodes.now) }
+    requires there { count ≤ length (grown_by [] (map part nodes.now)) }
+{
+    if count == 0 {
+        return Ok(());
+    }
+    if count == 1 {
+        return write_last(nodes, f);
+    }
+    let behind = count / 2;
+    write_ending(without_ending(nodes, behind), count - behind, f)?;
+    f.write_str(", ")?;
+    write_ending(nodes, behind, f)
+}

@@ -1,0 +1,17 @@
+//! Descriptions of version 3 as one list of nodes, each behind its members, and the views of such a
+//! list. Users take the views from `timefd_items`, where the descriptions stand.
+#![tactic(auto)]
+
+mod debug;
+pub mod in_turn;
+pub mod members;
+pub mod node;
+pub mod node_list;
+pub mod tally;
+pub mod view;
+pub mod walk;
+
+pub use in_turn::InTurn;
+pub use members::Members;
+pub use view::{Shape, View};
+pub use walk::Walk;

@@ -1,0 +1,106 @@
+//! One part of a description, which stands behind its members.
+
+ghost use Rattle.std.specs.Prelude.{◌≡◌, IfOk};
+
+use std::alloc::{AllocError, Global};
+use timefd_component::Component;
+
+/// What a description is made of. Of its members a node keeps how many they are, and in how many
+/// nodes they stand: those right before it, so each member is found by going back over the nodes
+/// of the one behind it. It has 32 bytes.
+#[derive(Drop)]
+pub enum Node<'a> {
+    /// Text that is lent.
+    Literal(&'a str),
+    /// Text of its own.
+    OwnedLiteral(String),
+    /// A component, and how many bytes it reserves.
+    Component(Component, usize),
+    /// Its members in turn.
+    Compound(Members),
+    /// The one member that a parser may skip.
+    Optional {
+        /// Whether a formatter writes it.
+        format: bool,
+        /// How many nodes the member has.
+        nodes: usize,
+        /// How many bytes are reserved for it, at most `usize::MAX`.
+        bytes: usize,
+    },
+    /// Its members as alternatives.
+    First(Members),
+}
+
+/// What a node keeps of its members.
+#[derive(Clone, Copy)]
+pub struct Members {
+    /// How many they are.
+    pub count: usize,
+    /// How many nodes they have.
+    pub nodes: usize,
+    /// How many bytes are reserved for them, at most `usize::MAX`.
+    pub bytes: usize,
+}
+
+impl<'a> Node<'a> {
+    ghost use Rattle.timefd_node_list.specs.Nodes.{part};
+
+    /// How many bytes its tree reserves, at most `usize::MAX`.
+    pub fn bytes(&self) -> usize
+        ensures { result ≡ (part self.now).bytes }
+    {
+        match self {
+            Node::Literal(text) => text.len(),
+            Node::OwnedLiteral(text) => text.len(),
+            Node::Component(_, bytes) => *bytes,
+            Node::Compound(members) => members.bytes,
+            Node::Optional { bytes, .. } => *bytes,
+            Node::First(members) => members.bytes,
+        }
+    }
+
+    /// How many nodes stand before it as parts of its tree.
+    pub fn inner_nodes(&self) -> usize
+        ensures { result ≡ (part self.now).nodes }
+    {
+        match self {
+            Node::Literal(_) | Node::OwnedLiteral(_) | Node::Component(_, _) => 0,
+            Node::Compound(members) => members.nodes,
+            Node::Optional { nodes, .. } => *nodes,
+            Node::First(members) => members.nodes,
+        }
+    }
+
+    /// A copy that borrows what this one borrows and owns what it owns. An `Err` comes where there
+    /// is no memory left for its text.
+    pub fn copied(&self, alloc: Global) -> Result<Node<'a>, AllocError>
+        ensures { IfOk result (λ copy. part copy ≡ part self.now) }
+    {
+        match self {
+            &Node::Literal(text) => Ok(Node::Literal(text)),
+            _ => self.owned(alloc),
+        }
+    }
+
+    /// A copy that borrows nothing. An `Err` comes where there is no memory left for its text.
+    pub fn owned(&self, alloc: Global) -> Result<Node<'static>, AllocError>
+        ensures { IfOk result (λ copy. part copy ≡ part self.now) }
+    {
+        match self {
+            &Node::Literal(text) => Ok(Node::OwnedLiteral(String::from_str(alloc, text)?)),
+            Node::OwnedLiteral(text) => Ok(Node::OwnedLiteral(String::from_str(alloc, text)?)),
+            Node::Component(component, bytes) => Ok(Node::Component(*component, *bytes)),
+            Node::Compound(members) => Ok(Node::Compound(*members)),
+            Node::Optional {
+                format,
+                nodes,
+                bytes,
+            } => Ok(Node::Optional {
+                format: *format,
+                nodes: *nodes,
+                bytes: *bytes,
+            }),
+            Node::First(members) => Ok(Node::First(*members)),
+        }
+    }
+}

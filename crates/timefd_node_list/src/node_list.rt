@@ -1,0 +1,183 @@
+//! Trees as one list of nodes, each behind its members.
+
+ghost use Rattle.std.specs.Prelude.{◌≡◌, ◌∷◌, ◌++◌, ◌≤◌, [], length, map, IfOk, string_bytes, vec_capacity, IsOk, OnOk};
+ghost use Rattle.timefd_node_list.specs.Nodes.{Fit, Fit-prop, Fits, arity, before, ending, grown, last_kept, part};
+ghost use Rattle.timefd_component.specs.Modern.{modern};
+ghost use Rattle.timefd_component.specs.Reserved.{reserve_all, reserved};
+ghost use Rattle.timefd_component.specs.Tree as spec;
+ghost use Rattle.timefd_component.specs.Tree.{compound, first, literal, optional, pack, trees};
+
+use crate::node::{Members, Node};
+use crate::tally::{ending_tally, last_kept_bytes};
+use std::alloc::{AllocError, Global};
+use timefd_component::Component;
+use timefd_component::reserved::reserved_bytes;
+
+/// Trees side by side. Nothing is moved where some of them become one: its node comes behind.
+#[derive(Drop)]
+pub struct NodeList<'a> {
+    nodes: Vec<Node<'a>>,
+    ghost fit: { Fit [] (map part nodes.items) } by { Fit-prop [] (map part nodes.items) },
+}
+
+impl<'a> NodeList<'a> {
+    ghost use Rattle.timefd_node_list.specs.NodeTrees.{Adds, AddsNode, HasRoom, list_parts, list_trees};
+
+    /// No trees.
+    pub fn new(alloc: Global) -> Self
+        ensures { list_trees result ≡ [] }
+    {
+        NodeList {
+            nodes: Vec::new(alloc),
+        }
+    }
+
+    /// No trees, with room for so many nodes. An `Err` comes where there is no memory left.
+    pub fn with_capacity(alloc: Global, count: usize) -> Result<Self, AllocError>
+        ensures empty { IfOk result (λ list. list_trees list ≡ []) }
+        ensures room { IfOk result (λ list. HasRoom list count) }
+        ensures no_memory { count ≡ 0 → IsOk result }
+    {
+        Ok(NodeList {
+            nodes: Vec::with_capacity(alloc, count)?,
+        })
+    }
+
+    /// The nodes.
+    pub fn nodes(&self) -> &[Node<'a>]
+        ensures parts { map part result.now ≡ list_parts self.now }
+        ensures fit { Fit [] (map part result.now) }
+    {
+        self.nodes.as_slice()
+    }
+
+    /// The bytes that the last tree keeps, or 0 where there is none.
+    pub fn last_bytes(&self) -> usize
+        ensures { result ≡ last_kept (list_trees self.now) }
+    {
+        last_kept_bytes(&self.nodes)
+    }
+
+    /// A copy that borrows what this one borrows. An `Err` comes where there is no memory left for
+    /// it.
+    pub fn copied(&self, alloc: Global) -> Result<Self, AllocError>
+        ensures { IfOk result (λ copy. list_parts copy ≡ list_parts self.now) }
+    {
+        let mut copies = Vec::with_capacity(alloc, self.nodes.len())?;
+        'nodes: for at in 0..self.nodes.len() {
+            let copy = self.nodes[at].copied(alloc)?;
+            copies.push(copy)?;
+        }
+        Ok(NodeList { nodes: copies })
+    }
+
+    /// A copy that borrows nothing. An `Err` comes where there is no memory left for it.
+    pub fn owned(&self, alloc: Global) -> Result<NodeList<'static>, AllocError>
+        ensures { IfOk result (λ copy. list_parts copy ≡ list_parts self.now) }
+    {
+        let mut copies = Vec::with_capacity(alloc, self.nodes.len())?;
+        'nodes: for at in 0..self.nodes.len() {
+            let copy = self.nodes[at].owned(alloc)?;
+            copies.push(copy)?;
+        }
+        Ok(NodeList { nodes: copies })
+    }
+
+    /// Makes room for so many nodes more. An `Err` comes where there is no memory left for it.
+    pub fn reserve(&mut self, count: usize) -> Result<(), AllocError>
+        ensures room { OnOk result (HasRoom self.new count) }
+        ensures kept { list_trees self.new ≡ list_trees self.old }
+        ensures no_memory { count ≡ 0 → IsOk result }
+    {
+        self.nodes.reserve(count)
+    }
+
+    /// Adds a text that is lent.
+    pub fn literal(&mut self, text: &'a str)
+        requires { HasRoom self.old 1 }
+        ensures { Adds self.old self.new (literal text.now ∷ []) }
+    {
+        self.push(Node::Literal(text));
+    }
+
+    /// Adds a text.
+    pub fn owned_literal(&mut self, text: String)
+        requires { HasRoom self.old 1 }
+        ensures { Adds self.old self.new (literal (string_bytes text) ∷ []) }
+    {
+        self.push(Node::OwnedLiteral(text));
+    }
+
+    /// Adds a component, in its modern form, and says how many bytes it reserves.
+    pub fn component(&mut self, component: Component) -> usize
+        requires { HasRoom self.old 1 }
+        ensures added { Adds self.old self.new (spec.component (modern component) ∷ []) }
+        ensures bytes { result ≡ reserved (modern component) }
+    {
+        let bytes = reserved_bytes(component);
+        self.push(Node::Component(component, bytes));
+        bytes
+    }
+
+    /// Makes the last trees, so many, their compound.
+    pub fn compound(&mut self, count: usize)
+        requires there { count ≤ length (list_trees self.old) }
+        requires room { HasRoom self.old 1 }
+        ensures trees { list_trees self.new ≡ before count (list_trees self.old) ++ compound (trees (ending count (list_trees self.old))) ∷ [] }
+        ensures node { AddsNode self.old self.new }
+    {
+        let members = ending_tally(&self.nodes, count);
+        self.push(Node::Compound(members.of_all(count)));
+    }
+
+    /// Makes all trees, so many, their compound, where the bytes that they reserve are known.
+    pub fn compound_of_all(&mut self, count: usize, bytes: usize)
+        requires all { count ≡ length (list_trees self.old) }
+        requires bytes { bytes ≡ reserve_all (trees (list_trees self.old)) }
+        requires room { HasRoom self.old 1 }
+        ensures trees { list_trees self.new ≡ before count (list_trees self.old) ++ compound (trees (ending count (list_trees self.old))) ∷ [] }
+        ensures node { AddsNode self.old self.new }
+    {
+        let nodes = self.nodes.len();
+        self.push(Node::Compound(Members {
+            count,
+            nodes,
+            bytes,
+        }));
+    }
+
+    /// Makes the last trees, so many, the alternatives of one.
+    pub fn first(&mut self, count: usize)
+        requires there { count ≤ length (list_trees self.old) }
+        requires room { HasRoom self.old 1 }
+        ensures trees { list_trees self.new ≡ before count (list_trees self.old) ++ first (trees (ending count (list_trees self.old))) ∷ [] }
+        ensures node { AddsNode self.old self.new }
+    {
+        let members = ending_tally(&self.nodes, count);
+        self.push(Node::First(members.of_first(count)));
+    }
+
+    /// Makes the last tree one that a parser may skip.
+    pub fn optional(&mut self, format: bool)
+        requires there { 1 ≤ length (list_trees self.old) }
+        requires room { HasRoom self.old 1 }
+        ensures trees { list_trees self.new ≡ before 1 (list_trees self.old) ++ optional format (pack (ending 1 (list_trees self.old))) ∷ [] }
+        ensures node { AddsNode self.old self.new }
+    {
+        let member = ending_tally(&self.nodes, 1);
+        self.push(Node::Optional {
+            format,
+            nodes: member.nodes,
+            bytes: member.of_optional(format),
+        });
+    }
+
+    fn push(&mut self, node: Node<'a>)
+        requires fits { Fits (list_trees self.old) (part node) }
+        requires room { HasRoom self.old 1 }
+        ensures trees { list_trees self.new ≡ grown (list_trees self.old) (part node.entry) }
+        ensures node { AddsNode self.old self.new }
+    {
+        self.nodes.push_reserved(node);
+    }
+}

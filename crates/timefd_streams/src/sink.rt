@@ -1,0 +1,107 @@
+//! Writers, each of which fails once and for all.
+
+ghost use Rattle.std.specs.Prelude.{◌≡◌, ◌↔◌, ◌≤◌, ◌<◌, ℕ, Bool, List, Option, length, take, IfOk, OnOk, IsErr, IsTrue, IsFalse};
+ghost use Rattle.std.specs.Io.KnownBytes.{Appends, Keeps};
+
+use crate::failed::Failed;
+use std::io::Write;
+
+/// Where bytes go.
+pub trait Sink {
+    /// The bytes that are written, where the sink tells them.
+    ghost contents: { Self → Option (List ℕ) };
+
+    /// Whether a call has failed.
+    ghost has_failed: { Self → Bool };
+
+    /// Whether all that is written is flushed.
+    ghost is_flushed: { Self → Bool };
+
+    /// Takes bytes from the front of the buffer, and says how many: none only of an empty buffer.
+    fn write(&mut self, buf: &[u8]) -> Result<usize, Failed>
+        ensures within { IfOk result (λ n. n ≤ length buf.now) }
+        ensures some { IfOk result (λ n. 0 < length buf.now → 0 < n) }
+        ensures moves { IfOk result (λ n. Appends (contents self.old) (contents self.new) (take n buf.now)) }
+        ensures unflushed { IfOk result (λ n. 0 < n → IsFalse (is_flushed self.new)) }
+        ensures fails { IsErr result ↔ IsTrue (has_failed self.new) }
+        ensures stays { IsTrue (has_failed self.old) → IsTrue (has_failed self.new) };
+
+    /// Passes on all that is written.
+    fn flush(&mut self) -> Result<(), Failed>
+        ensures kept { OnOk result (Keeps (contents self.old) (contents self.new)) }
+        ensures flushed { OnOk result (IsTrue (is_flushed self.new)) }
+        ensures fails { IsErr result ↔ IsTrue (has_failed self.new) }
+        ensures stays { IsTrue (has_failed self.old) → IsTrue (has_failed self.new) };
+}
+
+// What a writer's calls have come to.
+#[derive(Clone, Copy, PartialEq, Eq)]
+enum State {
+    Unflushed,
+    Flushed,
+    Failed,
+}
+
+/// A writer of the standard library as a sink. Any error is a failure, and so is a write that
+/// takes no byte.
+#[derive(Drop)]
+pub struct ToWriter<W> {
+    inner: W,
+    state: State,
+}
+
+impl<W: Write> ToWriter<W> {
+    /// The sink of the writer's bytes.
+    pub fn new(inner: W) -> Self
+        ensures bytes { ⟦<ToWriter<W> as Sink>⟧.contents result ≡ W.contents inner }
+        ensures works { IsFalse (⟦<ToWriter<W> as Sink>⟧.has_failed result) }
+        ensures unflushed { IsFalse (⟦<ToWriter<W> as Sink>⟧.is_flushed result) }
+    {
+        ToWriter {
+            inner,
+            state: State::Unflushed,
+        }
+    }
+}
+
+impl<W: Write> Sink for ToWriter<W> {
+    ghost use Rattle.timefd_streams.specs.Streams.{is_failed, is_flushed};
+
+    ghost contents = { λ sink. W.contents sink.inner };
+
+    ghost has_failed = { λ sink. is_failed sink.state };
+
+    ghost is_flushed = { λ sink. is_flushed sink.state };
+
+    fn write(&mut self, buf: &[u8]) -> Result<usize, Failed> {
+        if self.state == State::Failed {
+            return Err(Failed);
+        }
+        match self.inner.write(buf) {
+            Ok(n) if n > 0 || buf.is_empty() => {
+                self.state = State::Unflushed;
+                Ok(n)
+            }
+            Ok(_) | Err(_) => {
+                self.state = State::Failed;
+                Err(Failed)
+            }
+        }
+    }
+
+    fn flush(&mut self) -> Result<(), Failed> {
+        if self.state == State::Failed {
+            return Err(Failed);
+        }
+        match self.inner.flush() {
+            Ok(()) => {
+                self.state = State::Flushed;
+                Ok(())
+            }
+            Err(_) => {
+                self.state = State::Failed;
+                Err(Failed)
+            }
+        }
+    }
+}
