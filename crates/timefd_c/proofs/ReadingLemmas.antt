@@ -1,8 +1,13 @@
 -- What is answered of a text that was read as nodes, and of one that has a fault.
-use Rattle.std.proofs.Common.{ℕ, ◌≡◌, ◌+◌, ◌≤◌, length, List, Option, Some, None, IsSome, IsUtf8, false, true, refl, ap, subst, arith}
-use Rattle.timefd_component.specs.Tree.{Text, Tree, pack}
-use Rattle.timefd_fault.specs.Faults.{Fault, fault_of}
-use Rattle.timefd_fault.specs.declared.invalid_format_description.InvalidFormatDescription.{InvalidFormatDescription}
+use Rattle.std.proofs.Common.{◌∙◌, ◌++◌, ◌∷◌, [], IsTrue, take, drop, sym, ℕ, ◌≡◌, ◌+◌, ◌≤◌, length, List, Option, Some, None, IsSome, IsUtf8, false, true, refl, ap, subst, arith}
+use Rattle.std.proofs.Math.Seq.{take-append_seam}
+use Rattle.timefd_component.specs.Modern.{AreModern, IsModern}
+use Rattle.timefd_component.specs.Tree.{Text, Tree, pack, trees}
+use Rattle.timefd_language.proofs.ModernPieces.{modernity_law, strftime_modernity_law}
+use Rattle.timefd_c_nodes.specs.Decoding.{read_nodes}
+use Rattle.timefd_c_nodes.specs.Encoding.{nodes_from, literals_of, own_text}
+use Rattle.timefd_c_nodes.proofs.DecodeLemmas.{trees_back, tree_back}
+use Rattle.timefd_fault.specs.Faults.{Fault}
 use Rattle.timefd_parse.specs.declared.language.Language.{Language}
 use Rattle.timefd_language.specs.Grammar.{nesting_limit}
 use Rattle.timefd_parse.specs.Language.{SpellsIn, FaultIn}
@@ -14,7 +19,7 @@ use Rattle.timefd_language.specs.declared.description_version.DescriptionVersion
 use Rattle.timefd_parse.specs.declared.language.Language.TheVariants.{Version, Strftime}
 use Rattle.timefd_language.proofs.Reserved.{reserves_within_law}
 use Rattle.timefd_c_nodes.proofs.TreeLemmas.{walked_length}
-use Rattle.timefd_c.specs.Reports.{IsReport, parts}
+use Rattle.timefd_c.specs.Reports.{IsReport, parts, tops}
 use Rattle.timefd_c.specs.Reading.{Reads}
 
 abbrev pub told : Report → ReadAnswer
@@ -32,6 +37,36 @@ three_within (Version Three) bytes list nodes spelled three is =
     omega (arith, is, (reserves_within_law nesting_limit 0 bytes list spelled).1, walked_length (pack list))
 three_within Strftime bytes list nodes spelled three is = absurd cc
 
+nodes_length : (ts : List Tree) (at used : ℕ) → length (nodes_from at used ts) ≡ length ts
+nodes_length [] at used = refl
+nodes_length (t ∷ ts) at used = omega (arith, nodes_length ts (at + 1) (used + length (own_text t)))
+
+pack_modern : (list : List Tree) → AreModern (trees list) → IsModern (pack list)
+pack_modern [] h = h
+pack_modern (t ∷ []) h = h.0
+pack_modern (t ∷ u ∷ ts) h = h
+
+parts_back : (language : Language) (bytes : Text) (list : List Tree) → SpellsIn language nesting_limit bytes list
+    → read_nodes (literals_of (parts language list)) (nodes_from 0 0 (parts language list)) ≡ Some (tops language list)
+parts_back (Version One) bytes list spelled = trees_back list (modernity_law One nesting_limit 0 bytes list spelled)
+parts_back (Version Two) bytes list spelled = trees_back list (modernity_law Two nesting_limit 0 bytes list spelled)
+parts_back (Version Three) bytes list spelled = tree_back (pack list) (pack_modern list (modernity_law Three nesting_limit 0 bytes list spelled))
+parts_back Strftime bytes list spelled = trees_back list (strftime_modernity_law bytes list spelled)
+
+-- the fronts are what was written
+fronts_back : (ts : List Tree) (ns ms : List Node) (a b : Text) (nodes literals : ℕ) → nodes ≡ length ts → literals ≡ length (literals_of ts)
+    → ms ≡ nodes_from 0 0 ts ++ drop (length ts) ns → b ≡ literals_of ts ++ drop (length (literals_of ts)) a
+    → read_nodes (take literals b) (take nodes ms) ≡ read_nodes (literals_of ts) (nodes_from 0 0 ts)
+fronts_back ts ns ms a b nodes literals n l m k =
+    ap (λ x. read_nodes x (take nodes ms)) (ap (λ i. take i b) l ∙ ap (λ x. take (length (literals_of ts)) x) k ∙ take-append_seam (literals_of ts) (drop (length (literals_of ts)) a))
+    ∙ ap (λ x. read_nodes (literals_of ts) x) (ap (λ i. take i ms) (n ∙ sym (nodes_length ts 0 0)) ∙ ap (λ x. take (length (nodes_from 0 0 ts)) x) m ∙ take-append_seam (nodes_from 0 0 ts) (drop (length ts) ns))
+
+read_back_of : (language : Language) (bytes : Text) (list : List Tree) (ns ms : List Node) (a b : Text) (r : Report) → SpellsIn language nesting_limit bytes list
+    → IsReport language list ns ms a b r → IsTrue r.written → read_nodes (take r.literals b) (take r.nodes ms) ≡ Some (tops language list)
+read_back_of language bytes list ns ms a b r spelled report written =
+    fronts_back (parts language list) ns ms a b r.nodes r.literals report.nodes report.literals (report.nodes_written written) (report.literals_written written)
+    ∙ parts_back language bytes list spelled
+
 pub reported : (language : Language) (bytes : Text) (ns ms : List Node) (a b : Text) (r : Report) → IsUtf8 bytes
     → ((list : List Tree) × SpellsIn language nesting_limit bytes list × IsReport language list ns ms a b r)
     → ((list : List Tree) → SpellsIn language nesting_limit bytes list → IsReport language list ns ms a b r)
@@ -46,6 +81,7 @@ reported language bytes ns ms a b r utf8 found spelled no_fault = record {
   not_utf8 = (λ e. absurd (omega (arith, e)), λ x. absurd (x.1 utf8));
   status = omega arith;
   no_value = λ accepted refused. absurd (accepted refl);
+  read = λ e written list d. read_back_of language bytes list ns ms a b r d.1 (spelled list d.1) written;
   within = λ e three. three_within language bytes found.0 r.nodes found.1 three found.2.nodes;
   nodes_kept = λ accepted. absurd (accepted refl);
   literals_kept = λ accepted. absurd (accepted refl);
@@ -65,6 +101,7 @@ faulted language bytes ns a f utf8 has not_spelled one = record {
   not_utf8 = (λ e. absurd (omega (arith, e)), λ x. absurd (x.1 utf8));
   status = omega arith;
   no_value = λ accepted refused. absurd (refused refl);
+  read = λ e. absurd (omega (arith, e));
   within = λ e. absurd (omega (arith, e));
   nodes_kept = λ accepted. refl;
   literals_kept = λ accepted. refl;
@@ -81,6 +118,7 @@ unread language bytes ns a some utf8 = record {
   not_utf8 = (λ e. absurd (omega (arith, e)), λ x. absurd (x.1 utf8));
   status = omega arith;
   no_value = λ accepted refused. refl;
+  read = λ e. absurd (omega (arith, e));
   within = λ e. absurd (omega (arith, e));
   nodes_kept = λ accepted. refl;
   literals_kept = λ accepted. refl;
@@ -97,6 +135,7 @@ no_text language bytes ns a invalid = record {
   not_utf8 = (λ e. (refl, invalid), λ x. refl);
   status = omega arith;
   no_value = λ accepted refused. refl;
+  read = λ e. absurd (omega (arith, e));
   within = λ e. absurd (omega (arith, e));
   nodes_kept = λ accepted. refl;
   literals_kept = λ accepted. refl;
@@ -113,6 +152,7 @@ no_language bytes ns a = record {
   not_utf8 = (λ e. absurd (omega (arith, e)), λ x. let no : false ≡ true = x.0 in absurd cc);
   status = omega arith;
   no_value = λ accepted refused. refl;
+  read = λ e. absurd (omega (arith, e));
   within = λ e. absurd (omega (arith, e));
   nodes_kept = λ accepted. refl;
   literals_kept = λ accepted. refl;

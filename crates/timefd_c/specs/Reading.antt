@@ -1,5 +1,5 @@
 -- What is answered to C of a text that is read as nodes.
-use Rattle.std.specs.Prelude.{◌≡◌, ◌≢◌, ◌+◌, ◌≤◌, ◌↔◌, IsFalse, List, Option, Some, None, IsSome, IsUtf8, length}
+use Rattle.std.specs.Prelude.{◌≡◌, ◌≢◌, ◌+◌, ◌≤◌, ◌↔◌, IsFalse, IsTrue, List, Option, Some, None, IsSome, IsUtf8, length, take}
 use Rattle.timefd_component.specs.Tree.{Text, Tree}
 use Rattle.timefd_fault.specs.Faults.{Fault}
 use Rattle.timefd_language.specs.declared.description_version.DescriptionVersion.TheVariants.{Three}
@@ -10,7 +10,8 @@ use Rattle.timefd_c.specs.declared.answer.TheConstants.{ACCEPTED, REFUSED, NOT_U
 use Rattle.timefd_c.specs.declared.answer.ReadAnswer.{ReadAnswer}
 use Rattle.timefd_c.specs.declared.read.Report.{Report}
 use Rattle.timefd_c.specs.Answers.{Describes, HasFault}
-use Rattle.timefd_c.specs.Reports.{IsReport}
+use Rattle.timefd_c_nodes.specs.Decoding.{read_nodes}
+use Rattle.timefd_c.specs.Reports.{IsReport, tops}
 
 -- what the answer reports
 abbrev pub report_in : ReadAnswer → Report
@@ -22,6 +23,12 @@ abbrev pub Tells : Option Language → List Tree → List Node → List Node →
 Tells (Some language) list nodes_before nodes_after before after answer =
     IsReport language list nodes_before nodes_after before after (report_in answer)
 Tells None list nodes_before nodes_after before after answer = ⊥
+
+-- The front nodes, with the front literals, read as the list.
+abbrev pub ReadAs : Option Language → List Tree → List Node → Text → ReadAnswer → Type 0
+ReadAs (Some language) list nodes literals answer =
+    read_nodes (take answer.literals literals) (take answer.nodes nodes) ≡ Some (tops language list)
+ReadAs None list nodes literals answer = ⊥
 
 -- The answer says what the bytes are in the language, where there is one, and of the buffers, which held `nodes_before` and
 -- `before` and hold `nodes_after` and `after`, what was written.
@@ -42,6 +49,9 @@ pub record Reads (language : Option Language) (bytes : Text) (nodes_before nodes
   -- There are no other statuses, and where nothing is counted the number is 0.
   pub status : answer.status ≤ UNKNOWN_KIND
   pub no_value : answer.status ≢ ACCEPTED → answer.status ≢ REFUSED → answer.value ≡ 0
+  -- What is written reads as what the text spells.
+  pub read : answer.status ≡ ACCEPTED → IsTrue answer.written → (list : List Tree) → Describes language bytes list
+      → ReadAs language list nodes_after after answer
   -- A text of version 3 has at most one node more than bytes.
   pub within : answer.status ≡ ACCEPTED → language ≡ Some (Version Three) → answer.nodes ≤ length bytes + 1
   -- Where nothing is accepted, nothing is written.

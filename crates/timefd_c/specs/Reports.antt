@@ -1,5 +1,5 @@
 -- What is said and written of a description that is read as nodes.
-use Rattle.std.specs.Prelude.{ℕ, ◌≡◌, ◌≤◌, ◌++◌, ◌↔◌, IsTrue, IsFalse, List, length, drop}
+use Rattle.std.specs.Prelude.{ℕ, ◌≡◌, ◌≤◌, ◌++◌, ◌↔◌, IsTrue, IsFalse, List, [], ◌∷◌, length, drop}
 use Rattle.timefd_component.specs.Tree.{Text, Tree, trees, pack}
 use Rattle.timefd_node_list.specs.Views.{walked, walked_all}
 use Rattle.timefd_language.specs.declared.description_version.DescriptionVersion.TheVariants.{One, Two, Three}
@@ -17,6 +17,13 @@ parts (Version One) list = walked_all (trees list)
 parts (Version Two) list = walked_all (trees list)
 parts (Version Three) list = walked (pack list)
 parts Strftime list = walked_all (trees list)
+
+-- the trees that stand side by side: the items, and in version 3 the one tree that they are packed to
+abbrev pub tops : Language → List Tree → List Tree
+tops (Version One) list = list
+tops (Version Two) list = list
+tops (Version Three) list = pack list ∷ []
+tops Strftime list = list
 
 -- These parts are reported, and where both buffers have room their nodes and literals stand at the fronts.
 pub record Reports (ts : List Tree) (counted : ℕ) (nodes_before nodes_after : List Node) (before after : Text) (r : Report) : Type 0 where

@@ -1,4 +1,4 @@
-use Rattle.std.proofs.Common.{subst, sym}
+use Rattle.std.proofs.Common.{subst}
 use Rattle.timefd_parse.specs.Language.{FaultIn}
 use Rattle.timefd_language.specs.Grammar.{nesting_limit}
 use Rattle.timefd_c.proofs.read.read.Goals as goal
