@@ -1,6 +1,6 @@
 #!/bin/sh
-# Prints how many instructions one call of `timefd_judge` takes, as callgrind counts them: the difference of 520 calls and 20
-# by 500. It needs valgrind.
+# Prints how many instructions one call of `timefd_judge`, and of `timefd_read`, takes, as callgrind counts them: the difference
+# of 520 calls and 20 by 500. It needs valgrind.
 set -eu
 cd "$(dirname "$0")"
 libc=$(dirname "$(rt doc)")/c/liblibc_c.a
@@ -9,15 +9,20 @@ mkdir -p out
 (cd ../crates/timefd_c && rt lib > /dev/null)
 cc -std=gnu11 -Wall -Wextra -Werror -O2 -o out/instructions instructions.c ../crates/timefd_c/out/libtimefd_c.a "$libc"
 
-# count KIND TIMES TEXT
+# count CALL KIND TIMES TEXT
 count() {
-    valgrind --tool=callgrind --callgrind-out-file=/dev/null out/instructions "$1" "$2" "$3" 2>&1 \
+    valgrind --tool=callgrind --callgrind-out-file=/dev/null out/instructions "$1" "$2" "$3" "$4" 2>&1 \
         | sed -n 's/.*Collected : //p'
+}
+
+# per_call CALL KIND TEXT
+per_call() {
+    echo $((($(count "$1" "$2" 520 "$3") - $(count "$1" "$2" 20 "$3") + 250) / 500))
 }
 
 # row NAME KIND TEXT
 row() {
-    echo "| $1 | $((($(count "$2" 520 "$3") - $(count "$2" 20 "$3") + 250) / 500)) |"
+    echo "| $1 | $(per_call judge "$2" "$3") | $(per_call read "$2" "$3") |"
 }
 
 date='[year]-[month]-[day]'
@@ -26,8 +31,8 @@ zone='[offset_hour sign:mandatory]:[offset_minute]'
 rfc2822='[weekday repr:short], [day] [month repr:short] [year] [hour]:[minute]:[second] [offset_hour sign:mandatory][offset_minute]'
 longest=$(head -c 100035 /dev/zero | tr '\0' a)
 
-echo '| Text | Instructions |'
-echo '|---|---|'
+echo '| Text | `timefd_judge` | `timefd_read` |'
+echo '|---|---|---|'
 row 'version 1, `[day]`' 1 '[day]'
 row 'version 1, ISO date' 1 "$date"
 row 'version 1, ISO date and time' 1 "$moment"

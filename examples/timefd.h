@@ -1,5 +1,5 @@
-/* What texts are as format descriptions, the nodes of such a description, and texts of version 1 as ones of version 2: the
-   five functions of the static library libtimefd_c.a. */
+/* What texts are as format descriptions, the nodes of such a description, and texts of one version as ones of the next: the
+   functions of the static library libtimefd_c.a. */
 
 #ifndef TIMEFD_H
 #define TIMEFD_H
@@ -25,8 +25,8 @@ uint32_t timefd_version(void);
 #define TIMEFD_STRFTIME 4u
 
 /* The text is a description. The value is the number of its items; in version 3 it is the number of bytes that the
-   description reserves, the length of the longest text that it can be shown as. From timefd_v1_to_v2 it is the length of
-   the text of version 2, in bytes. */
+   description reserves, the length of the longest text that it can be shown as. From timefd_v1_to_v2 and
+   timefd_v2_to_v3 it is the length of the text that is written, in bytes. */
 #define TIMEFD_ACCEPTED 0u
 
 /* The text is no description. The value is the index of the fault: how many bytes of the text stand before it. */
@@ -50,7 +50,7 @@ typedef struct timefd_answer {
        the fault has. */
     size_t sentence_len;
 
-    /* How many bytes were written to the buffer. If they are fewer than the sentence has, or than the text of version 2,
+    /* How many bytes were written to the buffer. If they are fewer than the sentence has, or than the rewritten text,
        the buffer was short. */
     size_t written;
 } timefd_answer;
@@ -79,6 +79,12 @@ timefd_answer timefd_check(uint32_t kind, const uint8_t *text, size_t len, uint8
 
    The buffer is as that of timefd_check. */
 timefd_answer timefd_v1_to_v2(const uint8_t *text, size_t len, uint8_t *buffer, size_t room);
+
+/* Writes the `len` bytes at `text`, a description of version 2, anew as one of version 3 that has the same items: small
+   letters, the modifiers in one order, those alone that aren't version 3's default, and `[`, `]` and `\` of literals behind
+   a `\`. What it answers and writes is as for timefd_v1_to_v2, with the faults of version 2; but no room is always enough: a
+   buffer that is too short is as it was, and the value tells how long the text is. */
+timefd_answer timefd_v2_to_v3(const uint8_t *text, size_t len, uint8_t *buffer, size_t room);
 
 /* What a node is. */
 #define TIMEFD_LITERAL 1u   /* bytes of the buffer of literals, as they stand */

@@ -1,4 +1,4 @@
-/* The three functions of the library, each in a call that looks at what stands around it. */
+/* Functions of the library, each in a call that looks at what stands around it. */
 
 #include "fuzz.h"
 
@@ -101,5 +101,26 @@ timefd_answer convert(const struct text *text, struct buffer *buffer, size_t roo
     timefd_answer answer = timefd_v1_to_v2(bytes, text->len, front, room);
     take_back(0, text, bytes);
     check_filled(0, text, buffer, room, answer.written);
+    return answer;
+}
+
+timefd_read_answer read_nodes(uint32_t kind, const struct text *text, struct node_buffers *buffers,
+                              size_t node_room, size_t literal_room) {
+    uint8_t *bytes = lend(kind, text);
+    size_t behind = (1 + node_room + 1) * sizeof(timefd_node);
+    memset(buffers->nodes, FILL, behind);
+    memset(buffers->literals, FILL, GUARD + literal_room + GUARD);
+    timefd_read_answer answer = timefd_read(kind, bytes, text->len, buffers->nodes + 1, node_room,
+                                            buffers->literals + GUARD, literal_room);
+    take_back(kind, text, bytes);
+    size_t nodes = answer.written ? answer.nodes : 0;
+    size_t literals = answer.written ? answer.literals : 0;
+    const uint8_t *filled = (const uint8_t *)buffers->nodes;
+    size_t end = (1 + nodes) * sizeof(timefd_node);
+    bool is_kept = nodes <= node_room && literals <= literal_room &&
+                   is_filled(filled, sizeof(timefd_node)) && is_filled(filled + end, behind - end) &&
+                   is_filled(buffers->literals, GUARD) &&
+                   is_filled(buffers->literals + GUARD + literals, literal_room - literals + GUARD);
+    expect(is_kept, kind, text, "that nothing is written but the nodes and literals that are told");
     return answer;
 }

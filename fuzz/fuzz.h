@@ -14,6 +14,10 @@ enum {
     GUARD = 16,          /* how many bytes stand before and behind a buffer */
     SENTENCE = 256,      /* no sentence has so many bytes more than its text */
     NESTING_LIMIT = 127, /* how many nested descriptions may stand around one another */
+    NODES_A_BYTE = 8,    /* no text has so many nodes for each byte, and so many more, */
+    LITERALS_A_BYTE = 4, /* and no text so many bytes of literals */
+    NODE_ROOM = NODES_A_BYTE * (ROOM + 1),
+    LITERAL_ROOM = LITERALS_A_BYTE * (ROOM + 1),
 };
 
 struct text {
@@ -24,6 +28,12 @@ struct text {
 /* A buffer that a call writes to, which begins behind the first GUARD bytes. */
 struct buffer {
     uint8_t guarded[GUARD + ROOM + GUARD];
+};
+
+/* The buffers of a call that writes nodes, each behind a first node or the first GUARD bytes. */
+struct node_buffers {
+    timefd_node nodes[1 + NODE_ROOM + 1];
+    uint8_t literals[GUARD + LITERAL_ROOM + GUARD];
 };
 
 /* The sentence of a fault: what stands up to its index, and what stands behind that. */
@@ -67,15 +77,18 @@ const char *language_name(uint32_t kind);
 void remember(uint32_t kind, const struct text *text);
 void report_ends(void);
 
-/* calls.c: the three functions of the library. Each looks for memory that is not freed, for bytes
+/* calls.c: functions of the library. Each looks for memory that is not freed, for bytes
    that are written where none may be, and for a text that has changed. */
 timefd_answer judge(uint32_t kind, const struct text *text);
 timefd_answer check(uint32_t kind, const struct text *text, struct buffer *sentence, size_t room);
 timefd_answer convert(const struct text *text, struct buffer *buffer, size_t room);
+timefd_read_answer read_nodes(uint32_t kind, const struct text *text, struct node_buffers *buffers,
+                              size_t node_room, size_t literal_room);
 
-/* checks.c, pairs.c and versions.c: what holds of one text, of two, and of what becomes of a text
-   that is changed. */
+/* checks.c, nodes.c, pairs.c and versions.c: what holds of one text, of its nodes, of two texts, and
+   of what becomes of a text that is changed. */
 timefd_answer check_text(uint32_t kind, const struct text *text);
+void check_nodes(uint32_t kind, const struct text *text, timefd_answer judged);
 void check_pair(uint32_t kind, const struct text *first, const struct text *second);
 void check_versions(uint32_t kind, const struct text *text);
 

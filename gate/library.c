@@ -8,7 +8,7 @@
 #include <stdio.h>
 #include <string.h>
 
-enum { ROOM = 128 };
+enum { ROOM = 128, LIFT = 100, MODERN = 101 };
 
 void *__real_malloc(size_t size);
 void *__real_realloc(void *block, size_t size);
@@ -41,19 +41,34 @@ void __wrap_free(void *block) {
 }
 
 struct sample {
-    uint32_t kind; /* 0 for timefd_v1_to_v2 */
+    uint32_t kind; /* LIFT for timefd_v1_to_v2, and MODERN for timefd_v2_to_v3 */
     const char *text;
 };
 
+/* What one call answered, and the bytes of the buffers behind it. */
+struct outcome {
+    timefd_answer answer;
+    timefd_read_answer read;
+    uint8_t buffer[ROOM];
+    timefd_node nodes[ROOM];
+};
+
+enum call { CHECK_OR_CONVERT, READ };
+
 static const struct sample SAMPLES[] = {
-    {0, ""},
-    {0, "[[[day]]\\"},
-    {0, "a]b"},
-    {0, "]]]]]]]]]]]]]]]]]]]]]]]]]]]]]]]]]]]]]]]]]]]]]]]]"},
-    {0, "[YEAR Repr:Century]"},
-    {0, "[foo]"},
-    {0, "[optional [x]]"},
-    {0, "a[day"},
+    {LIFT, ""},
+    {LIFT, "[[[day]]\\"},
+    {LIFT, "a]b"},
+    {LIFT, "]]]]]]]]]]]]]]]]]]]]]]]]]]]]]]]]]]]]]]]]]]]]]]]]"},
+    {LIFT, "[YEAR Repr:Century]"},
+    {LIFT, "[foo]"},
+    {LIFT, "[optional [x]]"},
+    {LIFT, "a[day"},
+    {MODERN, ""},
+    {MODERN, "[YEAR Repr:Century] a]b \\[ [hour repr:12 repr:24]"},
+    {MODERN, "[ignore count:65535][year base:iso_week sign:mandatory]"},
+    {MODERN, "[foo]"},
+    {MODERN, "[optional [x]]"},
     {TIMEFD_VERSION_1, "[[[day]"},
     {TIMEFD_VERSION_1, "[foo bar"},
     {TIMEFD_VERSION_2, "[year]-[month]-[day] at [hour]:[minute]:[second]"},
@@ -65,22 +80,24 @@ static const struct sample SAMPLES[] = {
     {TIMEFD_STRFTIME, "%O"},
 };
 
-struct outcome {
-    timefd_answer answer;
-    uint8_t buffer[ROOM];
-};
-
 /* One call, whose allocation with this number is refused. */
-static struct outcome outcome_of(const struct sample *sample, size_t number) {
+static struct outcome outcome_of(enum call call, const struct sample *sample, size_t number) {
     struct outcome outcome;
     const uint8_t *text = (const uint8_t *)sample->text;
     size_t len = strlen(sample->text);
     memset(&outcome, 0, sizeof outcome);
     memset(outcome.buffer, '.', ROOM);
+    memset(outcome.nodes, '.', sizeof outcome.nodes);
     asked = 0;
     refused = number;
-    outcome.answer = sample->kind == 0 ? timefd_v1_to_v2(text, len, outcome.buffer, ROOM)
-                                       : timefd_check(sample->kind, text, len, outcome.buffer, ROOM);
+    if (call == READ) {
+        outcome.read = timefd_read(sample->kind, text, len, outcome.nodes, ROOM, outcome.buffer, ROOM);
+        refused = 0;
+        return outcome;
+    }
+    outcome.answer = sample->kind == LIFT     ? timefd_v1_to_v2(text, len, outcome.buffer, ROOM)
+                     : sample->kind == MODERN ? timefd_v2_to_v3(text, len, outcome.buffer, ROOM)
+                                              : timefd_check(sample->kind, text, len, outcome.buffer, ROOM);
     refused = 0;
     return outcome;
 }
@@ -88,22 +105,36 @@ static struct outcome outcome_of(const struct sample *sample, size_t number) {
 static bool is_same(const struct outcome *a, const struct outcome *b) {
     return a->answer.status == b->answer.status && a->answer.value == b->answer.value &&
            a->answer.sentence_len == b->answer.sentence_len && a->answer.written == b->answer.written &&
-           memcmp(a->buffer, b->buffer, ROOM) == 0;
+           a->read.status == b->read.status && a->read.value == b->read.value && a->read.nodes == b->read.nodes &&
+           a->read.literals == b->read.literals && a->read.written == b->read.written &&
+           memcmp(a->buffer, b->buffer, ROOM) == 0 && memcmp(a->nodes, b->nodes, sizeof a->nodes) == 0;
+}
+
+/* What a call answers whose memory ran out. */
+static struct outcome out_of_memory(enum call call) {
+    struct outcome out;
+    memset(&out, 0, sizeof out);
+    memset(out.buffer, '.', ROOM);
+    memset(out.nodes, '.', sizeof out.nodes);
+    if (call == READ) {
+        out.read.status = TIMEFD_NO_MEMORY;
+    } else {
+        out.answer.status = TIMEFD_NO_MEMORY;
+    }
+    return out;
 }
 
 /* Whether each outcome is the ample one, or that memory ran out and nothing else; and how many were refused. */
-static bool holds(const struct sample *sample, size_t *count) {
-    struct outcome ample = outcome_of(sample, 0);
-    struct outcome out = ample;
-    out.answer = (timefd_answer){.status = TIMEFD_NO_MEMORY};
-    memset(out.buffer, '.', ROOM);
-    if (ample.answer.status == TIMEFD_NO_MEMORY || held != 0) {
+static bool holds(enum call call, const struct sample *sample, size_t *count) {
+    struct outcome ample = outcome_of(call, sample, 0);
+    struct outcome out = out_of_memory(call);
+    if (is_same(&ample, &out) || held != 0) {
         return false;
     }
     for (size_t number = 1;; number++) {
-        struct outcome one = outcome_of(sample, number);
+        struct outcome one = outcome_of(call, sample, number);
         bool none_refused = asked < number;
-        struct outcome next = outcome_of(sample, 0);
+        struct outcome next = outcome_of(call, sample, 0);
         bool fits = is_same(&one, &ample) || (!none_refused && is_same(&one, &out));
         if (!fits || !is_same(&next, &ample) || held != 0) {
             return false;
@@ -119,7 +150,8 @@ int main(void) {
     size_t failed = 0;
     size_t count = 0;
     for (size_t i = 0; i < sizeof SAMPLES / sizeof SAMPLES[0]; i++) {
-        if (!holds(&SAMPLES[i], &count)) {
+        bool is_read = SAMPLES[i].kind >= LIFT || holds(READ, &SAMPLES[i], &count);
+        if (!holds(CHECK_OR_CONVERT, &SAMPLES[i], &count) || !is_read) {
             failed++;
             fprintf(stderr, "gate/library: %" PRIu32 ": %s\n", SAMPLES[i].kind, SAMPLES[i].text);
         }

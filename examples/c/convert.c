@@ -1,4 +1,5 @@
-/* Rewrites a few texts of version 1 as ones of version 2. ../run.sh builds and runs it. */
+/* Rewrites a few texts of version 1 as ones of version 2, and one of version 2 as one of version 3. ../run.sh builds and runs
+   it. */
 
 #include "../timefd.h"
 
@@ -53,11 +54,32 @@ static void print_short(const char *text) {
     }
 }
 
+/* How long the text of version 3 is, is asked first. */
+static void print_modern(const char *text) {
+    size_t len = strlen(text);
+    uint8_t none = 0;
+    timefd_answer answer = timefd_v2_to_v3((const uint8_t *)text, len, &none, 0);
+    uint8_t *buffer = calloc(answer.value + 1, 1);
+    if (buffer == NULL) {
+        puts("out of memory");
+        return;
+    }
+    answer = timefd_v2_to_v3((const uint8_t *)text, len, buffer, answer.value);
+    if (answer.status == TIMEFD_ACCEPTED) {
+        printf("\"%s\" is \"%.*s\" in version 3\n", text, (int)answer.written, (const char *)buffer);
+    } else {
+        print_refusal(answer);
+    }
+    free(buffer);
+}
+
 int main(void) {
     for (size_t i = 0; i < sizeof TEXTS / sizeof TEXTS[0]; i++) {
         print_converted(TEXTS[i]);
     }
     print_short("a]b");
     print_short("a]]b");
+    print_modern("[YEAR] a]b");
+    print_modern("a[day");
     return 0;
 }

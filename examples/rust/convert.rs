@@ -1,4 +1,5 @@
-//! Rewrites a few texts of version 1 as ones of version 2. `../run.sh` builds and runs it.
+//! Rewrites a few texts of version 1 as ones of version 2, and one of version 2 as one of version 3. `../run.sh` builds and
+//! runs it.
 
 // Another program uses the rest of the module.
 #[allow(dead_code)]
@@ -55,10 +56,25 @@ fn print_short(text: &str) {
     }
 }
 
+/// How long the text of version 3 is, is asked first.
+fn print_modern(text: &str) {
+    let room = timefd::v2_to_v3(text.as_bytes(), &mut []).value;
+    let mut buffer = vec![0; room];
+    let answer = timefd::v2_to_v3(text.as_bytes(), &mut buffer);
+    if answer.status == timefd::ACCEPTED {
+        let modern = String::from_utf8_lossy(&buffer[..answer.written]);
+        println!("\"{text}\" is \"{modern}\" in version 3");
+    } else {
+        print_refusal(&answer);
+    }
+}
+
 fn main() {
     for text in TEXTS {
         print_converted(text);
     }
     print_short("a]b");
     print_short("a]]b");
+    print_modern("[YEAR] a]b");
+    print_modern("a[day");
 }

@@ -28,6 +28,7 @@ unsafe extern "C" {
         room: usize,
     ) -> Answer;
     fn timefd_v1_to_v2(text: *const u8, len: usize, buffer: *mut u8, room: usize) -> Answer;
+    fn timefd_v2_to_v3(text: *const u8, len: usize, buffer: *mut u8, room: usize) -> Answer;
 }
 
 /// What the bytes are in a language.
@@ -55,4 +56,10 @@ pub fn check(kind: u32, text: &[u8], sentence: &mut [u8]) -> Answer {
 pub fn v1_to_v2(text: &[u8], buffer: &mut [u8]) -> Answer {
     // SAFETY: as in `check`.
     unsafe { timefd_v1_to_v2(text.as_ptr(), text.len(), buffer.as_mut_ptr(), buffer.len()) }
+}
+
+/// The text of version 3 for a text of version 2, in the buffer if that has room for all of it.
+pub fn v2_to_v3(text: &[u8], buffer: &mut [u8]) -> Answer {
+    // SAFETY: as in `check`.
+    unsafe { timefd_v2_to_v3(text.as_ptr(), text.len(), buffer.as_mut_ptr(), buffer.len()) }
 }

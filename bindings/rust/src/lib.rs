@@ -36,7 +36,7 @@ mod version;
 mod walks;
 
 pub use component::Component;
-pub use convert::v1_to_v2;
+pub use convert::{v1_to_v2, v2_to_v3};
 pub use description::FormatDescription;
 pub use error::ParseError;
 pub use modifier::{Padding, SubsecondDigits, TrailingInput};

@@ -87,6 +87,7 @@ unsafe extern "C" {
         room: usize,
     ) -> Answer;
     fn timefd_v1_to_v2(text: *const u8, len: usize, buffer: *mut u8, room: usize) -> Answer;
+    fn timefd_v2_to_v3(text: *const u8, len: usize, buffer: *mut u8, room: usize) -> Answer;
 }
 
 /// Stops a program that was linked with another library.
@@ -132,4 +133,11 @@ pub(crate) fn v1_to_v2(text: &str, buffer: &mut [u8]) -> Answer {
     expect_version();
     // SAFETY: as in `check`.
     unsafe { timefd_v1_to_v2(text.as_ptr(), text.len(), buffer.as_mut_ptr(), buffer.len()) }
+}
+
+/// The text of version 3 for a text of version 2, where the buffer has room for all of it.
+pub(crate) fn v2_to_v3(text: &str, buffer: &mut [u8]) -> Answer {
+    expect_version();
+    // SAFETY: as in `check`.
+    unsafe { timefd_v2_to_v3(text.as_ptr(), text.len(), buffer.as_mut_ptr(), buffer.len()) }
 }

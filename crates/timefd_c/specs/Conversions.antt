@@ -1,36 +1,37 @@
--- What is answered to C of a text of version 1 that is rewritten as one of version 2.
+-- What is answered to C of a text of one version that is rewritten as one of the next.
 use Rattle.std.specs.Prelude.{◌≡◌, ◌≢◌, ◌≤◌, ◌<◌, ◌*◌, ◌++◌, ◌↔◌, [], Some, length, drop, IsUtf8}
 use Rattle.timefd_component.specs.Tree.{Text}
 use Rattle.timefd_fault.specs.Faults.{Fault}
-use Rattle.timefd_language.specs.declared.description_version.DescriptionVersion.TheVariants.{One}
+use Rattle.timefd_language.specs.declared.description_version.DescriptionVersion.{DescriptionVersion}
+use Rattle.timefd_language.specs.declared.description_version.DescriptionVersion.TheVariants.{One, Two}
 use Rattle.timefd_parse.specs.declared.language.Language.TheVariants.{Version}
 use Rattle.timefd_lift.specs.Answers.{IsRewritten, HasItemsOf}
+use Rattle.timefd_lift.specs.Modernized.{IsWrittenOf, KeepsItemsOf}
 use Rattle.timefd_c.specs.declared.answer.TheConstants.{ACCEPTED, REFUSED, NOT_UTF8, NO_MEMORY}
 use Rattle.timefd_c.specs.declared.answer.Answer.{Answer}
 use Rattle.timefd_c.specs.Answers.{HasFault}
 
--- Version 1 spells the bytes, and this is the text of version 2 that they are rewritten to.
-abbrev pub IsConverted : Text → Text → Type 0
-IsConverted bytes converted = IsUtf8 bytes × IsRewritten bytes converted
+-- The bytes are a text, and this is the one that it is rewritten to.
+abbrev pub IsConverted : (Text → Text → Type 0) → Text → Text → Type 0
+IsConverted IsOne bytes converted = IsUtf8 bytes × IsOne bytes converted
 
--- The rules of version 1 assign the fault to the bytes.
-abbrev pub HasFaultInOne : Text → Fault → Type 0
-HasFaultInOne bytes f = HasFault (Some (Version One)) bytes f
+-- The rules of the version assign the fault to the bytes.
+abbrev pub HasFaultIn : DescriptionVersion → Text → Fault → Type 0
+HasFaultIn version bytes f = HasFault (Some (Version version)) bytes f
 
--- The answer says what the bytes are rewritten to, or why they are not, and of the buffer, which
--- held `before` and holds `after`, how much of it that is.
-pub record Converts (bytes before after : Text) (answer : Answer) : Type 0 where
-  -- What is answered is so, and version 2 spells it with the items that version 1 spells the bytes
-  -- with.
+-- The answer says what the bytes, a text of the version, are rewritten to, or why they are not, and of the buffer, which
+-- held `before` and holds `after`, how much of it that is. `IsOne` says which text it is, and `HasItems` that it means the same.
+pub record ConvertsBy (version : DescriptionVersion) (IsOne HasItems : Text → Text → Type 0) (bytes before after : Text) (answer : Answer) : Type 0 where
+  -- What is answered is so, and the next version spells it with the items that this one spells the bytes with.
   pub accepted : answer.status ≡ ACCEPTED
-      → (converted : Text) × IsConverted bytes converted × HasItemsOf bytes converted
+      → (converted : Text) × IsConverted IsOne bytes converted × HasItems bytes converted
       × (answer.value ≡ length converted)
   pub refused : answer.status ≡ REFUSED
-      → (f : Fault) × HasFaultInOne bytes f × (answer.value ≡ f.index)
+      → (f : Fault) × HasFaultIn version bytes f × (answer.value ≡ f.index)
   -- What is so is answered, unless memory runs out.
-  pub spelled : (converted : Text) → IsConverted bytes converted → answer.status ≢ NO_MEMORY
+  pub spelled : (converted : Text) → IsConverted IsOne bytes converted → answer.status ≢ NO_MEMORY
       → (answer.status ≡ ACCEPTED) × (answer.value ≡ length converted)
-  pub faulty : (f : Fault) → HasFaultInOne bytes f → answer.status ≢ NO_MEMORY
+  pub faulty : (f : Fault) → HasFaultIn version bytes f → answer.status ≢ NO_MEMORY
       → (answer.status ≡ REFUSED) × (answer.value ≡ f.index)
   -- These take no memory.
   pub not_utf8 : answer.status ≡ NOT_UTF8 ↔ ¬ (IsUtf8 bytes)
@@ -40,12 +41,23 @@ pub record Converts (bytes before after : Text) (answer : Answer) : Type 0 where
   pub no_value : answer.status ≢ ACCEPTED → answer.status ≢ REFUSED → answer.value ≡ 0
   -- A buffer with room for the whole text begins with it, and keeps its other bytes.
   pub whole : answer.status ≡ ACCEPTED → answer.value ≤ length before
-      → (converted : Text) → IsConverted bytes converted
+      → (converted : Text) → IsConverted IsOne bytes converted
       → (after ≡ converted ++ drop answer.value before) × (answer.written ≡ answer.value)
   -- Any other buffer is as it was, and so is each where there is no such text.
   pub too_short : answer.status ≡ ACCEPTED → length before < answer.value
       → (after ≡ before) × (answer.written ≡ 0)
   pub kept : answer.status ≢ ACCEPTED → (after ≡ before) × (answer.written ≡ 0)
-  -- Twice the room of the bytes is always enough.
-  pub within : answer.status ≡ ACCEPTED → answer.value ≤ 2 * length bytes
   pub no_sentence : answer.sentence_len ≡ 0
+
+-- Twice the room of the bytes is always enough.
+abbrev pub FitsTwice : Text → Answer → Type 0
+FitsTwice bytes answer = answer.status ≡ ACCEPTED → answer.value ≤ 2 * length bytes
+
+-- From version 1 to version 2.
+abbrev pub Converts : Text → Text → Text → Answer → Type 0
+Converts bytes before after answer =
+    ConvertsBy One IsRewritten HasItemsOf bytes before after answer × FitsTwice bytes answer
+
+-- From version 2 to version 3.
+abbrev pub Modernizes : Text → Text → Text → Answer → Type 0
+Modernizes = ConvertsBy Two IsWrittenOf KeepsItemsOf

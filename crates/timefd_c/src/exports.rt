@@ -4,7 +4,7 @@ ghost use Rattle.std.specs.Prelude.{◌≡◌, ◌≢◌, ◌<◌, ◌≤◌, �
 ghost use Rattle.std.specs.Str.{IsCharBoundary};
 ghost use Rattle.timefd_c.specs.Answers.{Judges, IfRefused};
 ghost use Rattle.timefd_c.specs.Languages.{language_of};
-ghost use Rattle.timefd_c.specs.Conversions.{Converts};
+ghost use Rattle.timefd_c.specs.Conversions.{Converts, Modernizes};
 
 use crate::answer::{ACCEPTED, Answer, NO_MEMORY, NOT_UTF8, REFUSED};
 use crate::numbers::from_number;
@@ -12,7 +12,7 @@ use crate::sentence::write_sentence;
 use crate::verdict::{Verdict, verdict_on};
 use crate::whole::write_whole;
 use std::alloc::{AllocError, Global};
-use timefd_lift::v1_to_v2;
+use timefd_lift::{v1_to_v2, v2_to_v3};
 use timefd_parse::ParseError;
 
 /// Says what the bytes are as a text of the language with this number: 1, 2 and 3 are the versions
@@ -79,6 +79,27 @@ pub extern "C" fn timefd_v1_to_v2(alloc: Global, text: &[u8], buffer: &mut [u8])
             value: converted.len(),
             sentence_len: 0,
             written: write_whole(&converted, buffer),
+        },
+        Err(ParseError::Invalid(fault)) => Answer::plain(REFUSED, fault.index()),
+        Err(ParseError::Memory(_)) => Answer::plain(NO_MEMORY, 0),
+    }
+}
+
+/// Writes a text of version 2 anew as one of version 3, which has the same items, and writes that
+/// over the front of the buffer, if that has room for all of it. The value is its length in bytes.
+#[unsafe(no_mangle)]
+pub extern "C" fn timefd_v2_to_v3(alloc: Global, text: &[u8], buffer: &mut [u8]) -> Answer
+    ensures converts { Modernizes text.now buffer.old buffer.new result }
+{
+    let Ok(text) = str::from_utf8(text) else {
+        return Answer::plain(NOT_UTF8, 0);
+    };
+    match v2_to_v3(alloc, text) {
+        Ok(modern) => Answer {
+            status: ACCEPTED,
+            value: modern.len(),
+            sentence_len: 0,
+            written: write_whole(&modern, buffer),
         },
         Err(ParseError::Invalid(fault)) => Answer::plain(REFUSED, fault.index()),
         Err(ParseError::Memory(_)) => Answer::plain(NO_MEMORY, 0),

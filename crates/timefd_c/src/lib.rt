@@ -16,6 +16,6 @@ mod verdict;
 mod whole;
 
 pub use answer::{ACCEPTED, Answer, NO_MEMORY, NOT_UTF8, REFUSED, ReadAnswer, UNKNOWN_KIND};
-pub use exports::{timefd_check, timefd_judge, timefd_v1_to_v2};
+pub use exports::{timefd_check, timefd_judge, timefd_v1_to_v2, timefd_v2_to_v3};
 pub use nodes::{VERSION, timefd_read, timefd_version};
 pub use timefd_c_nodes::Node;

@@ -15,7 +15,7 @@ ghost use Rattle.timefd_language.specs.Told.{IsFaultOrMemory, MemoryAlone, Tells
 ghost use Rattle.timefd_language.specs.Shown.{IsFault, MemoryOr};
 ghost use Rattle.timefd_language.specs.Strings.{AreItems};
 
-use crate::read::{Context, items, members, node_room};
+use crate::read::{items, members, node_room};
 use std::alloc::{AllocError, Global};
 use timefd_items::{
     BorrowedFormatItem, DescriptionBuilder, FormatDescriptionV3, InvalidFormatDescription,
@@ -151,12 +151,7 @@ fn parse_items<'a>(
         → MatchResult result (λ _. ⊥) (IsFaultOrMemory f) }
     ensures empty { s.now ≡ [] → IsOk result }
 {
-    let context = Context {
-        version,
-        limit,
-        around: 0,
-    };
-    match items(alloc, context, s) {
+    match items(alloc, version, s, limit) {
         Ok(items) => Ok(items),
         Err(error) => Err(told(alloc, error, s.len())),
     }
@@ -183,12 +178,7 @@ fn parse_description<'a>(
     if let Err(error) = builder.reserve(node_room(s)) {
         return Err(ParseError::Memory(error));
     }
-    let context = Context {
-        version: DescriptionVersion::Three,
-        limit,
-        around: 0,
-    };
-    match members(&mut builder, context, s) {
+    match members(&mut builder, DescriptionVersion::Three, s, limit, 0) {
         Ok(_) => match builder.finish() {
             Ok(description) => Ok(description),
             Err(error) => Err(ParseError::Memory(error)),

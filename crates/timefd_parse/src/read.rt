@@ -26,18 +26,6 @@ use timefd_language::description_version::DescriptionVersion;
 use timefd_language::fault::{Fault, Kind, ReadError};
 use timefd_language::text::{Class, Start, cut, cut_run, escaped, start_of};
 
-/// What a list of items is read as.
-#[derive(Clone, Copy)]
-pub struct Context {
-    /// The version of the text.
-    pub version: DescriptionVersion,
-    /// How many nested descriptions may stand around one another, at most.
-    pub limit: u8,
-    /// How many of them stand around the list.
-    pub around: u8,
-    ghost within: { around ≤ limit },
-}
-
 /// The run that a text begins with.
 #[inline(always)]
 fn run<'a>(version: DescriptionVersion, text: &'a str) -> (&'a str, &'a str)
@@ -138,34 +126,37 @@ fn too_deep<'a>(remaining: usize) -> ReadError<'a>
 #[cycle(read)]
 fn next_piece<'a>(
     builder: &mut DescriptionBuilder<'a>,
-    context: Context,
+    version: DescriptionVersion,
     text: &'a str,
+    limit: u8,
+    around: u8,
 ) -> Result<Option<(Piece<'a>, &'a str)>, ReadError<'a>>
-    ensures next { ReadsNext context.version context.limit context.around text.now (built builder.old) (built builder.new) result }
+    requires { around ≤ limit }
+    ensures next { ReadsNext version limit around text.now (built builder.old) (built builder.new) result }
     ensures some { IfErr result (λ _. 0 < length text.now) }
 {
     match start_of(text) {
         Start::End => Ok(None),
-        Start::Closing(_) if context.around > 0 => Ok(None),
+        Start::Closing(_) if around > 0 => Ok(None),
         Start::Closing(_) => {
-            let (literal, rest) = closing(context.version, text)?;
+            let (literal, rest) = closing(version, text)?;
             Ok(Some((Piece::Literal(literal), rest)))
         }
         Start::Opening(inside) => {
-            if let Some((component, rest)) = bare(context.version, inside) {
+            if let Some((component, rest)) = bare(version, inside) {
                 return Ok(Some((Piece::Component(component), rest)));
             }
-            match doubled(context.version, inside) {
+            match doubled(version, inside) {
                 Some((byte, rest)) => Ok(Some((Piece::Literal(byte), rest))),
-                None => Ok(Some(bracket(builder, context, inside)?)),
+                None => Ok(Some(bracket(builder, version, inside, limit, around)?)),
             }
         }
         Start::Backslash(after) => {
-            let (literal, rest) = backslash(context.version, text, after)?;
+            let (literal, rest) = backslash(version, text, after)?;
             Ok(Some((Piece::Literal(literal), rest)))
         }
         Start::Other => {
-            let (run, rest) = run(context.version, text);
+            let (run, rest) = run(version, text);
             Ok(Some((Piece::Literal(run), rest)))
         }
     }
@@ -175,19 +166,22 @@ fn next_piece<'a>(
 #[cycle(read)]
 pub fn members<'a>(
     builder: &mut DescriptionBuilder<'a>,
-    context: Context,
+    version: DescriptionVersion,
     text: &'a str,
+    limit: u8,
+    around: u8,
 ) -> Result<(usize, &'a str), ReadError<'a>>
-    ensures members { ReadsMembers context.version context.limit context.around text.now (built builder.old) (built builder.new) result }
+    requires { around ≤ limit }
+    ensures members { ReadsMembers version limit around text.now (built builder.old) (built builder.new) result }
     ensures some { IfErr result (λ _. 0 < length text.now) }
 {
     let mut count = 0;
     let mut rest = text;
     'pieces: loop {
-        let Some((piece, after)) = next_piece(builder, context, rest)? else {
+        let Some((piece, after)) = next_piece(builder, version, rest, limit, around)? else {
             return Ok((count, rest));
         };
-        add(builder, context.version, piece)?;
+        add(builder, version, piece)?;
         count += 1;
         rest = after;
     }
@@ -198,28 +192,26 @@ pub fn members<'a>(
 #[cycle(read)]
 fn nested<'a>(
     builder: &mut DescriptionBuilder<'a>,
-    context: Context,
+    version: DescriptionVersion,
     text: &'a str,
+    limit: u8,
+    around: u8,
     start: usize,
 ) -> Result<&'a str, ReadError<'a>>
-    ensures { ReadsNested context.version context.limit context.around start text.now (built builder.old) (built builder.new) result }
+    requires { around ≤ limit }
+    ensures { ReadsNested version limit around start text.now (built builder.old) (built builder.new) result }
 {
-    if context.around == context.limit {
+    if around == limit {
         return Err(too_deep(text.len() + 1));
     }
-    let inner = Context {
-        version: context.version,
-        limit: context.limit,
-        around: context.around + 1,
-    };
-    let (count, end) = match members(builder, inner, text) {
+    let (count, end) = match members(builder, version, text, limit, around + 1) {
         Ok(read) => read,
         Err(error) => return Err(enclosed(error, start)),
     };
     let Start::Closing(after) = start_of(end) else {
         return Err(unclosed(start));
     };
-    pack(builder, context.version, count)?;
+    pack(builder, version, count)?;
     Ok(after)
 }
 
@@ -227,14 +219,17 @@ fn nested<'a>(
 #[cycle(read)]
 fn bracket<'a>(
     builder: &mut DescriptionBuilder<'a>,
-    context: Context,
+    version: DescriptionVersion,
     inside: &'a str,
+    limit: u8,
+    around: u8,
 ) -> Result<(Piece<'a>, &'a str), ReadError<'a>>
-    requires begins { BeginsNoEscape context.version inside.now }
-    ensures { ReadsPiece context.version context.limit context.around (91 ∷ inside.now) (built builder.old) (built builder.new) result }
+    requires within { around ≤ limit }
+    requires begins { BeginsNoEscape version inside.now }
+    ensures { ReadsPiece version limit around (91 ∷ inside.now) (built builder.old) (built builder.new) result }
 {
     let start = inside.len() + 1;
-    let strict = context.version.is_strict();
+    let strict = version.is_strict();
     let mut modifiers = Modifiers::new(strict);
     let (head, behind) = read_head(strict, inside, &mut modifiers)?;
     let spaced = !head.white.is_empty();
@@ -244,7 +239,7 @@ fn bracket<'a>(
     'inner: loop {
         match start_of(rest) {
             Start::Opening(text) => {
-                let after = nested(builder, context, text, start)?;
+                let after = nested(builder, version, text, limit, around, start)?;
                 count += 1;
                 rest = cut(after, Class::White).1;
             }
@@ -283,19 +278,19 @@ pub fn node_room(text: &str) -> usize
 /// The items of a whole text of version 1 or 2.
 pub fn items<'a>(
     alloc: Global,
-    context: Context,
+    version: DescriptionVersion,
     text: &'a str,
+    limit: u8,
 ) -> Result<Vec<BorrowedFormatItem<'a>>, ReadError<'a>>
-    requires earlier { IsFalse (is_version_three context.version) }
-    requires outermost { context.around ≡ 0 }
-    ensures items { ReadsItems context.version context.limit text.now result }
+    requires { IsFalse (is_version_three version) }
+    ensures items { ReadsItems version limit text.now result }
     ensures some { IfErr result (λ _. 0 < length text.now) }
 {
     let mut builder = DescriptionBuilder::new(alloc);
     let mut items = Vec::with_capacity(alloc, first_room(text))?;
     let mut rest = text;
     'pieces: loop {
-        let Some((piece, after)) = next_piece(&mut builder, context, rest)? else {
+        let Some((piece, after)) = next_piece(&mut builder, version, rest, limit, 0)? else {
             return Ok(items);
         };
         items.push(piece.into_item())?;

@@ -16,15 +16,15 @@ bracket-inner-init t c =
     let begins = subst (λ s. BeginsWithHead s (left ∷ c.args.inside.now) c.in_ok-head.head c.read_head.new.modifiers c.in_ok-head.behind.now e.0.0) c.is_strict-strict.ensures e.0.1 in
     (e.1, omega (arith, behind_within begins), [], bracket_begins begins c.is_empty-spaced.ensures, refl, built_none _ _)
 
-pub nested-returns-then-context : goal.nested-returns-then-context
-nested-returns-then-context t c = at_limit _ _ _ _ _ _ c.if-context.true c.too_deep.ensures.fault
+pub nested-returns-then-around-limit : goal.nested-returns-then-around-limit
+nested-returns-then-around-limit t c = at_limit _ _ _ _ _ _ c.if-around-limit.true c.too_deep.ensures.fault
 
 pub nested-returns-in-Err : goal.nested-returns-in-Err
-nested-returns-in-Err t c = inner_fails _ _ _ _ _ _ _ _ (omega arith) (omega (arith, c.if-context.false, c.args.context.within)) c.in-Err.ensures.members c.enclosed.ensures.fault
+nested-returns-in-Err t c = inner_fails _ _ _ _ _ _ _ _ (omega arith) (omega (arith, c.if-around-limit.false, c.requires)) c.in-Err.ensures.members c.enclosed.ensures.fault
 
 pub nested-returns-in_default : goal.nested-returns-in_default
 nested-returns-in_default t c =
-    inner_cut_off _ _ _ _ _ _ _ _ _ (omega arith) (omega (arith, c.if-context.false, c.args.context.within)) c.in-Ok.ensures.members.1
+    inner_cut_off _ _ _ _ _ _ _ _ _ (omega arith) (omega (arith, c.if-around-limit.false, c.requires)) c.in-Ok.ensures.members.1
     (no_closing _ _ _ c.start_of.ensures c.in-Ok.ensures.members.1.4 c.in_default.not-Closing) c.unclosed.ensures.fault
 
 pub nested-pack-requires-clause-there : goal.nested-pack-requires-clause-there
@@ -36,12 +36,12 @@ nested-pack-requires-clause-there t c =
 pub nested-pack-requires-clause-fits : goal.nested-pack-requires-clause-fits
 nested-pack-requires-clause-fits t c =
     let m = c.in-Ok.ensures.members in
-    λ three. omega (arith, built_within c.args.context.version c.args.context.limit _ c.args.text.now _ _ _ m.0 _ m.1 m.3 m.2 three)
+    λ three. omega (arith, built_within c.args.version c.args.limit _ c.args.text.now _ _ _ m.0 _ m.1 m.3 m.2 three)
 
 pub nested-returns : goal.nested-returns
 nested-returns t c =
     let m = c.in-Ok.ensures.members in
-    (pack m.0, inner_read _ _ _ _ _ (omega arith) (omega (arith, c.if-context.false, c.args.context.within)) m.1 c.in-Closing.ensures refl, c.in_ok-pack.ensures _ m.0 m.3 m.2)
+    (pack m.0, inner_read _ _ _ _ _ (omega arith) (omega (arith, c.if-around-limit.false, c.requires)) m.1 c.in-Closing.ensures refl, c.in_ok-pack.ensures _ m.0 m.3 m.2)
 
 pub bracket-returns-in_err-after-in-Opening : goal.bracket-returns-in_err-after-in-Opening
 bracket-returns-in_err-after-in-Opening t c =
@@ -98,23 +98,23 @@ pub members-returns-in_err-piece : goal.members-returns-in_err-piece
 members-returns-in_err-piece t c =
     let p = err_from_is_err_and c.from_residual.result c.from_residual.ensures.1 in
     rw (p.1, p.2) (record {
-      members = memory_or _ (IsFaultIn c.args.context.version c.args.context.limit c.args.context.around c.args.text.now) (λ f is. items_fault _ _ _ _ c.pieces.rest.now _ f c.pieces.invariant.3 is) c.in_err-piece.field-0.0 c.in_err-piece.ensures.next;
+      members = memory_or _ (IsFaultIn c.args.version c.args.limit c.args.around c.args.text.now) (λ f is. items_fault _ _ _ _ c.pieces.rest.now _ f c.pieces.invariant.3 is) c.in_err-piece.field-0.0 c.in_err-piece.ensures.next;
       some = omega (arith, c.in_err-piece.ensures.some, c.pieces.invariant.1);
     })
 
 pub members-returns-in_default : goal.members-returns-in_default
 members-returns-in_default t c =
-    let next = subst (IsNext c.args.context.version c.args.context.limit c.args.context.around c.pieces.rest.now (built c.pieces.builder) (built c.next_piece.new.builder)) c.in_default.is c.in_ok-piece.ensures.next in
-    record { members = members_end c.args.context.version c.args.context.limit c.args.context.around c.args.text.now c.pieces.rest.now c.pieces.invariant.2 _ _ _ _ c.pieces.invariant.3 next.0 c.pieces.invariant.4 c.pieces.invariant.5 next.1; some = tt }
+    let next = subst (IsNext c.args.version c.args.limit c.args.around c.pieces.rest.now (built c.pieces.builder) (built c.next_piece.new.builder)) c.in_default.is c.in_ok-piece.ensures.next in
+    record { members = members_end c.args.version c.args.limit c.args.around c.args.text.now c.pieces.rest.now c.pieces.invariant.2 _ _ _ _ c.pieces.invariant.3 next.0 c.pieces.invariant.4 c.pieces.invariant.5 next.1; some = tt }
 
 pub members-overflow_add-count : goal.members-overflow_add-count
 members-overflow_add-count t c =
-    let next = subst (IsNext c.args.context.version c.args.context.limit c.args.context.around c.pieces.rest.now (built c.pieces.builder) (built c.next_piece.new.builder)) c.in-Some.is c.in_ok-piece.ensures.next in
+    let next = subst (IsNext c.args.version c.args.limit c.args.around c.pieces.rest.now (built c.pieces.builder) (built c.next_piece.new.builder)) c.in-Some.is c.in_ok-piece.ensures.next in
     omega (arith, next.1.shorter, c.pieces.invariant.1)
 
 pub members-pieces-preserved : goal.members-pieces-preserved
 members-pieces-preserved t c =
-    let next = subst (IsNext c.args.context.version c.args.context.limit c.args.context.around c.pieces.rest.now (built c.pieces.builder) (built c.next_piece.new.builder)) c.in-Some.is c.in_ok-piece.ensures.next in (
+    let next = subst (IsNext c.args.version c.args.limit c.args.around c.pieces.rest.now (built c.pieces.builder) (built c.next_piece.new.builder)) c.in-Some.is c.in_ok-piece.ensures.next in (
       next.1.utf8,
       omega (arith, next.1.shorter, c.pieces.invariant.1),
       c.pieces.invariant.2 ++ next.0 ∷ [],
@@ -127,19 +127,19 @@ pub next_piece-returns-in_err-literal-in-Closing-2 : goal.next_piece-returns-in_
 next_piece-returns-in_err-literal-in-Closing-2 t c =
     let p = err_from_is_err_and c.from_residual.result c.from_residual.ensures.1 in
     rw (p.1, p.2) (record {
-      next = fault_outside _ _ _ _ _ (omega (arith, c.if-context-gt0.false)) (c.in_err-literal-in-Closing-2.ensures c.args.context.limit);
+      next = fault_outside _ _ _ _ _ (omega (arith, c.if-around-gt0.false)) (c.in_err-literal-in-Closing-2.ensures c.args.limit);
       some = omega (arith, ap length c.in-Closing.ensures);
     })
 
 pub next_piece-returns-in_ok-literal-in-Closing-2 : goal.next_piece-returns-in_ok-literal-in-Closing-2
 next_piece-returns-in_ok-literal-in-Closing-2 t c = record {
-  next = (_, closing_outside _ _ _ _ _ _ (omega (arith, c.if-context-gt0.false)) (c.in_ok-literal-in-Closing-2.ensures c.args.context.limit), (refl, λ three. refl));
+  next = (_, closing_outside _ _ _ _ _ _ (omega (arith, c.if-around-gt0.false)) (c.in_ok-literal-in-Closing-2.ensures c.args.limit), (refl, λ three. refl));
   some = tt;
 }
 
 pub next_piece-returns-in-Some : goal.next_piece-returns-in-Some
 next_piece-returns-in-Some t c = record {
-  next = (_, opening_leads _ _ _ _ _ _ _ c.in-Opening.ensures (c.in-Some.ensures.leads c.args.context.limit c.args.context.around), (refl, c.in-Some.ensures.is_modern, λ three. refl));
+  next = (_, opening_leads _ _ _ _ _ _ _ c.in-Opening.ensures (c.in-Some.ensures.leads c.args.limit c.args.around), (refl, c.in-Some.ensures.is_modern, λ three. refl));
   some = tt;
 }
 
@@ -148,7 +148,7 @@ next_piece-returns-in-Some-doubled t c =
     let e = c.in-Some-doubled.ensures in record { next = (_, doubled_leads _ _ _ _ _ _ _ e.0 e.1 c.in-Opening.ensures e.2 e.3, (refl, λ three. refl)); some = tt }
 
 pub next_piece-returns-in_ok-literal-in-Backslash : goal.next_piece-returns-in_ok-literal-in-Backslash
-next_piece-returns-in_ok-literal-in-Backslash t c = record { next = (_, c.in_ok-literal-in-Backslash.ensures c.args.context.limit c.args.context.around, (refl, λ three. refl)); some = tt }
+next_piece-returns-in_ok-literal-in-Backslash t c = record { next = (_, c.in_ok-literal-in-Backslash.ensures c.args.limit c.args.around, (refl, λ three. refl)); some = tt }
 
 pub next_piece-returns-in-Other : goal.next_piece-returns-in-Other
-next_piece-returns-in-Other t c = record { next = (_, c.run.ensures c.args.context.limit c.args.context.around, (refl, λ three. refl)); some = tt }
+next_piece-returns-in-Other t c = record { next = (_, c.run.ensures c.args.limit c.args.around, (refl, λ three. refl)); some = tt }

@@ -9,7 +9,7 @@ abbrev pub invariant-pieces : goal.invariant-pieces
 invariant-pieces l = record {
   text : IsUtf8 l.rest;
   within : length l.rest ≤ length l.text;
-  before : Continues l.context.version l.context.limit l.context.around l.text (map item_tree l.items.items) l.rest;
+  before : Continues l.version l.limit 0 l.text (map item_tree l.items.items) l.rest;
   strings : IsTrue (are_of_strings l.items.items);
 }
 
