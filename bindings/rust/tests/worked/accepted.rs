@@ -3,7 +3,7 @@
 use std::num::NonZeroU16;
 
 use crate::rows::Tree::{self, Compound, First, Literal, Optional};
-use crate::rows::{Language, STRFTIME, V1, V2, V3, VERSIONS, expect_items};
+use crate::rows::{Language, ONE, STRFTIME, THREE, TWO, VERSIONS, expect_items};
 use timefd::{Component as C, FormatDescription, Node, Padding, Version};
 
 const DAY: Tree = Tree::Component(C::Day { padding: Padding::Zero });
@@ -35,42 +35,47 @@ const fn ignore(count: u16) -> Tree {
 type Row = (&'static [Language], &'static str, usize, &'static [Tree]);
 
 const ITEMS: &[Row] = &[
-    (&[V1, V2, V3, STRFTIME], "", 0, &[]),
-    (&[V3], "[year]-[month]-[day]", 11, &[STANDARD_YEAR, Literal("-"), MONTH, Literal("-"), DAY]),
-    (&[V3], "due [day]", 6, &[Literal("due "), DAY]),
-    (&[V1], "[[day]]", 6, &[Literal("["), Literal("day"), Literal("]"), Literal("]")]),
-    (&[V1], "[[[day]", 3, &[Literal("["), DAY]),
-    (&[V2], r"\[[day]]", 4, &[Literal("["), DAY, Literal("]")]),
-    (&[V3], r"\\\[\]", 3, &[Literal(r"\"), Literal("["), Literal("]")]),
-    (&[V1], r"é\é", 5, &[Literal(r"é\é")]),
-    (&[V3], "abc[day]", 5, &[Literal("abc"), DAY]),
-    (&[V1, V2], "[hour repr:12 repr:24]", 2, &[HOUR]),
-    (&[V3], "[year repr:last_two]", 2, &[LAST_TWO]),
+    (&[ONE, TWO, THREE, STRFTIME], "", 0, &[]),
+    (
+        &[THREE],
+        "[year]-[month]-[day]",
+        11,
+        &[STANDARD_YEAR, Literal("-"), MONTH, Literal("-"), DAY],
+    ),
+    (&[THREE], "due [day]", 6, &[Literal("due "), DAY]),
+    (&[ONE], "[[day]]", 6, &[Literal("["), Literal("day"), Literal("]"), Literal("]")]),
+    (&[ONE], "[[[day]", 3, &[Literal("["), DAY]),
+    (&[TWO], r"\[[day]]", 4, &[Literal("["), DAY, Literal("]")]),
+    (&[THREE], r"\\\[\]", 3, &[Literal(r"\"), Literal("["), Literal("]")]),
+    (&[ONE], r"é\é", 5, &[Literal(r"é\é")]),
+    (&[THREE], "abc[day]", 5, &[Literal("abc"), DAY]),
+    (&[ONE, TWO], "[hour repr:12 repr:24]", 2, &[HOUR]),
+    (&[THREE], "[year repr:last_two]", 2, &[LAST_TWO]),
     (VERSIONS, "[ignore count:+5]", 0, &[ignore(5)]),
     (VERSIONS, "[ignore count:005]", 0, &[ignore(5)]),
     (VERSIONS, "[ignore count:65535]", 0, &[ignore(65535)]),
-    (&[V2], "[YEAR]", 7, &[EXTENDED_YEAR]),
-    (&[V1, V2], "[month repr:long padding:none]", 9, &[LONG_MONTH]),
-    (&[V2], "[week_number REPR:Sunday]", 2, &[SUNDAY_WEEK]),
-    (&[V3], "[\nday\tpadding:none ]", 2, &[DAY_UNPADDED]),
-    (&[V3], "[weekday]", 9, &[WEEKDAY]),
+    (&[TWO], "[YEAR]", 7, &[EXTENDED_YEAR]),
+    (&[ONE, TWO], "[month repr:long padding:none]", 9, &[LONG_MONTH]),
+    (&[TWO], "[week_number REPR:Sunday]", 2, &[SUNDAY_WEEK]),
+    (&[THREE], "[\nday\tpadding:none ]", 2, &[DAY_UNPADDED]),
+    (&[THREE], "[weekday]", 9, &[WEEKDAY]),
 ];
 
 const NESTED: &[Row] = &[
-    (&[V3], "[optional [[day]]]", 2, &[Optional(true, &DAY)]),
-    (&[V3], "[optional []]", 0, &[Optional(true, &Compound(&[]))]),
-    (&[V3], "[optional format:false [[weekday]]]", 0, &[Optional(false, &WEEKDAY)]),
+    (&[THREE], "[optional [[day]]]", 2, &[Optional(true, &DAY)]),
+    (&[THREE], "[optional []]", 0, &[Optional(true, &Compound(&[]))]),
+    (&[THREE], "[optional format:false [[weekday]]]", 0, &[Optional(false, &WEEKDAY)]),
     (
-        &[V3],
+        &[THREE],
         "x[optional format:true [[month]:[day]]]",
         6,
         &[Literal("x"), Optional(true, &Compound(&[MONTH, Literal(":"), DAY]))],
     ),
-    (&[V3], "[first [a][b]]", 1, &[First(&[Literal("a"), Literal("b")])]),
-    (&[V3], "[first [a] [bcd]]", 1, &[First(&[Literal("a"), Literal("bcd")])]),
-    (&[V3], "[first []]", 0, &[First(&[Compound(&[])])]),
+    (&[THREE], "[first [a][b]]", 1, &[First(&[Literal("a"), Literal("b")])]),
+    (&[THREE], "[first [a] [bcd]]", 1, &[First(&[Literal("a"), Literal("bcd")])]),
+    (&[THREE], "[first []]", 0, &[First(&[Compound(&[])])]),
     (
-        &[V3],
+        &[THREE],
         "[first [[day][optional [a]]] [[weekday]]]é",
         5,
         &[First(&[Compound(&[DAY, Optional(true, &Literal("a"))]), WEEKDAY]), Literal("é")],

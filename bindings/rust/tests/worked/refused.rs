@@ -1,6 +1,6 @@
 //! Texts that are refused, with the index of the fault and its sentence.
 
-use crate::rows::{Language, STRFTIME, V1, V2, V3, VERSIONS};
+use crate::rows::{Language, ONE, STRFTIME, THREE, TWO, VERSIONS};
 use timefd::{ParseError, v1_to_v2};
 
 /// In which languages, which text, and the index and the sentence of its fault.
@@ -11,38 +11,38 @@ const BRACKETS: &[Row] = &[
     (VERSIONS, "[]", 0, "missing component name at byte index 0"),
     (VERSIONS, "[ ]", 1, "missing component name at byte index 1"),
     (VERSIONS, "[  ]", 1, "missing component name at byte index 1"),
-    (&[V2, V3], "[[day]]", 0, "missing component name at byte index 0"),
-    (&[V3], r"\[[day]]", 7, "expected right bracket to be escaped at byte index 7"),
+    (&[TWO, THREE], "[[day]]", 0, "missing component name at byte index 0"),
+    (&[THREE], r"\[[day]]", 7, "expected right bracket to be escaped at byte index 7"),
     (VERSIONS, r"[day \]", 0, "unclosed opening bracket at byte index 0"),
     (VERSIONS, "[foo", 0, "unclosed opening bracket at byte index 0"),
     (VERSIONS, "[a[", 0, "unclosed opening bracket at byte index 0"),
-    (&[V3], r"[optional [[day\]]]", 0, "unclosed opening bracket at byte index 0"),
-    (&[V3], "due [day", 4, "unclosed opening bracket at byte index 4"),
-    (&[V3], r"é\é", 3, "expected valid escape sequence at byte index 3"),
-    (&[V3], r"é\", 2, "expected valid escape sequence at byte index 2"),
+    (&[THREE], r"[optional [[day\]]]", 0, "unclosed opening bracket at byte index 0"),
+    (&[THREE], "due [day", 4, "unclosed opening bracket at byte index 4"),
+    (&[THREE], r"é\é", 3, "expected valid escape sequence at byte index 3"),
+    (&[THREE], r"é\", 2, "expected valid escape sequence at byte index 2"),
 ];
 
 const NAMES_AND_MODIFIERS: &[Row] = &[
     (VERSIONS, "[foo]", 1, "invalid component name `foo` at byte index 1"),
     (VERSIONS, "[day [[foo]]]", 7, "invalid component name `foo` at byte index 7"),
-    (&[V3], "a[YEAR]", 2, "invalid component name `YEAR` at byte index 2"),
+    (&[THREE], "a[YEAR]", 2, "invalid component name `YEAR` at byte index 2"),
     (VERSIONS, "[day\u{b}]", 1, "invalid component name `day\u{b}` at byte index 1"),
     (VERSIONS, "[foo bar", 5, "invalid modifier `bar` at byte index 5"),
     (VERSIONS, "[day padding:]", 12, "invalid modifier `` at byte index 12"),
     (VERSIONS, "[day :zero]", 5, "invalid modifier `` at byte index 5"),
     (VERSIONS, "[day padding:zero:x]", 13, "invalid modifier `zero:x` at byte index 13"),
-    (&[V2], "[hour repr:99 repr:12]", 11, "invalid modifier `99` at byte index 11"),
+    (&[TWO], "[hour repr:99 repr:12]", 11, "invalid modifier `99` at byte index 11"),
     (VERSIONS, "[ignore count:65536]", 14, "invalid modifier `65536` at byte index 14"),
-    (&[V3], "[hour repr:12 repr:24]", 14, "duplicate modifier `repr` at byte index 14"),
+    (&[THREE], "[hour repr:12 repr:24]", 14, "duplicate modifier `repr` at byte index 14"),
     (VERSIONS, "[ignore]", 1, "missing required modifier `count` for component at byte index 1"),
     (
-        &[V3],
+        &[THREE],
         "[year sign:mandatory repr:last_two range:standard]",
         35,
         "the `range` modifier is not valid at byte index 35 when `repr:last_two` is used",
     ),
     (
-        &[V3],
+        &[THREE],
         "[month repr:long padding:none]",
         17,
         "the `padding` modifier is not valid at byte index 17 for long month",
@@ -65,18 +65,18 @@ const NESTING: &[Row] = &[
     ),
     (VERSIONS, "[optional]", 9, "expected nested format description at byte index 9"),
     (
-        &[V1, V2],
+        &[ONE, TWO],
         "[optional [x]]",
         0,
         "optional item is not supported in runtime-parsed format descriptions at byte index 0",
     ),
     (
-        &[V1, V2],
+        &[ONE, TWO],
         "[first]",
         0,
         "'first' item is not supported in runtime-parsed format descriptions at byte index 0",
     ),
-    (&[V3], "[first]", 6, "expected at least one nested format description at byte index 6"),
+    (&[THREE], "[first]", 6, "expected at least one nested format description at byte index 6"),
 ];
 
 const SPECIFICATIONS: &[Row] = &[
@@ -115,7 +115,7 @@ fn one_nested_description_too_many() {
 #[test]
 fn a_long_sentence_is_whole() {
     let name = "é".repeat(1_000);
-    let error = V3.parse(&format!("[{name}]")).expect_err("no component has that name");
+    let error = THREE.parse(&format!("[{name}]")).expect_err("no component has that name");
     assert_eq!(error.to_string(), format!("invalid component name `{name}` at byte index 1"));
 }
 

@@ -9,12 +9,12 @@ pub enum Language {
     Strftime,
 }
 
-pub const V1: Language = Language::Version(Version::One);
-pub const V2: Language = Language::Version(Version::Two);
-pub const V3: Language = Language::Version(Version::Three);
+pub const ONE: Language = Language::Version(Version::One);
+pub const TWO: Language = Language::Version(Version::Two);
+pub const THREE: Language = Language::Version(Version::Three);
 pub const STRFTIME: Language = Language::Strftime;
 
-pub const VERSIONS: &[Language] = &[V1, V2, V3];
+pub const VERSIONS: &[Language] = &[ONE, TWO, THREE];
 
 impl Language {
     pub fn parse(self, text: &str) -> Result<FormatDescription, ParseError> {
