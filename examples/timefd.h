@@ -35,7 +35,9 @@ uint32_t timefd_version(void);
 /* The bytes are no UTF-8. The value is 0. */
 #define TIMEFD_NOT_UTF8 2u
 
-/* malloc or realloc gave no memory. That says nothing of the text. The value is 0. */
+/* malloc or realloc gave no memory. That says nothing of the text. The value is 0. In timefd_judge, timefd_check and
+   timefd_read the fault of a refused text and its sentence take no memory, so this comes only where there was none to read
+   the text; for strftime the first two take none at all. */
 #define TIMEFD_NO_MEMORY 3u
 
 /* The kind is none of the four numbers above, whatever the bytes are. The value is 0. */

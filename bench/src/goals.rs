@@ -33,6 +33,7 @@ pub fn print(measured: &Measured) {
         }
     }
     print_version_3(measured);
+    print_nodes(measured);
     print_literal(measured);
     print_growth(measured);
 }
@@ -70,6 +71,22 @@ fn print_version_3(measured: &Measured) {
         let pairs = measured.pairs(is_long, two, three);
         let name = format!("version 3, times the time of version 2, {} {} texts", pairs.len(), length(is_long));
         print_goal(&name, Asked::AtMost(VERSION_3), pairs.of_sums(), &note(&pairs));
+    }
+}
+
+/// The same of the call that writes nodes, for which no goal is set; and how often its time goes into that of `time`.
+fn print_nodes(measured: &Measured) {
+    for is_long in [false, true] {
+        let pairs = measured.pairs(is_long, |row| row.read(Kind::Two), |row| row.read(Kind::Three));
+        let name = format!("nodes of version 3, times version 2, {} {} texts", pairs.len(), length(is_long));
+        println!("{name:<64}{:>9}{:>9.2}       {}", "", pairs.of_sums(), note(&pairs));
+    }
+    for peer in measured.peers.iter().filter(|peer| peer.kind == Kind::One) {
+        for is_long in [false, true] {
+            let pairs = measured.pairs(is_long, |row| row.read(Kind::One), |row| row.peer(peer.name));
+            let name = format!("nodes of version 1, times as fast as {}, {}", peer.name, length(is_long));
+            println!("{name:<64}{:>9}{:>9.2}       {}", "", pairs.of_sums(), note(&pairs));
+        }
     }
 }
 

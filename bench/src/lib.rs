@@ -15,6 +15,7 @@ mod text;
 pub use kind::Kind;
 pub use peer::Peer;
 
+use library::Room;
 use measured::Measured;
 use sampling::{Task, Work, sample};
 use std::time::Duration;
@@ -40,10 +41,13 @@ pub fn run(peers: &[Peer]) {
 
 /// Every text has to be a description in each language that it is measured in.
 fn verify(texts: &[Text]) {
+    let longest = texts.iter().map(|text| text.text.len()).max();
+    let mut room = Room::new(longest.unwrap_or(0));
     for text in texts {
         for &kind in text.kinds {
             assert!(
-                library::judge(kind, &text.text).is_accepted(),
+                library::judge(kind, &text.text).is_accepted()
+                    && library::read(kind, &text.text, &mut room).is_written(),
                 "{} does not accept \"{}\": {:?}",
                 kind.label(),
                 text.name,
@@ -59,6 +63,7 @@ fn tasks<'a>(texts: &'a [Text], peers: &'a [Peer]) -> Vec<Task<'a>> {
     for text in texts {
         for &kind in text.kinds {
             tasks.push(Task::new(text, Work::Judge(kind)));
+            tasks.push(Task::new(text, Work::Read(kind)));
         }
         for peer in peers {
             if text.kinds.contains(&peer.kind) && (peer.read)(&text.text).is_some() {

@@ -9,6 +9,7 @@ use crate::text::Text;
 pub struct Row<'a> {
     pub text: &'a Text,
     judged: Vec<(Kind, f64)>,
+    read: Vec<(Kind, f64)>,
     peers: Vec<(&'a str, f64)>,
     pub copy: f64,
     pub count: f64,
@@ -17,6 +18,11 @@ pub struct Row<'a> {
 impl Row<'_> {
     pub fn judged(&self, kind: Kind) -> Option<f64> {
         let found = self.judged.iter().find(|(of, _)| *of == kind);
+        found.map(|(_, time)| *time)
+    }
+
+    pub fn read(&self, kind: Kind) -> Option<f64> {
+        let found = self.read.iter().find(|(of, _)| *of == kind);
         found.map(|(_, time)| *time)
     }
 
@@ -44,6 +50,7 @@ impl<'a> Measured<'a> {
                 rows.iter_mut().find(|row| std::ptr::eq(row.text, task.text)).expect("each task has one of the texts");
             match task.work {
                 Work::Judge(kind) => row.judged.push((kind, task.median())),
+                Work::Read(kind) => row.read.push((kind, task.median())),
                 Work::Peer(peer) => row.peers.push((peer.name, task.median())),
                 Work::Copy => row.copy = task.median(),
                 Work::Count => row.count = task.median(),
@@ -65,7 +72,7 @@ impl<'a> Measured<'a> {
 }
 
 fn empty_row(text: &Text) -> Row<'_> {
-    Row { text, judged: Vec::new(), peers: Vec::new(), copy: f64::NAN, count: f64::NAN }
+    Row { text, judged: Vec::new(), read: Vec::new(), peers: Vec::new(), copy: f64::NAN, count: f64::NAN }
 }
 
 /// Two times for each of some texts.

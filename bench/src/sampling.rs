@@ -1,7 +1,7 @@
 //! Interleaved samples of short loops.
 
 use crate::kind::Kind;
-use crate::library;
+use crate::library::{self, Room};
 use crate::peer::Peer;
 use crate::text::Text;
 use std::hint::black_box;
@@ -19,14 +19,29 @@ const LEAST_ROUNDS: usize = 3 * MOST_STRIDE;
 /// What is done with a text.
 #[derive(Clone, Copy)]
 pub enum Work<'a> {
-    /// The library reads it in a language.
+    /// The library says whether it is a description of a language.
     Judge(Kind),
+    /// The library writes its nodes.
+    Read(Kind),
     /// Another reader reads it.
     Peer(&'a Peer),
     /// Its bytes are copied.
     Copy,
     /// The bytes that are an opening bracket are counted.
     Count,
+}
+
+/// Where the work writes to.
+pub struct Buffers {
+    copied: Vec<u8>,
+    room: Room,
+}
+
+impl Buffers {
+    /// For all texts of at most so many bytes.
+    pub fn new(len: usize) -> Buffers {
+        Buffers { copied: vec![0; len], room: Room::new(len) }
+    }
 }
 
 /// A row: some work on a text, and what it took.
@@ -52,28 +67,30 @@ impl<'a> Task<'a> {
     }
 
     /// Doubles the repetitions until they fill a sample, and sets how often it takes part.
-    fn calibrate(&mut self, buffer: &mut [u8]) {
-        let long_works = self.time(1, buffer).as_nanos() / LONG_WORK.as_nanos();
+    fn calibrate(&mut self, buffers: &mut Buffers) {
+        let long_works = self.time(1, buffers).as_nanos() / LONG_WORK.as_nanos();
         self.stride = (long_works as usize).clamp(1, MOST_STRIDE);
-        while self.time(self.repetitions, buffer) < SAMPLE {
+        while self.time(self.repetitions, buffers) < SAMPLE {
             self.repetitions *= 2;
         }
     }
 
     /// Takes a sample, once what other rows have left in the caches and in the heap is out of the way.
-    fn take_sample(&mut self, buffer: &mut [u8]) {
-        self.time(1, buffer);
-        let time = self.time(self.repetitions, buffer);
+    fn take_sample(&mut self, buffers: &mut Buffers) {
+        self.time(1, buffers);
+        let time = self.time(self.repetitions, buffers);
         self.samples.push(time.as_nanos() as f64 / f64::from(self.repetitions));
     }
 
-    fn time(&self, repetitions: u32, buffer: &mut [u8]) -> Duration {
+    fn time(&self, repetitions: u32, buffers: &mut Buffers) -> Duration {
         let text = self.text.text.as_str();
+        let Buffers { copied, room } = buffers;
         let start = Instant::now();
         match self.work {
             Work::Judge(kind) => repeat(repetitions, || library::judge(kind, black_box(text))),
+            Work::Read(kind) => repeat(repetitions, || library::read(kind, black_box(text), room)),
             Work::Peer(peer) => repeat(repetitions, || (peer.read)(black_box(text))),
-            Work::Copy => repeat(repetitions, || copy(black_box(text), buffer)),
+            Work::Copy => repeat(repetitions, || copy(black_box(text), copied)),
             Work::Count => repeat(repetitions, || count(black_box(text))),
         }
         start.elapsed()
@@ -102,15 +119,15 @@ fn count(text: &str) -> usize {
 /// Samples the rows in turn, again and again for so long, and answers how often.
 pub fn sample(tasks: &mut [Task], budget: Duration) -> usize {
     let longest = tasks.iter().map(|task| task.text.text.len()).max();
-    let mut buffer = vec![0; longest.unwrap_or(0)];
+    let mut buffers = Buffers::new(longest.unwrap_or(0));
     for task in tasks.iter_mut() {
-        task.calibrate(&mut buffer);
+        task.calibrate(&mut buffers);
     }
     let start = Instant::now();
     let mut rounds = 0;
     while rounds < LEAST_ROUNDS || start.elapsed() < budget {
         for task in tasks.iter_mut().filter(|task| rounds % task.stride == 0) {
-            task.take_sample(&mut buffer);
+            task.take_sample(&mut buffers);
         }
         rounds += 1;
     }

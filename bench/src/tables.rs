@@ -60,7 +60,7 @@ fn print_kind(measured: &Measured, kind: Kind) {
 }
 
 fn print_head(columns: &[Column]) {
-    print!("\n{:<10}{:<30}{:>8}{:>12}{:>9}", "kind", "name", "bytes", "ns", "MB/s");
+    print!("\n{:<10}{:<30}{:>8}{:>12}{:>9}{:>12}", "kind", "name", "bytes", "ns", "MB/s", "nodes ns");
     print!("{:>10}{:>10}", "copy ns", "count ns");
     for column in columns {
         print!("{:>16}{:>7}", format!("{} ns", column.title()), "ratio");
@@ -70,11 +70,12 @@ fn print_head(columns: &[Column]) {
 
 fn print_row(row: &Row, kind: Kind, time: f64, columns: &[Column]) {
     print!(
-        "{:<10}{:<30}{:>8}{time:>12.1}{:>9.1}{:>10.1}{:>10.1}",
+        "{:<10}{:<30}{:>8}{time:>12.1}{:>9.1}{:>12.1}{:>10.1}{:>10.1}",
         kind.label(),
         row.text.name,
         row.bytes(),
         megabytes_per_second(row.bytes(), time),
+        row.read(kind).unwrap_or(f64::NAN),
         row.copy,
         row.count,
     );
@@ -89,18 +90,19 @@ fn print_row(row: &Row, kind: Kind, time: f64, columns: &[Column]) {
 
 fn print_sum(measured: &Measured, kind: Kind, is_long: bool) {
     let rows = measured.rows.iter().filter(|row| row.text.is_long() == is_long);
-    let (mut texts, mut bytes, mut sum, mut copy, mut count) = (0, 0, 0.0, 0.0, 0.0);
+    let (mut texts, mut bytes, mut sum, mut read, mut copy, mut count) = (0, 0, 0.0, 0.0, 0.0, 0.0);
     for row in rows {
         if let Some(time) = row.judged(kind) {
             texts += 1;
             bytes += row.bytes();
             sum += time;
+            read += row.read(kind).unwrap_or(f64::NAN);
             copy += row.copy;
             count += row.count;
         }
     }
     println!(
-        "{:<10}{:<30}{bytes:>8}{sum:>12.1}{:>9.1}{copy:>10.1}{count:>10.1}",
+        "{:<10}{:<30}{bytes:>8}{sum:>12.1}{:>9.1}{read:>12.1}{copy:>10.1}{count:>10.1}",
         kind.label(),
         format!("SUM of {texts} {} texts", if is_long { "long" } else { "short" }),
         megabytes_per_second(bytes, sum),

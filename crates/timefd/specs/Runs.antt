@@ -8,13 +8,16 @@ use Rattle.timefd.specs.declared.end.RunEnd.TheVariants.{Accepted, Refused, Memo
 
 -- The reader is read to its end, and its bytes are so.
 abbrev pub EndsAt : (Text → Type 0) → Option Text → Option Text → Type 0
-EndsAt IsSo left_before left_after = (bytes : Text) × ReadsAll left_before left_after bytes × IsSo bytes
+EndsAt IsSo left_before left_after = (bytes : Text) × ReadsAll left_before left_after bytes
+    × IsSo bytes
 
 -- The reader is read to its end, and what is written is one line of all its bytes.
-abbrev pub Answers : (Text → Text → Type 0) → Option Text → Option Text → Option Text → Option Text → Type 0
+abbrev pub Answers : (Text → Text → Type 0) → Option Text → Option Text → Option Text → Option Text
+    → Type 0
 Answers IsLine left_before left_after written_before written_after =
     (bytes : Text) × (line : Text)
-    × ReadsAll left_before left_after bytes × IsLine bytes line × Appends written_before written_after line
+    × ReadsAll left_before left_after bytes × IsLine bytes line
+    × Appends written_before written_after line
 
 -- The line of the text is written.
 abbrev pub IsAnswer : RunEnd → Type 0

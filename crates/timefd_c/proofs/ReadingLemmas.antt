@@ -19,22 +19,45 @@ use Rattle.timefd_language.specs.declared.description_version.DescriptionVersion
 use Rattle.timefd_parse.specs.declared.language.Language.TheVariants.{Version, Strftime}
 use Rattle.timefd_language.proofs.Reserved.{reserves_within_law}
 use Rattle.timefd_c_nodes.proofs.TreeLemmas.{walked_length}
+use Rattle.std.proofs.lemmas.Str.{IsUtf8-nil}
+use Rattle.timefd_c.specs.Answers.{HasFault}
 use Rattle.timefd_c.specs.Reports.{IsReport, parts, tops}
 use Rattle.timefd_c.specs.Reading.{Reads}
 
 abbrev pub told : Report → ReadAnswer
-told r = record { status = ACCEPTED; value = r.value; nodes = r.nodes; literals = r.literals; written = r.written }
+told r = record {
+  status = ACCEPTED;
+  value = r.value;
+  nodes = r.nodes;
+  literals =
+      r.literals;
+  written = r.written;
+}
 
 abbrev pub silent : ℕ → ℕ → ReadAnswer
-silent status value = record { status = status; value = value; nodes = 0; literals = 0; written = false }
+silent status value = record {
+  status = status;
+  value = value;
+  nodes = 0;
+  literals = 0;
+  written =
+      false;
+}
 
 -- a text of version 3 has at most one node more than bytes
-three_within : (language : Language) (bytes : Text) (list : List Tree) (nodes : ℕ) → SpellsIn language nesting_limit bytes list
-    → ◌≡◌ {A = Option Language} (Some language) (Some (Version Three)) → nodes ≡ length (parts language list) → nodes ≤ length bytes + 1
+three_within : (language : Language) (bytes : Text) (list : List Tree) (nodes : ℕ)
+    → SpellsIn language nesting_limit bytes list
+    → ◌≡◌ {A = Option Language} (Some language) (Some (Version Three))
+    → nodes ≡ length (parts language list) → nodes ≤ length bytes + 1
 three_within (Version One) bytes list nodes spelled three is = absurd cc
 three_within (Version Two) bytes list nodes spelled three is = absurd cc
 three_within (Version Three) bytes list nodes spelled three is =
-    omega (arith, is, (reserves_within_law nesting_limit 0 bytes list spelled).1, walked_length (pack list))
+    omega (
+      arith,
+      is,
+      (reserves_within_law nesting_limit 0 bytes list spelled).1,
+      walked_length (pack list),
+    )
 three_within Strftime bytes list nodes spelled three is = absurd cc
 
 nodes_length : (ts : List Tree) (at used : ℕ) → length (nodes_from at used ts) ≡ length ts
@@ -46,30 +69,48 @@ pack_modern [] h = h
 pack_modern (t ∷ []) h = h.0
 pack_modern (t ∷ u ∷ ts) h = h
 
-parts_back : (language : Language) (bytes : Text) (list : List Tree) → SpellsIn language nesting_limit bytes list
-    → read_nodes (literals_of (parts language list)) (nodes_from 0 0 (parts language list)) ≡ Some (tops language list)
-parts_back (Version One) bytes list spelled = trees_back list (modernity_law One nesting_limit 0 bytes list spelled)
-parts_back (Version Two) bytes list spelled = trees_back list (modernity_law Two nesting_limit 0 bytes list spelled)
-parts_back (Version Three) bytes list spelled = tree_back (pack list) (pack_modern list (modernity_law Three nesting_limit 0 bytes list spelled))
+parts_back : (language : Language) (bytes : Text) (list : List Tree)
+    → SpellsIn language nesting_limit bytes list
+    → read_nodes (literals_of (parts language list)) (nodes_from 0 0 (parts language list)) ≡ Some
+    (tops language list)
+parts_back (Version One) bytes list spelled =
+    trees_back list (modernity_law One nesting_limit 0 bytes list spelled)
+parts_back (Version Two) bytes list spelled =
+    trees_back list (modernity_law Two nesting_limit 0 bytes list spelled)
+parts_back (Version Three) bytes list spelled =
+    tree_back (pack list) (pack_modern list
+    (modernity_law Three nesting_limit 0 bytes list spelled))
 parts_back Strftime bytes list spelled = trees_back list (strftime_modernity_law bytes list spelled)
 
 -- the fronts are what was written
-fronts_back : (ts : List Tree) (ns ms : List Node) (a b : Text) (nodes literals : ℕ) → nodes ≡ length ts → literals ≡ length (literals_of ts)
-    → ms ≡ nodes_from 0 0 ts ++ drop (length ts) ns → b ≡ literals_of ts ++ drop (length (literals_of ts)) a
+fronts_back : (ts : List Tree) (ns ms : List Node) (a b : Text) (nodes literals : ℕ)
+    → nodes ≡ length ts → literals ≡ length (literals_of ts)
+    → ms ≡ nodes_from 0 0 ts ++ drop (length ts) ns
+    → b ≡ literals_of ts ++ drop (length (literals_of ts)) a
     → read_nodes (take literals b) (take nodes ms) ≡ read_nodes (literals_of ts) (nodes_from 0 0 ts)
 fronts_back ts ns ms a b nodes literals n l m k =
-    ap (λ x. read_nodes x (take nodes ms)) (ap (λ i. take i b) l ∙ ap (λ x. take (length (literals_of ts)) x) k ∙ take-append_seam (literals_of ts) (drop (length (literals_of ts)) a))
-    ∙ ap (λ x. read_nodes (literals_of ts) x) (ap (λ i. take i ms) (n ∙ sym (nodes_length ts 0 0)) ∙ ap (λ x. take (length (nodes_from 0 0 ts)) x) m ∙ take-append_seam (nodes_from 0 0 ts) (drop (length ts) ns))
+    ap (λ x. read_nodes x (take nodes ms)) (ap (λ i. take i b) l ∙
+    ap (λ x. take (length (literals_of ts)) x) k ∙
+    take-append_seam (literals_of ts) (drop (length (literals_of ts)) a))
+    ∙ ap (λ x. read_nodes (literals_of ts) x) (ap (λ i. take i ms) (n ∙ sym (nodes_length ts 0 0)) ∙
+    ap (λ x. take (length (nodes_from 0 0 ts)) x) m ∙
+    take-append_seam (nodes_from 0 0 ts) (drop (length ts) ns))
 
-read_back_of : (language : Language) (bytes : Text) (list : List Tree) (ns ms : List Node) (a b : Text) (r : Report) → SpellsIn language nesting_limit bytes list
-    → IsReport language list ns ms a b r → IsTrue r.written → read_nodes (take r.literals b) (take r.nodes ms) ≡ Some (tops language list)
+read_back_of : (language : Language) (bytes : Text) (list : List Tree) (ns ms : List Node)
+    (a b : Text) (r : Report) → SpellsIn language nesting_limit bytes list
+    → IsReport language list ns ms a b r → IsTrue r.written
+    → read_nodes (take r.literals b) (take r.nodes ms) ≡ Some (tops language list)
 read_back_of language bytes list ns ms a b r spelled report written =
-    fronts_back (parts language list) ns ms a b r.nodes r.literals report.nodes report.literals (report.nodes_written written) (report.literals_written written)
+    fronts_back (parts language list) ns ms a b r.nodes r.literals report.nodes report.literals
+    (report.nodes_written written) (report.literals_written written)
     ∙ parts_back language bytes list spelled
 
-pub reported : (language : Language) (bytes : Text) (ns ms : List Node) (a b : Text) (r : Report) → IsUtf8 bytes
-    → ((list : List Tree) × SpellsIn language nesting_limit bytes list × IsReport language list ns ms a b r)
-    → ((list : List Tree) → SpellsIn language nesting_limit bytes list → IsReport language list ns ms a b r)
+pub reported : (language : Language) (bytes : Text) (ns ms : List Node) (a b : Text) (r : Report)
+    → IsUtf8 bytes
+    → ((list : List Tree) × SpellsIn language nesting_limit bytes list
+    × IsReport language list ns ms a b r)
+    → ((list : List Tree) → SpellsIn language nesting_limit bytes list
+    → IsReport language list ns ms a b r)
     → ((f : Fault) → FaultIn language nesting_limit bytes f → ⊥)
     → Reads (Some language) bytes ns ms a b (told r)
 reported language bytes ns ms a b r utf8 found spelled no_fault = record {
@@ -77,28 +118,42 @@ reported language bytes ns ms a b r utf8 found spelled no_fault = record {
   refused = λ e. absurd (omega (arith, e));
   spelled = λ list d more. (refl, spelled list d.1);
   faulty = λ f h more. absurd (no_fault f h.1);
-  unknown_kind = (λ e. absurd (omega (arith, e)), λ none. let is : Some language ≡ None = none in absurd cc);
+  unknown_kind = (
+    λ e. absurd (omega (arith, e)),
+    λ none. let is : Some language ≡ None = none in
+        absurd cc,
+  );
   not_utf8 = (λ e. absurd (omega (arith, e)), λ x. absurd (x.1 utf8));
+  empty = λ some nil. refl;
+  strftime_faulty = λ is f h status. omega (arith, status);
   status = omega arith;
   no_value = λ accepted refused. absurd (accepted refl);
-  read = λ e written list d. read_back_of language bytes list ns ms a b r d.1 (spelled list d.1) written;
+  read = λ e written list d. read_back_of language bytes list ns ms a b r d.1 (spelled list d.1)
+      written;
   within = λ e three. three_within language bytes found.0 r.nodes found.1 three found.2.nodes;
   nodes_kept = λ accepted. absurd (accepted refl);
   literals_kept = λ accepted. absurd (accepted refl);
   none_counted = λ accepted. absurd (accepted refl);
 }
 
-pub faulted : (language : Language) (bytes : Text) (ns : List Node) (a : Text) (f : Fault) → IsUtf8 bytes → FaultIn language nesting_limit bytes f
+pub faulted : (language : Language) (bytes : Text) (ns : List Node) (a : Text) (f : Fault)
+    → IsUtf8 bytes → FaultIn language nesting_limit bytes f
     → ((list : List Tree) → SpellsIn language nesting_limit bytes list → ⊥)
-    → ((g : Fault) → FaultIn language nesting_limit bytes g → f ≡ g)
+    → ((g : Fault) → FaultIn language nesting_limit bytes g → f ≡ g) → (bytes ≡ [] → ⊥)
     → Reads (Some language) bytes ns ns a a (silent REFUSED f.index)
-faulted language bytes ns a f utf8 has not_spelled one = record {
+faulted language bytes ns a f utf8 has not_spelled one not_empty = record {
   accepted = λ e. absurd (omega (arith, e));
   refused = λ e. (f, (utf8, has), refl);
   spelled = λ list d more. absurd (not_spelled list d.1);
   faulty = λ g h more. (refl, ap (λ x. x.index) (one g h.1));
-  unknown_kind = (λ e. absurd (omega (arith, e)), λ none. let is : Some language ≡ None = none in absurd cc);
+  unknown_kind = (
+    λ e. absurd (omega (arith, e)),
+    λ none. let is : Some language ≡ None = none in
+        absurd cc,
+  );
   not_utf8 = (λ e. absurd (omega (arith, e)), λ x. absurd (x.1 utf8));
+  empty = λ some nil. absurd (not_empty nil);
+  strftime_faulty = λ is f h status. omega (arith, status);
   status = omega arith;
   no_value = λ accepted refused. absurd (refused refl);
   read = λ e. absurd (omega (arith, e));
@@ -108,14 +163,23 @@ faulted language bytes ns a f utf8 has not_spelled one = record {
   none_counted = λ accepted. (refl, refl, refl);
 }
 
-pub unread : (language : Option Language) (bytes : Text) (ns : List Node) (a : Text) → IsSome language → IsUtf8 bytes → Reads language bytes ns ns a a (silent NO_MEMORY 0)
-unread language bytes ns a some utf8 = record {
+pub unread : (language : Option Language) (bytes : Text) (ns : List Node) (a : Text)
+    → IsSome language → IsUtf8 bytes → (bytes ≡ [] → ⊥)
+    → (language ≡ Some Strftime → (f : Fault) → HasFault language bytes f → ⊥)
+    → Reads language bytes ns ns a a (silent NO_MEMORY 0)
+unread language bytes ns a some utf8 not_empty no_fault = record {
   accepted = λ e. absurd (omega (arith, e));
   refused = λ e. absurd (omega (arith, e));
   spelled = λ list d more. absurd (more refl);
   faulty = λ f h more. absurd (more refl);
-  unknown_kind = (λ e. absurd (omega (arith, e)), λ none. let no : false ≡ true = subst IsSome none some in absurd cc);
+  unknown_kind = (
+    λ e. absurd (omega (arith, e)),
+    λ none. let no : false ≡ true =
+        subst IsSome none some in absurd cc,
+  );
   not_utf8 = (λ e. absurd (omega (arith, e)), λ x. absurd (x.1 utf8));
+  empty = λ some nil. absurd (not_empty nil);
+  strftime_faulty = λ is f h status. no_fault is f h;
   status = omega arith;
   no_value = λ accepted refused. refl;
   read = λ e. absurd (omega (arith, e));
@@ -125,14 +189,21 @@ unread language bytes ns a some utf8 = record {
   none_counted = λ accepted. (refl, refl, refl);
 }
 
-pub no_text : (language : Language) (bytes : Text) (ns : List Node) (a : Text) → ¬ (IsUtf8 bytes) → Reads (Some language) bytes ns ns a a (silent NOT_UTF8 0)
+pub no_text : (language : Language) (bytes : Text) (ns : List Node) (a : Text) → ¬ (IsUtf8 bytes)
+    → Reads (Some language) bytes ns ns a a (silent NOT_UTF8 0)
 no_text language bytes ns a invalid = record {
   accepted = λ e. absurd (omega (arith, e));
   refused = λ e. absurd (omega (arith, e));
   spelled = λ list d more. absurd (invalid d.0);
   faulty = λ f h more. absurd (invalid h.0);
-  unknown_kind = (λ e. absurd (omega (arith, e)), λ none. let is : Some language ≡ None = none in absurd cc);
+  unknown_kind = (
+    λ e. absurd (omega (arith, e)),
+    λ none. let is : Some language ≡ None = none in
+        absurd cc,
+  );
   not_utf8 = (λ e. (refl, invalid), λ x. refl);
+  empty = λ some nil. absurd (invalid (subst IsUtf8 (sym nil) IsUtf8-nil));
+  strftime_faulty = λ is f h status. omega (arith, status);
   status = omega arith;
   no_value = λ accepted refused. refl;
   read = λ e. absurd (omega (arith, e));
@@ -142,7 +213,8 @@ no_text language bytes ns a invalid = record {
   none_counted = λ accepted. (refl, refl, refl);
 }
 
-pub no_language : (bytes : Text) (ns : List Node) (a : Text) → Reads None bytes ns ns a a (silent UNKNOWN_KIND 0)
+pub no_language : (bytes : Text) (ns : List Node) (a : Text)
+    → Reads None bytes ns ns a a (silent UNKNOWN_KIND 0)
 no_language bytes ns a = record {
   accepted = λ e. absurd (omega (arith, e));
   refused = λ e. absurd (omega (arith, e));
@@ -150,6 +222,8 @@ no_language bytes ns a = record {
   faulty = λ f h more. absurd h.1;
   unknown_kind = (λ e. refl, λ none. refl);
   not_utf8 = (λ e. absurd (omega (arith, e)), λ x. let no : false ≡ true = x.0 in absurd cc);
+  empty = λ some nil. let no : false ≡ true = some in absurd cc;
+  strftime_faulty = λ is f h. absurd h.1;
   status = omega arith;
   no_value = λ accepted refused. refl;
   read = λ e. absurd (omega (arith, e));

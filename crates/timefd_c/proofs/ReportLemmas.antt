@@ -1,13 +1,14 @@
 -- What is reported of a description.
-use Rattle.std.proofs.Common.{◌≡◌, ◌∙◌, ℕ, ◌≤◌, ◌++◌, ◌↔◌, Bool, true, false, IsTrue, IfOk, MatchResult, Result, Ok, Err, List, map, length, drop, refl, sym, ap, subst, arith}
+use Rattle.std.proofs.Common.{◌≡◌, ◌∙◌, ℕ, ◌≤◌, ◌++◌, ◌↔◌, Bool, true, false, IsTrue, IfOk, IsErr, IsOk, MatchResult, Result, Ok, Err, List, [], ◌⊎◌, inl, inr, map, length, drop, refl, sym, ap, subst, arith}
 use Rattle.std.proofs.lemmas.List.{length-map}
 use Rattle.std.specs.Result.{IfErr}
 use Rattle.std.specs.declared.alloc.Global.{Global}
 use Rattle.std.specs.declared.vec.Vec.{Vec}
 use Rattle.timefd_items.specs.Description.{description_tree}
 use Rattle.timefd_items.specs.declared.format_description_v3.FormatDescriptionV3.{FormatDescriptionV3}
-use Rattle.timefd_language.specs.declared.parse_error.ParseError.{ParseError}
-use Rattle.timefd_language.specs.Told.{MemoryAlone}
+use Rattle.timefd_borrowed_fault.specs.declared.borrowed_parse_error.BorrowedParseError.{BorrowedParseError}
+use Rattle.timefd_borrowed_fault.specs.BorrowedFaults.{IsLent, IsLentOrMemory, IsMemory}
+use Rattle.timefd_borrowed_fault.specs.declared.borrowed_parse_error.BorrowedParseError.TheVariants.{Invalid, Memory}
 use Rattle.timefd_format_item.specs.declared.borrowed_format_item.BorrowedFormatItem.{BorrowedFormatItem}
 use Rattle.timefd_format_item.specs.Meaning.{item_tree, item_trees}
 use Rattle.timefd_component.specs.Reserved.{reserve}
@@ -21,37 +22,57 @@ use Rattle.timefd_parse.specs.Answers.{IsOutput}
 use Rattle.timefd_c_nodes.specs.declared.node.Node.{Node}
 use Rattle.timefd_c_nodes.specs.declared.size.Size.{Size}
 use Rattle.timefd_c_nodes.specs.Encoding.{nodes_from, literals_of}
-use Rattle.timefd_c_nodes.specs.Sizes.{IsSize}
+use Rattle.timefd_c_nodes.specs.Sizes.{IsSize, IsTooLarge}
+use Rattle.timefd_fault.specs.Faults.{Fault}
+use Rattle.timefd_language.specs.Grammar.{Spells, nesting_limit, no_pieces}
+use Rattle.timefd_language.specs.Strftime.{SpellsStrftime, no_directives}
+use Rattle.timefd_parse.proofs.ParseLemmas.{one}
+use Rattle.timefd_strftime.proofs.DirectiveLemmas.{one as strftime_one}
 use Rattle.timefd_c.specs.declared.read.Report.{Report}
 use Rattle.timefd_c.specs.Reports.{Reports, IsReport}
 
 abbrev pub report : ℕ → Size → Bool → Report
-report value size written = record { value = value; nodes = size.nodes; literals = size.literals; written = written }
+report value size written = record {
+  value = value;
+  nodes = size.nodes;
+  literals =
+      size.literals;
+  written = written;
+}
 
 -- both buffers have room
 abbrev pub Fit : Size → List Node → Text → Type 0
 Fit size ns a = (size.nodes ≤ length ns) × (size.literals ≤ length a)
 
-sized : (ts : List Tree) (size : Size) (ns : List Node) (a : Text) → IsSize ts size → (length ts ≤ length ns) × (length (literals_of ts) ≤ length a) → Fit size ns a
+sized : (ts : List Tree) (size : Size) (ns : List Node) (a : Text) → IsSize ts size
+    → (length ts ≤ length ns) × (length (literals_of ts) ≤ length a) → Fit size ns a
 sized ts size ns a is h = (omega (arith, is.0, h.0), omega (arith, is.1, h.1))
 
-unsized : (ts : List Tree) (size : Size) (ns : List Node) (a : Text) → IsSize ts size → Fit size ns a → (length ts ≤ length ns) × (length (literals_of ts) ≤ length a)
+unsized : (ts : List Tree) (size : Size) (ns : List Node) (a : Text) → IsSize ts size
+    → Fit size ns a → (length ts ≤ length ns) × (length (literals_of ts) ≤ length a)
 unsized ts size ns a is h = (omega (arith, is.0, h.0), omega (arith, is.1, h.1))
 
-pub reports_kept : (ts : List Tree) (value : ℕ) (size : Size) (ns : List Node) (a : Text) (t : Bool) → IsSize ts size → (IsTrue t ↔ Fit size ns a) → t ≡ false
+pub reports_kept : (ts : List Tree) (value : ℕ) (size : Size) (ns : List Node) (a : Text) (t : Bool)
+    → IsSize ts size → (IsTrue t ↔ Fit size ns a) → t ≡ false
     → Reports ts value ns ns a a (report value size false)
 reports_kept ts value size ns a t is fits off = record {
   value = refl;
   nodes = is.0;
   literals = is.1;
-  room = (λ h. let no : false ≡ true = h in absurd cc, λ h. let no : t ≡ true = fits.1 (sized ts size ns a is h) in absurd cc);
+  room = (
+    λ h. let no : false ≡ true = h in absurd cc,
+    λ h. let no : t ≡ true =
+        fits.1 (sized ts size ns a is h) in absurd cc,
+  );
   nodes_written = λ h. let no : false ≡ true = h in absurd cc;
   literals_written = λ h. let no : false ≡ true = h in absurd cc;
   kept = λ h. (refl, refl);
 }
 
-pub reports_written : (ts : List Tree) (value : ℕ) (size : Size) (ns ms : List Node) (a b : Text) (t : Bool) → IsSize ts size → (IsTrue t ↔ Fit size ns a) → t ≡ true
-    → ms ≡ nodes_from 0 0 ts ++ drop (length ts) ns → b ≡ literals_of ts ++ drop (length (literals_of ts)) a
+pub reports_written : (ts : List Tree) (value : ℕ) (size : Size) (ns ms : List Node) (a b : Text)
+    (t : Bool) → IsSize ts size → (IsTrue t ↔ Fit size ns a) → t ≡ true
+    → ms ≡ nodes_from 0 0 ts ++ drop (length ts) ns
+    → b ≡ literals_of ts ++ drop (length (literals_of ts)) a
     → Reports ts value ns ms a b (report value size true)
 reports_written ts value size ns ms a b t is fits on nodes literals = record {
   value = refl;
@@ -65,38 +86,119 @@ reports_written ts value size ns ms a b t is fits on nodes literals = record {
 
 -- The reports on outputs of each language.
 
-pub items_report : (items : List BorrowedFormatItem) (list : List Tree) (ns ms : List Node) (a b : Text) (r : Report) → map item_tree items ≡ list
-    → Reports (walked_all (trees (item_trees items))) (length items) ns ms a b r → Reports (walked_all (trees list)) (length list) ns ms a b r
+pub items_report : (items : List BorrowedFormatItem) (list : List Tree) (ns ms : List Node)
+    (a b : Text) (r : Report) → map item_tree items ≡ list
+    → Reports (walked_all (trees (item_trees items))) (length items) ns ms a b r
+    → Reports (walked_all (trees list)) (length list) ns ms a b r
 items_report items list ns ms a b r is reports =
     subst (λ l. Reports (walked_all (trees l)) (length l) ns ms a b r) is
-    (subst (λ n. Reports (walked_all (trees (item_trees items))) n ns ms a b r) (sym (length-map items item_tree)) reports)
+    (subst (λ n. Reports (walked_all (trees (item_trees items))) n ns ms a b r)
+    (sym (length-map items item_tree)) reports)
 
-pub tree_report : (t u : Tree) (ns ms : List Node) (a b : Text) (r : Report) → t ≡ u → Reports (walked t) (reserve t) ns ms a b r → Reports (walked u) (reserve u) ns ms a b r
-tree_report t u ns ms a b r is reports = subst (λ x. Reports (walked x) (reserve x) ns ms a b r) is reports
+pub tree_report : (t u : Tree) (ns ms : List Node) (a b : Text) (r : Report) → t ≡ u
+    → Reports (walked t) (reserve t) ns ms a b r → Reports (walked u) (reserve u) ns ms a b r
+tree_report t u ns ms a b r is reports =
+    subst (λ x. Reports (walked x) (reserve x) ns ms a b r) is reports
 
 -- What is spelled is reported, or memory ran out; and what is spelled has no fault.
 
-pub items_spelled : (v : DescriptionVersion) (list : List Tree) (vec : Vec BorrowedFormatItem Global) (lent : List BorrowedFormatItem) (ns ms : List Node) (a b : Text) (r : Result Report ParseError)
+pub items_spelled : (v : DescriptionVersion) (list : List Tree)
+    (vec : Vec BorrowedFormatItem Global) (lent : List BorrowedFormatItem) (ns ms : List Node)
+    (a b : Text) (r : Result Report BorrowedParseError)
     → lent ≡ vec.items → IsOutput v list (Items vec)
-    → IfOk r (Reports (walked_all (trees (item_trees lent))) (length lent) ns ms a b) → IfErr r MemoryAlone
-    → MatchResult r (IsReport (Version v) list ns ms a b) MemoryAlone
-items_spelled One list vec lent ns ms a b (Ok x) e is reports memory = items_report lent list ns ms a b x (ap (λ xs. map item_tree xs) e ∙ is) reports
-items_spelled Two list vec lent ns ms a b (Ok x) e is reports memory = items_report lent list ns ms a b x (ap (λ xs. map item_tree xs) e ∙ is) reports
+    → IfOk r (Reports (walked_all (trees (item_trees lent))) (length lent) ns ms a b)
+    → IfErr r IsMemory
+    → MatchResult r (IsReport (Version v) list ns ms a b) IsMemory
+items_spelled One list vec lent ns ms a b (Ok x) e is reports memory =
+    items_report lent list ns ms a b x (ap (λ xs. map item_tree xs) e ∙ is) reports
+items_spelled Two list vec lent ns ms a b (Ok x) e is reports memory =
+    items_report lent list ns ms a b x (ap (λ xs. map item_tree xs) e ∙ is) reports
 items_spelled Three list vec lent ns ms a b (Ok x) e is reports memory = absurd is
 items_spelled v list vec lent ns ms a b (Err x) e is reports memory = memory
 
-pub description_spelled : (v : DescriptionVersion) (list : List Tree) (d : FormatDescriptionV3) (ns ms : List Node) (a b : Text) (r : Result Report ParseError)
+pub description_spelled : (v : DescriptionVersion) (list : List Tree) (d : FormatDescriptionV3)
+    (ns ms : List Node) (a b : Text) (r : Result Report BorrowedParseError)
     → IsOutput v list (Description d)
-    → IfOk r (Reports (walked (description_tree d)) (reserve (description_tree d)) ns ms a b) → IfErr r MemoryAlone
-    → MatchResult r (IsReport (Version v) list ns ms a b) MemoryAlone
+    → IfOk r (Reports (walked (description_tree d)) (reserve (description_tree d)) ns ms a b)
+    → IfErr r IsMemory
+    → MatchResult r (IsReport (Version v) list ns ms a b) IsMemory
 description_spelled One list d ns ms a b (Ok x) is reports memory = absurd is
 description_spelled Two list d ns ms a b (Ok x) is reports memory = absurd is
-description_spelled Three list d ns ms a b (Ok x) is reports memory = tree_report (description_tree d) (pack list) ns ms a b x is reports
+description_spelled Three list d ns ms a b (Ok x) is reports memory =
+    tree_report (description_tree d) (pack list) ns ms a b x is reports
 description_spelled v list d ns ms a b (Err x) is reports memory = memory
 
-pub strftime_spelled : (list : List Tree) (items lent : List BorrowedFormatItem) (ns ms : List Node) (a b : Text) (r : Result Report ParseError)
+pub strftime_spelled : (list : List Tree) (items lent : List BorrowedFormatItem) (ns ms : List Node)
+    (a b : Text) (r : Result Report BorrowedParseError)
     → lent ≡ items → map item_tree items ≡ list
-    → IfOk r (Reports (walked_all (trees (item_trees lent))) (length lent) ns ms a b) → IfErr r MemoryAlone
-    → MatchResult r (IsReport Strftime list ns ms a b) MemoryAlone
-strftime_spelled list items lent ns ms a b (Ok x) e is reports memory = items_report lent list ns ms a b x (ap (λ xs. map item_tree xs) e ∙ is) reports
+    → IfOk r (Reports (walked_all (trees (item_trees lent))) (length lent) ns ms a b)
+    → IfErr r IsMemory
+    → MatchResult r (IsReport Strftime list ns ms a b) IsMemory
+strftime_spelled list items lent ns ms a b (Ok x) e is reports memory =
+    items_report lent list ns ms a b x (ap (λ xs. map item_tree xs) e ∙ is) reports
 strftime_spelled list items lent ns ms a b (Err x) e is reports memory = memory
+
+-- this fault alone
+pub lent_or_memory : {T : Type 0} (f : Fault) (r : Result T BorrowedParseError)
+    → MatchResult r (λ _. ⊥) (IsLent f) → MatchResult r (λ _. ⊥) (IsLentOrMemory f)
+lent_or_memory f (Ok x) is = is
+lent_or_memory f (Err (Invalid g)) is = is
+lent_or_memory f (Err (Memory m)) is = tt
+
+-- The empty text is reported.
+
+none_large : IsTooLarge [] → ⊥
+none_large (inl h) = omega (arith, h)
+none_large (inr h) = omega (arith, h)
+
+empty_large : IsTooLarge (walked (pack [])) → ⊥
+empty_large (inl h) = omega (arith, h)
+empty_large (inr h) = omega (arith, h)
+
+reported_ok : (r : Result Report BorrowedParseError) → (IsErr r → ⊥) → IsOk r
+reported_ok (Ok x) no_err = refl
+reported_ok (Err e) no_err = absurd (no_err refl)
+
+items_none : (items : List BorrowedFormatItem) (list : List Tree)
+    (r : Result Report BorrowedParseError) → map item_tree items ≡ list → list ≡ []
+    → (IsErr r → IsTooLarge (walked_all (trees (item_trees items)))) → IsOk r
+items_none items list r is none large =
+    reported_ok r (λ err. none_large
+    (subst (λ ts. IsTooLarge (walked_all (trees ts))) (is ∙ none) (large err)))
+
+no_list : (v : DescriptionVersion) (text : Text) (list : List Tree) → text ≡ []
+    → Spells v nesting_limit 0 text list → list ≡ []
+no_list v text list nil spelled =
+    (one v nesting_limit text).one_list list [] spelled (no_pieces, tt, nil, refl)
+
+pub items_empty : (v : DescriptionVersion) (text : Text)
+    (vec : Vec BorrowedFormatItem Global) (lent : List BorrowedFormatItem)
+    (r : Result Report BorrowedParseError) → text ≡ []
+    → ((list : List Tree) × Spells v nesting_limit 0 text list × IsOutput v list (Items vec))
+    → lent ≡ vec.items → (IsErr r → IsTooLarge (walked_all (trees (item_trees lent)))) → IsOk r
+items_empty One text vec lent r nil found e large =
+    items_none lent found.0 r (ap (λ xs. map item_tree xs) e ∙ found.2)
+    (no_list One text found.0 nil found.1) large
+items_empty Two text vec lent r nil found e large =
+    items_none lent found.0 r (ap (λ xs. map item_tree xs) e ∙ found.2)
+    (no_list Two text found.0 nil found.1) large
+items_empty Three text vec lent r nil found e large = absurd found.2
+
+pub description_empty : (v : DescriptionVersion) (text : Text) (d : FormatDescriptionV3)
+    (r : Result Report BorrowedParseError) → text ≡ []
+    → ((list : List Tree) × Spells v nesting_limit 0 text list × IsOutput v list (Description d))
+    → (IsErr r → IsTooLarge (walked (description_tree d))) → IsOk r
+description_empty One text d r nil found large = absurd found.2
+description_empty Two text d r nil found large = absurd found.2
+description_empty Three text d r nil found large =
+    reported_ok r (λ err. empty_large
+    (subst (λ t. IsTooLarge (walked t))
+    (found.2 ∙ ap pack (no_list Three text found.0 nil found.1)) (large err)))
+
+pub strftime_empty : (text : Text) (items lent : List BorrowedFormatItem)
+    (r : Result Report BorrowedParseError) → text ≡ [] → SpellsStrftime text (item_trees items)
+    → lent ≡ items → (IsErr r → IsTooLarge (walked_all (trees (item_trees lent)))) → IsOk r
+strftime_empty text items lent r nil spelled e large =
+    items_none lent (item_trees items) r (ap (λ xs. map item_tree xs) e)
+    ((strftime_one text).one_list (item_trees items) [] spelled (no_directives, tt, nil, refl))
+    large

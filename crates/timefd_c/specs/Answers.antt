@@ -1,8 +1,9 @@
 -- What is answered to C.
-use Rattle.std.specs.Prelude.{ℕ, ◌≡◌, ◌≢◌, ◌≤◌, ◌↔◌, [], List, Option, None, IsSome, IsUtf8}
+use Rattle.std.specs.Prelude.{ℕ, ◌≡◌, ◌≢◌, ◌≤◌, ◌↔◌, [], List, Option, Some, None, IsFalse, IsSome, IsUtf8}
 use Rattle.timefd_component.specs.Tree.{Text, Tree}
-use Rattle.timefd_fault.specs.Faults.{Fault, fault_of}
+use Rattle.timefd_fault.specs.Faults.{Fault}
 use Rattle.timefd_parse.specs.declared.language.Language.{Language}
+use Rattle.timefd_parse.specs.Language.{takes_memory}
 use Rattle.timefd_fault.specs.Sentences.{sentence}
 use Rattle.timefd_c.specs.declared.answer.TheConstants.{ACCEPTED, REFUSED, NOT_UTF8, NO_MEMORY, UNKNOWN_KIND}
 use Rattle.timefd_c.specs.declared.answer.Answer.{Answer}
@@ -34,6 +35,8 @@ pub record Judges (language : Option Language) (bytes : Text) (answer : Answer) 
   pub unknown_kind : answer.status ≡ UNKNOWN_KIND ↔ (language ≡ None)
   pub not_utf8 : answer.status ≡ NOT_UTF8 ↔ (IsSome language × ¬ (IsUtf8 bytes))
   pub empty : IsSome language → bytes ≡ [] → answer.status ≡ ACCEPTED
+  pub memory : (l : Language) → language ≡ Some l → IsFalse (takes_memory l)
+      → answer.status ≢ NO_MEMORY
   -- There are no other statuses, and where nothing is counted the number is 0.
   pub status : answer.status ≤ UNKNOWN_KIND
   pub no_value : answer.status ≢ ACCEPTED → answer.status ≢ REFUSED → answer.value ≡ 0
@@ -49,7 +52,7 @@ plain status value = record { status = status; value = value; sentence_len = 0; 
 
 abbrev pub answer_of : Verdict → Answer
 answer_of (Accepted value) = plain ACCEPTED value
-answer_of (Refused f) = plain REFUSED ((fault_of f).index)
+answer_of (Refused f) = plain REFUSED f.index
 answer_of NotUtf8 = plain NOT_UTF8 0
 answer_of NoMemory = plain NO_MEMORY 0
 answer_of UnknownKind = plain UNKNOWN_KIND 0

@@ -19,10 +19,14 @@ IsConverted IsOne bytes converted = IsUtf8 bytes × IsOne bytes converted
 abbrev pub HasFaultIn : DescriptionVersion → Text → Fault → Type 0
 HasFaultIn version bytes f = HasFault (Some (Version version)) bytes f
 
--- The answer says what the bytes, a text of the version, are rewritten to, or why they are not, and of the buffer, which
--- held `before` and holds `after`, how much of it that is. `IsOne` says which text it is, and `HasItems` that it means the same.
-pub record ConvertsBy (version : DescriptionVersion) (IsOne HasItems : Text → Text → Type 0) (bytes before after : Text) (answer : Answer) : Type 0 where
-  -- What is answered is so, and the next version spells it with the items that this one spells the bytes with.
+-- The answer says what the bytes, a text of the version, are rewritten to, or why they are not, and
+-- of the buffer, which
+-- held `before` and holds `after`, how much of it that is. `IsOne` says which text it is, and
+-- `HasItems` that it means the same.
+pub record ConvertsBy (version : DescriptionVersion) (IsOne HasItems : Text → Text
+    → Type 0) (bytes before after : Text) (answer : Answer) : Type 0 where
+  -- What is answered is so, and the next version spells it with the items that this one spells the
+  -- bytes with.
   pub accepted : answer.status ≡ ACCEPTED
       → (converted : Text) × IsConverted IsOne bytes converted × HasItems bytes converted
       × (answer.value ≡ length converted)

@@ -1,10 +1,10 @@
 -- What is answered to C of a text that is read as nodes.
-use Rattle.std.specs.Prelude.{◌≡◌, ◌≢◌, ◌+◌, ◌≤◌, ◌↔◌, IsFalse, IsTrue, List, Option, Some, None, IsSome, IsUtf8, length, take}
+use Rattle.std.specs.Prelude.{◌≡◌, ◌≢◌, ◌+◌, ◌≤◌, ◌↔◌, IsFalse, IsTrue, [], List, Option, Some, None, IsSome, IsUtf8, length, take}
 use Rattle.timefd_component.specs.Tree.{Text, Tree}
 use Rattle.timefd_fault.specs.Faults.{Fault}
 use Rattle.timefd_language.specs.declared.description_version.DescriptionVersion.TheVariants.{Three}
 use Rattle.timefd_parse.specs.declared.language.Language.{Language}
-use Rattle.timefd_parse.specs.declared.language.Language.TheVariants.{Version}
+use Rattle.timefd_parse.specs.declared.language.Language.TheVariants.{Version, Strftime}
 use Rattle.timefd_c_nodes.specs.declared.node.Node.{Node}
 use Rattle.timefd_c.specs.declared.answer.TheConstants.{ACCEPTED, REFUSED, NOT_UTF8, NO_MEMORY, UNKNOWN_KIND}
 use Rattle.timefd_c.specs.declared.answer.ReadAnswer.{ReadAnswer}
@@ -16,10 +16,17 @@ use Rattle.timefd_c.specs.Reports.{IsReport, tops}
 -- what the answer reports
 abbrev pub report_in : ReadAnswer → Report
 report_in answer =
-    record { value = answer.value; nodes = answer.nodes; literals = answer.literals; written = answer.written }
+    record {
+      value = answer.value;
+      nodes = answer.nodes;
+      literals = answer.literals;
+      written =
+          answer.written;
+    }
 
 -- The answer reports the list, and the buffers have its nodes and literals, where both have room.
-abbrev pub Tells : Option Language → List Tree → List Node → List Node → Text → Text → ReadAnswer → Type 0
+abbrev pub Tells : Option Language → List Tree → List Node → List Node → Text → Text → ReadAnswer
+    → Type 0
 Tells (Some language) list nodes_before nodes_after before after answer =
     IsReport language list nodes_before nodes_after before after (report_in answer)
 Tells None list nodes_before nodes_after before after answer = ⊥
@@ -30,31 +37,40 @@ ReadAs (Some language) list nodes literals answer =
     read_nodes (take answer.literals literals) (take answer.nodes nodes) ≡ Some (tops language list)
 ReadAs None list nodes literals answer = ⊥
 
--- The answer says what the bytes are in the language, where there is one, and of the buffers, which held `nodes_before` and
--- `before` and hold `nodes_after` and `after`, what was written.
-pub record Reads (language : Option Language) (bytes : Text) (nodes_before nodes_after : List Node) (before after : Text) (answer : ReadAnswer) : Type 0 where
+-- The answer says what the bytes are in the language, where there is one, and of the buffers, which
+-- held `nodes_before` and `before` and hold `nodes_after` and `after`, what was written.
+pub record Reads (language : Option Language) (bytes : Text) (nodes_before nodes_after : List Node)
+    (before after : Text) (answer : ReadAnswer) : Type 0 where
   -- What is answered is so.
   pub accepted : answer.status ≡ ACCEPTED
-      → (list : List Tree) × Describes language bytes list × Tells language list nodes_before nodes_after before after answer
+      → (list : List Tree) × Describes language bytes list
+      × Tells language list nodes_before nodes_after before after answer
   pub refused : answer.status ≡ REFUSED
       → (f : Fault) × HasFault language bytes f × (answer.value ≡ f.index)
   -- What is so is answered, unless memory runs out.
   pub spelled : (list : List Tree) → Describes language bytes list → answer.status ≢ NO_MEMORY
-      → (answer.status ≡ ACCEPTED) × Tells language list nodes_before nodes_after before after answer
+      → (answer.status ≡ ACCEPTED) × Tells language list nodes_before nodes_after before after
+      answer
   pub faulty : (f : Fault) → HasFault language bytes f → answer.status ≢ NO_MEMORY
       → (answer.status ≡ REFUSED) × (answer.value ≡ f.index)
   -- These take no memory.
   pub unknown_kind : answer.status ≡ UNKNOWN_KIND ↔ (language ≡ None)
   pub not_utf8 : answer.status ≡ NOT_UTF8 ↔ (IsSome language × ¬ (IsUtf8 bytes))
+  pub empty : IsSome language → bytes ≡ [] → answer.status ≡ ACCEPTED
+  pub strftime_faulty : language ≡ Some Strftime → (f : Fault) → HasFault language bytes f
+      → answer.status ≢ NO_MEMORY
   -- There are no other statuses, and where nothing is counted the number is 0.
   pub status : answer.status ≤ UNKNOWN_KIND
   pub no_value : answer.status ≢ ACCEPTED → answer.status ≢ REFUSED → answer.value ≡ 0
   -- What is written reads as what the text spells.
-  pub read : answer.status ≡ ACCEPTED → IsTrue answer.written → (list : List Tree) → Describes language bytes list
+  pub read : answer.status ≡ ACCEPTED → IsTrue answer.written → (list : List Tree)
+      → Describes language bytes list
       → ReadAs language list nodes_after after answer
   -- A text of version 3 has at most one node more than bytes.
-  pub within : answer.status ≡ ACCEPTED → language ≡ Some (Version Three) → answer.nodes ≤ length bytes + 1
+  pub within : answer.status ≡ ACCEPTED → language ≡ Some (Version Three)
+      → answer.nodes ≤ length bytes + 1
   -- Where nothing is accepted, nothing is written.
   pub nodes_kept : answer.status ≢ ACCEPTED → nodes_after ≡ nodes_before
   pub literals_kept : answer.status ≢ ACCEPTED → after ≡ before
-  pub none_counted : answer.status ≢ ACCEPTED → (answer.nodes ≡ 0) × (answer.literals ≡ 0) × IsFalse answer.written
+  pub none_counted : answer.status ≢ ACCEPTED → (answer.nodes ≡ 0) × (answer.literals ≡ 0)
+      × IsFalse answer.written

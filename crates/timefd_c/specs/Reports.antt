@@ -10,7 +10,8 @@ use Rattle.timefd_c_nodes.specs.declared.node.Node.{Node}
 use Rattle.timefd_c_nodes.specs.Encoding.{nodes_from, literals_of}
 use Rattle.timefd_c.specs.declared.read.Report.{Report}
 
--- All parts of a description, each behind its members: those of the items in turn, and in version 3 of the one tree that
+-- All parts of a description, each behind its members: those of the items in turn, and in version 3
+-- of the one tree that
 -- they are packed to.
 abbrev pub parts : Language → List Tree → List Tree
 parts (Version One) list = walked_all (trees list)
@@ -18,21 +19,27 @@ parts (Version Two) list = walked_all (trees list)
 parts (Version Three) list = walked (pack list)
 parts Strftime list = walked_all (trees list)
 
--- the trees that stand side by side: the items, and in version 3 the one tree that they are packed to
+-- the trees that stand side by side: the items, and in version 3 the one tree that they are packed
+-- to
 abbrev pub tops : Language → List Tree → List Tree
 tops (Version One) list = list
 tops (Version Two) list = list
 tops (Version Three) list = pack list ∷ []
 tops Strftime list = list
 
--- These parts are reported, and where both buffers have room their nodes and literals stand at the fronts.
-pub record Reports (ts : List Tree) (counted : ℕ) (nodes_before nodes_after : List Node) (before after : Text) (r : Report) : Type 0 where
+-- These parts are reported, and where both buffers have room their nodes and literals stand at the
+-- fronts.
+pub record Reports (ts : List Tree) (counted : ℕ) (nodes_before nodes_after : List Node)
+    (before after : Text) (r : Report) : Type 0 where
   pub value : r.value ≡ counted
   pub nodes : r.nodes ≡ length ts
   pub literals : r.literals ≡ length (literals_of ts)
-  pub room : IsTrue r.written ↔ ((length ts ≤ length nodes_before) × (length (literals_of ts) ≤ length before))
-  pub nodes_written : IsTrue r.written → nodes_after ≡ nodes_from 0 0 ts ++ drop (length ts) nodes_before
-  pub literals_written : IsTrue r.written → after ≡ literals_of ts ++ drop (length (literals_of ts)) before
+  pub room : IsTrue r.written ↔ ((length ts ≤ length nodes_before)
+      × (length (literals_of ts) ≤ length before))
+  pub nodes_written : IsTrue r.written
+      → nodes_after ≡ nodes_from 0 0 ts ++ drop (length ts) nodes_before
+  pub literals_written : IsTrue r.written
+      → after ≡ literals_of ts ++ drop (length (literals_of ts)) before
   pub kept : IsFalse r.written → (nodes_after ≡ nodes_before) × (after ≡ before)
 
 -- the report on a text that spells the list in the language

@@ -1,7 +1,8 @@
 -- How a verdict stands to bytes.
 use Rattle.std.specs.Prelude.{ℕ, ◌≡◌, Option, None, List, IsSome, IsUtf8, ⊤}
 use Rattle.timefd_component.specs.Tree.{Text, Tree}
-use Rattle.timefd_fault.specs.Faults.{Fault, fault_of}
+use Rattle.timefd_fault.specs.Faults.{Fault}
+use Rattle.timefd_borrowed_fault.specs.BorrowedFaults.{lent_fault}
 use Rattle.timefd_parse.specs.declared.language.Language.{Language}
 use Rattle.timefd_c.specs.declared.verdict.Verdict.{Verdict}
 use Rattle.timefd_c.specs.declared.verdict.Verdict.TheVariants.{Accepted, Refused, NotUtf8, NoMemory, UnknownKind}
@@ -12,7 +13,7 @@ abbrev pub Says : Option Language → Text → Verdict → Type 0
 Says language bytes (Accepted value) =
     IsUtf8 bytes
     × ((list : List Tree) × SpellsIn language bytes list × (value ≡ amount language list))
-Says language bytes (Refused f) = IsUtf8 bytes × FaultIn language bytes (fault_of f)
+Says language bytes (Refused f) = IsUtf8 bytes × FaultIn language bytes (lent_fault f)
 Says language bytes NotUtf8 = IsSome language × ¬ (IsUtf8 bytes)
 Says language bytes NoMemory = ⊤
 Says language bytes UnknownKind = language ≡ None
@@ -27,7 +28,7 @@ Accepts count UnknownKind = ⊥
 
 -- refused for this fault, or out of memory
 abbrev pub Refuses : Fault → Verdict → Type 0
-Refuses f (Refused g) = fault_of g ≡ f
+Refuses f (Refused g) = lent_fault g ≡ f
 Refuses f NoMemory = ⊤
 Refuses f (Accepted value) = ⊥
 Refuses f NotUtf8 = ⊥

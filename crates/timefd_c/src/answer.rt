@@ -68,7 +68,14 @@ impl ReadAnswer {
     /// The answer with this status and value, where nothing was written.
     #[inline(always)]
     pub(crate) fn plain(status: u32, value: usize) -> ReadAnswer
-        ensures { result ≡ record { status = status; value = value; nodes = 0; literals = 0; written = false } }
+        ensures { result ≡ record {
+          status = status;
+          value = value;
+          nodes = 0;
+          literals =
+              0;
+          written = false;
+        } }
     {
         ReadAnswer {
             status,

@@ -8,10 +8,9 @@ ghost use Rattle.timefd_c.specs.Conversions.{Converts, Modernizes};
 
 use crate::answer::{ACCEPTED, Answer, NO_MEMORY, NOT_UTF8, REFUSED};
 use crate::numbers::from_number;
-use crate::sentence::write_sentence;
 use crate::verdict::{Verdict, verdict_on};
 use crate::whole::write_whole;
-use std::alloc::{AllocError, Global};
+use std::alloc::Global;
 use timefd_lift::{v1_to_v2, v2_to_v3};
 use timefd_parse::ParseError;
 
@@ -50,17 +49,15 @@ pub extern "C" fn timefd_check(alloc: Global, kind: u32, text: &[u8], sentence: 
         → (result.sentence_len ≡ 0) × (result.written ≡ 0) }
 {
     let verdict = verdict_on(alloc, from_number(kind), text);
-    let Verdict::Refused(fault) = &verdict else {
+    let Verdict::Refused(fault) = verdict else {
         return verdict.answer();
     };
-    match write_sentence(alloc, fault, sentence) {
-        Ok(excerpt) => Answer {
-            status: REFUSED,
-            value: fault.index(),
-            sentence_len: excerpt.sentence_len,
-            written: excerpt.written,
-        },
-        Err(AllocError) => Answer::plain(NO_MEMORY, 0),
+    let excerpt = fault.write_sentence(sentence);
+    Answer {
+        status: REFUSED,
+        value: fault.index,
+        sentence_len: excerpt.len,
+        written: excerpt.written,
     }
 }
 

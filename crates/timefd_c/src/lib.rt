@@ -9,7 +9,6 @@ mod exports;
 mod nodes;
 mod numbers;
 mod read;
-mod sentence;
 #[cfg(test)]
 mod tests;
 mod verdict;

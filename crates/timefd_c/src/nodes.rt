@@ -9,7 +9,7 @@ use crate::numbers::from_number;
 use crate::read::read;
 use std::alloc::Global;
 use timefd_c_nodes::Node;
-use timefd_parse::ParseError;
+use timefd_parse::BorrowedParseError;
 
 /// The number of this version, 0.1.0: a million for each major one, a thousand for each minor one.
 pub const VERSION: u32 = 1_000;
@@ -32,7 +32,8 @@ pub extern "C" fn timefd_read(
     nodes: &mut [Node],
     literals: &mut [u8],
 ) -> ReadAnswer
-    ensures reads { Reads (language_of kind) text.now nodes.old nodes.new literals.old literals.new result }
+    ensures reads { Reads (language_of kind) text.now nodes.old nodes.new literals.old literals.new
+        result }
 {
     let Some(language) = from_number(kind) else {
         return ReadAnswer::plain(UNKNOWN_KIND, 0);
@@ -48,7 +49,7 @@ pub extern "C" fn timefd_read(
             literals: report.literals,
             written: report.written,
         },
-        Err(ParseError::Invalid(fault)) => ReadAnswer::plain(REFUSED, fault.index()),
-        Err(ParseError::Memory(_)) => ReadAnswer::plain(NO_MEMORY, 0),
+        Err(BorrowedParseError::Invalid(fault)) => ReadAnswer::plain(REFUSED, fault.index),
+        Err(BorrowedParseError::Memory(_)) => ReadAnswer::plain(NO_MEMORY, 0),
     }
 }

@@ -1,25 +1,26 @@
 //! Texts read as nodes.
 
-ghost use Rattle.std.specs.Prelude.{◌≡◌, ◌≤◌, ◌↔◌, List, IfOk, IsErr, IsTrue, MatchResult, length};
+ghost use Rattle.std.specs.Prelude.{◌≡◌, ◌≤◌, ◌↔◌, [], List, IfOk, IsErr, IsOk, IsTrue, MatchResult, length};
 ghost use Rattle.std.specs.Result.{IfErr};
 ghost use Rattle.timefd_fault.specs.Faults as spec;
 ghost use Rattle.timefd_component.specs.Tree.{Tree};
 ghost use Rattle.timefd_language.specs.Grammar.{nesting_limit};
-ghost use Rattle.timefd_language.specs.Told.{IsFaultOrMemory, MemoryAlone};
-ghost use Rattle.timefd_parse.specs.Language.{FaultIn, IsAssignedIn, SpellsIn};
+ghost use Rattle.timefd_borrowed_fault.specs.BorrowedFaults.{IsLent, IsLentOf, IsLentOrMemory, IsMemory};
+ghost use Rattle.timefd_parse.specs.Language.{FaultIn, SpellsIn};
 ghost use Rattle.timefd_items.specs.Description.{description_tree};
 ghost use Rattle.timefd_format_item.specs.Meaning.{item_trees};
 ghost use Rattle.timefd_component.specs.Reserved.{reserve};
 ghost use Rattle.timefd_component.specs.Tree.{trees};
 ghost use Rattle.timefd_node_list.specs.Views.{walked, walked_all};
+ghost use Rattle.timefd_c_nodes.specs.Sizes.{IsTooLarge};
 ghost use Rattle.timefd_c.specs.Reports.{IsReport, Reports};
 
 use std::alloc::{AllocError, Global};
 use timefd_c_nodes::{Node, Size, items_size, view_size, write_items, write_view};
 use timefd_items::BorrowedFormatItem;
 use timefd_parse::{
-    BorrowedOutput, DescriptionVersion, FormatDescriptionV3, Language, ParseError, StrftimeTables,
-    parse_borrowed, parse_strftime_borrowed,
+    BorrowedOutput, BorrowedParseError, DescriptionVersion, FormatDescriptionV3, Language,
+    NESTING_LIMIT, StrftimeTables, count_strftime, parse_all_borrowed, parse_strftime_all_borrowed,
 };
 
 /// What is said of a text that is a description.
@@ -39,24 +40,32 @@ pub struct Report {
 /// the buffers, if both have room for all of them.
 ///
 /// The error is `Invalid` with the fault of the text, or `Memory` where memory ran out.
-pub fn read(
+pub fn read<'a>(
     alloc: Global,
     language: Language,
-    text: &str,
+    text: &'a str,
     nodes: &mut [Node],
     literals: &mut [u8],
-) -> Result<Report, ParseError>
+) -> Result<Report, BorrowedParseError<'a>>
     // What is accepted is spelled so, and what is refused is refused for the fault that the rules
     // assign.
-    ensures found { IfOk result (λ r. (list : List Tree) × SpellsIn language nesting_limit text.now list
+    ensures found { IfOk result (λ r. (list : List Tree)
+        × SpellsIn language nesting_limit text.now list
         × IsReport language list nodes.old nodes.new literals.old literals.new r) }
-    ensures fault { IfErr result (IsAssignedIn language nesting_limit text.now) }
+    ensures fault { IfErr result (IsLentOf (FaultIn language nesting_limit text.now)) }
 
     // What is spelled is accepted, and what has a fault is refused for it, unless memory runs out.
     ensures spelled { (list : List Tree) → SpellsIn language nesting_limit text.now list
-        → MatchResult result (IsReport language list nodes.old nodes.new literals.old literals.new) MemoryAlone }
+        → MatchResult result (IsReport language list nodes.old nodes.new literals.old literals.new) IsMemory }
     ensures refused { (f : spec.Fault) → FaultIn language nesting_limit text.now f
-        → MatchResult result (λ _. ⊥) (IsFaultOrMemory f) }
+        → MatchResult result (λ _. ⊥) (IsLentOrMemory f) }
+
+    // Faults of strftime are found without memory.
+    ensures strftime { (f : spec.Fault) → language ≡ Language.Strftime
+        → FaultIn language nesting_limit text.now f → MatchResult result (λ _. ⊥) (IsLent f) }
+
+    // The empty text takes no memory.
+    ensures empty { text.now ≡ [] → IsOk result }
 
     // Behind an error the buffers are as they were.
     ensures nodes_kept { IsErr result → nodes.new ≡ nodes.old }
@@ -69,30 +78,35 @@ pub fn read(
 }
 
 #[inline(never)]
-fn read_version(
+fn read_version<'a>(
     alloc: Global,
     version: DescriptionVersion,
-    text: &str,
+    text: &'a str,
     nodes: &mut [Node],
     literals: &mut [u8],
-) -> Result<Report, ParseError>
+) -> Result<Report, BorrowedParseError<'a>>
     // What is accepted is spelled so, and what is refused is refused for the fault that the rules
     // assign.
-    ensures found { IfOk result (λ r. (list : List Tree) × SpellsIn (Language.Version version) nesting_limit text.now list
+    ensures found { IfOk result (λ r. (list : List Tree)
+        × SpellsIn (Language.Version version) nesting_limit text.now list
         × IsReport (Language.Version version) list nodes.old nodes.new literals.old literals.new r) }
-    ensures fault { IfErr result (IsAssignedIn (Language.Version version) nesting_limit text.now) }
+    ensures fault { IfErr result (IsLentOf (FaultIn (Language.Version version) nesting_limit text.now)) }
 
     // What is spelled is accepted, and what has a fault is refused for it, unless memory runs out.
-    ensures spelled { (list : List Tree) → SpellsIn (Language.Version version) nesting_limit text.now list
-        → MatchResult result (IsReport (Language.Version version) list nodes.old nodes.new literals.old literals.new) MemoryAlone }
+    ensures spelled { (list : List Tree)
+        → SpellsIn (Language.Version version) nesting_limit text.now list
+        → MatchResult result (IsReport (Language.Version version) list nodes.old nodes.new literals.old literals.new) IsMemory }
     ensures refused { (f : spec.Fault) → FaultIn (Language.Version version) nesting_limit text.now f
-        → MatchResult result (λ _. ⊥) (IsFaultOrMemory f) }
+        → MatchResult result (λ _. ⊥) (IsLentOrMemory f) }
+
+    // The empty text takes no memory.
+    ensures empty { text.now ≡ [] → IsOk result }
 
     // Behind an error the buffers are as they were.
     ensures nodes_kept { IsErr result → nodes.new ≡ nodes.old }
     ensures literals_kept { IsErr result → literals.new ≡ literals.old }
 {
-    match parse_borrowed(alloc, version, text) {
+    match parse_all_borrowed(alloc, version, NESTING_LIMIT, text) {
         Ok(BorrowedOutput::Items(items)) => report_items(&items, nodes, literals),
         Ok(BorrowedOutput::Description(description)) => {
             report_description(&description, nodes, literals)
@@ -102,48 +116,68 @@ fn read_version(
 }
 
 #[inline(never)]
-fn read_strftime(
+fn read_strftime<'a>(
     alloc: Global,
-    text: &str,
+    text: &'a str,
     nodes: &mut [Node],
     literals: &mut [u8],
-) -> Result<Report, ParseError>
+) -> Result<Report, BorrowedParseError<'a>>
     // What is accepted is spelled so, and what is refused is refused for the fault that the rules
     // assign.
-    ensures found { IfOk result (λ r. (list : List Tree) × SpellsIn Language.Strftime nesting_limit text.now list
+    ensures found { IfOk result (λ r. (list : List Tree)
+        × SpellsIn Language.Strftime nesting_limit text.now list
         × IsReport Language.Strftime list nodes.old nodes.new literals.old literals.new r) }
-    ensures fault { IfErr result (IsAssignedIn Language.Strftime nesting_limit text.now) }
+    ensures fault { IfErr result (IsLentOf (FaultIn Language.Strftime nesting_limit text.now)) }
 
-    // What is spelled is accepted, and what has a fault is refused for it, unless memory runs out.
+    // What is spelled is accepted, unless memory runs out, and what has a fault is refused for it.
     ensures spelled { (list : List Tree) → SpellsIn Language.Strftime nesting_limit text.now list
-        → MatchResult result (IsReport Language.Strftime list nodes.old nodes.new literals.old literals.new) MemoryAlone }
+        → MatchResult result (IsReport Language.Strftime list nodes.old nodes.new literals.old literals.new) IsMemory }
     ensures refused { (f : spec.Fault) → FaultIn Language.Strftime nesting_limit text.now f
-        → MatchResult result (λ _. ⊥) (IsFaultOrMemory f) }
+        → MatchResult result (λ _. ⊥) (IsLent f) }
+
+    // The empty text takes no memory.
+    ensures empty { text.now ≡ [] → IsOk result }
 
     // Behind an error the buffers are as they were.
     ensures nodes_kept { IsErr result → nodes.new ≡ nodes.old }
     ensures literals_kept { IsErr result → literals.new ≡ literals.old }
 {
     let tables = StrftimeTables::new();
-    match parse_strftime_borrowed(alloc, &tables, text) {
+    match parse_strftime_all_borrowed(alloc, &tables, text) {
         Ok(items) => report_items(&items, nodes, literals),
-        Err(error) => Err(error),
+        Err(_) => Err(strftime_error(text)),
+    }
+}
+
+// Why a text of strftime was not read. Its fault is found without memory, even where that ran out.
+fn strftime_error(text: &str) -> BorrowedParseError<'_>
+    ensures fault { IsLentOf (FaultIn Language.Strftime nesting_limit text.now) result }
+    ensures spelled { (list : List Tree) → SpellsIn Language.Strftime nesting_limit text.now list
+        → IsMemory result }
+    ensures refused { (f : spec.Fault) → FaultIn Language.Strftime nesting_limit text.now f
+        → IsLent f result }
+{
+    match count_strftime(text) {
+        Ok(_) => BorrowedParseError::Memory(AllocError),
+        Err(fault) => BorrowedParseError::Invalid(fault),
     }
 }
 
 /// Writes what items are. An `Err` says that a `usize` doesn't count it, and then nothing is written.
-fn report_items(
+fn report_items<'e>(
     items: &[BorrowedFormatItem<'_>],
     nodes: &mut [Node],
     literals: &mut [u8],
-) -> Result<Report, ParseError>
-    ensures reports { IfOk result (Reports (walked_all (trees (item_trees items.now))) (length items.now) nodes.old nodes.new literals.old literals.new) }
-    ensures memory { IfErr result MemoryAlone }
+) -> Result<Report, BorrowedParseError<'e>>
+    ensures reports { IfOk result (Reports (walked_all (trees (item_trees items.now)))
+        (length items.now) nodes.old nodes.new literals.old literals.new) }
+    ensures memory { IfErr result IsMemory }
+    ensures large { IsErr result → IsTooLarge (walked_all (trees (item_trees items.now))) }
     ensures nodes_kept { IsErr result → nodes.new ≡ nodes.old }
     ensures literals_kept { IsErr result → literals.new ≡ literals.old }
 {
     let Some(size) = items_size(items) else {
-        return Err(ParseError::Memory(AllocError));
+        return Err(BorrowedParseError::Memory(AllocError));
     };
     if !has_room(size, nodes, literals) {
         return Ok(report_of(items.len(), size, false));
@@ -154,19 +188,21 @@ fn report_items(
 
 /// Writes what a description is. An `Err` says that a `usize` doesn't count it, and then nothing is
 /// written.
-fn report_description(
+fn report_description<'e>(
     description: &FormatDescriptionV3<'_>,
     nodes: &mut [Node],
     literals: &mut [u8],
-) -> Result<Report, ParseError>
-    ensures reports { IfOk result (Reports (walked (description_tree description.now)) (reserve (description_tree description.now)) nodes.old nodes.new literals.old literals.new) }
-    ensures memory { IfErr result MemoryAlone }
+) -> Result<Report, BorrowedParseError<'e>>
+    ensures reports { IfOk result (Reports (walked (description_tree description.now))
+        (reserve (description_tree description.now)) nodes.old nodes.new literals.old literals.new) }
+    ensures memory { IfErr result IsMemory }
+    ensures large { IsErr result → IsTooLarge (walked (description_tree description.now)) }
     ensures nodes_kept { IsErr result → nodes.new ≡ nodes.old }
     ensures literals_kept { IsErr result → literals.new ≡ literals.old }
 {
     let view = description.view();
     let Some(size) = view_size(view) else {
-        return Err(ParseError::Memory(AllocError));
+        return Err(BorrowedParseError::Memory(AllocError));
     };
     let value = description.max_bytes_needed();
     if !has_room(size, nodes, literals) {
@@ -177,13 +213,20 @@ fn report_description(
 }
 
 fn has_room(size: Size, nodes: &[Node], literals: &[u8]) -> bool
-    ensures { IsTrue result ↔ ((size.nodes ≤ length nodes.now) × (size.literals ≤ length literals.now)) }
+    ensures { IsTrue result ↔ ((size.nodes ≤ length nodes.now)
+        × (size.literals ≤ length literals.now)) }
 {
     size.nodes <= nodes.len() && size.literals <= literals.len()
 }
 
 fn report_of(value: usize, size: Size, written: bool) -> Report
-    ensures { result ≡ record { value = value; nodes = size.nodes; literals = size.literals; written = written } }
+    ensures { result ≡ record {
+      value = value;
+      nodes = size.nodes;
+      literals =
+          size.literals;
+      written = written;
+    } }
 {
     Report {
         value,

@@ -1,24 +1,26 @@
 //! What is said of bytes.
 
-ghost use Rattle.std.specs.Prelude.{◌≡◌, [], List, Some, None, IsSome, IsUtf8};
+ghost use Rattle.std.specs.Prelude.{◌≡◌, ◌≢◌, [], List, Some, None, IsFalse, IsSome, IsUtf8};
 ghost use Rattle.timefd_component.specs.Tree.{Tree};
 ghost use Rattle.timefd_fault.specs.Faults.{Fault};
+ghost use Rattle.timefd_parse.specs.Language.{takes_memory};
 ghost use Rattle.timefd_c.specs.Answers.{answer_of};
 ghost use Rattle.timefd_c.specs.Languages.{SpellsIn, FaultIn, amount};
 ghost use Rattle.timefd_c.specs.Verdicts.{Says, Accepts, Refuses, IsAccepted};
 
 use crate::answer::{ACCEPTED, Answer, NO_MEMORY, NOT_UTF8, REFUSED, UNKNOWN_KIND};
 use std::alloc::Global;
-use timefd_items::InvalidFormatDescription;
-use timefd_parse::{Language, NESTING_LIMIT, ParseError, amount_within};
+use timefd_parse::{
+    BorrowedFault, BorrowedParseError, Language, NESTING_LIMIT, amount_all_borrowed,
+};
 
 /// What bytes are as a text of a language.
-#[derive(Debug, Drop)]
-pub enum Verdict {
+#[derive(Clone, Copy)]
+pub enum Verdict<'a> {
     /// A description: how many items it has, or in version 3 how many bytes it reserves.
     Accepted(usize),
     /// No description, for this fault.
-    Refused(InvalidFormatDescription),
+    Refused(BorrowedFault<'a>),
     /// No UTF-8.
     NotUtf8,
     /// Memory ran out, which says nothing of the bytes.
@@ -27,7 +29,7 @@ pub enum Verdict {
     UnknownKind,
 }
 
-impl Verdict {
+impl<'a> Verdict<'a> {
     /// The answer of this verdict, with no sentence.
     #[inline(always)]
     pub fn answer(&self) -> Answer
@@ -35,7 +37,7 @@ impl Verdict {
     {
         match self {
             Verdict::Accepted(amount) => Answer::plain(ACCEPTED, *amount),
-            Verdict::Refused(fault) => Answer::plain(REFUSED, fault.index()),
+            Verdict::Refused(fault) => Answer::plain(REFUSED, fault.index),
             Verdict::NotUtf8 => Answer::plain(NOT_UTF8, 0),
             Verdict::NoMemory => Answer::plain(NO_MEMORY, 0),
             Verdict::UnknownKind => Answer::plain(UNKNOWN_KIND, 0),
@@ -45,7 +47,7 @@ impl Verdict {
 
 /// What the bytes are in the language, where there is one.
 #[inline(always)]
-pub fn verdict_on(alloc: Global, language: Option<Language>, bytes: &[u8]) -> Verdict
+pub fn verdict_on(alloc: Global, language: Option<Language>, bytes: &[u8]) -> Verdict<'_>
     // What is said is so.
     ensures says { Says language bytes.now result }
 
@@ -57,8 +59,10 @@ pub fn verdict_on(alloc: Global, language: Option<Language>, bytes: &[u8]) -> Ve
     ensures no_text { IsSome language → ¬ (IsUtf8 bytes.now) → result ≡ Verdict.NotUtf8 }
     ensures no_language { language ≡ None → result ≡ Verdict.UnknownKind }
 
-    // The empty text takes no memory.
+    // The empty text takes no memory, and any text takes none in a language that is counted.
     ensures empty { IsSome language → bytes.now ≡ [] → IsAccepted result }
+    ensures memory { (l : Language) → language ≡ Some l → IsFalse (takes_memory l)
+        → result ≢ Verdict.NoMemory }
 {
     let Some(language) = language else {
         return Verdict::UnknownKind;
@@ -71,16 +75,17 @@ pub fn verdict_on(alloc: Global, language: Option<Language>, bytes: &[u8]) -> Ve
 
 // What the text is in the language.
 #[inline(always)]
-fn text_verdict(alloc: Global, language: Language, text: &str) -> Verdict
+fn text_verdict(alloc: Global, language: Language, text: &str) -> Verdict<'_>
     ensures says { Says (Some language) text.now result }
     ensures spelled { (list : List Tree) → SpellsIn (Some language) text.now list
         → Accepts (amount (Some language) list) result }
     ensures faulty { (f : Fault) → FaultIn (Some language) text.now f → Refuses f result }
     ensures empty { text.now ≡ [] → IsAccepted result }
+    ensures memory { IsFalse (takes_memory language) → result ≢ Verdict.NoMemory }
 {
-    match amount_within(alloc, language, NESTING_LIMIT, text) {
+    match amount_all_borrowed(alloc, language, NESTING_LIMIT, text) {
         Ok(amount) => Verdict::Accepted(amount),
-        Err(ParseError::Invalid(fault)) => Verdict::Refused(fault),
-        Err(ParseError::Memory(_)) => Verdict::NoMemory,
+        Err(BorrowedParseError::Invalid(fault)) => Verdict::Refused(fault),
+        Err(BorrowedParseError::Memory(_)) => Verdict::NoMemory,
     }
 }

@@ -53,9 +53,11 @@ trailing_input_back TrailingInput.Discard = refl
 count_back : (c : NonZeroU16) → count_of c.value ≡ Some c
 count_back c = by c.value c.ok
   where
-    by : (n : ℕ) (p : 0 < n) → ◌≡◌ {A = Option NonZeroU16} (count_of n) (Some (record { value = n; ok = p }))
+    by : (n : ℕ) (p : 0 < n) → ◌≡◌ {A = Option NonZeroU16} (count_of n)
+        (Some (record { value = n; ok = p }))
     by zero p = absurd (omega (arith, p))
-    by (suc n) p = ap {B = Option NonZeroU16} (λ q. Some (record { value = suc n; ok = q })) (le_prop (zero-lt-suc n) p)
+    by (suc n) p = ap {B = Option NonZeroU16} (λ q. Some (record { value = suc n; ok = q }))
+        (le_prop (zero-lt-suc n) p)
 
 -- No deprecated component is modern.
 
@@ -88,13 +90,15 @@ hour_old : (b : Bool) (y x : HourFields) → modern_hour b y ≡ Hour x → ⊥
 hour_old true y x e = subst IsNotDeprecated e tt
 hour_old false y x e = subst IsNotDeprecated e tt
 
-timestamp_old : (p : UnixTimestampPrecision) (y x : UnixTimestampFields) → modern_timestamp p y ≡ UnixTimestamp x → ⊥
+timestamp_old : (p : UnixTimestampPrecision) (y x : UnixTimestampFields)
+    → modern_timestamp p y ≡ UnixTimestamp x → ⊥
 timestamp_old UnixTimestampPrecision.Second y x e = subst IsNotDeprecated e tt
 timestamp_old UnixTimestampPrecision.Millisecond y x e = subst IsNotDeprecated e tt
 timestamp_old UnixTimestampPrecision.Microsecond y x e = subst IsNotDeprecated e tt
 timestamp_old UnixTimestampPrecision.Nanosecond y x e = subst IsNotDeprecated e tt
 
-year_old : (iso : Bool) (k : YearRepr) (r : YearRange) (y x : YearFields) → modern_year iso k r y ≡ Year x → ⊥
+year_old : (iso : Bool) (k : YearRepr) (r : YearRange) (y x : YearFields)
+    → modern_year iso k r y ≡ Year x → ⊥
 year_old true YearRepr.Full YearRange.Extended y x e = subst IsNotDeprecated e tt
 year_old true YearRepr.Full YearRange.Standard y x e = subst IsNotDeprecated e tt
 year_old true YearRepr.Century YearRange.Extended y x e = subst IsNotDeprecated e tt
@@ -106,44 +110,132 @@ year_old false YearRepr.Century YearRange.Standard y x e = subst IsNotDeprecated
 year_old true YearRepr.LastTwo r y x e = subst IsNotDeprecated e tt
 year_old false YearRepr.LastTwo r y x e = subst IsNotDeprecated e tt
 
-pub component_back : (c : Component) (at : ℕ) → modern c ≡ c → component_of (component_node c at) ≡ Some c
-component_back (Day m) at h = ap (with_one (λ p. Day (record { padding = p }))) (padding_back m.padding)
-component_back (MonthShort m) at h = ap (with_one (λ s. MonthShort (record { case_sensitive = s }))) (flag_back m.case_sensitive)
-component_back (MonthLong m) at h = ap (with_one (λ s. MonthLong (record { case_sensitive = s }))) (flag_back m.case_sensitive)
-component_back (MonthNumerical m) at h = ap (with_one (λ p. MonthNumerical (record { padding = p }))) (padding_back m.padding)
-component_back (Ordinal m) at h = ap (with_one (λ p. Ordinal (record { padding = p }))) (padding_back m.padding)
-component_back (WeekdayShort m) at h = ap (with_one (λ s. WeekdayShort (record { case_sensitive = s }))) (flag_back m.case_sensitive)
-component_back (WeekdayLong m) at h = ap (with_one (λ s. WeekdayLong (record { case_sensitive = s }))) (flag_back m.case_sensitive)
-component_back (WeekdaySunday m) at h = ap (with_one (λ o. WeekdaySunday (record { one_indexed = o }))) (flag_back m.one_indexed)
-component_back (WeekdayMonday m) at h = ap (with_one (λ o. WeekdayMonday (record { one_indexed = o }))) (flag_back m.one_indexed)
-component_back (WeekNumberIso m) at h = ap (with_one (λ p. WeekNumberIso (record { padding = p }))) (padding_back m.padding)
-component_back (WeekNumberSunday m) at h = ap (with_one (λ p. WeekNumberSunday (record { padding = p }))) (padding_back m.padding)
-component_back (WeekNumberMonday m) at h = ap (with_one (λ p. WeekNumberMonday (record { padding = p }))) (padding_back m.padding)
-component_back (CalendarYearFullExtendedRange m) at h = ap (λ x. with_two (λ p s. CalendarYearFullExtendedRange (record { padding = p; sign_is_mandatory = s })) x (flag_of (flag_number m.sign_is_mandatory))) (padding_back m.padding) ∙ ap (λ y. with_two (λ p s. CalendarYearFullExtendedRange (record { padding = p; sign_is_mandatory = s })) (Some m.padding) y) (flag_back m.sign_is_mandatory)
-component_back (CalendarYearFullStandardRange m) at h = ap (λ x. with_two (λ p s. CalendarYearFullStandardRange (record { padding = p; sign_is_mandatory = s })) x (flag_of (flag_number m.sign_is_mandatory))) (padding_back m.padding) ∙ ap (λ y. with_two (λ p s. CalendarYearFullStandardRange (record { padding = p; sign_is_mandatory = s })) (Some m.padding) y) (flag_back m.sign_is_mandatory)
-component_back (CalendarYearCenturyExtendedRange m) at h = ap (λ x. with_two (λ p s. CalendarYearCenturyExtendedRange (record { padding = p; sign_is_mandatory = s })) x (flag_of (flag_number m.sign_is_mandatory))) (padding_back m.padding) ∙ ap (λ y. with_two (λ p s. CalendarYearCenturyExtendedRange (record { padding = p; sign_is_mandatory = s })) (Some m.padding) y) (flag_back m.sign_is_mandatory)
-component_back (CalendarYearCenturyStandardRange m) at h = ap (λ x. with_two (λ p s. CalendarYearCenturyStandardRange (record { padding = p; sign_is_mandatory = s })) x (flag_of (flag_number m.sign_is_mandatory))) (padding_back m.padding) ∙ ap (λ y. with_two (λ p s. CalendarYearCenturyStandardRange (record { padding = p; sign_is_mandatory = s })) (Some m.padding) y) (flag_back m.sign_is_mandatory)
-component_back (IsoYearFullExtendedRange m) at h = ap (λ x. with_two (λ p s. IsoYearFullExtendedRange (record { padding = p; sign_is_mandatory = s })) x (flag_of (flag_number m.sign_is_mandatory))) (padding_back m.padding) ∙ ap (λ y. with_two (λ p s. IsoYearFullExtendedRange (record { padding = p; sign_is_mandatory = s })) (Some m.padding) y) (flag_back m.sign_is_mandatory)
-component_back (IsoYearFullStandardRange m) at h = ap (λ x. with_two (λ p s. IsoYearFullStandardRange (record { padding = p; sign_is_mandatory = s })) x (flag_of (flag_number m.sign_is_mandatory))) (padding_back m.padding) ∙ ap (λ y. with_two (λ p s. IsoYearFullStandardRange (record { padding = p; sign_is_mandatory = s })) (Some m.padding) y) (flag_back m.sign_is_mandatory)
-component_back (IsoYearCenturyExtendedRange m) at h = ap (λ x. with_two (λ p s. IsoYearCenturyExtendedRange (record { padding = p; sign_is_mandatory = s })) x (flag_of (flag_number m.sign_is_mandatory))) (padding_back m.padding) ∙ ap (λ y. with_two (λ p s. IsoYearCenturyExtendedRange (record { padding = p; sign_is_mandatory = s })) (Some m.padding) y) (flag_back m.sign_is_mandatory)
-component_back (IsoYearCenturyStandardRange m) at h = ap (λ x. with_two (λ p s. IsoYearCenturyStandardRange (record { padding = p; sign_is_mandatory = s })) x (flag_of (flag_number m.sign_is_mandatory))) (padding_back m.padding) ∙ ap (λ y. with_two (λ p s. IsoYearCenturyStandardRange (record { padding = p; sign_is_mandatory = s })) (Some m.padding) y) (flag_back m.sign_is_mandatory)
-component_back (CalendarYearLastTwo m) at h = ap (with_one (λ p. CalendarYearLastTwo (record { padding = p }))) (padding_back m.padding)
-component_back (IsoYearLastTwo m) at h = ap (with_one (λ p. IsoYearLastTwo (record { padding = p }))) (padding_back m.padding)
-component_back (Hour12 m) at h = ap (with_one (λ p. Hour12 (record { padding = p }))) (padding_back m.padding)
-component_back (Hour24 m) at h = ap (with_one (λ p. Hour24 (record { padding = p }))) (padding_back m.padding)
-component_back (Minute m) at h = ap (with_one (λ p. Minute (record { padding = p }))) (padding_back m.padding)
-component_back (Period m) at h = ap (λ x. with_two (λ u s. Period (record { is_uppercase = u; case_sensitive = s })) x (flag_of (flag_number m.case_sensitive))) (flag_back m.is_uppercase) ∙ ap (λ y. with_two (λ u s. Period (record { is_uppercase = u; case_sensitive = s })) (Some m.is_uppercase) y) (flag_back m.case_sensitive)
-component_back (Second m) at h = ap (with_one (λ p. Second (record { padding = p }))) (padding_back m.padding)
-component_back (Subsecond m) at h = ap (with_one (λ d. Subsecond (record { digits = d }))) (digits_back m.digits)
-component_back (OffsetHour m) at h = ap (λ x. with_two (λ p s. OffsetHour (record { padding = p; sign_is_mandatory = s })) x (flag_of (flag_number m.sign_is_mandatory))) (padding_back m.padding) ∙ ap (λ y. with_two (λ p s. OffsetHour (record { padding = p; sign_is_mandatory = s })) (Some m.padding) y) (flag_back m.sign_is_mandatory)
-component_back (OffsetMinute m) at h = ap (with_one (λ p. OffsetMinute (record { padding = p }))) (padding_back m.padding)
-component_back (OffsetSecond m) at h = ap (with_one (λ p. OffsetSecond (record { padding = p }))) (padding_back m.padding)
-component_back (Ignore m) at h = ap (with_one (λ c. Ignore (record { count = c }))) (count_back m.count)
-component_back (UnixTimestampSecond m) at h = ap (with_one (λ s. UnixTimestampSecond (record { sign_is_mandatory = s }))) (flag_back m.sign_is_mandatory)
-component_back (UnixTimestampMillisecond m) at h = ap (with_one (λ s. UnixTimestampMillisecond (record { sign_is_mandatory = s }))) (flag_back m.sign_is_mandatory)
-component_back (UnixTimestampMicrosecond m) at h = ap (with_one (λ s. UnixTimestampMicrosecond (record { sign_is_mandatory = s }))) (flag_back m.sign_is_mandatory)
-component_back (UnixTimestampNanosecond m) at h = ap (with_one (λ s. UnixTimestampNanosecond (record { sign_is_mandatory = s }))) (flag_back m.sign_is_mandatory)
-component_back (End m) at h = ap (with_one (λ t. End (record { trailing_input = t }))) (trailing_input_back m.trailing_input)
+pub component_back : (c : Component) (at : ℕ) → modern c ≡ c
+    → component_of (component_node c at) ≡ Some c
+component_back (Day m) at h = ap (with_one (λ p. Day (record { padding = p })))
+    (padding_back m.padding)
+component_back (MonthShort m) at h =
+    ap (with_one (λ s. MonthShort (record { case_sensitive = s }))) (flag_back m.case_sensitive)
+component_back (MonthLong m) at h =
+    ap (with_one (λ s. MonthLong (record { case_sensitive = s }))) (flag_back m.case_sensitive)
+component_back (MonthNumerical m) at h =
+    ap (with_one (λ p. MonthNumerical (record { padding = p }))) (padding_back m.padding)
+component_back (Ordinal m) at h = ap (with_one (λ p. Ordinal (record { padding = p })))
+    (padding_back m.padding)
+component_back (WeekdayShort m) at h =
+    ap (with_one (λ s. WeekdayShort (record { case_sensitive = s }))) (flag_back m.case_sensitive)
+component_back (WeekdayLong m) at h =
+    ap (with_one (λ s. WeekdayLong (record { case_sensitive = s }))) (flag_back m.case_sensitive)
+component_back (WeekdaySunday m) at h =
+    ap (with_one (λ o. WeekdaySunday (record { one_indexed = o }))) (flag_back m.one_indexed)
+component_back (WeekdayMonday m) at h =
+    ap (with_one (λ o. WeekdayMonday (record { one_indexed = o }))) (flag_back m.one_indexed)
+component_back (WeekNumberIso m) at h =
+    ap (with_one (λ p. WeekNumberIso (record { padding = p }))) (padding_back m.padding)
+component_back (WeekNumberSunday m) at h =
+    ap (with_one (λ p. WeekNumberSunday (record { padding = p }))) (padding_back m.padding)
+component_back (WeekNumberMonday m) at h =
+    ap (with_one (λ p. WeekNumberMonday (record { padding = p }))) (padding_back m.padding)
+component_back (CalendarYearFullExtendedRange m) at h =
+    ap (λ x. with_two (λ p s. CalendarYearFullExtendedRange
+    (record { padding = p; sign_is_mandatory = s })) x (flag_of (flag_number m.sign_is_mandatory)))
+    (padding_back m.padding) ∙
+    ap (λ y. with_two (λ p s. CalendarYearFullExtendedRange
+    (record { padding = p; sign_is_mandatory = s })) (Some m.padding) y)
+    (flag_back m.sign_is_mandatory)
+component_back (CalendarYearFullStandardRange m) at h =
+    ap (λ x. with_two (λ p s. CalendarYearFullStandardRange
+    (record { padding = p; sign_is_mandatory = s })) x (flag_of (flag_number m.sign_is_mandatory)))
+    (padding_back m.padding) ∙
+    ap (λ y. with_two (λ p s. CalendarYearFullStandardRange
+    (record { padding = p; sign_is_mandatory = s })) (Some m.padding) y)
+    (flag_back m.sign_is_mandatory)
+component_back (CalendarYearCenturyExtendedRange m) at h =
+    ap (λ x. with_two (λ p s. CalendarYearCenturyExtendedRange
+    (record { padding = p; sign_is_mandatory = s })) x (flag_of (flag_number m.sign_is_mandatory)))
+    (padding_back m.padding) ∙
+    ap (λ y. with_two (λ p s. CalendarYearCenturyExtendedRange
+    (record { padding = p; sign_is_mandatory = s })) (Some m.padding) y)
+    (flag_back m.sign_is_mandatory)
+component_back (CalendarYearCenturyStandardRange m) at h =
+    ap (λ x. with_two (λ p s. CalendarYearCenturyStandardRange
+    (record { padding = p; sign_is_mandatory = s })) x (flag_of (flag_number m.sign_is_mandatory)))
+    (padding_back m.padding) ∙
+    ap (λ y. with_two (λ p s. CalendarYearCenturyStandardRange
+    (record { padding = p; sign_is_mandatory = s })) (Some m.padding) y)
+    (flag_back m.sign_is_mandatory)
+component_back (IsoYearFullExtendedRange m) at h =
+    ap (λ x. with_two (λ p s. IsoYearFullExtendedRange
+    (record { padding = p; sign_is_mandatory = s })) x (flag_of (flag_number m.sign_is_mandatory)))
+    (padding_back m.padding) ∙
+    ap (λ y. with_two (λ p s. IsoYearFullExtendedRange
+    (record { padding = p; sign_is_mandatory = s })) (Some m.padding) y)
+    (flag_back m.sign_is_mandatory)
+component_back (IsoYearFullStandardRange m) at h =
+    ap (λ x. with_two (λ p s. IsoYearFullStandardRange
+    (record { padding = p; sign_is_mandatory = s })) x (flag_of (flag_number m.sign_is_mandatory)))
+    (padding_back m.padding) ∙
+    ap (λ y. with_two (λ p s. IsoYearFullStandardRange
+    (record { padding = p; sign_is_mandatory = s })) (Some m.padding) y)
+    (flag_back m.sign_is_mandatory)
+component_back (IsoYearCenturyExtendedRange m) at h =
+    ap (λ x. with_two (λ p s. IsoYearCenturyExtendedRange
+    (record { padding = p; sign_is_mandatory = s })) x (flag_of (flag_number m.sign_is_mandatory)))
+    (padding_back m.padding) ∙
+    ap (λ y. with_two (λ p s. IsoYearCenturyExtendedRange
+    (record { padding = p; sign_is_mandatory = s })) (Some m.padding) y)
+    (flag_back m.sign_is_mandatory)
+component_back (IsoYearCenturyStandardRange m) at h =
+    ap (λ x. with_two (λ p s. IsoYearCenturyStandardRange
+    (record { padding = p; sign_is_mandatory = s })) x (flag_of (flag_number m.sign_is_mandatory)))
+    (padding_back m.padding) ∙
+    ap (λ y. with_two (λ p s. IsoYearCenturyStandardRange
+    (record { padding = p; sign_is_mandatory = s })) (Some m.padding) y)
+    (flag_back m.sign_is_mandatory)
+component_back (CalendarYearLastTwo m) at h =
+    ap (with_one (λ p. CalendarYearLastTwo (record { padding = p }))) (padding_back m.padding)
+component_back (IsoYearLastTwo m) at h =
+    ap (with_one (λ p. IsoYearLastTwo (record { padding = p }))) (padding_back m.padding)
+component_back (Hour12 m) at h = ap (with_one (λ p. Hour12 (record { padding = p })))
+    (padding_back m.padding)
+component_back (Hour24 m) at h = ap (with_one (λ p. Hour24 (record { padding = p })))
+    (padding_back m.padding)
+component_back (Minute m) at h = ap (with_one (λ p. Minute (record { padding = p })))
+    (padding_back m.padding)
+component_back (Period m) at h = ap
+    (λ x. with_two (λ u s. Period (record { is_uppercase = u; case_sensitive = s })) x
+    (flag_of (flag_number m.case_sensitive))) (flag_back m.is_uppercase) ∙
+    ap (λ y. with_two (λ u s. Period (record { is_uppercase = u; case_sensitive = s }))
+    (Some m.is_uppercase) y) (flag_back m.case_sensitive)
+component_back (Second m) at h = ap (with_one (λ p. Second (record { padding = p })))
+    (padding_back m.padding)
+component_back (Subsecond m) at h =
+    ap (with_one (λ d. Subsecond (record { digits = d }))) (digits_back m.digits)
+component_back (OffsetHour m) at h =
+    ap (λ x. with_two (λ p s. OffsetHour (record { padding = p; sign_is_mandatory = s })) x
+    (flag_of (flag_number m.sign_is_mandatory))) (padding_back m.padding) ∙
+    ap (λ y. with_two (λ p s. OffsetHour (record { padding = p; sign_is_mandatory = s }))
+    (Some m.padding) y) (flag_back m.sign_is_mandatory)
+component_back (OffsetMinute m) at h =
+    ap (with_one (λ p. OffsetMinute (record { padding = p }))) (padding_back m.padding)
+component_back (OffsetSecond m) at h =
+    ap (with_one (λ p. OffsetSecond (record { padding = p }))) (padding_back m.padding)
+component_back (Ignore m) at h = ap (with_one (λ c. Ignore (record { count = c })))
+    (count_back m.count)
+component_back (UnixTimestampSecond m) at h =
+    ap (with_one (λ s. UnixTimestampSecond (record { sign_is_mandatory = s })))
+    (flag_back m.sign_is_mandatory)
+component_back (UnixTimestampMillisecond m) at h =
+    ap (with_one (λ s. UnixTimestampMillisecond (record { sign_is_mandatory = s })))
+    (flag_back m.sign_is_mandatory)
+component_back (UnixTimestampMicrosecond m) at h =
+    ap (with_one (λ s. UnixTimestampMicrosecond (record { sign_is_mandatory = s })))
+    (flag_back m.sign_is_mandatory)
+component_back (UnixTimestampNanosecond m) at h =
+    ap (with_one (λ s. UnixTimestampNanosecond (record { sign_is_mandatory = s })))
+    (flag_back m.sign_is_mandatory)
+component_back (End m) at h = ap (with_one (λ t. End (record { trailing_input = t })))
+    (trailing_input_back m.trailing_input)
 component_back (Month m) at h = absurd (month_old m.repr m m h)
 component_back (Weekday w) at h = absurd (weekday_old w.repr w w h)
 component_back (WeekNumber w) at h = absurd (week_old w.repr w w h)

@@ -17,7 +17,8 @@ use Rattle.timefd_c_nodes.proofs.WriteLemmas.{literals_of-append}
 use Rattle.timefd_c_nodes.proofs.ComponentLemmas.{flag_back, component_back}
 
 pub nodes_from-append : (xs ys : List Tree) (at used : ℕ)
-    → nodes_from at used (xs ++ ys) ≡ nodes_from at used xs ++ nodes_from (at + length xs) (used + length (literals_of xs)) ys
+    → nodes_from at used (xs ++ ys) ≡ nodes_from at used xs ++ nodes_from (at + length xs)
+    (used + length (literals_of xs)) ys
 nodes_from-append [] ys at used =
     let a : at ≡ at + 0 = omega arith in
     let u : used ≡ used + 0 = omega arith in
@@ -26,12 +27,15 @@ nodes_from-append (t ∷ xs) ys at used =
     let n : Node = node_for at used t in
     let next : ℕ = used + length (own_text t) in
     let a : at + 1 + length xs ≡ at + length (t ∷ xs) = omega arith in
-    let u : next + length (literals_of xs) ≡ used + length (literals_of (t ∷ xs)) = omega (arith, length-append (own_text t) (literals_of xs)) in
+    let u : next + length (literals_of xs) ≡ used + length (literals_of (t ∷ xs)) =
+    omega (arith, length-append (own_text t) (literals_of xs)) in
     ap (λ l. n ∷ l) (nodes_from-append xs ys (at + 1) next)
-    ∙ ap (λ k. n ∷ (nodes_from (at + 1) next xs ++ nodes_from k (next + length (literals_of xs)) ys)) a
+    ∙ ap (λ k. n ∷ (nodes_from (at + 1) next xs ++ nodes_from k (next + length (literals_of xs))
+    ys)) a
     ∙ ap (λ k. n ∷ (nodes_from (at + 1) next xs ++ nodes_from (at + length (t ∷ xs)) k ys)) u
 
-read_on-append : (l : Text) (ns ms : List Node) (ts : Option (List Tree)) → read_on l (ns ++ ms) ts ≡ read_on l ms (read_on l ns ts)
+read_on-append : (l : Text) (ns ms : List Node) (ts : Option (List Tree))
+    → read_on l (ns ++ ms) ts ≡ read_on l ms (read_on l ns ts)
 read_on-append l [] ms ts = refl
 read_on-append l (n ∷ ns) ms ts = read_on-append l ns ms (grown_with (role_of l n) ts)
 
@@ -40,8 +44,10 @@ table_what : (c : Component) → (component_table c).what ≡ COMPONENT
 table_what (Subsecond s) = refl
 table_what c = refl
 
-component_role : (c : Component) (at : ℕ) (l : Text) → modern c ≡ c → role_of l (component_node c at) ≡ Some (shown c)
-component_role c at l h = ap (λ what. role_as what l (component_node c at)) (table_what c) ∙ ap shown_role (component_back c at h)
+component_role : (c : Component) (at : ℕ) (l : Text) → modern c ≡ c
+    → role_of l (component_node c at) ≡ Some (shown c)
+component_role c at l h = ap (λ what. role_as what l (component_node c at)) (table_what c) ∙
+    ap shown_role (component_back c at h)
 
 -- the trees of a list of members
 abbrev listed : Trees → List Tree
@@ -56,10 +62,12 @@ listed_length : (ts : Trees) → trees_len ts ≡ length (listed ts)
 listed_length no_trees = refl
 listed_length (more_trees t ts) = omega (arith, listed_length ts)
 
-literal_back : (l front bytes back : Text) (used : ℕ) → l ≡ front ++ (bytes ++ []) ++ back → used ≡ length front → take (length bytes) (drop used l) ≡ bytes
+literal_back : (l front bytes back : Text) (used : ℕ) → l ≡ front ++ (bytes ++ []) ++ back
+    → used ≡ length front → take (length bytes) (drop used l) ≡ bytes
 literal_back l front bytes back used e u =
     ap (λ k. take (length bytes) (drop k l)) u
-    ∙ ap (λ x. take (length bytes) (drop (length front) x)) (e ∙ append_assoc front (bytes ++ []) back)
+    ∙ ap (λ x. take (length bytes) (drop (length front) x))
+    (e ∙ append_assoc front (bytes ++ []) back)
     ∙ ap (λ x. take (length bytes) x) (drop-append_seam front ((bytes ++ []) ++ back))
     ∙ ap (λ x. take (length bytes) (x ++ back)) (append-nil bytes)
     ∙ take-append_seam bytes back
@@ -72,7 +80,8 @@ grown_members r ts us e =
     ∙ ap (λ xs. ts ++ made r xs ∷ []) (ending-append ts us (arity r) e)
 
 -- the literals of the members are those of the whole
-inner_literals : (xs : List Tree) (t : Tree) (l front back : Text) → own_text t ≡ [] → l ≡ front ++ literals_of (xs ++ t ∷ []) ++ back → l ≡ front ++ literals_of xs ++ back
+inner_literals : (xs : List Tree) (t : Tree) (l front back : Text) → own_text t ≡ []
+    → l ≡ front ++ literals_of (xs ++ t ∷ []) ++ back → l ≡ front ++ literals_of xs ++ back
 inner_literals xs t l front back none e =
     e
     ∙ ap (λ x. front ++ x ++ back) (literals_of-append xs (t ∷ []))
@@ -95,7 +104,8 @@ around l xs t at used ts us r members role count is =
     ∙ ap (λ x. Some (ts ++ x ∷ [])) is
 
 mutual
-  tree_read : (t : Tree) (at used : ℕ) (l front back : Text) (ts : List Tree) → IsModern t → l ≡ front ++ literals_of (walked t) ++ back → used ≡ length front
+  tree_read : (t : Tree) (at used : ℕ) (l front back : Text) (ts : List Tree) → IsModern t
+      → l ≡ front ++ literals_of (walked t) ++ back → used ≡ length front
       → read_on l (nodes_from at used (walked t)) (Some ts) ≡ Some (ts ++ t ∷ [])
   tree_read (component c) at used l front back ts h e u =
       ap (λ o. grown_with o (Some ts)) (component_role c at l h)
@@ -106,18 +116,22 @@ mutual
       ∙ ap (λ xs. Some (xs ++ literal bytes ∷ [])) (before_zero ts)
   tree_read (compound us) at used l front back ts h e u =
       around l (walked_all us) (compound us) at used ts (listed us) (together (trees_len us))
-      (trees_read us at used l front back ts h (inner_literals (walked_all us) (compound us) l front back refl e) u)
+      (trees_read us at used l front back ts h
+      (inner_literals (walked_all us) (compound us) l front back refl e) u)
       refl (listed_length us) (ap (λ x. compound x) (trees_listed us))
   tree_read (optional format t) at used l front back ts h e u =
       around l (walked t) (optional format t) at used ts (t ∷ []) (perhaps format)
-      (tree_read t at used l front back ts h (inner_literals (walked t) (optional format t) l front back refl e) u)
+      (tree_read t at used l front back ts h
+      (inner_literals (walked t) (optional format t) l front back refl e) u)
       (ap perhaps_role (flag_back format)) refl refl
   tree_read (first us) at used l front back ts h e u =
       around l (walked_all us) (first us) at used ts (listed us) (either (trees_len us))
-      (trees_read us at used l front back ts h (inner_literals (walked_all us) (first us) l front back refl e) u)
+      (trees_read us at used l front back ts h
+      (inner_literals (walked_all us) (first us) l front back refl e) u)
       refl (listed_length us) (ap (λ x. first x) (trees_listed us))
 
-  trees_read : (us : Trees) (at used : ℕ) (l front back : Text) (ts : List Tree) → AreModern us → l ≡ front ++ literals_of (walked_all us) ++ back → used ≡ length front
+  trees_read : (us : Trees) (at used : ℕ) (l front back : Text) (ts : List Tree) → AreModern us
+      → l ≡ front ++ literals_of (walked_all us) ++ back → used ≡ length front
       → read_on l (nodes_from at used (walked_all us)) (Some ts) ≡ Some (ts ++ listed us)
   trees_read no_trees at used l front back ts h e u = ap (λ x. Some x) (sym (append-nil ts))
   trees_read (more_trees t us) at used l front back ts h e u =
@@ -128,18 +142,26 @@ mutual
       ∙ ap (λ x. front ++ x ++ back) (literals_of-append (walked t) (walked_all us))
       ∙ ap (λ x. x ++ back) (sym (append_assoc front own rest))
       ∙ append_assoc (front ++ own) rest back in
-      let behind : l ≡ (front ++ own) ++ rest ++ back = here ∙ sym (append_assoc (front ++ own) rest back) in
-      let place : used + length own ≡ length (front ++ own) = omega (arith, u, length-append front own) in
+      let behind : l ≡ (front ++ own) ++ rest ++ back =
+      here ∙ sym (append_assoc (front ++ own) rest back) in
+      let place : used + length own ≡ length (front ++ own) =
+      omega (arith, u, length-append front own) in
       ap (λ ns. read_on l ns (Some ts)) (nodes_from-append (walked t) (walked_all us) at used)
-      ∙ read_on-append l (nodes_from at used (walked t)) (nodes_from (at + length (walked t)) (used + length own) (walked_all us)) (Some ts)
-      ∙ ap (λ o. read_on l (nodes_from (at + length (walked t)) (used + length own) (walked_all us)) o) (tree_read t at used l front (rest ++ back) ts h.0 here u)
-      ∙ trees_read us (at + length (walked t)) (used + length own) l (front ++ own) back (ts ++ t ∷ []) h.1 behind place
+      ∙ read_on-append l (nodes_from at used (walked t))
+      (nodes_from (at + length (walked t)) (used + length own) (walked_all us)) (Some ts)
+      ∙ ap (λ o. read_on l (nodes_from (at + length (walked t)) (used + length own) (walked_all us))
+      o) (tree_read t at used l front (rest ++ back) ts h.0 here u)
+      ∙ trees_read us (at + length (walked t)) (used + length own) l (front ++ own) back
+      (ts ++ t ∷ []) h.1 behind place
       ∙ ap (λ x. Some x) (append_assoc ts (t ∷ []) (listed us))
 
 -- the nodes of some trees side by side
-pub trees_back : (ts : List Tree) → AreModern (trees ts) → read_nodes (literals_of (walked_all (trees ts))) (nodes_from 0 0 (walked_all (trees ts))) ≡ Some ts
+pub trees_back : (ts : List Tree) → AreModern (trees ts)
+    → read_nodes (literals_of (walked_all (trees ts))) (nodes_from 0 0 (walked_all (trees ts)))
+    ≡ Some ts
 trees_back ts h =
-    trees_read (trees ts) 0 0 (literals_of (walked_all (trees ts))) [] [] [] h (sym (append-nil (literals_of (walked_all (trees ts))))) refl
+    trees_read (trees ts) 0 0 (literals_of (walked_all (trees ts))) [] [] [] h
+    (sym (append-nil (literals_of (walked_all (trees ts))))) refl
     ∙ ap (λ x. Some x) (same ts)
   where
     same : (us : List Tree) → listed (trees us) ≡ us
@@ -147,5 +169,7 @@ trees_back ts h =
     same (u ∷ us) = ap (λ x. u ∷ x) (same us)
 
 -- the nodes of one tree
-pub tree_back : (t : Tree) → IsModern t → read_nodes (literals_of (walked t)) (nodes_from 0 0 (walked t)) ≡ Some (t ∷ [])
-tree_back t h = tree_read t 0 0 (literals_of (walked t)) [] [] [] h (sym (append-nil (literals_of (walked t)))) refl
+pub tree_back : (t : Tree) → IsModern t
+    → read_nodes (literals_of (walked t)) (nodes_from 0 0 (walked t)) ≡ Some (t ∷ [])
+tree_back t h = tree_read t 0 0 (literals_of (walked t)) [] [] [] h
+    (sym (append-nil (literals_of (walked t)))) refl

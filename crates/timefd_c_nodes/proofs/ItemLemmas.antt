@@ -7,11 +7,14 @@ use Rattle.timefd_format_item.specs.declared.borrowed_format_item.BorrowedFormat
 use Rattle.timefd_format_item.specs.Meaning.{item_tree}
 use Rattle.timefd_component.specs.Tree.{trees, compound, optional, first}
 
-pub compound_tree : (members : Bor (List BorrowedFormatItem)) → item_tree (item.Compound members) ≡ compound (trees (map item_tree members.now))
+pub compound_tree : (members : Bor (List BorrowedFormatItem))
+    → item_tree (item.Compound members) ≡ compound (trees (map item_tree members.now))
 compound_tree members = search (rules, the_lemmas)
 
-pub optional_tree : (member : Bor BorrowedFormatItem) → item_tree (item.Optional member) ≡ optional true (item_tree member.now)
+pub optional_tree : (member : Bor BorrowedFormatItem)
+    → item_tree (item.Optional member) ≡ optional true (item_tree member.now)
 optional_tree member = search (rules, the_lemmas)
 
-pub first_tree : (members : Bor (List BorrowedFormatItem)) → item_tree (item.First members) ≡ first (trees (map item_tree members.now))
+pub first_tree : (members : Bor (List BorrowedFormatItem))
+    → item_tree (item.First members) ≡ first (trees (map item_tree members.now))
 first_tree members = search (rules, the_lemmas)

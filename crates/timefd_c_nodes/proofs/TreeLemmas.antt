@@ -37,73 +37,111 @@ mutual
   pub walked_length : (t : Tree) → length (walked t) ≡ tree_count t
   walked_length (component c) = refl
   walked_length (literal bytes) = refl
-  walked_length (compound ts) = omega (arith, length-append (walked_all ts) (compound ts ∷ []), walked_all_length ts)
-  walked_length (optional format t) = omega (arith, length-append (walked t) (optional format t ∷ []), walked_length t)
-  walked_length (first ts) = omega (arith, length-append (walked_all ts) (first ts ∷ []), walked_all_length ts)
+  walked_length (compound ts) = omega (
+    arith,
+    length-append (walked_all ts) (compound ts ∷ []),
+    walked_all_length ts,
+  )
+  walked_length (optional format t) =
+      omega (arith, length-append (walked t) (optional format t ∷ []), walked_length t)
+  walked_length (first ts) = omega (
+    arith,
+    length-append (walked_all ts) (first ts ∷ []),
+    walked_all_length ts,
+  )
 
   pub walked_all_length : (ts : Trees) → length (walked_all ts) ≡ trees_count ts
   walked_all_length no_trees = refl
-  walked_all_length (more_trees t ts) = omega (arith, length-append (walked t) (walked_all ts), walked_length t, walked_all_length ts)
+  walked_all_length (more_trees t ts) =
+      omega (arith, length-append (walked t) (walked_all ts), walked_length t, walked_all_length ts)
 
 -- the trees from one item on
-pub walked_at : {A : Type 0} (tree : A → Tree) (items : List A) (at : ℕ) (x : A) → at < length items → x ≡ get_or items at x
-    → walked_all (trees (map tree (drop at items))) ≡ walked (tree x) ++ walked_all (trees (map tree (drop (at + 1) items)))
+pub walked_at : {A : Type 0} (tree : A → Tree) (items : List A) (at : ℕ) (x : A) → at < length items
+    → x ≡ get_or items at x
+    → walked_all (trees (map tree (drop at items))) ≡ walked (tree x) ++ walked_all
+    (trees (map tree (drop (at + 1) items)))
 walked_at tree items at x below is =
-    let head : drop at items ≡ get_or items at x ∷ drop (at + 1) items = rw add-one (drop-cons items at x below) in
+    let head : drop at items ≡ get_or items at x ∷ drop (at + 1) items =
+    rw add-one (drop-cons items at x below) in
     ap (λ xs. walked_all (trees (map tree xs))) (head ∙ ap (λ y. y ∷ drop (at + 1) items) (sym is))
 
-pub none_at : {A : Type 0} (tree : A → Tree) (items : List A) (at : ℕ) → length items ≤ at → walked_all (trees (map tree (drop at items))) ≡ []
+pub none_at : {A : Type 0} (tree : A → Tree) (items : List A) (at : ℕ) → length items ≤ at
+    → walked_all (trees (map tree (drop at items))) ≡ []
 none_at tree items at h = ap (λ xs. walked_all (trees (map tree xs))) (drop_all at items h)
 
 -- Reserved bytes.
 
-reserve_at : {A : Type 0} (tree : A → Tree) (items : List A) (at : ℕ) (x : A) → at < length items → x ≡ get_or items at x
-    → reserve_all (trees (map tree (drop at items))) ≡ reserve (tree x) + reserve_all (trees (map tree (drop (at + 1) items)))
+reserve_at : {A : Type 0} (tree : A → Tree) (items : List A) (at : ℕ) (x : A) → at < length items
+    → x ≡ get_or items at x
+    → reserve_all (trees (map tree (drop at items))) ≡ reserve (tree x) + reserve_all
+    (trees (map tree (drop (at + 1) items)))
 reserve_at tree items at x below is =
-    let head : drop at items ≡ get_or items at x ∷ drop (at + 1) items = rw add-one (drop-cons items at x below) in
+    let head : drop at items ≡ get_or items at x ∷ drop (at + 1) items =
+    rw add-one (drop-cons items at x below) in
     ap (λ xs. reserve_all (trees (map tree xs))) (head ∙ ap (λ y. y ∷ drop (at + 1) items) (sym is))
 
-pub bytes_step : {A : Type 0} (tree : A → Tree) (items : List A) (at : ℕ) (x : A) (bytes one next total : ℕ) → at < length items → x ≡ get_or items at x
+pub bytes_step : {A : Type 0} (tree : A → Tree) (items : List A) (at : ℕ) (x : A)
+    (bytes one next total : ℕ) → at < length items → x ≡ get_or items at x
     → one ≡ kept_bytes (reserve (tree x)) → next ≡ kept_bytes (bytes + one)
     → kept_bytes (bytes + reserve_all (trees (map tree (drop at items)))) ≡ total
     → kept_bytes (next + reserve_all (trees (map tree (drop (at + 1) items)))) ≡ total
 bytes_step tree items at x bytes one next total below is one_is next_is so_far =
     omega (arith, one_is, next_is, so_far, reserve_at tree items at x below is)
 
-pub bytes_end : {A : Type 0} (tree : A → Tree) (items : List A) (at bytes total : ℕ) → length items ≤ at → bytes ≡ kept_bytes bytes
+pub bytes_end : {A : Type 0} (tree : A → Tree) (items : List A) (at bytes total : ℕ)
+    → length items ≤ at → bytes ≡ kept_bytes bytes
     → kept_bytes (bytes + reserve_all (trees (map tree (drop at items)))) ≡ total → bytes ≡ total
 bytes_end tree items at bytes total past capped all =
-    omega (arith, capped, all, ap (λ xs. reserve_all (trees (map tree xs))) (drop_all at items past))
+    omega (
+      arith,
+      capped,
+      all,
+      ap (λ xs. reserve_all (trees (map tree xs)))
+          (drop_all at items past),
+    )
 
-pub first_none : {A : Type 0} (tree : A → Tree) (items : List A) → length items ≡ 0 → 0 ≡ kept_bytes (reserve (first (trees (map tree items))))
+pub first_none : {A : Type 0} (tree : A → Tree) (items : List A) → length items ≡ 0
+    → 0 ≡ kept_bytes (reserve (first (trees (map tree items))))
 first_none tree [] h = refl
 first_none tree (x ∷ items) h = absurd (omega (arith, h))
 
-pub first_some : {A : Type 0} (tree : A → Tree) (items : List A) (x : A) → 1 ≤ length items → x ≡ get_or items 0 x
+pub first_some : {A : Type 0} (tree : A → Tree) (items : List A) (x : A) → 1 ≤ length items
+    → x ≡ get_or items 0 x
     → kept_bytes (reserve (tree x)) ≡ kept_bytes (reserve (first (trees (map tree items))))
 first_some tree [] x h is = absurd (omega (arith, h))
 first_some tree (y ∷ items) x h is = ap (λ z. kept_bytes (reserve (tree z))) is
 
 -- The nodes of parts with members.
 
-pub compound_is : (v : Tree) (ms : List Tree) (at used start bytes len : ℕ) (n : Node) → compound (trees ms) ≡ v → start ≡ at - (tree_count v - 1) → bytes ≡ kept_bytes (reserve v) → len ≡ length ms
+pub compound_is : (v : Tree) (ms : List Tree) (at used start bytes len : ℕ) (n : Node)
+    → compound (trees ms) ≡ v → start ≡ at - (tree_count v - 1) → bytes ≡ kept_bytes (reserve v)
+    → len ≡ length ms
     → n ≡ compound_node start len bytes → n ≡ node_for at used v
 compound_is v ms at used start bytes len n e starts reserves long is =
-    is ∙ subst (λ x. start ≡ at - (tree_count x - 1) → bytes ≡ kept_bytes (reserve x) → compound_node start len bytes ≡ node_for at used x) e at_members starts reserves
+    is ∙ subst (λ x. start ≡ at - (tree_count x - 1) → bytes ≡ kept_bytes (reserve x)
+    → compound_node start len bytes ≡ node_for at used x) e at_members starts reserves
   where
-    at_members : start ≡ at - (tree_count (compound (trees ms)) - 1) → bytes ≡ kept_bytes (reserve (compound (trees ms))) → compound_node start len bytes ≡ node_for at used (compound (trees ms))
+    at_members : start ≡ at - (tree_count (compound (trees ms)) - 1)
+        → bytes ≡ kept_bytes (reserve (compound (trees ms)))
+        → compound_node start len bytes ≡ node_for at used (compound (trees ms))
     at_members s b =
         let first_is : start ≡ at - trees_count (trees ms) = omega (arith, s) in
         ap (λ x. compound_node x len bytes) first_is
-        ∙ ap (λ x. compound_node (at - trees_count (trees ms)) x bytes) (long ∙ sym (trees_len_is ms))
+        ∙ ap (λ x. compound_node (at - trees_count (trees ms)) x bytes)
+        (long ∙ sym (trees_len_is ms))
         ∙ ap (λ x. compound_node (at - trees_count (trees ms)) (trees_len (trees ms)) x) b
 
-pub first_is : (v : Tree) (ms : List Tree) (at used start bytes len : ℕ) (n : Node) → first (trees ms) ≡ v → start ≡ at - (tree_count v - 1) → bytes ≡ kept_bytes (reserve v) → len ≡ length ms
+pub first_is : (v : Tree) (ms : List Tree) (at used start bytes len : ℕ) (n : Node)
+    → first (trees ms) ≡ v → start ≡ at - (tree_count v - 1) → bytes ≡ kept_bytes (reserve v)
+    → len ≡ length ms
     → n ≡ first_node start len bytes → n ≡ node_for at used v
 first_is v ms at used start bytes len n e starts reserves long is =
-    is ∙ subst (λ x. start ≡ at - (tree_count x - 1) → bytes ≡ kept_bytes (reserve x) → first_node start len bytes ≡ node_for at used x) e at_members starts reserves
+    is ∙ subst (λ x. start ≡ at - (tree_count x - 1) → bytes ≡ kept_bytes (reserve x)
+    → first_node start len bytes ≡ node_for at used x) e at_members starts reserves
   where
-    at_members : start ≡ at - (tree_count (first (trees ms)) - 1) → bytes ≡ kept_bytes (reserve (first (trees ms))) → first_node start len bytes ≡ node_for at used (first (trees ms))
+    at_members : start ≡ at - (tree_count (first (trees ms)) - 1)
+        → bytes ≡ kept_bytes (reserve (first (trees ms)))
+        → first_node start len bytes ≡ node_for at used (first (trees ms))
     at_members s b =
         let begins : start ≡ at - trees_count (trees ms) = omega (arith, s) in
         ap (λ x. first_node x len bytes) begins
@@ -112,24 +150,35 @@ first_is v ms at used start bytes len n e starts reserves long is =
 
 -- The same, where it is known from which place on the members stand.
 
-pub compound_behind : (ts : List Tree) (from mid used bytes len : ℕ) (n : Node) → mid ≡ from + length (walked_all (trees ts)) → len ≡ length ts → bytes ≡ kept_bytes (reserve (compound (trees ts)))
+pub compound_behind : (ts : List Tree) (from mid used bytes len : ℕ) (n : Node)
+    → mid ≡ from + length (walked_all (trees ts)) → len ≡ length ts
+    → bytes ≡ kept_bytes (reserve (compound (trees ts)))
     → n ≡ compound_node from len bytes → n ≡ node_for mid used (compound (trees ts))
 compound_behind ts from mid used bytes len n behind long reserves is =
-    compound_is (compound (trees ts)) ts mid used from bytes len n refl (omega (arith, behind, walked_all_length (trees ts))) reserves long is
+    compound_is (compound (trees ts)) ts mid used from bytes len n refl
+    (omega (arith, behind, walked_all_length (trees ts))) reserves long is
 
-pub first_behind : (ts : List Tree) (from mid used bytes len : ℕ) (n : Node) → mid ≡ from + length (walked_all (trees ts)) → len ≡ length ts → bytes ≡ kept_bytes (reserve (first (trees ts)))
+pub first_behind : (ts : List Tree) (from mid used bytes len : ℕ) (n : Node)
+    → mid ≡ from + length (walked_all (trees ts)) → len ≡ length ts
+    → bytes ≡ kept_bytes (reserve (first (trees ts)))
     → n ≡ first_node from len bytes → n ≡ node_for mid used (first (trees ts))
 first_behind ts from mid used bytes len n behind long reserves is =
-    first_is (first (trees ts)) ts mid used from bytes len n refl (omega (arith, behind, walked_all_length (trees ts))) reserves long is
+    first_is (first (trees ts)) ts mid used from bytes len n refl
+    (omega (arith, behind, walked_all_length (trees ts))) reserves long is
 
-pub optional_behind : (t : Tree) (format : Bool) (from mid used bytes : ℕ) (n : Node) → mid ≡ from + length (walked t) → bytes ≡ kept_bytes (reserve (optional format t))
+pub optional_behind : (t : Tree) (format : Bool) (from mid used bytes : ℕ) (n : Node)
+    → mid ≡ from + length (walked t) → bytes ≡ kept_bytes (reserve (optional format t))
     → n ≡ optional_node from format bytes → n ≡ node_for mid used (optional format t)
 optional_behind t format from mid used bytes n behind reserves is =
     let start : from ≡ mid - tree_count t = omega (arith, behind, walked_length t) in
-    is ∙ ap (λ x. optional_node x format bytes) start ∙ ap (λ x. optional_node (mid - tree_count t) format x) reserves
+    is ∙ ap (λ x. optional_node x format bytes) start ∙
+    ap (λ x. optional_node (mid - tree_count t) format x) reserves
 
 -- an item has at most as many parts as all items
-pub count_below : {A : Type 0} (tree : A → Tree) (items : List A) (at : ℕ) (x : A) → at < length items → x ≡ get_or items at x → tree_count (tree x) ≤ trees_count (trees (map tree items))
+pub count_below : {A : Type 0} (tree : A → Tree) (items : List A) (at : ℕ) (x : A)
+    → at < length items → x ≡ get_or items at x
+    → tree_count (tree x) ≤ trees_count (trees (map tree items))
 count_below tree [] at x below is = absurd (omega (arith, below))
 count_below tree (y ∷ items) zero x below is = omega (arith, ap (λ z. tree_count (tree z)) is)
-count_below tree (y ∷ items) (suc at) x below is = omega (arith, count_below tree items at x (omega (arith, below)) is)
+count_below tree (y ∷ items) (suc at) x below is =
+    omega (arith, count_below tree items at x (omega (arith, below)) is)

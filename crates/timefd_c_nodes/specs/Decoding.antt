@@ -17,7 +17,8 @@ flag_of n = if n == 1 then Some false else if n == 2 then Some true else None
 
 abbrev pub padding_of : ℕ → Option Padding
 padding_of n =
-    if n == 1 then Some Padding.Space else if n == 2 then Some Padding.Zero else if n == 3 then Some Padding.None else None
+    if n == 1 then Some Padding.Space else if n == 2 then Some Padding.Zero else if n == 3 then Some
+    Padding.None else None
 
 abbrev pub digits_of : ℕ → Option SubsecondDigits
 digits_of n =
@@ -35,7 +36,8 @@ digits_of n =
 
 abbrev pub trailing_input_of : ℕ → Option TrailingInput
 trailing_input_of n =
-    if n == 1 then Some TrailingInput.Prohibit else if n == 2 then Some TrailingInput.Discard else None
+    if n == 1 then Some TrailingInput.Prohibit else if n == 2 then Some TrailingInput.Discard
+    else None
 
 abbrev pub count_of : ℕ → Option NonZeroU16
 count_of zero = None
@@ -55,42 +57,91 @@ with_two make (Some a) (Some b) = Some (make a b)
 abbrev pub component_of : Node → Option Component
 component_of n =
     if n.component == 1 then with_one (λ p. Day (record { padding = p })) (padding_of n.padding)
-    else if n.component == 2 then with_one (λ s. MonthShort (record { case_sensitive = s })) (flag_of n.case_sensitive)
-    else if n.component == 3 then with_one (λ s. MonthLong (record { case_sensitive = s })) (flag_of n.case_sensitive)
-    else if n.component == 4 then with_one (λ p. MonthNumerical (record { padding = p })) (padding_of n.padding)
-    else if n.component == 5 then with_one (λ p. Ordinal (record { padding = p })) (padding_of n.padding)
-    else if n.component == 6 then with_one (λ s. WeekdayShort (record { case_sensitive = s })) (flag_of n.case_sensitive)
-    else if n.component == 7 then with_one (λ s. WeekdayLong (record { case_sensitive = s })) (flag_of n.case_sensitive)
-    else if n.component == 8 then with_one (λ o. WeekdaySunday (record { one_indexed = o })) (flag_of n.one_indexed)
-    else if n.component == 9 then with_one (λ o. WeekdayMonday (record { one_indexed = o })) (flag_of n.one_indexed)
-    else if n.component == 10 then with_one (λ p. WeekNumberIso (record { padding = p })) (padding_of n.padding)
-    else if n.component == 11 then with_one (λ p. WeekNumberSunday (record { padding = p })) (padding_of n.padding)
-    else if n.component == 12 then with_one (λ p. WeekNumberMonday (record { padding = p })) (padding_of n.padding)
-    else if n.component == 13 then with_two (λ p s. CalendarYearFullExtendedRange (record { padding = p; sign_is_mandatory = s })) (padding_of n.padding) (flag_of n.sign_is_mandatory)
-    else if n.component == 14 then with_two (λ p s. CalendarYearFullStandardRange (record { padding = p; sign_is_mandatory = s })) (padding_of n.padding) (flag_of n.sign_is_mandatory)
-    else if n.component == 15 then with_two (λ p s. CalendarYearCenturyExtendedRange (record { padding = p; sign_is_mandatory = s })) (padding_of n.padding) (flag_of n.sign_is_mandatory)
-    else if n.component == 16 then with_two (λ p s. CalendarYearCenturyStandardRange (record { padding = p; sign_is_mandatory = s })) (padding_of n.padding) (flag_of n.sign_is_mandatory)
-    else if n.component == 17 then with_two (λ p s. IsoYearFullExtendedRange (record { padding = p; sign_is_mandatory = s })) (padding_of n.padding) (flag_of n.sign_is_mandatory)
-    else if n.component == 18 then with_two (λ p s. IsoYearFullStandardRange (record { padding = p; sign_is_mandatory = s })) (padding_of n.padding) (flag_of n.sign_is_mandatory)
-    else if n.component == 19 then with_two (λ p s. IsoYearCenturyExtendedRange (record { padding = p; sign_is_mandatory = s })) (padding_of n.padding) (flag_of n.sign_is_mandatory)
-    else if n.component == 20 then with_two (λ p s. IsoYearCenturyStandardRange (record { padding = p; sign_is_mandatory = s })) (padding_of n.padding) (flag_of n.sign_is_mandatory)
-    else if n.component == 21 then with_one (λ p. CalendarYearLastTwo (record { padding = p })) (padding_of n.padding)
-    else if n.component == 22 then with_one (λ p. IsoYearLastTwo (record { padding = p })) (padding_of n.padding)
-    else if n.component == 23 then with_one (λ p. Hour12 (record { padding = p })) (padding_of n.padding)
-    else if n.component == 24 then with_one (λ p. Hour24 (record { padding = p })) (padding_of n.padding)
-    else if n.component == 25 then with_one (λ p. Minute (record { padding = p })) (padding_of n.padding)
-    else if n.component == 26 then with_two (λ u s. Period (record { is_uppercase = u; case_sensitive = s })) (flag_of n.is_uppercase) (flag_of n.case_sensitive)
-    else if n.component == 27 then with_one (λ p. Second (record { padding = p })) (padding_of n.padding)
-    else if n.component == 28 then with_one (λ d. Subsecond (record { digits = d })) (digits_of n.digits)
-    else if n.component == 29 then with_two (λ p s. OffsetHour (record { padding = p; sign_is_mandatory = s })) (padding_of n.padding) (flag_of n.sign_is_mandatory)
-    else if n.component == 30 then with_one (λ p. OffsetMinute (record { padding = p })) (padding_of n.padding)
-    else if n.component == 31 then with_one (λ p. OffsetSecond (record { padding = p })) (padding_of n.padding)
-    else if n.component == 32 then with_one (λ c. Ignore (record { count = c })) (count_of n.ignored)
-    else if n.component == 33 then with_one (λ s. UnixTimestampSecond (record { sign_is_mandatory = s })) (flag_of n.sign_is_mandatory)
-    else if n.component == 34 then with_one (λ s. UnixTimestampMillisecond (record { sign_is_mandatory = s })) (flag_of n.sign_is_mandatory)
-    else if n.component == 35 then with_one (λ s. UnixTimestampMicrosecond (record { sign_is_mandatory = s })) (flag_of n.sign_is_mandatory)
-    else if n.component == 36 then with_one (λ s. UnixTimestampNanosecond (record { sign_is_mandatory = s })) (flag_of n.sign_is_mandatory)
-    else if n.component == 37 then with_one (λ t. End (record { trailing_input = t })) (trailing_input_of n.trailing_input)
+    else if n.component == 2 then with_one (λ s. MonthShort (record { case_sensitive = s }))
+    (flag_of n.case_sensitive)
+    else if n.component == 3 then with_one (λ s. MonthLong (record { case_sensitive = s }))
+    (flag_of n.case_sensitive)
+    else if n.component == 4 then with_one (λ p. MonthNumerical (record { padding = p }))
+    (padding_of n.padding)
+    else if n.component == 5 then with_one (λ p. Ordinal (record { padding = p }))
+    (padding_of n.padding)
+    else if n.component == 6 then with_one (λ s. WeekdayShort (record { case_sensitive = s }))
+    (flag_of n.case_sensitive)
+    else if n.component == 7 then with_one (λ s. WeekdayLong (record { case_sensitive = s }))
+    (flag_of n.case_sensitive)
+    else if n.component == 8 then with_one (λ o. WeekdaySunday (record { one_indexed = o }))
+    (flag_of n.one_indexed)
+    else if n.component == 9 then with_one (λ o. WeekdayMonday (record { one_indexed = o }))
+    (flag_of n.one_indexed)
+    else if n.component == 10 then with_one (λ p. WeekNumberIso (record { padding = p }))
+    (padding_of n.padding)
+    else if n.component == 11 then with_one (λ p. WeekNumberSunday (record { padding = p }))
+    (padding_of n.padding)
+    else if n.component == 12 then with_one (λ p. WeekNumberMonday (record { padding = p }))
+    (padding_of n.padding)
+    else if n.component == 13 then with_two
+    (λ p s. CalendarYearFullExtendedRange (record { padding = p; sign_is_mandatory = s }))
+    (padding_of n.padding) (flag_of n.sign_is_mandatory)
+    else if n.component == 14 then with_two
+    (λ p s. CalendarYearFullStandardRange (record { padding = p; sign_is_mandatory = s }))
+    (padding_of n.padding) (flag_of n.sign_is_mandatory)
+    else if n.component == 15 then with_two
+    (λ p s. CalendarYearCenturyExtendedRange (record { padding = p; sign_is_mandatory = s }))
+    (padding_of n.padding) (flag_of n.sign_is_mandatory)
+    else if n.component == 16 then with_two
+    (λ p s. CalendarYearCenturyStandardRange (record { padding = p; sign_is_mandatory = s }))
+    (padding_of n.padding) (flag_of n.sign_is_mandatory)
+    else if n.component == 17 then with_two
+    (λ p s. IsoYearFullExtendedRange (record { padding = p; sign_is_mandatory = s }))
+    (padding_of n.padding) (flag_of n.sign_is_mandatory)
+    else if n.component == 18 then with_two
+    (λ p s. IsoYearFullStandardRange (record { padding = p; sign_is_mandatory = s }))
+    (padding_of n.padding) (flag_of n.sign_is_mandatory)
+    else if n.component == 19 then with_two
+    (λ p s. IsoYearCenturyExtendedRange (record { padding = p; sign_is_mandatory = s }))
+    (padding_of n.padding) (flag_of n.sign_is_mandatory)
+    else if n.component == 20 then with_two
+    (λ p s. IsoYearCenturyStandardRange (record { padding = p; sign_is_mandatory = s }))
+    (padding_of n.padding) (flag_of n.sign_is_mandatory)
+    else if n.component == 21 then with_one (λ p. CalendarYearLastTwo (record { padding = p }))
+    (padding_of n.padding)
+    else if n.component == 22 then with_one (λ p. IsoYearLastTwo (record { padding = p }))
+    (padding_of n.padding)
+    else if n.component == 23 then with_one (λ p. Hour12 (record { padding = p }))
+    (padding_of n.padding)
+    else if n.component == 24 then with_one (λ p. Hour24 (record { padding = p }))
+    (padding_of n.padding)
+    else if n.component == 25 then with_one (λ p. Minute (record { padding = p }))
+    (padding_of n.padding)
+    else if n.component == 26 then with_two
+    (λ u s. Period (record { is_uppercase = u; case_sensitive = s })) (flag_of n.is_uppercase)
+    (flag_of n.case_sensitive)
+    else if n.component == 27 then with_one (λ p. Second (record { padding = p }))
+    (padding_of n.padding)
+    else if n.component == 28 then with_one (λ d. Subsecond (record { digits = d }))
+    (digits_of n.digits)
+    else if n.component == 29 then with_two
+    (λ p s. OffsetHour (record { padding = p; sign_is_mandatory = s })) (padding_of n.padding)
+    (flag_of n.sign_is_mandatory)
+    else if n.component == 30 then with_one (λ p. OffsetMinute (record { padding = p }))
+    (padding_of n.padding)
+    else if n.component == 31 then with_one (λ p. OffsetSecond (record { padding = p }))
+    (padding_of n.padding)
+    else if n.component == 32 then with_one (λ c. Ignore (record { count = c }))
+    (count_of n.ignored)
+    else if n.component == 33 then with_one
+    (λ s. UnixTimestampSecond (record { sign_is_mandatory = s })) (flag_of n.sign_is_mandatory)
+    else if n.component == 34 then with_one
+    (λ s. UnixTimestampMillisecond (record { sign_is_mandatory = s }))
+    (flag_of n.sign_is_mandatory)
+    else if n.component == 35 then with_one
+    (λ s. UnixTimestampMicrosecond (record { sign_is_mandatory = s }))
+    (flag_of n.sign_is_mandatory)
+    else if n.component == 36 then with_one
+    (λ s. UnixTimestampNanosecond (record { sign_is_mandatory = s }))
+    (flag_of n.sign_is_mandatory)
+    else if n.component == 37 then with_one (λ t. End (record { trailing_input = t }))
+    (trailing_input_of n.trailing_input)
     else None
 
 abbrev pub shown_role : Option Component → Option Role
@@ -125,6 +176,7 @@ abbrev pub read_on : Text → List Node → Option (List Tree) → Option (List 
 read_on literals [] ts = ts
 read_on literals (n ∷ ns) ts = read_on literals ns (grown_with (role_of literals n) ts)
 
--- the trees that nodes read as: each takes its members off the end of those so far, and puts its own tree there
+-- the trees that nodes read as: each takes its members off the end of those so far, and puts its
+-- own tree there
 abbrev pub read_nodes : Text → List Node → Option (List Tree)
 read_nodes literals ns = read_on literals ns (Some [])

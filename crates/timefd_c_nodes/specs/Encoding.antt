@@ -63,10 +63,21 @@ abbrev pub literal_node : ℕ → ℕ → Node
 literal_node start len = record (blank LITERAL) { start = start; count = len; bytes = len }
 
 abbrev pub compound_node : ℕ → ℕ → ℕ → Node
-compound_node start count bytes = record (blank COMPOUND) { start = start; count = count; bytes = bytes }
+compound_node start count bytes = record (blank COMPOUND) {
+  start = start;
+  count = count;
+  bytes =
+      bytes;
+}
 
 abbrev pub optional_node : ℕ → Bool → ℕ → Node
-optional_node start format bytes = record (blank OPTIONAL) { format = flag_number format; start = start; count = 1; bytes = bytes }
+optional_node start format bytes = record (blank OPTIONAL) {
+  format = flag_number format;
+  start =
+      start;
+  count = 1;
+  bytes = bytes;
+}
 
 abbrev pub first_node : ℕ → ℕ → ℕ → Node
 first_node start count bytes = record (blank FIRST) { start = start; count = count; bytes = bytes }
@@ -79,20 +90,34 @@ abbrev pub padded : ℕ → ℕ → Padding → Node
 padded number bytes p = record (numbered number bytes) { padding = padding_number p }
 
 abbrev pub signed : ℕ → ℕ → Padding → Bool → Node
-signed number bytes p sign = record (numbered number bytes) { padding = padding_number p; sign_is_mandatory = flag_number sign }
+signed number bytes p sign = record (numbered number bytes) {
+  padding =
+      padding_number p;
+  sign_is_mandatory = flag_number sign;
+}
 
 abbrev pub timestamp : ℕ → ℕ → Bool → Node
-timestamp number bytes sign = record (numbered number bytes) { sign_is_mandatory = flag_number sign }
+timestamp number bytes sign = record (numbered number bytes) {
+  sign_is_mandatory =
+      flag_number sign;
+}
 
 abbrev pub cased : ℕ → ℕ → Bool → Node
-cased number bytes sensitive = record (numbered number bytes) { case_sensitive = flag_number sensitive }
+cased number bytes sensitive = record (numbered number bytes) {
+  case_sensitive =
+      flag_number sensitive;
+}
 
 abbrev pub indexed : ℕ → ℕ → Bool → Node
 indexed number bytes one = record (numbered number bytes) { one_indexed = flag_number one }
 
 abbrev pub period : ℕ → ℕ → Bool → Bool → Node
 period number bytes upper sensitive =
-    record (numbered number bytes) { is_uppercase = flag_number upper; case_sensitive = flag_number sensitive }
+    record (numbered number bytes) {
+      is_uppercase = flag_number upper;
+      case_sensitive =
+          flag_number sensitive;
+    }
 
 abbrev pub subsecond : ℕ → SubsecondDigits → Node
 subsecond number d = record (numbered number (digits_shown d)) { digits = digits_number d }
@@ -152,14 +177,18 @@ abbrev pub trees_len : Trees → ℕ
 trees_len no_trees = 0
 trees_len (more_trees t ts) = 1 + trees_len ts
 
--- The node of a tree, which has this index, and before which the literals have so many bytes. The nodes of its members
+-- The node of a tree, which has this index, and before which the literals have so many bytes. The
+-- nodes of its members
 -- stand right before it.
 abbrev pub node_for : ℕ → ℕ → Tree → Node
 node_for at used (component c) = component_node c at
 node_for at used (literal bytes) = literal_node used (length bytes)
-node_for at used (compound ts) = compound_node (at - trees_count ts) (trees_len ts) (kept_bytes (reserve (compound ts)))
-node_for at used (optional format t) = optional_node (at - tree_count t) format (kept_bytes (reserve (optional format t)))
-node_for at used (first ts) = first_node (at - trees_count ts) (trees_len ts) (kept_bytes (reserve (first ts)))
+node_for at used (compound ts) = compound_node (at - trees_count ts) (trees_len ts)
+    (kept_bytes (reserve (compound ts)))
+node_for at used (optional format t) =
+    optional_node (at - tree_count t) format (kept_bytes (reserve (optional format t)))
+node_for at used (first ts) = first_node (at - trees_count ts) (trees_len ts)
+    (kept_bytes (reserve (first ts)))
 
 -- the bytes that a tree adds to the literals
 abbrev pub own_text : Tree → Text
@@ -174,4 +203,5 @@ literals_of (t ∷ ts) = own_text t ++ literals_of ts
 -- the nodes of some trees in turn, of which the first has this index
 abbrev pub nodes_from : ℕ → ℕ → List Tree → List Node
 nodes_from at used [] = []
-nodes_from at used (t ∷ ts) = node_for at used t ∷ nodes_from (at + 1) (used + length (own_text t)) ts
+nodes_from at used (t ∷ ts) = node_for at used t ∷ nodes_from (at + 1) (used + length (own_text t))
+    ts

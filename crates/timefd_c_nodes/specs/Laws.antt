@@ -9,4 +9,5 @@ use Rattle.timefd_c_nodes.specs.Encoding.{nodes_from, literals_of}
 -- The nodes of trees read as these trees, where all components are modern.
 abbrev pub ReadBack : Type 0
 ReadBack = (ts : List Tree) → AreModern (trees ts)
-    → read_nodes (literals_of (walked_all (trees ts))) (nodes_from 0 0 (walked_all (trees ts))) ≡ Some ts
+    → read_nodes (literals_of (walked_all (trees ts))) (nodes_from 0 0 (walked_all (trees ts)))
+    ≡ Some ts

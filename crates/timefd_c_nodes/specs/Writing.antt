@@ -24,10 +24,12 @@ literals_written used (t ∷ ts) bytes =
 -- there is room for these trees behind a place
 abbrev pub HasRoom : List Tree → Place → List Node → Text → Type 0
 HasRoom ts at nodes literals =
-    (at.nodes + length ts ≤ length nodes) × (at.literals + length (literals_of ts) ≤ length literals)
+    (at.nodes + length ts ≤ length nodes)
+    × (at.literals + length (literals_of ts) ≤ length literals)
 
 -- these trees are written from one place to the other
-pub record Writes (ts : List Tree) (from to : Place) (nodes_before nodes_after : List Node) (before after : Text) : Type 0 where
+pub record Writes (ts : List Tree) (from to : Place) (nodes_before nodes_after : List Node)
+    (before after : Text) : Type 0 where
   pub nodes : nodes_after ≡ nodes_written from.nodes from.literals ts nodes_before
   pub literals : after ≡ literals_written from.literals ts before
   pub node_at : to.nodes ≡ from.nodes + length ts

@@ -17,9 +17,12 @@ use timefd_items::BorrowedFormatItem;
 /// Writes the nodes and literals of items in turn to the fronts of the buffers.
 pub fn write_items(items: &[BorrowedFormatItem<'_>], nodes: &mut [Node], literals: &mut [u8])
     requires node_room { length (walked_all (trees (item_trees items.now))) ≤ length nodes.old }
-    requires literal_room { length (literals_of (walked_all (trees (item_trees items.now)))) ≤ length literals.old }
-    ensures nodes { nodes.new ≡ nodes_from 0 0 (walked_all (trees (item_trees items.now))) ++ drop (length (walked_all (trees (item_trees items.now)))) nodes.old }
-    ensures literals { literals.new ≡ literals_of (walked_all (trees (item_trees items.now))) ++ drop (length (literals_of (walked_all (trees (item_trees items.now))))) literals.old }
+    requires literal_room { length (literals_of (walked_all (trees (item_trees items.now))))
+        ≤ length literals.old }
+    ensures nodes { nodes.new ≡ nodes_from 0 0 (walked_all (trees (item_trees items.now))) ++ drop
+        (length (walked_all (trees (item_trees items.now)))) nodes.old }
+    ensures literals { literals.new ≡ literals_of (walked_all (trees (item_trees items.now)))
+        ++ drop (length (literals_of (walked_all (trees (item_trees items.now))))) literals.old }
 {
     write_all(items, START, nodes, literals);
 }
@@ -34,7 +37,8 @@ fn write_all(
     literals: &mut [u8],
 ) -> Place
     requires { HasRoom (walked_all (trees (item_trees items.now))) from nodes.old literals.old }
-    ensures { Writes (walked_all (trees (item_trees items.now))) from result nodes.old nodes.new literals.old literals.new }
+    ensures { Writes (walked_all (trees (item_trees items.now))) from result nodes.old nodes.new
+        literals.old literals.new }
 {
     let mut place = from;
     'items: for at in 0..items.len() {
@@ -52,7 +56,8 @@ fn write_item(
     literals: &mut [u8],
 ) -> Place
     requires { HasRoom (walked (item_tree item.now)) from nodes.old literals.old }
-    ensures { Writes (walked (item_tree item.now)) from result nodes.old nodes.new literals.old literals.new }
+    ensures { Writes (walked (item_tree item.now)) from result nodes.old nodes.new literals.old
+        literals.new }
 {
     let bytes = item_bytes(item);
     match *item {

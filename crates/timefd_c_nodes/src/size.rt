@@ -25,8 +25,10 @@ impl Size {
 
     /// Both together, where a `usize` counts them.
     fn plus(self, other: Size) -> Option<Size>
-        ensures some { IfSome result (λ s. (s.nodes ≡ self.nodes + other.nodes) × (s.literals ≡ self.literals + other.literals)) }
-        ensures none { result ≡ None → (2 ^ 64 ≤ self.nodes + other.nodes) ⊎ (2 ^ 64 ≤ self.literals + other.literals) }
+        ensures some { IfSome result (λ s. (s.nodes ≡ self.nodes + other.nodes)
+            × (s.literals ≡ self.literals + other.literals)) }
+        ensures none { result ≡ None → (2 ^ 64 ≤ self.nodes + other.nodes)
+            ⊎ (2 ^ 64 ≤ self.literals + other.literals) }
     {
         Some(Size {
             nodes: self.nodes.checked_add(other.nodes)?,

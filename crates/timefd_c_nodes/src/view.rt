@@ -39,8 +39,10 @@ fn view_literals(view: View<'_, '_>) -> Option<usize>
 pub fn write_view(view: View<'_, '_>, nodes: &mut [Node], literals: &mut [u8])
     requires node_room { length (walked (view_tree view)) ≤ length nodes.old }
     requires literal_room { length (literals_of (walked (view_tree view))) ≤ length literals.old }
-    ensures nodes { nodes.new ≡ nodes_from 0 0 (walked (view_tree view.entry)) ++ drop (length (walked (view_tree view.entry))) nodes.old }
-    ensures literals { literals.new ≡ literals_of (walked (view_tree view.entry)) ++ drop (length (literals_of (walked (view_tree view.entry)))) literals.old }
+    ensures nodes { nodes.new ≡ nodes_from 0 0 (walked (view_tree view.entry)) ++ drop
+        (length (walked (view_tree view.entry))) nodes.old }
+    ensures literals { literals.new ≡ literals_of (walked (view_tree view.entry)) ++ drop
+        (length (literals_of (walked (view_tree view.entry)))) literals.old }
 {
     let mut at = START;
     'parts: for part in view.walk() {

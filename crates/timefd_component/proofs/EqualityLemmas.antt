@@ -5,4 +5,8 @@ use Rattle.timefd_component.specs.ComponentEquality.{component_sound, component_
 use Rattle.timefd_component.specs.Laws.{ComponentEquality}
 
 pub component_equality_law : ComponentEquality
-component_equality_law a b = (component_sound a b, λ e. subst (λ x. same_component a x ≡ true) e (component_same a))
+component_equality_law a b = (
+  component_sound a b,
+  λ e. subst (λ x. same_component a x ≡ true) e
+      (component_same a),
+)

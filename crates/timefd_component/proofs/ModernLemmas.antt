@@ -22,13 +22,15 @@ month_twice MonthRepr.Short m = refl
 month_twice MonthRepr.Long m = refl
 month_twice MonthRepr.Numerical m = refl
 
-weekday_twice : (r : WeekdayRepr) (w : WeekdayFields) → modern (modern_weekday r w) ≡ modern_weekday r w
+weekday_twice : (r : WeekdayRepr) (w : WeekdayFields)
+    → modern (modern_weekday r w) ≡ modern_weekday r w
 weekday_twice WeekdayRepr.Short w = refl
 weekday_twice WeekdayRepr.Long w = refl
 weekday_twice WeekdayRepr.Sunday w = refl
 weekday_twice WeekdayRepr.Monday w = refl
 
-week_twice : (r : WeekNumberRepr) (w : WeekNumberFields) → modern (modern_week_number r w) ≡ modern_week_number r w
+week_twice : (r : WeekNumberRepr) (w : WeekNumberFields)
+    → modern (modern_week_number r w) ≡ modern_week_number r w
 week_twice WeekNumberRepr.Iso w = refl
 week_twice WeekNumberRepr.Sunday w = refl
 week_twice WeekNumberRepr.Monday w = refl
@@ -37,13 +39,15 @@ hour_twice : (b : Bool) (h : HourFields) → modern (modern_hour b h) ≡ modern
 hour_twice true h = refl
 hour_twice false h = refl
 
-timestamp_twice : (p : UnixTimestampPrecision) (t : UnixTimestampFields) → modern (modern_timestamp p t) ≡ modern_timestamp p t
+timestamp_twice : (p : UnixTimestampPrecision) (t : UnixTimestampFields)
+    → modern (modern_timestamp p t) ≡ modern_timestamp p t
 timestamp_twice UnixTimestampPrecision.Second t = refl
 timestamp_twice UnixTimestampPrecision.Millisecond t = refl
 timestamp_twice UnixTimestampPrecision.Microsecond t = refl
 timestamp_twice UnixTimestampPrecision.Nanosecond t = refl
 
-year_twice : (iso : Bool) (k : YearRepr) (r : YearRange) (y : YearFields) → modern (modern_year iso k r y) ≡ modern_year iso k r y
+year_twice : (iso : Bool) (k : YearRepr) (r : YearRange) (y : YearFields)
+    → modern (modern_year iso k r y) ≡ modern_year iso k r y
 year_twice true YearRepr.Full YearRange.Extended y = refl
 year_twice true YearRepr.Full YearRange.Standard y = refl
 year_twice true YearRepr.Century YearRange.Extended y = refl

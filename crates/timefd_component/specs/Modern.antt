@@ -1,4 +1,5 @@
--- The component that a deprecated one stands for: what its fields select, with those fields that are left.
+-- The component that a deprecated one stands for: what its fields select, with those fields that
+-- are left.
 use Rattle.std.specs.Prelude.{◌≡◌, Bool, true, false, ⊤}
 use Rattle.timefd_modifier.specs.declared.month.Month.{Month as MonthFields}
 use Rattle.timefd_modifier.specs.declared.day.Weekday.{Weekday as WeekdayFields}
@@ -42,21 +43,50 @@ modern_hour false h = Hour24 (record { padding = h.padding })
 
 abbrev pub modern_timestamp : UnixTimestampPrecision → UnixTimestampFields → Component
 modern_timestamp Second t = UnixTimestampSecond (record { sign_is_mandatory = t.sign_is_mandatory })
-modern_timestamp Millisecond t = UnixTimestampMillisecond (record { sign_is_mandatory = t.sign_is_mandatory })
-modern_timestamp Microsecond t = UnixTimestampMicrosecond (record { sign_is_mandatory = t.sign_is_mandatory })
-modern_timestamp Nanosecond t = UnixTimestampNanosecond (record { sign_is_mandatory = t.sign_is_mandatory })
+modern_timestamp Millisecond t = UnixTimestampMillisecond
+    (record { sign_is_mandatory = t.sign_is_mandatory })
+modern_timestamp Microsecond t = UnixTimestampMicrosecond
+    (record { sign_is_mandatory = t.sign_is_mandatory })
+modern_timestamp Nanosecond t = UnixTimestampNanosecond
+    (record { sign_is_mandatory = t.sign_is_mandatory })
 
 -- whether it is based on ISO weeks
 abbrev pub modern_year : Bool → YearRepr → YearRange → YearFields → Component
-modern_year false Full Extended y = CalendarYearFullExtendedRange (record { padding = y.padding; sign_is_mandatory = y.sign_is_mandatory })
-modern_year false Full Standard y = CalendarYearFullStandardRange (record { padding = y.padding; sign_is_mandatory = y.sign_is_mandatory })
-modern_year false Century Extended y = CalendarYearCenturyExtendedRange (record { padding = y.padding; sign_is_mandatory = y.sign_is_mandatory })
-modern_year false Century Standard y = CalendarYearCenturyStandardRange (record { padding = y.padding; sign_is_mandatory = y.sign_is_mandatory })
+modern_year false Full Extended y =
+    CalendarYearFullExtendedRange (record {
+      padding = y.padding;
+      sign_is_mandatory =
+          y.sign_is_mandatory;
+    })
+modern_year false Full Standard y =
+    CalendarYearFullStandardRange (record {
+      padding = y.padding;
+      sign_is_mandatory =
+          y.sign_is_mandatory;
+    })
+modern_year false Century Extended y =
+    CalendarYearCenturyExtendedRange
+    (record { padding = y.padding; sign_is_mandatory = y.sign_is_mandatory })
+modern_year false Century Standard y =
+    CalendarYearCenturyStandardRange
+    (record { padding = y.padding; sign_is_mandatory = y.sign_is_mandatory })
 modern_year false LastTwo range y = CalendarYearLastTwo (record { padding = y.padding })
-modern_year true Full Extended y = IsoYearFullExtendedRange (record { padding = y.padding; sign_is_mandatory = y.sign_is_mandatory })
-modern_year true Full Standard y = IsoYearFullStandardRange (record { padding = y.padding; sign_is_mandatory = y.sign_is_mandatory })
-modern_year true Century Extended y = IsoYearCenturyExtendedRange (record { padding = y.padding; sign_is_mandatory = y.sign_is_mandatory })
-modern_year true Century Standard y = IsoYearCenturyStandardRange (record { padding = y.padding; sign_is_mandatory = y.sign_is_mandatory })
+modern_year true Full Extended y = IsoYearFullExtendedRange
+    (record { padding = y.padding; sign_is_mandatory = y.sign_is_mandatory })
+modern_year true Full Standard y = IsoYearFullStandardRange
+    (record { padding = y.padding; sign_is_mandatory = y.sign_is_mandatory })
+modern_year true Century Extended y =
+    IsoYearCenturyExtendedRange (record {
+      padding = y.padding;
+      sign_is_mandatory =
+          y.sign_is_mandatory;
+    })
+modern_year true Century Standard y =
+    IsoYearCenturyStandardRange (record {
+      padding = y.padding;
+      sign_is_mandatory =
+          y.sign_is_mandatory;
+    })
 modern_year true LastTwo range y = IsoYearLastTwo (record { padding = y.padding })
 
 abbrev pub modern : Component → Component

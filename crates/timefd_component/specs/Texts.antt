@@ -16,7 +16,8 @@ filled Padding.Space width n = replicate (width - length (decimal n)) 32 ++ deci
 filled Padding.None width n = decimal n
 
 abbrev pub IsNumber : ℕ → ℕ → Padding → ℕ → Text → Type 0
-IsNumber lowest highest padding width text = (n : ℕ) × (lowest ≤ n) × (n ≤ highest) × (text ≡ filled padding width n)
+IsNumber lowest highest padding width text = (n : ℕ) × (lowest ≤ n) × (n ≤ highest)
+    × (text ≡ filled padding width n)
 
 abbrev pub plus_where : Bool → Text
 plus_where true = codes "+"
@@ -81,24 +82,30 @@ IsOneOf [] text = ⊥
 IsOneOf (name ∷ names) text = (text ≡ name) ⊎ IsOneOf names text
 
 abbrev pub short_months : List Text
-short_months = codes "Jan" ∷ codes "Feb" ∷ codes "Mar" ∷ codes "Apr" ∷ codes "May" ∷ codes "Jun" ∷ codes "Jul" ∷ codes "Aug" ∷ codes "Sep" ∷ codes "Oct" ∷ codes "Nov" ∷ codes "Dec" ∷ []
+short_months = codes "Jan" ∷ codes "Feb" ∷ codes "Mar" ∷ codes "Apr" ∷ codes "May" ∷ codes
+    "Jun" ∷ codes "Jul" ∷ codes "Aug" ∷ codes "Sep" ∷ codes "Oct" ∷ codes "Nov" ∷ codes "Dec" ∷ []
 
 abbrev pub long_months : List Text
 long_months =
-    codes "January" ∷ codes "February" ∷ codes "March" ∷ codes "April" ∷ codes "May" ∷ codes "June" ∷ codes "July"
-    ∷ codes "August" ∷ codes "September" ∷ codes "October" ∷ codes "November" ∷ codes "December" ∷ []
+    codes "January" ∷ codes "February" ∷ codes "March" ∷ codes "April" ∷ codes "May" ∷ codes
+    "June" ∷ codes "July"
+    ∷ codes "August" ∷ codes "September" ∷ codes "October" ∷ codes "November" ∷ codes
+    "December" ∷ []
 
 abbrev pub short_weekdays : List Text
-short_weekdays = codes "Mon" ∷ codes "Tue" ∷ codes "Wed" ∷ codes "Thu" ∷ codes "Fri" ∷ codes "Sat" ∷ codes "Sun" ∷ []
+short_weekdays = codes "Mon" ∷ codes "Tue" ∷ codes "Wed" ∷ codes "Thu" ∷ codes "Fri" ∷ codes
+    "Sat" ∷ codes "Sun" ∷ []
 
 abbrev pub long_weekdays : List Text
-long_weekdays = codes "Monday" ∷ codes "Tuesday" ∷ codes "Wednesday" ∷ codes "Thursday" ∷ codes "Friday" ∷ codes "Saturday" ∷ codes "Sunday" ∷ []
+long_weekdays = codes "Monday" ∷ codes "Tuesday" ∷ codes "Wednesday" ∷ codes "Thursday" ∷ codes
+    "Friday" ∷ codes "Saturday" ∷ codes "Sunday" ∷ []
 
 abbrev pub periods : Bool → List Text
 periods true = codes "AM" ∷ codes "PM" ∷ []
 periods false = codes "am" ∷ codes "pm" ∷ []
 
--- Components. Those that are skipped have the empty text, and so has a deprecated one, which no description has.
+-- Components. Those that are skipped have the empty text, and so has a deprecated one, which no
+-- description has.
 
 abbrev pub IsText : Component → Text → Type 0
 IsText (Day m) = IsNumber 1 31 m.padding 2
@@ -132,10 +139,14 @@ IsText (OffsetSecond m) = IsNumber 0 59 m.padding 2
 IsText (Period m) = IsOneOf (periods m.is_uppercase)
 IsText (Subsecond m) = IsSubsecond m.digits
 IsText (OffsetHour m) = IsSigned 25 25 (λ n. m.sign_is_mandatory) (filled m.padding 2)
-IsText (UnixTimestampSecond m) = IsSigned 31619087596800 31494784780799 (λ n. m.sign_is_mandatory) decimal
-IsText (UnixTimestampMillisecond m) = IsSigned 31619087596800000 31494784780799999 (λ n. m.sign_is_mandatory) decimal
-IsText (UnixTimestampMicrosecond m) = IsSigned 31619087596800000000 31494784780799999999 (λ n. m.sign_is_mandatory) decimal
-IsText (UnixTimestampNanosecond m) = IsSigned 31619087596800000000000 31494784780799999999999 (λ n. m.sign_is_mandatory) decimal
+IsText (UnixTimestampSecond m) = IsSigned 31619087596800 31494784780799 (λ n. m.sign_is_mandatory)
+    decimal
+IsText (UnixTimestampMillisecond m) =
+    IsSigned 31619087596800000 31494784780799999 (λ n. m.sign_is_mandatory) decimal
+IsText (UnixTimestampMicrosecond m) =
+    IsSigned 31619087596800000000 31494784780799999999 (λ n. m.sign_is_mandatory) decimal
+IsText (UnixTimestampNanosecond m) =
+    IsSigned 31619087596800000000000 31494784780799999999999 (λ n. m.sign_is_mandatory) decimal
 IsText (Ignore m) = λ text. text ≡ []
 IsText (End m) = λ text. text ≡ []
 IsText deprecated = λ text. text ≡ []
@@ -156,7 +167,8 @@ abbrev mutual
 
   pub RendersAll : Trees → Text → Type 0
   RendersAll no_trees text = text ≡ []
-  RendersAll (more_trees t ts) text = (a : Text) × (b : Text) × Renders t a × RendersAll ts b × (text ≡ a ++ b)
+  RendersAll (more_trees t ts) text = (a : Text) × (b : Text) × Renders t a × RendersAll ts b
+      × (text ≡ a ++ b)
 
   pub RendersFirst : Trees → Text → Type 0
   RendersFirst no_trees text = text ≡ []

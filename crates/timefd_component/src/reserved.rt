@@ -1,33 +1,26 @@
 //! How many bytes a component reserves.
 
-ghost use Rattle.std.specs.Prelude.{◌≡◌};
-ghost use Rattle.timefd_component.specs.Modern.{modern};
+ghost use Rattle.std.specs.Prelude.{◌≡◌, Bool};
+ghost use Rattle.timefd_component.specs.Modern.{modern, modern_month, modern_timestamp, modern_weekday, modern_year};
 ghost use Rattle.timefd_component.specs.Reserved as spec;
 ghost use Rattle.timefd_component.specs.Reserved.{reserved};
+ghost use Rattle.timefd_modifier.specs.declared.day.Weekday.{Weekday};
+ghost use Rattle.timefd_modifier.specs.declared.month.Month.{Month};
+ghost use Rattle.timefd_modifier.specs.declared.timestamp.UnixTimestamp.{UnixTimestamp};
+ghost use Rattle.timefd_modifier.specs.declared.year.Year.{Year};
 
 use crate::component::Component;
-use timefd_modifier::SubsecondDigits;
+use timefd_modifier::{
+    MonthRepr, SubsecondDigits, UnixTimestampPrecision, WeekdayRepr, YearRange, YearRepr,
+};
 
 /// How many bytes the modern form of a component reserves.
+#[inline(always)]
 pub fn reserved_bytes(component: Component) -> usize
     ensures { result ≡ reserved (modern component) }
 {
-    bytes_of(component.modern())
-}
-
-/// How many bytes a component reserves that is no deprecated one.
-fn bytes_of(component: Component) -> usize
-    ensures { result ≡ reserved component }
-{
     match component {
-        Component::Ignore(_)
-        | Component::End(_)
-        | Component::Month(_)
-        | Component::Weekday(_)
-        | Component::WeekNumber(_)
-        | Component::Hour(_)
-        | Component::UnixTimestamp(_)
-        | Component::Year(_) => 0,
+        Component::Ignore(_) | Component::End(_) => 0,
         Component::WeekdaySunday(_) | Component::WeekdayMonday(_) => 1,
         Component::Day(_)
         | Component::MonthNumerical(_)
@@ -60,6 +53,54 @@ fn bytes_of(component: Component) -> usize
         Component::UnixTimestampMicrosecond(_) => 21,
         Component::UnixTimestampNanosecond(_) => 24,
         Component::Subsecond(subsecond) => digits_shown(subsecond.digits),
+        Component::Month(month) => month_bytes(month.repr),
+        Component::Weekday(weekday) => weekday_bytes(weekday.repr),
+        Component::WeekNumber(_) | Component::Hour(_) => 2,
+        Component::UnixTimestamp(timestamp) => timestamp_bytes(timestamp.precision),
+        Component::Year(year) => year_bytes(year.repr, year.range),
+    }
+}
+
+fn month_bytes(repr: MonthRepr) -> usize
+    ensures { (fields : Month) → result ≡ reserved (modern_month repr fields) }
+{
+    match repr {
+        MonthRepr::Numerical => 2,
+        MonthRepr::Short => 3,
+        MonthRepr::Long => 9,
+    }
+}
+
+fn weekday_bytes(repr: WeekdayRepr) -> usize
+    ensures { (fields : Weekday) → result ≡ reserved (modern_weekday repr fields) }
+{
+    match repr {
+        WeekdayRepr::Sunday | WeekdayRepr::Monday => 1,
+        WeekdayRepr::Short => 3,
+        WeekdayRepr::Long => 9,
+    }
+}
+
+fn timestamp_bytes(precision: UnixTimestampPrecision) -> usize
+    ensures { (fields : UnixTimestamp) → result ≡ reserved (modern_timestamp precision fields) }
+{
+    match precision {
+        UnixTimestampPrecision::Second => 15,
+        UnixTimestampPrecision::Millisecond => 18,
+        UnixTimestampPrecision::Microsecond => 21,
+        UnixTimestampPrecision::Nanosecond => 24,
+    }
+}
+
+fn year_bytes(repr: YearRepr, range: YearRange) -> usize
+    ensures { (iso : Bool) (fields : Year) → result ≡ reserved (modern_year iso repr range fields) }
+{
+    match (repr, range) {
+        (YearRepr::Full, YearRange::Extended) => 7,
+        (YearRepr::Full, YearRange::Standard) => 5,
+        (YearRepr::Century, YearRange::Extended) => 5,
+        (YearRepr::Century, YearRange::Standard) => 3,
+        (YearRepr::LastTwo, _) => 2,
     }
 }
 

@@ -35,7 +35,8 @@ fault_of (MissingRequiredModifier name index) = fault (missing_modifier name.now
 fault_of (Expected what index) = fault (expected what.now) index
 fault_of (NotSupported what context index) = fault (not_supported what.now context.now) index
 fault_of (DuplicateModifier name index) = fault (duplicate_modifier name.now) index
-fault_of (InvalidModifierCombination modifier context index) = fault (invalid_combination modifier.now context.now) index
+fault_of (InvalidModifierCombination modifier context index) =
+    fault (invalid_combination modifier.now context.now) index
 
 abbrev pub index : InvalidFormatDescription → ℕ
 index error = (fault_of error).index

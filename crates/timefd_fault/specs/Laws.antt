@@ -6,4 +6,5 @@ use Rattle.timefd_fault.specs.Equality.{same_fault}
 
 -- `==` of faults is that of their variants and fields.
 abbrev pub FaultEquality : Type 0
-FaultEquality = (a b : InvalidFormatDescription) → (same_fault a b ≡ true) ↔ (fault_of a ≡ fault_of b)
+FaultEquality = (a b : InvalidFormatDescription)
+    → (same_fault a b ≡ true) ↔ (fault_of a ≡ fault_of b)

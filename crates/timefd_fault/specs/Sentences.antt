@@ -8,20 +8,28 @@ use Rattle.timefd_fault.specs.declared.invalid_format_description.InvalidFormatD
 abbrev pub unsupported : Text → Text → ℕ → Text
 unsupported what [] index = what ++ (codes " is not supported at byte index " ++ decimal index)
 unsupported what (c ∷ cs) index =
-    what ++ (codes " is not supported in " ++ ((c ∷ cs) ++ (codes " at byte index " ++ decimal index)))
+    what ++ (codes " is not supported in "
+    ++ ((c ∷ cs) ++ (codes " at byte index " ++ decimal index)))
 
 abbrev pub sentence_at : Kind → ℕ → Text
-sentence_at unclosed_bracket index = codes "unclosed opening bracket at byte index " ++ decimal index
-sentence_at (invalid_name name) index = codes "invalid component name `" ++ (name ++ (codes "` at byte index " ++ decimal index))
-sentence_at (invalid_modifier value) index = codes "invalid modifier `" ++ (value ++ (codes "` at byte index " ++ decimal index))
+sentence_at unclosed_bracket index =
+    codes "unclosed opening bracket at byte index " ++ decimal index
+sentence_at (invalid_name name) index =
+    codes "invalid component name `" ++ (name ++ (codes "` at byte index " ++ decimal index))
+sentence_at (invalid_modifier value) index =
+    codes "invalid modifier `" ++ (value ++ (codes "` at byte index " ++ decimal index))
 sentence_at missing_name index = codes "missing component name at byte index " ++ decimal index
 sentence_at (missing_modifier name) index =
-    codes "missing required modifier `" ++ (name ++ (codes "` for component at byte index " ++ decimal index))
-sentence_at (expected what) index = codes "expected " ++ (what ++ (codes " at byte index " ++ decimal index))
+    codes "missing required modifier `"
+    ++ (name ++ (codes "` for component at byte index " ++ decimal index))
+sentence_at (expected what) index =
+    codes "expected " ++ (what ++ (codes " at byte index " ++ decimal index))
 sentence_at (not_supported what context) index = unsupported what context index
-sentence_at (duplicate_modifier name) index = codes "duplicate modifier `" ++ (name ++ (codes "` at byte index " ++ decimal index))
+sentence_at (duplicate_modifier name) index =
+    codes "duplicate modifier `" ++ (name ++ (codes "` at byte index " ++ decimal index))
 sentence_at (invalid_combination modifier context) index =
-    codes "the `" ++ (modifier ++ (codes "` modifier is not valid at byte index " ++ (decimal index ++ (codes " " ++ context))))
+    codes "the `" ++ (modifier ++ (codes
+    "` modifier is not valid at byte index " ++ (decimal index ++ (codes " " ++ context))))
 
 abbrev pub sentence : Fault → Text
 sentence f = sentence_at f.kind f.index

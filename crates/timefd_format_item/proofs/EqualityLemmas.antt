@@ -12,17 +12,21 @@ pub tree_equality_law : TreeEquality
 tree_equality_law a b = (tree_sound a b, λ e. subst (λ x. same_tree a x ≡ true) e (tree_same a))
 
 -- what is compared where a component is there
-pub held_component : (held : Option Component) (a b : Component) (answer : Bool) → held ≡ Some a → answer ≡ same_component a b
+pub held_component : (held : Option Component) (a b : Component) (answer : Bool) → held ≡ Some a
+    → answer ≡ same_component a b
     → (IsTrue answer → held ≡ Some b) × (held ≡ Some b → IsTrue answer)
 held_component held a b answer h e = (
   λ yes. h ∙ ap Some (component_sound a b (sym e ∙ yes)),
-  λ same. let alike : a ≡ b = cc in e ∙ subst (λ x. same_component a x ≡ true) alike (component_same a),
+  λ same. let alike : a ≡ b = cc in
+      e ∙ subst (λ x. same_component a x ≡ true) alike (component_same a),
 )
 
 -- what is compared where trees are there
-pub held_trees : (held : Option Trees) (xs ys : Trees) (answer : Bool) → held ≡ Some xs → answer ≡ same_trees xs ys
+pub held_trees : (held : Option Trees) (xs ys : Trees) (answer : Bool) → held ≡ Some xs
+    → answer ≡ same_trees xs ys
     → (IsTrue answer → held ≡ Some ys) × (held ≡ Some ys → IsTrue answer)
 held_trees held xs ys answer h e = (
   λ yes. h ∙ ap Some (trees_sound xs ys (sym e ∙ yes)),
-  λ same. let alike : xs ≡ ys = cc in e ∙ subst (λ zs. same_trees xs zs ≡ true) alike (trees_same xs),
+  λ same. let alike : xs ≡ ys = cc in
+      e ∙ subst (λ zs. same_trees xs zs ≡ true) alike (trees_same xs),
 )

@@ -17,10 +17,12 @@ same_trees-lengths [] [] d = absurd (d refl)
 same_trees-lengths [] (y ∷ ys) d = refl
 same_trees-lengths (x ∷ xs) [] d = refl
 same_trees-lengths (x ∷ xs) (y ∷ ys) d =
-    ap (λ t. same_tree (item_tree x) (item_tree y) && t) (same_trees-lengths xs ys (search rules)) ∙ and_false (same_tree (item_tree x) (item_tree y))
+    ap (λ t. same_tree (item_tree x) (item_tree y) && t) (same_trees-lengths xs ys (search rules)) ∙
+    and_false (same_tree (item_tree x) (item_tree y))
 
 -- a pair of equal items in front does not matter
-pub same_trees-drop : (xs ys : List BorrowedFormatItem) (k : ℕ) (x y : BorrowedFormatItem) → k < length xs → length xs ≡ length ys
+pub same_trees-drop : (xs ys : List BorrowedFormatItem) (k : ℕ) (x y : BorrowedFormatItem)
+    → k < length xs → length xs ≡ length ys
     → same_tree (item_tree (slice_index_or xs k x)) (item_tree (slice_index_or ys k y)) ≡ true
     → same_trees (trees (map item_tree (drop k xs))) (trees (map item_tree (drop k ys)))
     ≡ same_trees (trees (map item_tree (drop (suc k) xs))) (trees (map item_tree (drop (suc k) ys)))

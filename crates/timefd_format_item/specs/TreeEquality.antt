@@ -26,12 +26,14 @@ mutual
   tree_same (component a) = component_same a
   tree_same (literal a) = text_same a
   tree_same (compound a) = trees_same a
-  tree_same (optional f a) = and_from (beq f f) (same_tree a a) ((bool_is.exact f f).1 refl) (tree_same a)
+  tree_same (optional f a) = and_from (beq f f) (same_tree a a) ((bool_is.exact f f).1 refl)
+      (tree_same a)
   tree_same (first a) = trees_same a
 
   pub trees_same : (xs : Trees) → same_trees xs xs ≡ true
   trees_same no_trees = refl
-  trees_same (more_trees x xs) = and_from (same_tree x x) (same_trees xs xs) (tree_same x) (trees_same xs)
+  trees_same (more_trees x xs) = and_from (same_tree x x) (same_trees xs xs) (tree_same x)
+      (trees_same xs)
 
 mutual
   pub tree_sound : (x y : Tree) → same_tree x y ≡ true → x ≡ y
@@ -52,4 +54,5 @@ mutual
   trees_sound _ _ e = absurd (false≢true e)
 
 pub same_tree_equiv : IsEquivalence same_tree
-same_tree_equiv = decided same_tree (λ x y. (tree_sound x y, λ e. subst (λ z. same_tree x z ≡ true) e (tree_same x)))
+same_tree_equiv = decided same_tree
+    (λ x y. (tree_sound x y, λ e. subst (λ z. same_tree x z ≡ true) e (tree_same x)))

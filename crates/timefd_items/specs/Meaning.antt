@@ -23,8 +23,10 @@ inner_step (inner.WeekNumberSunday m) = component (WeekNumberSunday m)
 inner_step (inner.WeekNumberMonday m) = component (WeekNumberMonday m)
 inner_step (inner.CalendarYearFullExtendedRange m) = component (CalendarYearFullExtendedRange m)
 inner_step (inner.CalendarYearFullStandardRange m) = component (CalendarYearFullStandardRange m)
-inner_step (inner.CalendarYearCenturyExtendedRange m) = component (CalendarYearCenturyExtendedRange m)
-inner_step (inner.CalendarYearCenturyStandardRange m) = component (CalendarYearCenturyStandardRange m)
+inner_step (inner.CalendarYearCenturyExtendedRange m) =
+    component (CalendarYearCenturyExtendedRange m)
+inner_step (inner.CalendarYearCenturyStandardRange m) =
+    component (CalendarYearCenturyStandardRange m)
 inner_step (inner.IsoYearFullExtendedRange m) = component (IsoYearFullExtendedRange m)
 inner_step (inner.IsoYearFullStandardRange m) = component (IsoYearFullStandardRange m)
 inner_step (inner.IsoYearCenturyExtendedRange m) = component (IsoYearCenturyExtendedRange m)

@@ -49,8 +49,10 @@ impl<'a> FormatDescriptionV3<'a> {
     /// The reserved bytes: how many bytes its longest rendering has.
     pub fn max_bytes_needed(&self) -> usize
         ensures reserved { result ≡ reserve (description_tree self.now) }
-        ensures reached { (text : Text) × Renders (description_tree self.now) text × (length text ≡ result) }
-        ensures longest { (text : Text) → Renders (description_tree self.now) text → length text ≤ result }
+        ensures reached { (text : Text) × Renders (description_tree self.now) text
+            × (length text ≡ result) }
+        ensures longest { (text : Text) → Renders (description_tree self.now) text
+            → length text ≤ result }
     {
         self.list.last_bytes()
     }

@@ -167,3 +167,13 @@ fn a_refused_call_changes_nothing(rt: HostRuntime) {
     expect_finished(&rt, alloc, optional, 3, LAST_OPTIONAL);
     expect_finished(&rt, alloc, first, 2, FIRST_OF_THREE);
 }
+
+/// Room that was made is there, and each part takes one of it.
+#[test]
+fn room_for_parts(rt: HostRuntime) {
+    let mut builder = DescriptionBuilder::new(rt.alloc());
+    builder.reserve(3).expect(&rt, AMPLE);
+    assert!(rt; builder.room() >= 3);
+    call_all(&rt, &mut builder, IN_TURN);
+    assert!(rt; builder.room() >= 1);
+}

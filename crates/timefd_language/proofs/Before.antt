@@ -24,11 +24,13 @@ abbrev mutual
   before (run bytes rest) tail = bytes ++ before rest tail
   before (escape a b rest) tail = a ∷ b ∷ before rest tail
   before (closing rest) tail = right ∷ before rest tail
-  before (bracket h ns white tree rest) tail = head_before h (nested_before ns (white ++ right ∷ before rest tail))
+  before (bracket h ns white tree rest) tail =
+      head_before h (nested_before ns (white ++ right ∷ before rest tail))
 
   pub nested_before : Nested → Text → Text
   nested_before no_nested tail = tail
-  nested_before (nested white ps ns) tail = white ++ left ∷ before ps (right ∷ nested_before ns tail)
+  nested_before (nested white ps ns) tail =
+      white ++ left ∷ before ps (right ∷ nested_before ns tail)
 
 abbrev pub broken_before : Broken → Text
 broken_before (bare_closing rest) = right ∷ rest
@@ -38,11 +40,13 @@ broken_before (ill_modified h white word rest) = head_before h (white ++ misfit_
 broken_before (too_deep h ns white rest) = head_before h (nested_before ns (white ++ left ∷ rest))
 broken_before (broken_inside h ns white front inner) =
     head_before h (nested_before ns (white ++ left ∷ before front (broken_before inner)))
-broken_before (cut_off h ns white front) = head_before h (nested_before ns (white ++ left ∷ before front []))
+broken_before (cut_off h ns white front) =
+    head_before h (nested_before ns (white ++ left ∷ before front []))
 broken_before (unclosed h ns white rest) = head_before h (nested_before ns (white ++ rest))
 broken_before (refused h ns white f rest) = head_before h (nested_before ns (white ++ right ∷ rest))
 
-pub modifiers_before-is : (ms : List Modifier) (tail : Text) → modifiers_before ms tail ≡ modifiers_text ms ++ tail
+pub modifiers_before-is : (ms : List Modifier) (tail : Text)
+    → modifiers_before ms tail ≡ modifiers_text ms ++ tail
 modifiers_before-is [] tail = refl
 modifiers_before-is (m ∷ ms) tail = simp (append_assoc, modifiers_before-is ms tail)
 
@@ -63,7 +67,8 @@ regroup_three a b c d = simp append_assoc
 regroup_three' : (a b c d : Text) → a ++ (b ++ (c ++ d)) ≡ a ++ b ++ c ++ d
 regroup_three' a b c d = simp append_assoc
 
-regroup_five : (a b c d e f : Text) → a ++ (b ++ (c ++ (d ++ (e ++ f)))) ≡ (a ++ b ++ c ++ d) ++ e ++ f
+regroup_five : (a b c d e f : Text)
+    → a ++ (b ++ (c ++ (d ++ (e ++ f)))) ≡ (a ++ b ++ c ++ d) ++ e ++ f
 regroup_five a b c d e f = simp append_assoc
 
 mutual
@@ -74,13 +79,16 @@ mutual
   before-is (closing rest) tail = ap (λ x. right ∷ x) (before-is rest tail)
   before-is (bracket h ns white tree rest) tail =
       head_before-is h _
-      ∙ ap (λ x. head_text h ++ x) (nested_before-is ns _ ∙ ap (λ x. nested_text ns ++ (white ++ right ∷ x)) (before-is rest tail))
+      ∙ ap (λ x. head_text h ++ x) (nested_before-is ns _ ∙
+      ap (λ x. nested_text ns ++ (white ++ right ∷ x)) (before-is rest tail))
       ∙ regroup (head_text h) (nested_text ns) white (right ∷ spelling rest) tail
 
-  pub nested_before-is : (ns : Nested) (tail : Text) → nested_before ns tail ≡ nested_text ns ++ tail
+  pub nested_before-is : (ns : Nested) (tail : Text)
+      → nested_before ns tail ≡ nested_text ns ++ tail
   nested_before-is no_nested tail = refl
   nested_before-is (nested white ps ns) tail =
-      ap (λ x. white ++ left ∷ x) (before-is ps _ ∙ ap (λ x. spelling ps ++ right ∷ x) (nested_before-is ns tail))
+      ap (λ x. white ++ left ∷ x) (before-is ps _ ∙
+      ap (λ x. spelling ps ++ right ∷ x) (nested_before-is ns tail))
       ∙ regroup_three white (left ∷ spelling ps) (right ∷ nested_text ns) tail
 
 -- what a broken text is, in both forms
@@ -96,11 +104,16 @@ broken_before-is (too_deep h ns white rest) =
     ∙ regroup (head_text h) (nested_text ns) white (left ∷ []) rest
 broken_before-is (broken_inside h ns white front inner) =
     head_before-is h _
-    ∙ ap (λ x. head_text h ++ x) (nested_before-is ns _ ∙ ap (λ x. nested_text ns ++ (white ++ left ∷ x)) (before-is front _ ∙ ap (λ x. spelling front ++ x) (broken_before-is inner)))
-    ∙ regroup_five (head_text h) (nested_text ns) white (left ∷ []) (spelling front) (broken_text inner)
+    ∙ ap (λ x. head_text h ++ x) (nested_before-is ns _ ∙
+    ap (λ x. nested_text ns ++ (white ++ left ∷ x))
+    (before-is front _ ∙ ap (λ x. spelling front ++ x) (broken_before-is inner)))
+    ∙ regroup_five (head_text h) (nested_text ns) white (left ∷ []) (spelling front)
+    (broken_text inner)
 broken_before-is (cut_off h ns white front) =
     head_before-is h _
-    ∙ ap (λ x. head_text h ++ x) (nested_before-is ns _ ∙ ap (λ x. nested_text ns ++ (white ++ left ∷ x)) (before-is front [] ∙ append-nil (spelling front)))
+    ∙ ap (λ x. head_text h ++ x) (nested_before-is ns _ ∙
+    ap (λ x. nested_text ns ++ (white ++ left ∷ x)) (before-is front [] ∙
+    append-nil (spelling front)))
     ∙ regroup (head_text h) (nested_text ns) white (left ∷ []) (spelling front)
 broken_before-is (unclosed h ns white rest) =
     head_before-is h _ ∙ ap (λ x. head_text h ++ x) (nested_before-is ns _)

@@ -14,24 +14,31 @@ use Rattle.timefd_language.specs.Bytes.{is_white, is_special, is_word_byte, is_k
 use Rattle.timefd_language.specs.Strftime.{is_plain}
 use Rattle.timefd_language.specs.Cut.{class_test, IsCut}
 
-after_ascii_run : (p : ℕ → Bool) (bs : List ℕ) (n : ℕ) → prefix_len p bs ≡ n → IsUtf8 bs → ((c : ℕ) → p c ≡ true → c < 128) → IsCharBoundary bs n
+after_ascii_run : (p : ℕ → Bool) (bs : List ℕ) (n : ℕ) → prefix_len p bs ≡ n → IsUtf8 bs
+    → ((c : ℕ) → p c ≡ true → c < 128) → IsCharBoundary bs n
 after_ascii_run p bs zero e utf8 ascii = IsCharBoundary-start bs utf8
 after_ascii_run p bs (suc k) e utf8 ascii =
-    rw (← add-one) (IsCharBoundary-after_ascii bs k utf8 (omega (arith, prefix_len-le-length p bs)) (ascii _ (prefix_len_passes p bs k 0 (omega arith))))
+    rw (← add-one) (IsCharBoundary-after_ascii bs k utf8 (omega (arith, prefix_len-le-length p bs))
+    (ascii _ (prefix_len_passes p bs k 0 (omega arith))))
 
 -- a run of ASCII bytes ends where a character does
-ascii_run : (p : ℕ → Bool) (bs : List ℕ) → IsUtf8 bs → ((c : ℕ) → p c ≡ true → c < 128) → IsCharBoundary bs (prefix_len p bs)
+ascii_run : (p : ℕ → Bool) (bs : List ℕ) → IsUtf8 bs → ((c : ℕ) → p c ≡ true → c < 128)
+    → IsCharBoundary bs (prefix_len p bs)
 ascii_run p bs = after_ascii_run p bs _ refl
 
 -- and so does a run that only an ASCII byte stops
-wide_run : (p : ℕ → Bool) (bs : List ℕ) → ((c : ℕ) → p c ≡ false → c < 128) → IsCharBoundary bs (prefix_len p bs)
+wide_run : (p : ℕ → Bool) (bs : List ℕ) → ((c : ℕ) → p c ≡ false → c < 128)
+    → IsCharBoundary bs (prefix_len p bs)
 wide_run p bs ascii =
     elim (cases_lt (prefix_len p bs) (length bs)) [
-      | inl within ↦ IsCharBoundary-before_ascii bs _ within (ascii _ (prefix_len_stops p bs 0 within))
-      | inr past ↦ subst (IsCharBoundary bs) (omega (arith, prefix_len-le-length p bs)) (IsCharBoundary-end bs)
+      | inl within ↦ IsCharBoundary-before_ascii bs _ within
+          (ascii _ (prefix_len_stops p bs 0 within))
+      | inr past ↦ subst (IsCharBoundary bs) (omega (arith, prefix_len-le-length p bs))
+          (IsCharBoundary-end bs)
     ]
 
-pub boundary : (class : Class) (bs : List ℕ) → IsUtf8 bs → IsCharBoundary bs (prefix_len (class_test class) bs)
+pub boundary : (class : Class) (bs : List ℕ) → IsUtf8 bs
+    → IsCharBoundary bs (prefix_len (class_test class) bs)
 boundary White bs utf8 = ascii_run is_white bs utf8 (λ c e. grind (arith, nat_tests))
 boundary Word bs utf8 = wide_run is_word_byte bs (λ c e. grind (arith, nat_tests))
 boundary Key bs utf8 = wide_run is_key_byte bs (λ c e. grind (arith, nat_tests))
@@ -43,7 +50,8 @@ front_passes : (p : ℕ → Bool) (bs : Text) → ZeroOrMore p (take (prefix_len
 front_passes p [] = refl
 front_passes p (b ∷ bs) =
     elim (cases_Bool (p b)) [
-      | inl pass ↦ let more : 1 + prefix_len p bs ≡ suc (prefix_len p bs) = omega arith in rw (pass, more) (and_from (p b) _ pass (front_passes p bs))
+      | inl pass ↦ let more : 1 + prefix_len p bs ≡ suc (prefix_len p bs) = omega arith in
+          rw (pass, more) (and_from (p b) _ pass (front_passes p bs))
       | inr fail ↦ rw fail refl
     ]
 
@@ -51,22 +59,33 @@ rest_stops : (p : ℕ → Bool) (bs : Text) → StopsBefore p (drop (prefix_len 
 rest_stops p [] = tt
 rest_stops p (b ∷ bs) =
     elim (cases_Bool (p b)) [
-      | inl pass ↦ let more : 1 + prefix_len p bs ≡ suc (prefix_len p bs) = omega arith in rw (pass, more) (rest_stops p bs)
+      | inl pass ↦ let more : 1 + prefix_len p bs ≡ suc (prefix_len p bs) = omega arith in
+          rw (pass, more) (rest_stops p bs)
       | inr fail ↦ rw fail fail
     ]
 
-pub cut_at_prefix : (p : ℕ → Bool) (text front rest : Text) (n : ℕ) → n ≡ prefix_len p text → front ≡ take n text → rest ≡ drop n text → IsCut p text front rest
+pub cut_at_prefix : (p : ℕ → Bool) (text front rest : Text) (n : ℕ) → n ≡ prefix_len p text
+    → front ≡ take n text → rest ≡ drop n text → IsCut p text front rest
 cut_at_prefix p text front rest n e f r =
-    rw (f, r, e) (record { whole = sym (take-append-drop (prefix_len p text) text); passes = front_passes p text; stops = rest_stops p text })
+    rw (f, r, e) (record {
+      whole = sym (take-append-drop (prefix_len p text) text);
+      passes =
+          front_passes p text;
+      stops = rest_stops p text;
+    })
 
-pub utf8_behind : (class : Class) (text rest : Text) (n : ℕ) → n ≡ prefix_len (class_test class) text → IsUtf8 text → rest ≡ drop n text → IsUtf8 rest
-utf8_behind class text rest n e utf8 r = rw (r, e) (IsUtf8-drop text (prefix_len (class_test class) text) utf8 (boundary class text utf8))
+pub utf8_behind : (class : Class) (text rest : Text) (n : ℕ)
+    → n ≡ prefix_len (class_test class) text → IsUtf8 text → rest ≡ drop n text → IsUtf8 rest
+utf8_behind class text rest n e utf8 r =
+    rw (r, e) (IsUtf8-drop text (prefix_len (class_test class) text) utf8
+    (boundary class text utf8))
 
 pub special_ascii : (b : ℕ) → is_special b ≡ true → b < 128
 special_ascii b e = grind (arith, nat_tests)
 
 -- the length of a front by another test that passes the same bytes
-pub front_len : (p q : ℕ → Bool) (bytes : Text) (n : ℕ) → ((b : ℕ) → q b ≡ p b) → n ≡ prefix_len q bytes → (n ≡ prefix_len p bytes) × (n ≤ length bytes)
+pub front_len : (p q : ℕ → Bool) (bytes : Text) (n : ℕ) → ((b : ℕ) → q b ≡ p b)
+    → n ≡ prefix_len q bytes → (n ≡ prefix_len p bytes) × (n ≤ length bytes)
 front_len p q bytes n same e =
     let len : n ≡ prefix_len p bytes = e ∙ ap (λ test. prefix_len test bytes) (λ i b. same b i) in
     (len, omega (arith, len, prefix_len-le-length p bytes))

@@ -19,9 +19,10 @@ use Rattle.timefd_language.proofs.StartFound.{StartIs, start_is, NestedStartIs, 
 use Rattle.timefd_language.proofs.Readings.{stop_text, reading_text, IsReading}
 
 -- a reading of the text
-pub record ReadingOf (v : DescriptionVersion) (limit n : ℕ) (text : Text) (r : Reading) : Type 0 where
-  pub is : IsReading v limit n r
-  pub whole : text ≡ reading_text r
+pub record ReadingOf (v : DescriptionVersion) (limit n : ℕ) (text : Text) (r : Reading) : Type 0
+  where
+    pub is : IsReading v limit n r
+    pub whole : text ≡ reading_text r
 
 abbrev pub nested_stop_text : NestedStop → Text
 nested_stop_text (over white rest) = white ++ rest
@@ -30,27 +31,34 @@ nested_stop_text (inner_broke white front b) = white ++ left ∷ before front (b
 nested_stop_text (inner_ended white front) = white ++ left ∷ before front []
 
 abbrev pub IsNestedStop : DescriptionVersion → ℕ → ℕ → NestedStop → Type 0
-IsNestedStop v limit n (over white rest) = ZeroOrMore is_white white × StopsBefore is_white rest × StopsBefore (λ b. b == left) rest
+IsNestedStop v limit n (over white rest) = ZeroOrMore is_white white × StopsBefore is_white rest
+    × StopsBefore (λ b. b == left) rest
 IsNestedStop v limit n (over_limit white rest) = ZeroOrMore is_white white × (n ≡ limit)
-IsNestedStop v limit n (inner_broke white front b) = ZeroOrMore is_white white × (n < limit) × ArePieces v limit (suc n) front × IsBroken v limit (suc n) b
-IsNestedStop v limit n (inner_ended white front) = ZeroOrMore is_white white × (n < limit) × ArePieces v limit (suc n) front
+IsNestedStop v limit n (inner_broke white front b) = ZeroOrMore is_white white × (n < limit)
+    × ArePieces v limit (suc n) front × IsBroken v limit (suc n) b
+IsNestedStop v limit n (inner_ended white front) = ZeroOrMore is_white white × (n < limit)
+    × ArePieces v limit (suc n) front
 
-pub record NestedOf (v : DescriptionVersion) (limit n : ℕ) (text : Text) (r : NestedReading) : Type 0 where
+pub record NestedOf (v : DescriptionVersion) (limit n : ℕ) (text : Text) (r : NestedReading) : Type
+    0 where
   pub front : AreNested v limit n r.front
   pub stop : IsNestedStop v limit n r.stop
   pub whole : text ≡ nested_before r.front (nested_stop_text r.stop)
 
 abbrev pub ClosedIs : DescriptionVersion → ℕ → ℕ → Text → Closed → Type 0
 ClosedIs v limit n text (whole h ns white tree rest) =
-    IsHead h × AreNested v limit n ns × ZeroOrMore is_white white × (bracket_verdict v h ns white ≡ Ok tree)
+    IsHead h × AreNested v limit n ns × ZeroOrMore is_white white
+    × (bracket_verdict v h ns white ≡ Ok tree)
     × (text ≡ head_before h (nested_before ns (white ++ right ∷ rest)))
 ClosedIs v limit n text (fails b) = IsBroken v limit n b × (text ≡ broken_before b)
 
 -- Brackets.
 
-judged_is : (v : DescriptionVersion) (limit n : ℕ) (h : Head) (ns : Nested) (white rest : Text) (r : Result Tree Fault) → IsHead h → AreNested v limit n ns
+judged_is : (v : DescriptionVersion) (limit n : ℕ) (h : Head) (ns : Nested) (white rest : Text)
+    (r : Result Tree Fault) → IsHead h → AreNested v limit n ns
     → ZeroOrMore is_white white → bracket_verdict v h ns white ≡ r
-    → ClosedIs v limit n (head_before h (nested_before ns (white ++ right ∷ rest))) (judged h ns white rest r)
+    → ClosedIs v limit n (head_before h (nested_before ns (white ++ right ∷ rest)))
+    (judged h ns white rest r)
 judged_is v limit n h ns white rest (Ok tree) ih an w e = (ih, an, w, e, refl)
 judged_is v limit n h ns white rest (Err f) ih an w e = ((ih, an, w, e), refl)
 
@@ -58,35 +66,52 @@ no_bracket : (b : ℕ) → (b == left) ≡ false → (b == right) ≡ false → 
 no_bracket b l r = or_from (b == left) (b == right) l r
 
 -- with no nested description, no word stands behind the white bytes
-whole_before_at : (ns : Nested) (white rest : Text) → ZeroOrMore is_white white → StopsBefore is_white rest → NoWord (nested_before ns (white ++ rest)) → IsWholeBefore ns rest
+whole_before_at : (ns : Nested) (white rest : Text) → ZeroOrMore is_white white
+    → StopsBefore is_white rest → NoWord (nested_before ns (white ++ rest)) → IsWholeBefore ns rest
 whole_before_at no_nested white rest w s no_word =
-    subst (λ c. StopsBefore is_word_byte c.rest) (span-exact is_white white rest w s) no_word.behind_white
+    subst (λ c. StopsBefore is_word_byte c.rest) (span-exact is_white white rest w s)
+    no_word.behind_white
 whole_before_at (nested white' ps ns) white rest w s no_word = tt
 
-ended_by_is : (v : DescriptionVersion) (limit n : ℕ) (h : Head) (ns : Nested) (white rest : Text) → IsHead h → AreNested v limit n ns
-    → ZeroOrMore is_white white → StopsBefore is_white rest → StopsBefore (λ b. b == left) rest → IsWholeBefore ns rest
-    → ClosedIs v limit n (head_before h (nested_before ns (white ++ rest))) (ended_by v h ns white rest)
+ended_by_is : (v : DescriptionVersion) (limit n : ℕ) (h : Head) (ns : Nested) (white rest : Text)
+    → IsHead h → AreNested v limit n ns
+    → ZeroOrMore is_white white → StopsBefore is_white rest → StopsBefore (λ b. b == left) rest
+    → IsWholeBefore ns rest
+    → ClosedIs v limit n (head_before h (nested_before ns (white ++ rest)))
+    (ended_by v h ns white rest)
 ended_by_is v limit n h ns white [] ih an w s l wh = ((ih, an, w, tt, tt, wh), refl)
 ended_by_is v limit n h ns white (b ∷ rest) ih an w s l wh = by (b == right) refl
   where
     by : (t : Bool) → (b == right) ≡ t
         → ClosedIs v limit n (head_before h (nested_before ns (white ++ b ∷ rest)))
-        (elim t [ true ↦ judged h ns white rest (bracket_verdict v h ns white) | false ↦ fails (unclosed h ns white (b ∷ rest)) ])
+        (elim t [
+          | true ↦ judged h ns white rest (bracket_verdict v h ns white)
+          | false ↦ fails
+              (unclosed h ns white (b ∷ rest))
+        ])
     by true e =
-        subst (λ x. ClosedIs v limit n (head_before h (nested_before ns (white ++ x ∷ rest))) (judged h ns white rest (bracket_verdict v h ns white)))
-        (sym (eqb-true b right e)) (judged_is v limit n h ns white rest (bracket_verdict v h ns white) ih an w refl)
+        subst (λ x. ClosedIs v limit n (head_before h (nested_before ns (white ++ x ∷ rest)))
+        (judged h ns white rest (bracket_verdict v h ns white)))
+        (sym (eqb-true b right e)) (judged_is v limit n h ns white rest
+        (bracket_verdict v h ns white) ih an w refl)
     by false e = ((ih, an, w, s, no_bracket b l e, wh), refl)
 
-stopped_by_is : (v : DescriptionVersion) (limit n : ℕ) (h : Head) (ns : Nested) (stop : NestedStop) → IsHead h → AreNested v limit n ns
+stopped_by_is : (v : DescriptionVersion) (limit n : ℕ) (h : Head) (ns : Nested) (stop : NestedStop)
+    → IsHead h → AreNested v limit n ns
     → IsNestedStop v limit n stop → NoWord (nested_before ns (nested_stop_text stop))
-    → ClosedIs v limit n (head_before h (nested_before ns (nested_stop_text stop))) (stopped_by v h ns stop)
+    → ClosedIs v limit n (head_before h (nested_before ns (nested_stop_text stop)))
+    (stopped_by v h ns stop)
 stopped_by_is v limit n h ns (over white rest) ih an is no_word =
-    ended_by_is v limit n h ns white rest ih an is.0 is.1 is.2 (whole_before_at ns white rest is.0 is.1 no_word)
+    ended_by_is v limit n h ns white rest ih an is.0 is.1 is.2
+    (whole_before_at ns white rest is.0 is.1 no_word)
 stopped_by_is v limit n h ns (over_limit white rest) ih an is no_word = ((ih, an, is.0, is.1), refl)
-stopped_by_is v limit n h ns (inner_broke white front b) ih an is no_word = ((ih, an, is.0, is.1, is.2, is.3), refl)
-stopped_by_is v limit n h ns (inner_ended white front) ih an is no_word = ((ih, an, is.0, is.1, is.2), refl)
+stopped_by_is v limit n h ns (inner_broke white front b) ih an is no_word =
+    ((ih, an, is.0, is.1, is.2, is.3), refl)
+stopped_by_is v limit n h ns (inner_ended white front) ih an is no_word =
+    ((ih, an, is.0, is.1, is.2), refl)
 
-closed_of_is : (v : DescriptionVersion) (limit n : ℕ) (h : Head) (behind : Text) (r : NestedReading) → IsHead h → NoWord behind → NestedOf v limit n behind r
+closed_of_is : (v : DescriptionVersion) (limit n : ℕ) (h : Head) (behind : Text) (r : NestedReading)
+    → IsHead h → NoWord behind → NestedOf v limit n behind r
     → ClosedIs v limit n (head_before h behind) (closed_of v h r)
 unfolding closed_of
 closed_of_is v limit n h behind r ih no_word is =
@@ -95,113 +120,180 @@ closed_of_is v limit n h behind r ih no_word is =
 
 -- One step.
 
-begins_no_run : (ps : Pieces) (v : DescriptionVersion) (limit n : ℕ) (tail : Text) → ArePieces v limit n ps → StopsBefore (is_run_byte v) (before ps tail) → BeginsNoRun ps
+begins_no_run : (ps : Pieces) (v : DescriptionVersion) (limit n : ℕ) (tail : Text)
+    → ArePieces v limit n ps → StopsBefore (is_run_byte v) (before ps tail) → BeginsNoRun ps
 begins_no_run no_pieces v limit n tail are s = tt
 begins_no_run (run [] rest) v limit n tail are s = absurd are.0
 begins_no_run (run (b ∷ bytes) rest) v limit n tail are s =
-    absurd (both_ways (is_run_byte v b) s (and_parts (is_run_byte v b) (list_all (is_run_byte v) bytes) are.0).0)
+    absurd (both_ways (is_run_byte v b) s
+    (and_parts (is_run_byte v b) (list_all (is_run_byte v) bytes) are.0).0)
 begins_no_run (escape a b rest) v limit n tail are s = tt
 begins_no_run (closing rest) v limit n tail are s = tt
 begins_no_run (bracket h ns white tree rest) v limit n tail are s = tt
 
 -- Shorter texts are read right.
 abbrev pub ReadsBelow : DescriptionVersion → ℕ → ℕ → Text → (Text → Reading) → Type 0
-ReadsBelow v limit n text next = (t : Text) → length t < length text → ReadingOf v limit n t (next t)
+ReadsBelow v limit n text next = (t : Text) → length t < length text
+    → ReadingOf v limit n t (next t)
 
 abbrev pub ReadsNestedBelow : DescriptionVersion → ℕ → ℕ → Text → (Text → NestedReading) → Type 0
-ReadsNestedBelow v limit n text into = (t : Text) → length t < length text → NestedOf v limit n t (into t)
+ReadsNestedBelow v limit n text into = (t : Text) → length t < length text
+    → NestedOf v limit n t (into t)
 
 head_shorter : (h : Head) (t : Text) → length t < length (head_before h t)
 head_shorter h t = omega (arith, ap length (head_before-is h t), length-append (head_text h) t)
 
 nested_longer : (ns : Nested) (t : Text) → length t ≤ length (nested_before ns t)
-nested_longer ns t = omega (arith, ap length (nested_before-is ns t), length-append (nested_text ns) t)
+nested_longer ns t = omega (
+  arith,
+  ap length (nested_before-is ns t),
+  length-append (nested_text ns) t,
+)
 
 pieces_longer : (ps : Pieces) (t : Text) → length t ≤ length (before ps t)
 pieces_longer ps t = omega (arith, ap length (before-is ps t), length-append (spelling ps) t)
 
-with_bracket_is : (v : DescriptionVersion) (limit n : ℕ) (text : Text) (next : Text → Reading) (c : Closed) → ClosedIs v limit n text c → ReadsBelow v limit n text next
+with_bracket_is : (v : DescriptionVersion) (limit n : ℕ) (text : Text) (next : Text
+    → Reading) (c : Closed) → ClosedIs v limit n text c → ReadsBelow v limit n text next
     → ReadingOf v limit n text (with_bracket next c)
 with_bracket_is v limit n text next (whole h ns white tree rest) is more = found (more rest shorter)
   where
     shorter : length rest < length text
-    shorter = omega (arith, ap length is.4, head_shorter h (nested_before ns (white ++ right ∷ rest)), nested_longer ns (white ++ right ∷ rest), length_more white (right ∷ rest))
+    shorter = omega (
+      arith,
+      ap length is.4,
+      head_shorter h (nested_before ns (white ++ right ∷ rest)),
+      nested_longer ns (white ++ right ∷ rest),
+      length_more white (right ∷ rest),
+    )
 
-    found : ReadingOf v limit n rest (next rest) → ReadingOf v limit n text (with_bracket next (whole h ns white tree rest))
+    found : ReadingOf v limit n rest (next rest)
+        → ReadingOf v limit n text (with_bracket next (whole h ns white tree rest))
     found r = record {
       is = record { front = (is.0, is.1, is.2, is.3, r.is.front); stop = r.is.stop };
       whole = is.4 ∙ ap (λ x. head_before h (nested_before ns (white ++ right ∷ x))) r.whole;
     }
-with_bracket_is v limit n text next (fails b) is more = record { is = record { front = tt; stop = is.0 }; whole = is.1 }
+with_bracket_is v limit n text next (fails b) is more =
+    record { is = record { front = tt; stop = is.0 }; whole = is.1 }
 
-continued_is : (v : DescriptionVersion) (limit n : ℕ) (text : Text) (next : Text → Reading) (into : Text → NestedReading) (s : Start)
-    → StartIs v limit n text s → ReadsBelow v limit n text next → ReadsNestedBelow v limit n text into
+continued_is : (v : DescriptionVersion) (limit n : ℕ) (text : Text) (next : Text
+    → Reading) (into : Text → NestedReading) (s : Start)
+    → StartIs v limit n text s → ReadsBelow v limit n text next
+    → ReadsNestedBelow v limit n text into
     → ReadingOf v limit n text (continued v next into s)
-continued_is v limit n text next into at_end is more inner = record { is = record { front = tt; stop = tt }; whole = is }
-continued_is v limit n text next into (at_run bytes rest) is more inner = found (more rest (omega (arith, ap length is.2, length_one (is_run_byte v) bytes rest is.0)))
+continued_is v limit n text next into at_end is more inner =
+    record { is = record { front = tt; stop = tt }; whole = is }
+continued_is v limit n text next into (at_run bytes rest) is more inner =
+    found (more rest (omega (arith, ap length is.2, length_one (is_run_byte v) bytes rest is.0)))
   where
-    found : ReadingOf v limit n rest (next rest) → ReadingOf v limit n text (continued v next into (at_run bytes rest))
+    found : ReadingOf v limit n rest (next rest)
+        → ReadingOf v limit n text (continued v next into (at_run bytes rest))
     found r = record {
       is = record {
-        front = (is.0, begins_no_run (next rest).front v limit n (stop_text (next rest).stop) r.is.front (subst (StopsBefore (is_run_byte v)) r.whole is.1), r.is.front);
+        front = (
+          is.0,
+          begins_no_run (next rest).front v limit n (stop_text (next rest).stop)
+              r.is.front (subst (StopsBefore (is_run_byte v)) r.whole is.1),
+          r.is.front,
+        );
         stop = r.is.stop;
       };
       whole = is.2 ∙ ap (λ x. bytes ++ x) r.whole;
     }
-continued_is v limit n text next into (at_closing rest) is more inner = record { is = record { front = tt; stop = is.0 }; whole = is.1 }
-continued_is v limit n text next into (at_escape a b rest) is more inner = found (more rest (omega (arith, ap length is.1)))
+continued_is v limit n text next into (at_closing rest) is more inner =
+    record { is = record { front = tt; stop = is.0 }; whole = is.1 }
+continued_is v limit n text next into (at_escape a b rest) is more inner =
+    found (more rest (omega (arith, ap length is.1)))
   where
-    found : ReadingOf v limit n rest (next rest) → ReadingOf v limit n text (continued v next into (at_escape a b rest))
-    found r = record { is = record { front = (is.0, r.is.front); stop = r.is.stop }; whole = is.1 ∙ ap (λ x. a ∷ b ∷ x) r.whole }
+    found : ReadingOf v limit n rest (next rest)
+        → ReadingOf v limit n text (continued v next into (at_escape a b rest))
+    found r = record {
+      is = record { front = (is.0, r.is.front); stop = r.is.stop };
+      whole =
+          is.1 ∙ ap (λ x. a ∷ b ∷ x) r.whole;
+    }
 continued_is v limit n text next into (at_head h rest) is more inner =
     with_bracket_is v limit n text next (closed_of v h (into rest))
     (subst (λ x. ClosedIs v limit n x (closed_of v h (into rest))) (sym is.2)
-    (closed_of_is v limit n h rest (into rest) is.0 is.1 (inner rest (omega (arith, ap length is.2, head_shorter h rest)))))
+    (closed_of_is v limit n h rest (into rest) is.0 is.1
+    (inner rest (omega (arith, ap length is.2, head_shorter h rest)))))
     more
-continued_is v limit n text next into (at_outer_closing rest) is more inner = found (more rest (omega (arith, ap length is.2)))
+continued_is v limit n text next into (at_outer_closing rest) is more inner =
+    found (more rest (omega (arith, ap length is.2)))
   where
-    found : ReadingOf v limit n rest (next rest) → ReadingOf v limit n text (continued v next into (at_outer_closing rest))
-    found r = record { is = record { front = (is.0, is.1, r.is.front); stop = r.is.stop }; whole = is.2 ∙ ap (λ x. right ∷ x) r.whole }
-continued_is v limit n text next into (at_broken b) is more inner = record { is = record { front = tt; stop = is.0 }; whole = is.1 }
+    found : ReadingOf v limit n rest (next rest)
+        → ReadingOf v limit n text (continued v next into (at_outer_closing rest))
+    found r = record {
+      is = record { front = (is.0, is.1, r.is.front); stop = r.is.stop };
+      whole =
+          is.2 ∙ ap (λ x. right ∷ x) r.whole;
+    }
+continued_is v limit n text next into (at_broken b) is more inner =
+    record { is = record { front = tt; stop = is.0 }; whole = is.1 }
 
-inner_continued_is : (v : DescriptionVersion) (limit n : ℕ) (text white : Text) (next : Text → NestedReading) (front : Pieces) (stop : Stop)
-    → ZeroOrMore is_white white → n < limit → IsReading v limit (suc n) (reading front stop) → text ≡ white ++ left ∷ before front (stop_text stop)
+inner_continued_is : (v : DescriptionVersion) (limit n : ℕ) (text white : Text) (next : Text
+    → NestedReading) (front : Pieces) (stop : Stop)
+    → ZeroOrMore is_white white → n < limit → IsReading v limit (suc n) (reading front stop)
+    → text ≡ white ++ left ∷ before front (stop_text stop)
     → ReadsNestedBelow v limit n text next
     → NestedOf v limit n text (inner_continued next white front stop)
-inner_continued_is v limit n text white next front ended w below is e more = record { front = tt; stop = (w, below, is.front); whole = e }
+inner_continued_is v limit n text white next front ended w below is e more =
+    record { front = tt; stop = (w, below, is.front); whole = e }
 inner_continued_is v limit n text white next front (closed rest) w below is e more =
-    found (more rest (omega (arith, ap length e, length_more white (left ∷ before front (right ∷ rest)), pieces_longer front (right ∷ rest))))
+    found (more rest (omega (
+      arith,
+      ap length e,
+      length_more white (left ∷ before front (right ∷ rest)),
+      pieces_longer front (right ∷ rest),
+    )))
   where
-    found : NestedOf v limit n rest (next rest) → NestedOf v limit n text (inner_continued next white front (closed rest))
-    found r = record { front = (w, below, is.front, r.front); stop = r.stop; whole = e ∙ ap (λ x. white ++ left ∷ before front (right ∷ x)) r.whole }
-inner_continued_is v limit n text white next front (broke b) w below is e more = record { front = tt; stop = (w, below, is.front, is.stop); whole = e }
+    found : NestedOf v limit n rest (next rest)
+        → NestedOf v limit n text (inner_continued next white front (closed rest))
+    found r = record {
+      front = (w, below, is.front, r.front);
+      stop = r.stop;
+      whole =
+          e ∙ ap (λ x. white ++ left ∷ before front (right ∷ x)) r.whole;
+    }
+inner_continued_is v limit n text white next front (broke b) w below is e more =
+    record { front = tt; stop = (w, below, is.front, is.stop); whole = e }
 
-nested_continued_is : (v : DescriptionVersion) (limit n : ℕ) (text : Text) (inner : Text → Reading) (next : Text → NestedReading) (s : NestedStart)
-    → NestedStartIs limit n text s → (n < limit → ReadsBelow v limit (suc n) text inner) → ReadsNestedBelow v limit n text next
+nested_continued_is : (v : DescriptionVersion) (limit n : ℕ) (text : Text) (inner : Text
+    → Reading) (next : Text → NestedReading) (s : NestedStart)
+    → NestedStartIs limit n text s → (n < limit → ReadsBelow v limit (suc n) text inner)
+    → ReadsNestedBelow v limit n text next
     → NestedOf v limit n text (nested_continued inner next s)
-nested_continued_is v limit n text inner next (no_more white rest) is deeper more = record { front = tt; stop = (is.0, is.1, is.2); whole = is.3 }
-nested_continued_is v limit n text inner next (at_limit white rest) is deeper more = record { front = tt; stop = (is.0, is.1); whole = is.2 }
+nested_continued_is v limit n text inner next (no_more white rest) is deeper more =
+    record { front = tt; stop = (is.0, is.1, is.2); whole = is.3 }
+nested_continued_is v limit n text inner next (at_limit white rest) is deeper more =
+    record { front = tt; stop = (is.0, is.1); whole = is.2 }
 nested_continued_is v limit n text inner next (at_inner white rest) is deeper more =
     found (deeper is.1 rest (omega (arith, ap length is.2, length_more white (left ∷ rest))))
   where
-    found : ReadingOf v limit (suc n) rest (inner rest) → NestedOf v limit n text (inner_read next white (inner rest))
-    found r = inner_continued_is v limit n text white next (inner rest).front (inner rest).stop is.0 is.1 r.is (is.2 ∙ ap (λ x. white ++ left ∷ x) r.whole) more
+    found : ReadingOf v limit (suc n) rest (inner rest)
+        → NestedOf v limit n text (inner_read next white (inner rest))
+    found r = inner_continued_is v limit n text white next (inner rest).front (inner rest).stop is.0
+        is.1 r.is (is.2 ∙ ap (λ x. white ++ left ∷ x) r.whole) more
 
 mutual
   unfolding read read_nested
 
-  pub found : (k : ℕ) (v : DescriptionVersion) (limit n : ℕ) (text : Text) → n ≤ limit → length text < k → ReadingOf v limit n text (read k v limit n text)
+  pub found : (k : ℕ) (v : DescriptionVersion) (limit n : ℕ) (text : Text) → n ≤ limit
+      → length text < k → ReadingOf v limit n text (read k v limit n text)
   found zero v limit n text within enough = absurd (omega arith)
   found (suc k) v limit n text within enough =
-      continued_is v limit n text (λ t. read k v limit n t) (λ t. read_nested k v limit n t) (start_of k v n text)
+      continued_is v limit n text (λ t. read k v limit n t) (λ t. read_nested k v limit n t)
+      (start_of k v n text)
       (start_is k v limit n text (omega arith))
       (λ t below. found k v limit n t within (omega arith))
       (λ t below. nested_found k v limit n t within (omega arith))
 
-  pub nested_found : (k : ℕ) (v : DescriptionVersion) (limit n : ℕ) (text : Text) → n ≤ limit → length text < k → NestedOf v limit n text (read_nested k v limit n text)
+  pub nested_found : (k : ℕ) (v : DescriptionVersion) (limit n : ℕ) (text : Text) → n ≤ limit
+      → length text < k → NestedOf v limit n text (read_nested k v limit n text)
   nested_found zero v limit n text within enough = absurd (omega arith)
   nested_found (suc k) v limit n text within enough =
-      nested_continued_is v limit n text (λ t. read k v limit (suc n) t) (λ t. read_nested k v limit n t) (nested_start_of limit n text)
+      nested_continued_is v limit n text (λ t. read k v limit (suc n) t)
+      (λ t. read_nested k v limit n t) (nested_start_of limit n text)
       (nested_start_is limit n text within)
       (λ deeper t below. found k v limit (suc n) t (omega arith) (omega arith))
       (λ t below. nested_found k v limit n t within (omega arith))

@@ -12,7 +12,7 @@ use Rattle.timefd_language.specs.Head.{Head, head_text, placed}
 use Rattle.timefd_language.specs.declared.setting.Settings.{Settings}
 use Rattle.timefd_language.specs.declared.name.ComponentName.{ComponentName}
 use Rattle.timefd_language.specs.Names.{Row, rows, row_for, row_of, component_names, ignored}
-use Rattle.timefd_language.specs.Verdict.{Part, behind, bad_modifiers, settings, made, touching, nested_refused, is_formatted, only, optional_verdict, first_verdict, component_verdict, verdict}
+use Rattle.timefd_language.specs.Verdict.{PlacedDescription, behind, bad_modifiers, settings, made, touching, nested_refused, is_formatted, only, optional_verdict, first_verdict, component_verdict, verdict}
 use Rattle.timefd_language.specs.Grammar.{Pieces, no_pieces, run, escape, closing, bracket, Nested, no_nested, nested, spelling, nested_text, items, ArePieces, AreNested, parts_from}
 use Rattle.timefd_language.specs.Letters.{Flag, Letter, letters, is_one_of, item_in, item_of}
 use Rattle.timefd_language.specs.Strftime.{Directives, no_directives, plain, directive, directive_items, AreDirectives}
@@ -25,7 +25,8 @@ use Rattle.timefd_language.proofs.Roomy.{unless_ok, behind_ok, made_ok}
 abbrev IsModernRow : Row → Type 0
 IsModernRow r = (s : Settings) (c : Component) → r.component s ≡ Ok c → modern c ≡ c
 
-made_modern : (d c : Component) → ◌≡◌ {A = Result Component Kind} (Ok d) (Ok c) → modern d ≡ d → modern c ≡ c
+made_modern : (d c : Component) → ◌≡◌ {A = Result Component Kind} (Ok d) (Ok c) → modern d ≡ d
+    → modern c ≡ c
 made_modern d c e h = let is : d ≡ c = cc in subst (λ x. modern x ≡ x) is h
 
 ignore_modern : (o : Option NonZeroU16) (c : Component) → ignored o ≡ Ok c → modern c ≡ c
@@ -36,10 +37,14 @@ ignore_modern (Some n) c e = made_modern (Component.Ignore (record { count = n }
 pub name_modern : (n : ComponentName) → IsModernRow (row_for n)
 name_modern ComponentName.Day = λ s c e. made_modern _ c e refl
 name_modern ComponentName.End = λ s c e. made_modern _ c e refl
-name_modern ComponentName.Hour = λ s c e. made_modern _ c e (modern_twice_law (Component.Hour (record { padding = s.padding; is_12_hour_clock = s.is_12_hour_clock })))
+name_modern ComponentName.Hour = λ s c e. made_modern _ c e
+    (modern_twice_law (Component.Hour
+    (record { padding = s.padding; is_12_hour_clock = s.is_12_hour_clock })))
 name_modern ComponentName.Ignore = λ s c e. ignore_modern s.count c e
 name_modern ComponentName.Minute = λ s c e. made_modern _ c e refl
-name_modern ComponentName.Month = λ s c e. made_modern _ c e (modern_twice_law (Component.Month (record { padding = s.padding; repr = s.month_repr; case_sensitive = s.case_sensitive })))
+name_modern ComponentName.Month = λ s c e. made_modern _ c e
+    (modern_twice_law (Component.Month
+    (record { padding = s.padding; repr = s.month_repr; case_sensitive = s.case_sensitive })))
 name_modern ComponentName.OffsetHour = λ s c e. made_modern _ c e refl
 name_modern ComponentName.OffsetMinute = λ s c e. made_modern _ c e refl
 name_modern ComponentName.OffsetSecond = λ s c e. made_modern _ c e refl
@@ -47,45 +52,76 @@ name_modern ComponentName.Ordinal = λ s c e. made_modern _ c e refl
 name_modern ComponentName.Period = λ s c e. made_modern _ c e refl
 name_modern ComponentName.Second = λ s c e. made_modern _ c e refl
 name_modern ComponentName.Subsecond = λ s c e. made_modern _ c e refl
-name_modern ComponentName.UnixTimestamp = λ s c e. made_modern _ c e (modern_twice_law (Component.UnixTimestamp (record { precision = s.precision; sign_is_mandatory = s.sign_is_mandatory })))
-name_modern ComponentName.Weekday = λ s c e. made_modern _ c e (modern_twice_law (Component.Weekday (record { repr = s.weekday_repr; one_indexed = s.one_indexed; case_sensitive = s.case_sensitive })))
-name_modern ComponentName.WeekNumber = λ s c e. made_modern _ c e (modern_twice_law (Component.WeekNumber (record { padding = s.padding; repr = s.week_number_repr })))
-name_modern ComponentName.Year = λ s c e. made_modern _ c e (modern_twice_law (Component.Year (record { padding = s.padding; repr = s.year_repr; range = s.range; iso_week_based = s.iso_week_based; sign_is_mandatory = s.sign_is_mandatory })))
+name_modern ComponentName.UnixTimestamp =
+    λ s c e. made_modern _ c e (modern_twice_law
+    (Component.UnixTimestamp (record {
+      precision = s.precision;
+      sign_is_mandatory =
+          s.sign_is_mandatory;
+    })))
+name_modern ComponentName.Weekday =
+    λ s c e. made_modern _ c e (modern_twice_law
+    (Component.Weekday (record {
+      repr = s.weekday_repr;
+      one_indexed =
+          s.one_indexed;
+      case_sensitive = s.case_sensitive;
+    })))
+name_modern ComponentName.WeekNumber =
+    λ s c e. made_modern _ c e (modern_twice_law
+    (Component.WeekNumber (record { padding = s.padding; repr = s.week_number_repr })))
+name_modern ComponentName.Year = λ s c e. made_modern _ c e
+    (modern_twice_law (Component.Year
+    (record {
+      padding = s.padding;
+      repr = s.year_repr;
+      range = s.range;
+      iso_week_based =
+          s.iso_week_based;
+      sign_is_mandatory = s.sign_is_mandatory;
+    })))
 
 rows_modern : Each IsModernRow rows
 rows_modern = each-map row_for IsModernRow component_names name_modern
 
-row_modern : (strict : Bool) (name : Text) (rs : List Row) (r : Row) → Each IsModernRow rs → named (λ x. x.name) strict name rs ≡ Some r → IsModernRow r
+row_modern : (strict : Bool) (name : Text) (rs : List Row) (r : Row) → Each IsModernRow rs
+    → named (λ x. x.name) strict name rs ≡ Some r → IsModernRow r
 row_modern strict name [] r all e = absurd cc
-row_modern strict name (x ∷ rs) r all e = by (λ h. row_modern strict name rs r all.1 h) (same strict x.name name) e
+row_modern strict name (x ∷ rs) r all e =
+    by (λ h. row_modern strict name rs r all.1 h) (same strict x.name name) e
   where
     by : (named (λ y. y.name) strict name rs ≡ Some r → IsModernRow r) → (t : Bool)
-        → elim t [ true ↦ Some x | false ↦ named (λ y. y.name) strict name rs ] ≡ Some r → IsModernRow r
+        → elim t [ true ↦ Some x | false ↦ named (λ y. y.name) strict name rs ] ≡ Some r
+        → IsModernRow r
     by more true h = let is : x ≡ r = cc in subst IsModernRow is all.0
     by more false h = more h
 
 -- Brackets.
 
-component_modern : (strict : Bool) (h : Head) (tree : Tree) (o : Option Row) → row_of strict h.name ≡ o → component_verdict strict h o ≡ Ok tree → IsModern tree
+component_modern : (strict : Bool) (h : Head) (tree : Tree) (o : Option Row)
+    → row_of strict h.name ≡ o → component_verdict strict h o ≡ Ok tree → IsModern tree
 component_modern strict h tree None known e = absurd cc
 component_modern strict h tree (Some r) known e =
     let leaf = made_ok strict h (r.component (settings strict r.keys (placed h))) tree
-    (behind_ok (bad_modifiers strict r.keys [] (placed h)) (made strict h (r.component (settings strict r.keys (placed h)))) tree e) in
-    subst IsModern leaf.1 (row_modern strict h.name rows r rows_modern known (settings strict r.keys (placed h)) leaf.0 leaf.2)
+    (behind_ok (bad_modifiers strict r.keys [] (placed h))
+    (made strict h (r.component (settings strict r.keys (placed h)))) tree e) in
+    subst IsModern leaf.1 (row_modern strict h.name rows r rows_modern known
+    (settings strict r.keys (placed h)) leaf.0 leaf.2)
 
 pack_modern : (ts : List Tree) → AreModern (trees ts) → IsModern (pack ts)
 pack_modern [] h = tt
 pack_modern (t ∷ []) h = h.0
 pack_modern (t ∷ u ∷ ts) h = h
 
-abbrev PartsModern : List Part → Type 0
+abbrev PartsModern : List PlacedDescription → Type 0
 PartsModern = Each (λ p. AreModern (trees p.trees))
 
-packs_modern : (ps : List Part) → PartsModern ps → AreModern (trees (map (λ p. pack p.trees) ps))
+packs_modern : (ps : List PlacedDescription) → PartsModern ps
+    → AreModern (trees (map (λ p. pack p.trees) ps))
 packs_modern [] h = tt
 packs_modern (p ∷ ps) h = (pack_modern p.trees h.0, packs_modern ps h.1)
 
-only_modern : (ps : List Part) → PartsModern ps → IsModern (only ps)
+only_modern : (ps : List PlacedDescription) → PartsModern ps → IsModern (only ps)
 only_modern [] h = tt
 only_modern (p ∷ ps) h = pack_modern p.trees h.0
 
@@ -93,41 +129,61 @@ either : (b : Bool) (x y z : Result Tree Fault) → cond b x y ≡ z → (x ≡ 
 either true x y z e = inl e
 either false x y z e = inr e
 
-verdict_modern : (strict : Bool) (h : Head) (parts : List Part) (close : ℕ) (tree : Tree) → PartsModern parts → verdict strict h parts close ≡ Ok tree → IsModern tree
+verdict_modern : (strict : Bool) (h : Head) (parts : List PlacedDescription) (close : ℕ)
+    (tree : Tree) → PartsModern parts → verdict strict h parts close ≡ Ok tree → IsModern tree
 verdict_modern strict h parts close tree modern e =
-    outer (either (same strict (codes "optional") h.name) (optional_verdict strict h parts close) _ (Ok tree) (behind_ok (touching parts) _ tree e))
+    outer (either (same strict (codes "optional") h.name) (optional_verdict strict h parts close) _
+    (Ok tree) (behind_ok (touching parts) _ tree e))
   where
-    inner : (first_verdict strict h parts close ≡ Ok tree) ⊎ (behind (nested_refused parts) (component_verdict strict h (row_of strict h.name)) ≡ Ok tree) → IsModern tree
-    inner (inl f) = subst IsModern (unless_ok _ (first (trees (map (λ p. pack p.trees) parts))) tree f) (packs_modern parts modern)
-    inner (inr c) = component_modern strict h tree (row_of strict h.name) refl (behind_ok (nested_refused parts) (component_verdict strict h (row_of strict h.name)) tree c)
+    inner : (first_verdict strict h parts close ≡ Ok tree)
+        ⊎ (behind (nested_refused parts) (component_verdict strict h (row_of strict h.name)) ≡ Ok
+        tree) → IsModern tree
+    inner (inl f) = subst IsModern (unless_ok _ (first (trees (map (λ p. pack p.trees) parts))) tree
+        f) (packs_modern parts modern)
+    inner (inr c) = component_modern strict h tree (row_of strict h.name) refl
+        (behind_ok (nested_refused parts) (component_verdict strict h (row_of strict h.name)) tree
+        c)
 
     outer : (optional_verdict strict h parts close ≡ Ok tree)
-        ⊎ (cond (same strict (codes "first") h.name) (first_verdict strict h parts close) (behind (nested_refused parts) (component_verdict strict h (row_of strict h.name))) ≡ Ok tree)
+        ⊎ (cond (same strict (codes "first") h.name) (first_verdict strict h parts close)
+        (behind (nested_refused parts) (component_verdict strict h (row_of strict h.name))) ≡ Ok
+        tree)
         → IsModern tree
-    outer (inl o) = subst IsModern (unless_ok _ (optional (is_formatted strict (placed h)) (only parts)) tree o) (only_modern parts modern)
-    outer (inr r) = inner (either (same strict (codes "first") h.name) (first_verdict strict h parts close) (behind (nested_refused parts) (component_verdict strict h (row_of strict h.name))) (Ok tree) r)
+    outer (inl o) =
+        subst IsModern (unless_ok _ (optional (is_formatted strict (placed h)) (only parts)) tree o)
+        (only_modern parts modern)
+    outer (inr r) =
+        inner (either (same strict (codes "first") h.name) (first_verdict strict h parts close)
+        (behind (nested_refused parts) (component_verdict strict h (row_of strict h.name)))
+        (Ok tree) r)
 
 -- All pieces.
 
 mutual
-  pieces_modern : (ps : Pieces) (v : DescriptionVersion) (limit n : ℕ) → ArePieces v limit n ps → AreModern (trees (items ps))
+  pieces_modern : (ps : Pieces) (v : DescriptionVersion) (limit n : ℕ) → ArePieces v limit n ps
+      → AreModern (trees (items ps))
   pieces_modern no_pieces v limit n are = tt
   pieces_modern (run bytes rest) v limit n are = (tt, pieces_modern rest v limit n are.2)
   pieces_modern (escape a b rest) v limit n are = (tt, pieces_modern rest v limit n are.1)
   pieces_modern (closing rest) v limit n are = (tt, pieces_modern rest v limit n are.2)
   pieces_modern (bracket h ns white tree rest) v limit n are = (
-    verdict_modern (is_version_three v) h (parts_from (length (head_text h)) ns) (length (head_text h ++ nested_text ns ++ white)) tree
+    verdict_modern (is_version_three v) h (parts_from (length (head_text h)) ns)
+        (length (head_text h ++ nested_text ns ++ white)) tree
         (nested_modern ns (length (head_text h)) v limit n are.1) are.3,
     pieces_modern rest v limit n are.4,
   )
 
-  nested_modern : (ns : Nested) (k : ℕ) (v : DescriptionVersion) (limit n : ℕ) → AreNested v limit n ns → PartsModern (parts_from k ns)
+  nested_modern : (ns : Nested) (k : ℕ) (v : DescriptionVersion) (limit n : ℕ)
+      → AreNested v limit n ns → PartsModern (parts_from k ns)
   nested_modern no_nested k v limit n are = tt
-  nested_modern (nested white ps ns) k v limit n are =
-      (pieces_modern ps v limit (suc n) are.2, nested_modern ns (k + length white + 1 + length (spelling ps) + 1) v limit n are.3)
+  nested_modern (nested white ps ns) k v limit n are = (
+    pieces_modern ps v limit (suc n) are.2,
+    nested_modern ns (k + length white + 1 + length (spelling ps) + 1) v limit n are.3,
+  )
 
 pub modernity_law : Modernity
-modernity_law v limit n text list h = subst (λ x. AreModern (trees x)) (sym h.3) (pieces_modern h.0 v limit n h.1)
+modernity_law v limit n text list h =
+    subst (λ x. AreModern (trees x)) (sym h.3) (pieces_modern h.0 v limit n h.1)
 
 -- Strftime.
 
@@ -196,18 +252,96 @@ letters_modern = (
                                                           (
                                                             λ f. refl,
                                                             (
-                                                              λ f. (refl, (tt, (refl, (tt, (refl, (tt, (refl, (tt, (refl, (tt, (refl, (tt, (refl, tt))))))))))))),
-                                                              (
-                                                                λ f. (refl, (tt, (refl, (tt, (refl, tt))))),
+                                                              λ f. (
+                                                                refl,
                                                                 (
-                                                                  λ f. (refl, (tt, (refl, (tt, (refl, tt))))),
+                                                                  tt,
                                                                   (
-                                                                    λ f. (refl, (tt, (refl, (tt, (refl, (tt, (refl, tt))))))),
+                                                                    refl,
+                                                                    (
+                                                                      tt,
+                                                                      (
+                                                                        refl,
+                                                                        (
+                                                                          tt,
+                                                                          (
+                                                                            refl,
+                                                                            (
+                                                                              tt,
+                                                                              (
+                                                                                refl,
+                                                                                (
+                                                                                  tt,
+                                                                                  (
+                                                                                    refl,
+                                                                                    (
+                                                                                      tt,
+                                                                                      (
+                                                                                        refl,
+                                                                                        tt,
+                                                                                      ),
+                                                                                    ),
+                                                                                  ),
+                                                                                ),
+                                                                              ),
+                                                                            ),
+                                                                          ),
+                                                                        ),
+                                                                      ),
+                                                                    ),
+                                                                  ),
+                                                                ),
+                                                              ),
+                                                              (
+                                                                λ f. (
+                                                                  refl,
+                                                                  (tt, (refl, (tt, (refl, tt)))),
+                                                                ),
+                                                                (
+                                                                  λ f. (
+                                                                    refl,
+                                                                    (
+                                                                      tt,
+                                                                      (
+                                                                        refl,
+                                                                        (tt, (refl, tt)),
+                                                                      ),
+                                                                    ),
+                                                                  ),
+                                                                  (
+                                                                    λ f. (
+                                                                      refl,
+                                                                      (
+                                                                        tt,
+                                                                        (
+                                                                          refl,
+                                                                          (
+                                                                            tt,
+                                                                            (
+                                                                              refl,
+                                                                              (tt, (refl, tt)),
+                                                                            ),
+                                                                          ),
+                                                                        ),
+                                                                      ),
+                                                                    ),
                                                                     (
                                                                       λ f. (refl, (tt, (refl, tt))),
                                                                       (
-                                                                        λ f. (refl, (tt, (refl, (tt, (refl, tt))))),
-                                                                        (λ f. (refl, (refl, tt)), tt),
+                                                                        λ f. (
+                                                                          refl,
+                                                                          (
+                                                                            tt,
+                                                                            (
+                                                                              refl,
+                                                                              (tt, (refl, tt)),
+                                                                            ),
+                                                                          ),
+                                                                        ),
+                                                                        (
+                                                                          λ f. (refl, (refl, tt)),
+                                                                          tt,
+                                                                        ),
                                                                       ),
                                                                     ),
                                                                   ),
@@ -245,11 +379,14 @@ letters_modern = (
   ),
 )
 
-item_modern : (ls : List Letter) (f : Flag) (b : ℕ) (tree : Tree) → Each IsModernLetter ls → item_in ls f b ≡ Some tree → IsModern tree
+item_modern : (ls : List Letter) (f : Flag) (b : ℕ) (tree : Tree) → Each IsModernLetter ls
+    → item_in ls f b ≡ Some tree → IsModern tree
 item_modern [] f b tree all e = absurd cc
-item_modern (l ∷ ls) f b tree all e = by (λ h. item_modern ls f b tree all.1 h) (is_one_of b l.letters) e
+item_modern (l ∷ ls) f b tree all e =
+    by (λ h. item_modern ls f b tree all.1 h) (is_one_of b l.letters) e
   where
-    by : (item_in ls f b ≡ Some tree → IsModern tree) → (t : Bool) → elim t [ true ↦ Some (l.item f) | false ↦ item_in ls f b ] ≡ Some tree → IsModern tree
+    by : (item_in ls f b ≡ Some tree → IsModern tree) → (t : Bool)
+        → elim t [ true ↦ Some (l.item f) | false ↦ item_in ls f b ] ≡ Some tree → IsModern tree
     by more true h = let is : l.item f ≡ tree = cc in subst IsModern is (all.0 f)
     by more false h = more h
 
@@ -257,7 +394,9 @@ directives_modern : (ds : Directives) → AreDirectives ds → AreModern (trees 
 unfolding item_of
 directives_modern no_directives are = tt
 directives_modern (plain bytes rest) are = (tt, directives_modern rest are.2)
-directives_modern (directive f b tree rest) are = (item_modern letters f b tree letters_modern are.2, directives_modern rest are.3)
+directives_modern (directive f b tree rest) are =
+    (item_modern letters f b tree letters_modern are.2, directives_modern rest are.3)
 
 pub strftime_modernity_law : StrftimeModernity
-strftime_modernity_law text list h = subst (λ x. AreModern (trees x)) (sym h.3) (directives_modern h.0 h.1)
+strftime_modernity_law text list h =
+    subst (λ x. AreModern (trees x)) (sym h.3) (directives_modern h.0 h.1)

@@ -1,4 +1,5 @@
--- Reading a text: its pieces, and what stands behind them. Each step has one more than the steps in it, so that
+-- Reading a text: its pieces, and what stands behind them. Each step has one more than the steps in
+-- it, so that
 -- reading ends; the text's length is enough.
 use Rattle.std.proofs.Common.{ℕ, zero, suc, ◌==◌, nat_lt, Bool, true, false, List, [], ◌∷◌, Result, Ok, Err, length}
 use Rattle.timefd_language.specs.declared.description_version.DescriptionVersion.{DescriptionVersion}
@@ -25,7 +26,8 @@ behind_one b c = cut (b ∷ c.front) c.rest
 
 unfoldable pub span : (ℕ → Bool) → Text → Cut
 span test [] = cut [] []
-span test (b ∷ bytes) = elim (test b) [ true ↦ behind_one b (span test bytes) | false ↦ cut [] (b ∷ bytes) ]
+span test (b ∷ bytes) = elim (test b)
+    [ true ↦ behind_one b (span test bytes) | false ↦ cut [] (b ∷ bytes) ]
 
 -- Words.
 
@@ -61,14 +63,16 @@ with_modifier m (one_misfits ms white word rest) = one_misfits (m ∷ ms) white 
 
 -- white bytes, a word as it was read, and the rest, of which next are the modifiers
 abbrev pub word_continued : (Text → ModifiersRead) → Text → Text → WordRead → ModifiersRead
-word_continued next white rest (fits key value) = with_modifier (modifier white key value) (next rest)
+word_continued next white rest (fits key value) =
+    with_modifier (modifier white key value) (next rest)
 word_continued next white rest (misfits m) = one_misfits [] white m rest
 
 -- white bytes, a word that may be empty, and the rest of a text
 abbrev pub modifiers_continued : (Text → ModifiersRead) → Text → Text → Text → Text → ModifiersRead
 modifiers_continued next text [] word rest = all_fit [] text
 modifiers_continued next text (b ∷ white) [] rest = all_fit [] text
-modifiers_continued next text (b ∷ white) (c ∷ word) rest = word_continued next (b ∷ white) rest (word_of (c ∷ word))
+modifiers_continued next text (b ∷ white) (c ∷ word) rest =
+    word_continued next (b ∷ white) rest (word_of (c ∷ word))
 
 unfoldable pub read_modifiers : ℕ → Text → ModifiersRead
 read_modifiers zero text = all_fit [] text
@@ -93,7 +97,8 @@ head_with white name ms = record { white = white; name = name; modifiers = ms }
 
 abbrev pub head_continued : Text → Text → ModifiersRead → Start
 head_continued white name (all_fit ms rest) = at_head (head_with white name ms) rest
-head_continued white name (one_misfits ms white' word rest) = at_broken (ill_modified (head_with white name ms) white' word rest)
+head_continued white name (one_misfits ms white' word rest) =
+    at_broken (ill_modified (head_with white name ms) white' word rest)
 
 abbrev pub named : ℕ → Text → Text → Text → Start
 named k white [] rest = at_broken (nameless white rest)
@@ -108,7 +113,8 @@ head_start k text =
 
 unfoldable pub left_start_one : ℕ → Text → Start
 left_start_one k [] = head_start k []
-left_start_one k (b ∷ text) = elim (b == left) [ true ↦ at_escape left left text | false ↦ head_start k (b ∷ text) ]
+left_start_one k (b ∷ text) = elim (b == left)
+    [ true ↦ at_escape left left text | false ↦ head_start k (b ∷ text) ]
 
 unfoldable pub left_start : ℕ → DescriptionVersion → Text → Start
 left_start k One text = left_start_one k text
@@ -117,11 +123,13 @@ left_start k Three text = head_start k text
 
 unfoldable pub backslash_start : Text → Start
 backslash_start [] = at_broken (half_escape [])
-backslash_start (b ∷ text) = elim (is_special b) [ true ↦ at_escape backslash b text | false ↦ at_broken (half_escape (b ∷ text)) ]
+backslash_start (b ∷ text) = elim (is_special b)
+    [ true ↦ at_escape backslash b text | false ↦ at_broken (half_escape (b ∷ text)) ]
 
 unfoldable pub right_start : DescriptionVersion → ℕ → Text → Start
 right_start v (suc n) text = at_closing text
-right_start v zero text = elim (is_version_three v) [ true ↦ at_broken (bare_closing text) | false ↦ at_outer_closing text ]
+right_start v zero text = elim (is_version_three v)
+    [ true ↦ at_broken (bare_closing text) | false ↦ at_outer_closing text ]
 
 abbrev pub run_start : ℕ → Cut → Start
 run_start b c = at_run (b ∷ c.front) c.rest
@@ -202,27 +210,33 @@ unfoldable pub closed_of : DescriptionVersion → Head → NestedReading → Clo
 closed_of v h r = stopped_by v h r.front r.stop
 
 abbrev pub with_bracket : (Text → Reading) → Closed → Reading
-with_bracket next (whole h ns white tree rest) = let r = next rest in reading (bracket h ns white tree r.front) r.stop
+with_bracket next (whole h ns white tree rest) = let r = next rest in
+    reading (bracket h ns white tree r.front) r.stop
 with_bracket next (fails b) = reading no_pieces (broke b)
 
-abbrev pub continued : DescriptionVersion → (Text → Reading) → (Text → NestedReading) → Start → Reading
+abbrev pub continued : DescriptionVersion → (Text → Reading) → (Text → NestedReading) → Start
+    → Reading
 continued v next into at_end = reading no_pieces ended
 continued v next into (at_run bytes rest) = let r = next rest in reading (run bytes r.front) r.stop
 continued v next into (at_closing rest) = reading no_pieces (closed rest)
-continued v next into (at_escape a b rest) = let r = next rest in reading (escape a b r.front) r.stop
-continued v next into (at_outer_closing rest) = let r = next rest in reading (closing r.front) r.stop
+continued v next into (at_escape a b rest) = let r = next rest in
+    reading (escape a b r.front) r.stop
+continued v next into (at_outer_closing rest) = let r = next rest in
+    reading (closing r.front) r.stop
 continued v next into (at_broken b) = reading no_pieces (broke b)
 continued v next into (at_head h rest) = with_bracket next (closed_of v h (into rest))
 
 abbrev pub inner_continued : (Text → NestedReading) → Text → Pieces → Stop → NestedReading
 inner_continued next white front ended = nested_reading no_nested (inner_ended white front)
-inner_continued next white front (closed rest) = let r = next rest in nested_reading (nested white front r.front) r.stop
+inner_continued next white front (closed rest) = let r = next rest in
+    nested_reading (nested white front r.front) r.stop
 inner_continued next white front (broke b) = nested_reading no_nested (inner_broke white front b)
 
 abbrev pub inner_read : (Text → NestedReading) → Text → Reading → NestedReading
 inner_read next white r = inner_continued next white r.front r.stop
 
-abbrev pub nested_continued : (Text → Reading) → (Text → NestedReading) → NestedStart → NestedReading
+abbrev pub nested_continued : (Text → Reading) → (Text → NestedReading) → NestedStart
+    → NestedReading
 nested_continued inner next (no_more white rest) = nested_reading no_nested (over white rest)
 nested_continued inner next (at_limit white rest) = nested_reading no_nested (over_limit white rest)
 nested_continued inner next (at_inner white rest) = inner_read next white (inner rest)
@@ -236,7 +250,8 @@ unfoldable mutual
   pub read_nested : ℕ → DescriptionVersion → ℕ → ℕ → Text → NestedReading
   read_nested zero v limit n text = nested_reading no_nested (over [] text)
   read_nested (suc k) v limit n text =
-      nested_continued (λ t. read k v limit (suc n) t) (λ t. read_nested k v limit n t) (nested_start_of limit n text)
+      nested_continued (λ t. read k v limit (suc n) t) (λ t. read_nested k v limit n t)
+      (nested_start_of limit n text)
 
 -- What the text is: the trees, or the fault.
 
@@ -246,5 +261,7 @@ answer_from front (closed rest) = Ok []
 answer_from front (broke b) = Err (raised (broken_fault b) (length (spelling front)))
 
 unfoldable pub answer_of : DescriptionVersion → ℕ → Text → Result (List Tree) Fault
-unfolding read start_of nested_start_of closed_of span word_of read_modifiers head_start left_start left_start_one backslash_start right_start
-answer_of v limit text = let r = read (suc (length text)) v limit 0 text in answer_from r.front r.stop
+unfolding read start_of nested_start_of closed_of span word_of read_modifiers head_start left_start
+    left_start_one backslash_start right_start
+answer_of v limit text = let r = read (suc (length text)) v limit 0 text in
+    answer_from r.front r.stop

@@ -16,20 +16,31 @@ wanted : List Case → List (Result (List Tree) Fault)
 wanted = map (λ c. Err c.fault)
 
 abbrev refuses : Text → Text → Text → ℕ → Case
-refuses text key context index = record { text = text; fault = fault (invalid_combination key context) index }
+refuses text key context index = record {
+  text = text;
+  fault =
+      fault (invalid_combination key context) index;
+}
 
 cases : List Case
 cases =
-    refuses (codes "month case_sensitive:true") (codes "case_sensitive") (codes "for numerical month") 7
+    refuses (codes "month case_sensitive:true") (codes "case_sensitive")
+    (codes "for numerical month") 7
     ∷ refuses (codes "month padding:none repr:long") (codes "padding") (codes "for long month") 7
     ∷ refuses (codes "month repr:short padding:none") (codes "padding") (codes "for short month") 18
-    ∷ refuses (codes "weekday repr:short one_indexed:true") (codes "one_indexed") (codes "for short weekday") 20
+    ∷ refuses (codes "weekday repr:short one_indexed:true") (codes "one_indexed")
+    (codes "for short weekday") 20
     ∷ refuses (codes "weekday one_indexed:true") (codes "one_indexed") (codes "for long weekday") 9
-    ∷ refuses (codes "weekday repr:sunday case_sensitive:true") (codes "case_sensitive") (codes "for numerical weekday") 21
-    ∷ refuses (codes "weekday case_sensitive:true repr:monday") (codes "case_sensitive") (codes "for numerical weekday") 9
-    ∷ refuses (codes "year repr:last_two sign:mandatory range:standard") (codes "range") (codes "when `repr:last_two` is used") 35
-    ∷ refuses (codes "year sign:mandatory repr:last_two") (codes "sign") (codes "when `repr:last_two` is used") 6
-    ∷ refuses (codes "year base:iso_week range:extended repr:last_two") (codes "range") (codes "when `repr:last_two` is used") 20 ∷ []
+    ∷ refuses (codes "weekday repr:sunday case_sensitive:true") (codes "case_sensitive")
+    (codes "for numerical weekday") 21
+    ∷ refuses (codes "weekday case_sensitive:true repr:monday") (codes "case_sensitive")
+    (codes "for numerical weekday") 9
+    ∷ refuses (codes "year repr:last_two sign:mandatory range:standard") (codes "range")
+    (codes "when `repr:last_two` is used") 35
+    ∷ refuses (codes "year sign:mandatory repr:last_two") (codes "sign")
+    (codes "when `repr:last_two` is used") 6
+    ∷ refuses (codes "year base:iso_week range:extended repr:last_two") (codes "range")
+    (codes "when `repr:last_two` is used") 20 ∷ []
 
 all_refused : answers cases ≡ wanted cases
 unfolding answers wanted cases answer_of

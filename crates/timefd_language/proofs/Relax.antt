@@ -64,8 +64,11 @@ IsPlainWord key v = IsLowered v.word × (is_range v.sets ≡ equal (codes "range
 plain_word : (key : Text) (v : Value Setting) → is_plain_word key v ≡ true → IsPlainWord key v
 unfolding is_plain_word is_lowered IsPlainWord
 plain_word key v e =
-    let p = and_parts (is_lowered v.word) (is_same (is_range v.sets) (equal (codes "range") key)) e in
-    (equal-true (map lowered v.word) v.word p.0, same_is (is_range v.sets) (equal (codes "range") key) p.1)
+    let p = and_parts (is_lowered v.word) (is_same (is_range v.sets) (equal (codes "range") key)) e
+    in (
+      equal-true (map lowered v.word) v.word p.0,
+      same_is (is_range v.sets) (equal (codes "range") key) p.1,
+    )
 
 are_plain : Text → Values → Bool
 are_plain key (words vs) = list_all (is_plain_word key) vs
@@ -88,7 +91,8 @@ key_names : (ks : List Key) → Each IsPlain ks → Each (λ k. IsLowered k.key)
 key_names [] all = tt
 key_names (k ∷ ks) all = (all.0.key, key_names ks all.1)
 
-word_names : (key : Text) (vs : List (Value Setting)) → Each (IsPlainWord key) vs → Each (λ v. IsLowered v.word) vs
+word_names : (key : Text) (vs : List (Value Setting)) → Each (IsPlainWord key) vs
+    → Each (λ v. IsLowered v.word) vs
 unfolding IsPlainWord
 word_names key [] all = tt
 word_names key (v ∷ vs) all = (all.0.0, word_names key vs all.1)
@@ -127,10 +131,18 @@ timestamp_same UnixTimestampPrecision.Nanosecond t = (refl, tt)
 
 abbrev year_with : Bool → YearRepr → YearRange → Padding → Bool → Component
 year_with iso repr range padding sign =
-    modern_year iso repr range (record { padding = padding; repr = repr; range = range; iso_week_based = iso; sign_is_mandatory = sign })
+    modern_year iso repr range (record {
+      padding = padding;
+      repr = repr;
+      range =
+          range;
+      iso_week_based = iso;
+      sign_is_mandatory = sign;
+    })
 
 year_widened : (iso : Bool) (k : YearRepr) (p : Padding) (s : Bool)
-    → (year_with iso k YearRange.Extended p s ≡ widened (year_with iso k YearRange.Standard p s)) × IsStandard (year_with iso k YearRange.Standard p s)
+    → (year_with iso k YearRange.Extended p s ≡ widened (year_with iso k YearRange.Standard p s))
+    × IsStandard (year_with iso k YearRange.Standard p s)
 year_widened true YearRepr.Full p s = (refl, tt)
 year_widened true YearRepr.Century p s = (refl, tt)
 year_widened true YearRepr.LastTwo p s = (refl, tt)
@@ -138,10 +150,12 @@ year_widened false YearRepr.Full p s = (refl, tt)
 year_widened false YearRepr.Century p s = (refl, tt)
 year_widened false YearRepr.LastTwo p s = (refl, tt)
 
-ignore_same : (o : Option NonZeroU16) (c : Component) → ignored o ≡ Ok c → (ignored o ≡ Ok (widened c)) × IsStandard c
+ignore_same : (o : Option NonZeroU16) (c : Component) → ignored o ≡ Ok c
+    → (ignored o ≡ Ok (widened c)) × IsStandard c
 ignore_same None c e = absurd cc
 ignore_same (Some n) c e =
-    let is : Component.Ignore (record { count = n }) ≡ c = cc in (ap Ok (ap widened is), subst IsStandard is tt)
+    let is : Component.Ignore (record { count = n }) ≡ c = cc in
+    (ap Ok (ap widened is), subst IsStandard is tt)
 
 abbrev in_range : YearRange → Settings → Settings
 in_range r s = record s { range = r }
@@ -149,10 +163,13 @@ in_range r s = record s { range = r }
 -- a component of the standard range, which in the extended range is that one widened
 abbrev Widens : (Settings → Result Component Kind) → Type 0
 Widens f =
-    (s : Settings) (c : Component) → f (in_range YearRange.Standard s) ≡ Ok c → (f (in_range YearRange.Extended s) ≡ Ok (widened c)) × IsStandard c
+    (s : Settings) (c : Component) → f (in_range YearRange.Standard s) ≡ Ok c
+    → (f (in_range YearRange.Extended s) ≡ Ok (widened c)) × IsStandard c
 
 is_plain_row : Row → Bool
-is_plain_row r = is_lowered r.name && (not (equal (codes "optional") r.name) && (not (equal (codes "first") r.name) && list_all is_plain r.keys))
+is_plain_row r =
+    is_lowered r.name && (not (equal (codes "optional") r.name)
+    && (not (equal (codes "first") r.name) && list_all is_plain r.keys))
 
 -- a row in lower case, whose component is widened with its range
 record IsPlainRow (r : Row) : Type 0 where
@@ -177,10 +194,13 @@ plain_row r e widens =
     }
 
 by_form : (f : Settings → Component)
-    → ((s : Settings) → (f (in_range YearRange.Extended s) ≡ widened (f (in_range YearRange.Standard s))) × IsStandard (f (in_range YearRange.Standard s)))
+    → ((s : Settings)
+    → (f (in_range YearRange.Extended s) ≡ widened (f (in_range YearRange.Standard s)))
+    × IsStandard (f (in_range YearRange.Standard s)))
     → Widens (λ s. Ok (f s))
 by_form f widens s c e =
-    let is : f (in_range YearRange.Standard s) ≡ c = cc in (ap Ok ((widens s).0 ∙ ap widened is), subst IsStandard is (widens s).1)
+    let is : f (in_range YearRange.Standard s) ≡ c = cc in
+    (ap Ok ((widens s).0 ∙ ap widened is), subst IsStandard is (widens s).1)
 
 name_widens : (n : ComponentName) → Widens (row_for n).component
 name_widens ComponentName.Day = by_form day (λ s. (refl, tt))
@@ -199,7 +219,8 @@ name_widens ComponentName.Subsecond = by_form subsecond (λ s. (refl, tt))
 name_widens ComponentName.UnixTimestamp = by_form unix_timestamp (λ s. timestamp_same s.precision _)
 name_widens ComponentName.Weekday = by_form weekday (λ s. weekday_same s.weekday_repr _)
 name_widens ComponentName.WeekNumber = by_form week_number (λ s. week_same s.week_number_repr _)
-name_widens ComponentName.Year = by_form year (λ s. year_widened s.iso_week_based s.year_repr s.padding s.sign_is_mandatory)
+name_widens ComponentName.Year = by_form year
+    (λ s. year_widened s.iso_week_based s.year_repr s.padding s.sign_is_mandatory)
 
 rows_are_plain : list_all is_plain_row rows ≡ true
 unfolding is_plain_row is_plain is_plain_word are_plain is_lowered is_same
@@ -208,10 +229,12 @@ rows_are_plain = refl
 rows_widen : Each (λ r. Widens r.component) rows
 rows_widen = each-map row_for (λ r. Widens r.component) component_names name_widens
 
-plain_rows : (rs : List Row) → list_all is_plain_row rs ≡ true → Each (λ r. Widens r.component) rs → Each IsPlainRow rs
+plain_rows : (rs : List Row) → list_all is_plain_row rs ≡ true → Each (λ r. Widens r.component) rs
+    → Each IsPlainRow rs
 plain_rows [] e widen = tt
 plain_rows (r ∷ rs) e widen =
-    let p = and_parts (is_plain_row r) (list_all is_plain_row rs) e in (plain_row r p.0 widen.0, plain_rows rs p.1 widen.1)
+    let p = and_parts (is_plain_row r) (list_all is_plain_row rs) e in
+    (plain_row r p.0 widen.0, plain_rows rs p.1 widen.1)
 
 all_plain : Each IsPlainRow rows
 all_plain = plain_rows rows rows_are_plain rows_widen
@@ -223,25 +246,32 @@ row_names (r ∷ rs) all = (all.0.name, row_names rs all.1)
 -- Modifiers that version 3 takes.
 
 abbrev IsGood : List Key → Placed → Type 0
-IsGood keys m = (k : Key) × (v : Setting) × (key_in true m.key keys ≡ Some k) × (setting_in true k.values m.value ≡ Some v)
+IsGood keys m = (k : Key) × (v : Setting) × (key_in true m.key keys ≡ Some k)
+    × (setting_in true k.values m.value ≡ Some v)
 
 some_setting : (o : Option Setting) → is_some o ≡ true → (v : Setting) × (o ≡ Some v)
 some_setting None e = absurd (false≢true e)
 some_setting (Some v) e = (v, refl)
 
-good_from : (keys : List Key) (o : Option Key) (before : List Placed) (m : Placed) → key_in true m.key keys ≡ o → bad_modifier true o before m ≡ None → IsGood keys m
+good_from : (keys : List Key) (o : Option Key) (before : List Placed) (m : Placed)
+    → key_in true m.key keys ≡ o → bad_modifier true o before m ≡ None → IsGood keys m
 good_from keys None before m e h = absurd cc
 good_from keys (Some k) before m e h =
     let v = some_setting (setting_in true k.values m.value)
     (not-false (is_some (setting_in true k.values m.value))
-    (refuse_none (not (is_some (setting_in true k.values m.value))) _ _ (or_none (refuse (is_set true k.key before) _ _) (bad_value true k m) h).1)) in
+    (refuse_none (not (is_some (setting_in true k.values m.value))) _ _
+    (or_none (refuse (is_set true k.key before) _ _) (bad_value true k m) h).1)) in
     (k, v.0, e, v.1)
 
-all_good : (keys : List Key) (before ms : List Placed) → bad_modifiers true keys before ms ≡ None → Each (IsGood keys) ms
+all_good : (keys : List Key) (before ms : List Placed) → bad_modifiers true keys before ms ≡ None
+    → Each (IsGood keys) ms
 all_good keys before [] h = tt
 all_good keys before (m ∷ ms) h =
-    let p = or_none (bad_modifier true (key_in true m.key keys) before m) (bad_modifiers true keys (before ++ m ∷ []) ms) h in
-    (good_from keys (key_in true m.key keys) before m refl p.0, all_good keys (before ++ m ∷ []) ms p.1)
+    let p = or_none (bad_modifier true (key_in true m.key keys) before m)
+    (bad_modifiers true keys (before ++ m ∷ []) ms) h in (
+      good_from keys (key_in true m.key keys) before m refl p.0,
+      all_good keys (before ++ m ∷ []) ms p.1,
+    )
 
 -- what the tables say of a modifier that is good
 record IsFound (keys : List Key) (m : Placed) : Type 0 where
@@ -258,8 +288,10 @@ record IsWord (key : Text) (values : Values) (text : Text) (v : Setting) : Type 
   loose : setting_in false values text ≡ Some v
   range : is_range v ≡ equal (codes "range") key
 
-word_in-found : (key : Text) (vs : List (Value Setting)) (text : Text) (v : Setting) → list_all (is_plain_word key) vs ≡ true
-    → (o : Option (Value Setting)) → named (λ x. x.word) true text vs ≡ o → sets_of o ≡ Some v → IsWord key (words vs) text v
+word_in-found : (key : Text) (vs : List (Value Setting)) (text : Text) (v : Setting)
+    → list_all (is_plain_word key) vs ≡ true
+    → (o : Option (Value Setting)) → named (λ x. x.word) true text vs ≡ o → sets_of o ≡ Some v
+    → IsWord key (words vs) text v
 unfolding IsPlainWord
 word_in-found key vs text v plain None e h = absurd cc
 word_in-found key vs text v plain (Some x) e h =
@@ -267,14 +299,21 @@ word_in-found key vs text v plain (Some x) e h =
     let f = named-found (λ y. y.word) (IsPlainWord key) text vs x all e in
     let is : x.sets ≡ v = cc in
     record {
-      loose = ap sets_of (named-lowered (λ y. y.word) text vs (word_names key vs all) (subst IsLowered f.1 f.0.0) ∙ e) ∙ h;
+      loose = ap sets_of (named-lowered (λ y. y.word) text vs (word_names key vs all)
+          (subst IsLowered f.1 f.0.0) ∙ e) ∙ h;
       range = subst (λ y. is_range y ≡ equal (codes "range") key) is f.0.1;
     }
 
-setting_in-found : (key : Text) (values : Values) (text : Text) (v : Setting) → are_plain key values ≡ true → setting_in true values text ≡ Some v → IsWord key values text v
+setting_in-found : (key : Text) (values : Values) (text : Text) (v : Setting)
+    → are_plain key values ≡ true → setting_in true values text ≡ Some v → IsWord key values text v
 unfolding are_plain
 setting_in-found key (words vs) text v plain e = word_in-found key vs text v plain _ refl e
-setting_in-found key numbers text v plain e = record { loose = e; range = ap is_range (count_of-sets text v e).1 ∙ sym (not-true (equal (codes "range") key) plain) }
+setting_in-found key numbers text v plain e =
+    record {
+      loose = e;
+      range = ap is_range (count_of-sets text v e).1 ∙
+          sym (not-true (equal (codes "range") key) plain);
+    }
 
 good_found : (keys : List Key) (m : Placed) → Each IsPlain keys → IsGood keys m → IsFound keys m
 good_found keys m plain g =
@@ -284,67 +323,87 @@ good_found keys m plain g =
       key = g.0;
       setting = g.1;
       strict_key = g.2;
-      loose_key = named-lowered (λ k. k.key) m.key keys (key_names keys plain) (subst IsLowered f.1 f.0.key) ∙ g.2;
+      loose_key = named-lowered (λ k. k.key) m.key keys (key_names keys plain)
+          (subst IsLowered f.1 f.0.key) ∙ g.2;
       strict_setting = g.3;
       loose_setting = w.loose;
       range = w.range ∙ ap (equal (codes "range")) f.1;
     }
 
-all_found : (keys : List Key) (ms : List Placed) → Each IsPlain keys → Each (IsGood keys) ms → Each (IsFound keys) ms
+all_found : (keys : List Key) (ms : List Placed) → Each IsPlain keys → Each (IsGood keys) ms
+    → Each (IsFound keys) ms
 all_found keys [] plain g = tt
 all_found keys (m ∷ ms) plain g = (good_found keys m plain g.0, all_found keys ms plain g.1)
 
 -- they are good without case too
-good_modifiers : (keys : List Key) (before ms : List Placed) → Each (IsFound keys) ms → bad_modifiers false keys before ms ≡ None
+good_modifiers : (keys : List Key) (before ms : List Placed) → Each (IsFound keys) ms
+    → bad_modifiers false keys before ms ≡ None
 good_modifiers keys before [] f = refl
 good_modifiers keys before (m ∷ ms) f =
     none_or _ _
     (ap (λ o. bad_modifier false o before m) f.0.loose_key
-    ∙ none_refused (not (is_some (setting_in false f.0.key.values m.value))) _ _ (ap (λ o. not (is_some o)) f.0.loose_setting))
+    ∙ none_refused (not (is_some (setting_in false f.0.key.values m.value))) _ _
+    (ap (λ o. not (is_some o)) f.0.loose_setting))
     (good_modifiers keys (before ++ m ∷ []) ms f.1)
 
 -- and set the same
-settings_same : (keys : List Key) (s : Settings) (ms : List Placed) → Each (IsFound keys) ms → settings_from false keys s ms ≡ settings_from true keys s ms
+settings_same : (keys : List Key) (s : Settings) (ms : List Placed) → Each (IsFound keys) ms
+    → settings_from false keys s ms ≡ settings_from true keys s ms
 settings_same keys s [] f = refl
 settings_same keys s (m ∷ ms) f =
-    ap (λ o. settings_from false keys (with_option s o) ms) (ap (λ o. setting_of false o m.value) f.0.loose_key ∙ f.0.loose_setting)
+    ap (λ o. settings_from false keys (with_option s o) ms)
+    (ap (λ o. setting_of false o m.value) f.0.loose_key ∙ f.0.loose_setting)
     ∙ settings_same keys (with s f.0.setting) ms f.1
-    ∙ sym (ap (λ o. settings_from true keys (with_option s o) ms) (ap (λ o. setting_of true o m.value) f.0.strict_key ∙ f.0.strict_setting))
+    ∙ sym (ap (λ o. settings_from true keys (with_option s o) ms)
+    (ap (λ o. setting_of true o m.value) f.0.strict_key ∙ f.0.strict_setting))
 
-with_range : (r : YearRange) (s : Settings) (v : Setting) → is_range v ≡ true → with (in_range r s) v ≡ with s v
+with_range : (r : YearRange) (s : Settings) (v : Setting) → is_range v ≡ true
+    → with (in_range r s) v ≡ with s v
 with_range r s (Setting.Range x) e = refl
 with_range r s _ e = absurd (false≢true e)
 
-with_other : (r : YearRange) (s : Settings) (v : Setting) → is_range v ≡ false → with (in_range r s) v ≡ in_range r (with s v)
+with_other : (r : YearRange) (s : Settings) (v : Setting) → is_range v ≡ false
+    → with (in_range r s) v ≡ in_range r (with s v)
 with_other r s (Setting.Range x) e = absurd (false≢true (sym e))
 with_other r s _ e = refl
 
--- another range at first makes no difference where a modifier sets the range, and else is the range at last
-ranged : (keys : List Key) (r : YearRange) (s : Settings) (ms : List Placed) → Each (IsFound keys) ms
-    → settings_from true keys (in_range r s) ms ≡ cond (is_set true (codes "range") ms) (settings_from true keys s ms) (in_range r (settings_from true keys s ms))
+-- another range at first makes no difference where a modifier sets the range, and else is the range
+-- at last
+ranged : (keys : List Key) (r : YearRange) (s : Settings) (ms : List Placed)
+    → Each (IsFound keys) ms
+    → settings_from true keys (in_range r s) ms ≡ cond (is_set true (codes "range") ms)
+    (settings_from true keys s ms) (in_range r (settings_from true keys s ms))
 ranged keys r s [] f = refl
 ranged keys r s (m ∷ ms) f =
     ap (λ o. settings_from true keys (with_option (in_range r s) o) ms) found
     ∙ by (ranged keys r (with s f.0.setting) ms f.1) (equal (codes "range") m.key) f.0.range
-    ∙ sym (ap (λ o. cond (equal (codes "range") m.key || is_set true (codes "range") ms) (settings_from true keys (with_option s o) ms) (in_range r (settings_from true keys (with_option s o) ms))) found)
+    ∙ sym (ap (λ o. cond (equal (codes "range") m.key || is_set true (codes "range") ms)
+    (settings_from true keys (with_option s o) ms)
+    (in_range r (settings_from true keys (with_option s o) ms))) found)
   where
     found : setting_of true (key_in true m.key keys) m.value ≡ Some f.0.setting
     found = ap (λ o. setting_of true o m.value) f.0.strict_key ∙ f.0.strict_setting
 
     by : settings_from true keys (in_range r (with s f.0.setting)) ms
-        ≡ cond (is_set true (codes "range") ms) (settings_from true keys (with s f.0.setting) ms) (in_range r (settings_from true keys (with s f.0.setting) ms))
+        ≡ cond (is_set true (codes "range") ms) (settings_from true keys (with s f.0.setting) ms)
+        (in_range r (settings_from true keys (with s f.0.setting) ms))
         → (t : Bool) → is_range f.0.setting ≡ t
         → settings_from true keys (with (in_range r s) f.0.setting) ms
-        ≡ cond (t || is_set true (codes "range") ms) (settings_from true keys (with s f.0.setting) ms) (in_range r (settings_from true keys (with s f.0.setting) ms))
+        ≡ cond (t || is_set true (codes "range") ms)
+        (settings_from true keys (with s f.0.setting) ms)
+        (in_range r (settings_from true keys (with s f.0.setting) ms))
     by more true e = ap (λ x. settings_from true keys x ms) (with_range r s f.0.setting e)
     by more false e = ap (λ x. settings_from true keys x ms) (with_other r s f.0.setting e) ∙ more
 
 -- Brackets.
 
-component_relaxed : (h : Head) (r : Row) (tree : Tree) → IsPlainRow r → component_verdict true h (Some r) ≡ Ok tree
+component_relaxed : (h : Head) (r : Row) (tree : Tree) → IsPlainRow r
+    → component_verdict true h (Some r) ≡ Ok tree
     → (component_verdict false h (Some r) ≡ Ok (relaxed_tree h tree)) × IsStandardIn h tree
 component_relaxed h r tree plain e = (
-  none_behind (bad_modifiers false r.keys [] (placed h)) (made false h (r.component (settings false r.keys (placed h)))) (good_modifiers r.keys [] (placed h) found)
+  none_behind (bad_modifiers false r.keys [] (placed h))
+      (made false h (r.component (settings false r.keys (placed h))))
+      (good_modifiers r.keys [] (placed h) found)
       ∙ ap (made false h) (by (is_set true (codes "range") (placed h)) refl)
       ∙ ap (λ t. Ok (relaxed_tree h t)) leaf.1,
   subst (IsStandardIn h) leaf.1 (λ n. (standard n).1),
@@ -352,35 +411,50 @@ component_relaxed h r tree plain e = (
   where
     found : Each (IsFound r.keys) (placed h)
     found = all_found r.keys (placed h) plain.keys
-        (all_good r.keys [] (placed h) (behind_none (bad_modifiers true r.keys [] (placed h)) (made true h (r.component (settings true r.keys (placed h)))) tree e))
+        (all_good r.keys [] (placed h)
+        (behind_none (bad_modifiers true r.keys [] (placed h))
+        (made true h (r.component (settings true r.keys (placed h)))) tree e))
 
-    leaf : (c : Component) × (component c ≡ tree) × (r.component (settings true r.keys (placed h)) ≡ Ok c)
+    leaf : (c : Component) × (component c ≡ tree)
+        × (r.component (settings true r.keys (placed h)) ≡ Ok c)
     leaf = made_ok true h (r.component (settings true r.keys (placed h))) tree
-        (behind_ok (bad_modifiers true r.keys [] (placed h)) (made true h (r.component (settings true r.keys (placed h)))) tree e)
+        (behind_ok (bad_modifiers true r.keys [] (placed h))
+        (made true h (r.component (settings true r.keys (placed h)))) tree e)
 
-    loose : settings false r.keys (placed h) ≡ cond (is_set true (codes "range") (placed h)) (settings true r.keys (placed h)) (in_range YearRange.Extended (settings true r.keys (placed h)))
-    loose = settings_same r.keys (defaults false) (placed h) found ∙ ranged r.keys YearRange.Extended (defaults true) (placed h) found
+    loose : settings false r.keys (placed h) ≡ cond (is_set true (codes "range") (placed h))
+        (settings true r.keys (placed h))
+        (in_range YearRange.Extended (settings true r.keys (placed h)))
+    loose = settings_same r.keys (defaults false) (placed h) found ∙
+        ranged r.keys YearRange.Extended (defaults true) (placed h) found
 
-    strict : settings true r.keys (placed h) ≡ cond (is_set true (codes "range") (placed h)) (settings true r.keys (placed h)) (in_range YearRange.Standard (settings true r.keys (placed h)))
+    strict : settings true r.keys (placed h) ≡ cond (is_set true (codes "range") (placed h))
+        (settings true r.keys (placed h))
+        (in_range YearRange.Standard (settings true r.keys (placed h)))
     strict = ranged r.keys YearRange.Standard (defaults true) (placed h) found
 
     standard : is_set true (codes "range") (placed h) ≡ false
-        → (r.component (in_range YearRange.Extended (settings true r.keys (placed h))) ≡ Ok (widened leaf.0)) × IsStandard leaf.0
-    standard n = plain.component (settings true r.keys (placed h)) leaf.0 (sym (ap r.component (strict ∙ rw n refl)) ∙ leaf.2)
+        → (r.component (in_range YearRange.Extended (settings true r.keys (placed h))) ≡ Ok
+        (widened leaf.0)) × IsStandard leaf.0
+    standard n = plain.component (settings true r.keys (placed h)) leaf.0
+        (sym (ap r.component (strict ∙ rw n refl)) ∙ leaf.2)
 
     by : (t : Bool) → is_set true (codes "range") (placed h) ≡ t
-        → r.component (settings false r.keys (placed h)) ≡ Ok (cond (is_set true (codes "range") (placed h)) leaf.0 (widened leaf.0))
+        → r.component (settings false r.keys (placed h)) ≡ Ok
+        (cond (is_set true (codes "range") (placed h)) leaf.0 (widened leaf.0))
     by true n = rw n (ap r.component (loose ∙ rw n refl) ∙ leaf.2)
     by false n =
         rw n (ap r.component (loose ∙ rw n refl) ∙ (standard n).0)
 
-named_relaxed : (h : Head) (close : ℕ) (tree : Tree) (o : Option Row) → row_of true h.name ≡ o → component_verdict true h o ≡ Ok tree
+named_relaxed : (h : Head) (close : ℕ) (tree : Tree) (o : Option Row) → row_of true h.name ≡ o
+    → component_verdict true h o ≡ Ok tree
     → (verdict false h [] close ≡ Ok (relaxed_tree h tree)) × IsStandardIn h tree
 named_relaxed h close tree None known e = absurd cc
 named_relaxed h close tree (Some r) known e = (
-  ap₂ (λ x y. cond x (optional_verdict false h [] close) (cond y (first_verdict false h [] close) (component_verdict false h (row_of false h.name))))
+  ap₂ (λ x y. cond x (optional_verdict false h [] close)
+      (cond y (first_verdict false h [] close) (component_verdict false h (row_of false h.name))))
       (ap (equal (codes "optional")) low ∙ no_optional) (ap (equal (codes "first")) low ∙ no_first)
-      ∙ ap (component_verdict false h) (named-lowered (λ x. x.name) h.name rows (row_names rows all_plain) low ∙ known)
+      ∙ ap (component_verdict false h)
+      (named-lowered (λ x. x.name) h.name rows (row_names rows all_plain) low ∙ known)
       ∙ relaxes.0,
   relaxes.1,
 )
@@ -400,13 +474,20 @@ named_relaxed h close tree (Some r) known e = (
     no_first : equal (codes "first") h.name ≡ false
     no_first = subst (λ x. equal (codes "first") x ≡ false) found.1 found.0.no_first
 
-verdict_relaxed : (h : Head) (close : ℕ) (tree : Tree) → verdict true h [] close ≡ Ok tree → (verdict false h [] close ≡ Ok (relaxed_tree h tree)) × IsStandardIn h tree
-verdict_relaxed h close tree e = by (same true (codes "optional") h.name) (same true (codes "first") h.name) e
+verdict_relaxed : (h : Head) (close : ℕ) (tree : Tree) → verdict true h [] close ≡ Ok tree
+    → (verdict false h [] close ≡ Ok (relaxed_tree h tree)) × IsStandardIn h tree
+verdict_relaxed h close tree e = by (same true (codes "optional") h.name)
+    (same true (codes "first") h.name) e
   where
-    by : (t u : Bool) → cond t (optional_verdict true h [] close) (cond u (first_verdict true h [] close) (component_verdict true h (row_of true h.name))) ≡ Ok tree
+    by : (t u : Bool) → cond t (optional_verdict true h [] close)
+        (cond u (first_verdict true h [] close) (component_verdict true h (row_of true h.name)))
+        ≡ Ok tree
         → (verdict false h [] close ≡ Ok (relaxed_tree h tree)) × IsStandardIn h tree
-    by true u c = absurd (unless_two (bad_modifiers true (format ∷ []) [] (placed h)) None (fault expected_nested close) (optional (is_formatted true (placed h)) (only [])) tree c)
-    by false true c = absurd (unless_one (any_modifier (placed h)) (fault expected_alternative close) (first (trees [])) tree c)
+    by true u c = absurd (unless_two (bad_modifiers true (format ∷ []) [] (placed h)) None
+        (fault expected_nested close) (optional (is_formatted true (placed h)) (only [])) tree c)
+    by false true c =
+        absurd (unless_one (any_modifier (placed h)) (fault expected_alternative close)
+        (first (trees [])) tree c)
     by false false c = named_relaxed h close tree (row_of true h.name) refl c
 
 -- Pieces.
@@ -418,9 +499,11 @@ relaxed_begins (escape x y rest) b = tt
 relaxed_begins (closing rest) b = tt
 relaxed_begins (bracket h ns white tree rest) b = tt
 
-relaxed_are : (limit : ℕ) (ps : Pieces) → ArePieces Three limit 0 ps → IsFlat ps → ArePieces Two limit 0 (relaxed ps)
+relaxed_are : (limit : ℕ) (ps : Pieces) → ArePieces Three limit 0 ps → IsFlat ps
+    → ArePieces Two limit 0 (relaxed ps)
 relaxed_are limit no_pieces are flat = tt
-relaxed_are limit (run bytes rest) are flat = (are.0, relaxed_begins rest are.1, relaxed_are limit rest are.2 flat)
+relaxed_are limit (run bytes rest) are flat =
+    (are.0, relaxed_begins rest are.1, relaxed_are limit rest are.2 flat)
 relaxed_are limit (escape a b rest) are flat = (are.0, relaxed_are limit rest are.1 flat)
 relaxed_are limit (closing rest) are flat = absurd (false≢true (sym are.0))
 relaxed_are limit (bracket h no_nested white tree rest) are flat =
@@ -432,7 +515,8 @@ standard_are limit no_pieces are flat = tt
 standard_are limit (run bytes rest) are flat = standard_are limit rest are.2 flat
 standard_are limit (escape a b rest) are flat = standard_are limit rest are.1 flat
 standard_are limit (closing rest) are flat = absurd (false≢true (sym are.0))
-standard_are limit (bracket h no_nested white tree rest) are flat = ((verdict_relaxed h _ tree are.3).1, standard_are limit rest are.4 flat.1)
+standard_are limit (bracket h no_nested white tree rest) are flat =
+    ((verdict_relaxed h _ tree are.3).1, standard_are limit rest are.4 flat.1)
 standard_are limit (bracket h (nested w ps ns) white tree rest) are flat = absurd flat.0
 
 pub relaxed_spelling : (ps : Pieces) → spelling (relaxed ps) ≡ spelling ps
@@ -440,7 +524,12 @@ relaxed_spelling no_pieces = refl
 relaxed_spelling (run bytes rest) = ap (λ x. bytes ++ x) (relaxed_spelling rest)
 relaxed_spelling (escape a b rest) = ap (λ x. a ∷ b ∷ x) (relaxed_spelling rest)
 relaxed_spelling (closing rest) = ap (λ x. right ∷ x) (relaxed_spelling rest)
-relaxed_spelling (bracket h ns white tree rest) = ap (λ x. head_text h ++ nested_text ns ++ white ++ right ∷ x) (relaxed_spelling rest)
+relaxed_spelling (bracket h ns white tree rest) =
+    ap (λ x. head_text h ++ nested_text ns ++ white ++ right ∷ x) (relaxed_spelling rest)
 
 pub relaxing_law : Relaxing
-relaxing_law limit ps are flat = (relaxed_are limit ps are flat, relaxed_spelling ps, standard_are limit ps are flat)
+relaxing_law limit ps are flat = (
+  relaxed_are limit ps are flat,
+  relaxed_spelling ps,
+  standard_are limit ps are flat,
+)

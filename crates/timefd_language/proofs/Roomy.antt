@@ -67,7 +67,8 @@ more_room s n m h = record {
   range = (let a = h.range in omega arith);
 }
 
-with_room : (s : Settings) (v : Setting) (n m : ℕ) → HaveRoom s n → of_setting v ≤ m → HaveRoom (with s v) (n + m)
+with_room : (s : Settings) (v : Setting) (n m : ℕ) → HaveRoom s n → of_setting v ≤ m
+    → HaveRoom (with s v) (n + m)
 with_room s (Setting.MonthRepr r) n m h e = record {
   month = omega arith;
   precision = (let a = h.precision in omega arith);
@@ -100,15 +101,20 @@ is_long k = fits (length k.key) k.values
 abbrev IsLong : Key → Type 0
 IsLong k = is_long k ≡ true
 
-word-fits : (n : ℕ) (vs : List (Value Setting)) (text : Text) (v : Setting) → list_all (λ x. leb (of_setting x.sets) n) vs ≡ true
-    → (o : Option (Value Setting)) → named (λ x. x.word) true text vs ≡ o → sets_of o ≡ Some v → of_setting v ≤ n
+word-fits : (n : ℕ) (vs : List (Value Setting)) (text : Text) (v : Setting)
+    → list_all (λ x. leb (of_setting x.sets) n) vs ≡ true
+    → (o : Option (Value Setting)) → named (λ x. x.word) true text vs ≡ o → sets_of o ≡ Some v
+    → of_setting v ≤ n
 word-fits n vs text v long None e h = absurd cc
 word-fits n vs text v long (Some x) e h =
     let is : x.sets ≡ v = cc in
-    let all = each-passes (λ y. leb (of_setting y.sets) n) (λ y. of_setting y.sets ≤ n) (λ y. leb-true (of_setting y.sets) n) vs long in
-    subst (λ y. of_setting y ≤ n) is (named-found (λ y. y.word) (λ y. of_setting y.sets ≤ n) text vs x all e).0
+    let all = each-passes (λ y. leb (of_setting y.sets) n) (λ y. of_setting y.sets ≤ n)
+    (λ y. leb-true (of_setting y.sets) n) vs long in
+    subst (λ y. of_setting y ≤ n) is
+    (named-found (λ y. y.word) (λ y. of_setting y.sets ≤ n) text vs x all e).0
 
-setting_in-fits : (n : ℕ) (values : Values) (text : Text) (v : Setting) → fits n values ≡ true → setting_in true values text ≡ Some v → of_setting v ≤ n
+setting_in-fits : (n : ℕ) (values : Values) (text : Text) (v : Setting) → fits n values ≡ true
+    → setting_in true values text ≡ Some v → of_setting v ≤ n
 unfolding fits
 setting_in-fits n (words vs) text v long e = word-fits n vs text v long _ refl e
 setting_in-fits n numbers text v long e =
@@ -117,36 +123,53 @@ setting_in-fits n numbers text v long e =
     omega (arith, free)
 
 modifier_long : (m : Modifier) → length m.key ≤ length (modifier_text m)
-modifier_long m = omega (arith, length-append (m.white ++ m.key) (colon ∷ m.value), length-append m.white m.key)
+modifier_long m = omega (
+  arith,
+  length-append (m.white ++ m.key) (colon ∷ m.value),
+  length-append m.white m.key,
+)
 
 one_room : (keys : List Key) (s : Settings) (m : Modifier) (n : ℕ) → Each IsLong keys → HaveRoom s n
-    → HaveRoom (with_option s (setting_of true (key_in true m.key keys) m.value)) (n + length (modifier_text m))
+    → HaveRoom (with_option s (setting_of true (key_in true m.key keys) m.value))
+    (n + length (modifier_text m))
 unfolding is_long
 one_room keys s m n long h = by (key_in true m.key keys) refl
   where
-    set : (k : Key) → key_in true m.key keys ≡ Some k → (o : Option Setting) → setting_in true k.values m.value ≡ o → HaveRoom (with_option s o) (n + length (modifier_text m))
+    set : (k : Key) → key_in true m.key keys ≡ Some k → (o : Option Setting)
+        → setting_in true k.values m.value ≡ o
+        → HaveRoom (with_option s o) (n + length (modifier_text m))
     set k e None i = more_room s n (length (modifier_text m)) h
     set k e (Some v) i =
         let found = named-found (λ x. x.key) IsLong m.key keys k long e in
         with_room s v n (length (modifier_text m)) h
-        (omega (arith, setting_in-fits (length k.key) k.values m.value v found.0 i, ap length found.1, modifier_long m))
+        (omega (
+          arith,
+          setting_in-fits (length k.key) k.values m.value v found.0 i,
+          ap length found.1,
+          modifier_long m,
+        ))
 
-    by : (o : Option Key) → key_in true m.key keys ≡ o → HaveRoom (with_option s (setting_of true o m.value)) (n + length (modifier_text m))
+    by : (o : Option Key) → key_in true m.key keys ≡ o
+        → HaveRoom (with_option s (setting_of true o m.value)) (n + length (modifier_text m))
     by None e = more_room s n (length (modifier_text m)) h
     by (Some k) e = set k e (setting_in true k.values m.value) refl
 
-all_room : (keys : List Key) (s : Settings) (ms : List Modifier) (j n : ℕ) → Each IsLong keys → HaveRoom s n
+all_room : (keys : List Key) (s : Settings) (ms : List Modifier) (j n : ℕ) → Each IsLong keys
+    → HaveRoom s n
     → HaveRoom (settings_from true keys s (placed_from j ms)) (n + length (modifiers_text ms))
 all_room keys s [] j n long h = more_room s n 0 h
 all_room keys s (m ∷ ms) j n long h =
-    let whole : length (modifiers_text (m ∷ ms)) ≡ length (modifier_text m) + length (modifiers_text ms) = length-append (modifier_text m) (modifiers_text ms) in
+    let whole : length (modifiers_text (m ∷ ms)) ≡ length (modifier_text m) + length
+    (modifiers_text ms) = length-append (modifier_text m) (modifiers_text ms) in
     subst (HaveRoom (settings_from true keys s (placed_from j (m ∷ ms)))) (omega (arith, whole))
-    (all_room keys (with_option s (setting_of true (key_in true m.key keys) m.value)) ms (j + length (modifier_text m)) (n + length (modifier_text m)) long
+    (all_room keys (with_option s (setting_of true (key_in true m.key keys) m.value)) ms
+    (j + length (modifier_text m)) (n + length (modifier_text m)) long
     (one_room keys s m n long h))
 
 -- Rows.
 
-month_room : (r : MonthRepr) (m : Month) (n : ℕ) → of_month r ≤ n → reserved (modern_month r m) ≤ 7 + n
+month_room : (r : MonthRepr) (m : Month) (n : ℕ) → of_month r ≤ n
+    → reserved (modern_month r m) ≤ 7 + n
 month_room MonthRepr.Short m n h = omega arith
 month_room MonthRepr.Long m n h = omega arith
 month_room MonthRepr.Numerical m n h = omega arith
@@ -166,13 +189,15 @@ hour_room : (b : Bool) (h : Hour) → reserved (modern_hour b h) ≤ 2
 hour_room true h = omega arith
 hour_room false h = omega arith
 
-timestamp_room : (p : UnixTimestampPrecision) (t : UnixTimestamp) (n : ℕ) → of_precision p ≤ n → reserved (modern_timestamp p t) ≤ 16 + n
+timestamp_room : (p : UnixTimestampPrecision) (t : UnixTimestamp) (n : ℕ) → of_precision p ≤ n
+    → reserved (modern_timestamp p t) ≤ 16 + n
 timestamp_room UnixTimestampPrecision.Second t n h = omega arith
 timestamp_room UnixTimestampPrecision.Millisecond t n h = omega arith
 timestamp_room UnixTimestampPrecision.Microsecond t n h = omega arith
 timestamp_room UnixTimestampPrecision.Nanosecond t n h = omega arith
 
-year_room : (iso : Bool) (k : YearRepr) (r : YearRange) (y : Year) (n : ℕ) → of_range r ≤ n → reserved (modern_year iso k r y) ≤ 6 + n
+year_room : (iso : Bool) (k : YearRepr) (r : YearRange) (y : Year) (n : ℕ) → of_range r ≤ n
+    → reserved (modern_year iso k r y) ≤ 6 + n
 year_room true YearRepr.Full YearRange.Extended y n h = omega arith
 year_room true YearRepr.Full YearRange.Standard y n h = omega arith
 year_room true YearRepr.Century YearRange.Extended y n h = omega arith
@@ -199,25 +224,38 @@ digits_room SubsecondDigits.OneOrMore = omega arith
 -- a `[`, the name, a byte more, and the modifiers are room enough for a row's component
 record IsRoomy (r : Row) : Type 0 where
   keys : Each IsLong r.keys
-  enough : (s : Settings) (n : ℕ) → HaveRoom s n → (c : Component) → r.component s ≡ Ok c → reserved c ≤ 2 + length r.name + n
+  enough : (s : Settings) (n : ℕ) → HaveRoom s n → (c : Component) → r.component s ≡ Ok c
+      → reserved c ≤ 2 + length r.name + n
 
 roomy : (name : Text) (keys : List Key) (f : Settings → Component) → list_all is_long keys ≡ true
-    → ((s : Settings) (n : ℕ) → HaveRoom s n → reserved (f s) ≤ 2 + length name + n) → IsRoomy (row name keys f)
+    → ((s : Settings) (n : ℕ) → HaveRoom s n → reserved (f s) ≤ 2 + length name + n)
+    → IsRoomy (row name keys f)
 roomy name keys f long fits = record {
   keys = each-passes is_long IsLong (λ k e. e) keys long;
-  enough = λ s n h c e. let is : f s ≡ c = cc in subst (λ x. reserved x ≤ 2 + length name + n) is (fits s n h);
+  enough = λ s n h c e. let is : f s ≡ c = cc in
+      subst (λ x. reserved x ≤ 2 + length name + n) is (fits s n h);
 }
 
 ignore_room : (o : Option NonZeroU16) (c : Component) → ignored o ≡ Ok c → reserved c ≡ 0
 ignore_room None c e = absurd cc
-ignore_room (Some n) c e = let is : Component.Ignore (record { count = n }) ≡ c = cc in subst (λ x. reserved x ≡ 0) is refl
+ignore_room (Some n) c e = let is : Component.Ignore (record { count = n }) ≡ c = cc in
+    subst (λ x. reserved x ≡ 0) is refl
 
 name_roomy : (n : ComponentName) → IsRoomy (row_for n)
 unfolding is_long fits
 name_roomy ComponentName.Day = roomy _ _ day refl (λ s n h. omega arith)
 name_roomy ComponentName.End = roomy _ _ end refl (λ s n h. omega arith)
-name_roomy ComponentName.Hour = roomy _ _ hour refl (λ s n h. omega (arith, hour_room s.is_12_hour_clock (record { padding = s.padding; is_12_hour_clock = s.is_12_hour_clock })))
-name_roomy ComponentName.Ignore = record { keys = (refl, tt); enough = λ s n h c e. omega (arith, ignore_room s.count c e) }
+name_roomy ComponentName.Hour = roomy _ _ hour refl
+    (λ s n h. omega (
+      arith,
+      hour_room s.is_12_hour_clock
+          (record { padding = s.padding; is_12_hour_clock = s.is_12_hour_clock }),
+    ))
+name_roomy ComponentName.Ignore = record {
+  keys = (refl, tt);
+  enough =
+      λ s n h c e. omega (arith, ignore_room s.count c e);
+}
 name_roomy ComponentName.Minute = roomy _ _ minute refl (λ s n h. omega arith)
 name_roomy ComponentName.Month = roomy _ _ month refl (λ s n h. month_room s.month_repr _ n h.month)
 name_roomy ComponentName.OffsetHour = roomy _ _ offset_hour refl (λ s n h. omega arith)
@@ -226,11 +264,29 @@ name_roomy ComponentName.OffsetSecond = roomy _ _ offset_second refl (λ s n h. 
 name_roomy ComponentName.Ordinal = roomy _ _ ordinal refl (λ s n h. omega arith)
 name_roomy ComponentName.Period = roomy _ _ period refl (λ s n h. omega arith)
 name_roomy ComponentName.Second = roomy _ _ second refl (λ s n h. omega arith)
-name_roomy ComponentName.Subsecond = roomy _ _ subsecond refl (λ s n h. omega (arith, digits_room s.digits))
-name_roomy ComponentName.UnixTimestamp = roomy _ _ unix_timestamp refl (λ s n h. timestamp_room s.precision _ n h.precision)
-name_roomy ComponentName.Weekday = roomy _ _ weekday refl (λ s n h. omega (arith, weekday_room s.weekday_repr (record { repr = s.weekday_repr; one_indexed = s.one_indexed; case_sensitive = s.case_sensitive })))
-name_roomy ComponentName.WeekNumber = roomy _ _ week_number refl (λ s n h. omega (arith, week_room s.week_number_repr (record { padding = s.padding; repr = s.week_number_repr })))
-name_roomy ComponentName.Year = roomy _ _ year refl (λ s n h. year_room s.iso_week_based s.year_repr s.range _ n h.range)
+name_roomy ComponentName.Subsecond =
+    roomy _ _ subsecond refl (λ s n h. omega (arith, digits_room s.digits))
+name_roomy ComponentName.UnixTimestamp =
+    roomy _ _ unix_timestamp refl (λ s n h. timestamp_room s.precision _ n h.precision)
+name_roomy ComponentName.Weekday = roomy _ _ weekday refl
+    (λ s n h. omega (
+      arith,
+      weekday_room s.weekday_repr
+          (record {
+            repr = s.weekday_repr;
+            one_indexed = s.one_indexed;
+            case_sensitive =
+                s.case_sensitive;
+          }),
+    ))
+name_roomy ComponentName.WeekNumber =
+    roomy _ _ week_number refl (λ s n h. omega (
+      arith,
+      week_room s.week_number_repr
+          (record { padding = s.padding; repr = s.week_number_repr }),
+    ))
+name_roomy ComponentName.Year = roomy _ _ year refl
+    (λ s n h. year_room s.iso_week_based s.year_repr s.range _ n h.range)
 
 all_roomy : Each IsRoomy rows
 all_roomy = each-map row_for IsRoomy component_names name_roomy
@@ -249,26 +305,49 @@ behind_ok None r t e = e
 abbrev pub IsLeafWithin : Tree → ℕ → Type 0
 IsLeafWithin tree bytes = (c : Component) × (component c ≡ tree) × (reserved c ≤ bytes)
 
-pub made_ok : (strict : Bool) (h : Head) (r : Result Component Kind) (tree : Tree) → made strict h r ≡ Ok tree → (c : Component) × (component c ≡ tree) × (r ≡ Ok c)
+pub made_ok : (strict : Bool) (h : Head) (r : Result Component Kind) (tree : Tree)
+    → made strict h r ≡ Ok tree → (c : Component) × (component c ≡ tree) × (r ≡ Ok c)
 made_ok strict h (Err kind) tree e = absurd cc
-made_ok strict h (Ok c) tree e = (c, unless_ok (combination strict c (placed h)) (component c) tree e, refl)
+made_ok strict h (Ok c) tree e = (
+  c,
+  unless_ok (combination strict c (placed h)) (component c) tree
+      e,
+  refl,
+)
 
-head_long : (h : Head) → 2 + length h.name + length (modifiers_text h.modifiers) ≤ 1 + length (head_text h)
-head_long h = omega (arith, length-append h.white h.name, length-append (h.white ++ h.name) (modifiers_text h.modifiers))
+head_long : (h : Head) → 2 + length h.name + length (modifiers_text h.modifiers) ≤ 1 + length
+    (head_text h)
+head_long h = omega (
+  arith,
+  length-append h.white h.name,
+  length-append (h.white ++ h.name) (modifiers_text h.modifiers),
+)
 
-pub component-room : (h : Head) (tree : Tree) → IsHead h → component_verdict true h (row_of true h.name) ≡ Ok tree → IsLeafWithin tree (1 + length (head_text h))
+pub component-room : (h : Head) (tree : Tree) → IsHead h
+    → component_verdict true h (row_of true h.name) ≡ Ok tree
+    → IsLeafWithin tree (1 + length (head_text h))
 component-room h tree ih e = by (row_of true h.name) refl e
   where
-    by : (o : Option Row) → row_of true h.name ≡ o → component_verdict true h o ≡ Ok tree → IsLeafWithin tree (1 + length (head_text h))
+    by : (o : Option Row) → row_of true h.name ≡ o → component_verdict true h o ≡ Ok tree
+        → IsLeafWithin tree (1 + length (head_text h))
     by None r e = absurd cc
     by (Some row) r e =
         let found = named-found (λ x. x.name) IsRoomy h.name rows row all_roomy r in
-        let leaf = made_ok true h (row.component (settings true row.keys (placed h))) tree (behind_ok (bad_modifiers true row.keys [] (placed h)) _ tree e) in
-        let room = all_room row.keys (defaults true) h.modifiers (name_index h + length h.name) 0 found.0.keys (record { month = omega arith; precision = omega arith; range = omega arith }) in (
+        let leaf = made_ok true h (row.component (settings true row.keys (placed h))) tree
+        (behind_ok (bad_modifiers true row.keys [] (placed h)) _ tree e) in
+        let room = all_room row.keys (defaults true) h.modifiers (name_index h + length h.name) 0
+        found.0.keys (record {
+          month = omega arith;
+          precision = omega arith;
+          range =
+              omega arith;
+        }) in (
           leaf.0,
           leaf.1,
           (
               let l : length row.name ≡ length h.name = ap length found.1 in
-              let w : reserved leaf.0 ≤ 2 + length row.name + (0 + length (modifiers_text h.modifiers)) = found.0.enough (settings true row.keys (placed h)) _ room leaf.0 leaf.2 in
+              let w : reserved leaf.0 ≤ 2 + length
+              row.name + (0 + length (modifiers_text h.modifiers)) =
+              found.0.enough (settings true row.keys (placed h)) _ room leaf.0 leaf.2 in
               omega (arith, head_long h)),
         )

@@ -27,24 +27,32 @@ top_lane : (b : Bool) → top 7 (lane b) ≡ b
 top_lane true = refl
 top_lane false = refl
 
-either : (f g : ℕ → Bool) (bytes : List ℕ) → zip2 bit_or (map (λ x. lane (f x)) bytes) (map (λ x. lane (g x)) bytes) ≡ map (λ x. lane (f x || g x)) bytes
-either f g bytes = zip2-map bit_or (λ x. lane (f x)) (λ x. lane (g x)) bytes ∙ (λ i. map (λ x. either_lane (f x) (g x) i) bytes)
+either : (f g : ℕ → Bool) (bytes : List ℕ)
+    → zip2 bit_or (map (λ x. lane (f x)) bytes) (map (λ x. lane (g x)) bytes) ≡ map
+    (λ x. lane (f x || g x)) bytes
+either f g bytes = zip2-map bit_or (λ x. lane (f x)) (λ x. lane (g x)) bytes ∙
+    (λ i. map (λ x. either_lane (f x) (g x) i) bytes)
 
 pub marks_are : (bytes : List ℕ) (n a b c : ℕ) → length bytes ≡ n → n ≤ 64
-    → mask_l (map (top 7) (zip2 bit_or (zip2 bit_or (equal_to bytes n a) (equal_to bytes n b)) (equal_to bytes n c))) % 2 ^ 64 ≡ mask_l (map (is_one_of a b c) bytes)
+    → mask_l (map (top 7) (zip2 bit_or (zip2 bit_or (equal_to bytes n a) (equal_to bytes n b))
+    (equal_to bytes n c))) % 2 ^ 64 ≡ mask_l (map (is_one_of a b c) bytes)
 marks_are bytes n a b c long small =
     ap (λ ms. mask_l (map (top 7) ms) % 2 ^ 64) (
     (λ i. zip2 bit_or (zip2 bit_or (compared a i) (compared b i)) (compared c i))
-    ∙ ap (λ ms. zip2 bit_or ms (map (λ x. lane (eqb x c)) bytes)) (either (λ x. eqb x a) (λ x. eqb x b) bytes)
+    ∙ ap (λ ms. zip2 bit_or ms (map (λ x. lane (eqb x c)) bytes))
+    (either (λ x. eqb x a) (λ x. eqb x b) bytes)
     ∙ either (λ x. eqb x a || eqb x b) (λ x. eqb x c) bytes)
-    ∙ ap (λ ms. mask_l ms % 2 ^ 64) (map-map (top 7) (λ x. lane (is_one_of a b c x)) bytes ∙ (λ i. map (λ x. top_lane (is_one_of a b c x) i) bytes))
-    ∙ mask_l-mod (map (is_one_of a b c) bytes) 64 (omega (arith, length-map bytes (is_one_of a b c)))
+    ∙ ap (λ ms. mask_l ms % 2 ^ 64) (map-map (top 7) (λ x. lane (is_one_of a b c x)) bytes ∙
+    (λ i. map (λ x. top_lane (is_one_of a b c x) i) bytes))
+    ∙ mask_l-mod (map (is_one_of a b c) bytes) 64
+    (omega (arith, length-map bytes (is_one_of a b c)))
   where
     compared : (y : ℕ) → equal_to bytes n y ≡ map (λ x. lane (eqb x y)) bytes
     compared y = zip2_splat (λ x z. lane (eqb x z)) bytes n y long
 
 -- What a few bytes of a front show of the whole.
-module _ (p : ℕ → Bool) (bytes : List ℕ) (at n : ℕ) (from : at ≤ prefix_len p bytes) (within : at + n ≤ length bytes) where
+module _ (p : ℕ → Bool) (bytes : List ℕ) (at n : ℕ) (from : at ≤ prefix_len p bytes)
+    (within : at + n ≤ length bytes) where
   passes : (k : ℕ) → k < at + prefix_len p (chunk at n bytes) → p (get_or bytes k 0) ≡ true
   passes k below =
       elim (cases_lt k at) [
@@ -53,7 +61,13 @@ module _ (p : ℕ → Bool) (bytes : List ℕ) (at n : ℕ) (from : at ≤ prefi
             let back : at + (k - at) ≡ k = omega arith in
             let there : k - at < prefix_len p (chunk at n bytes) = omega (arith, behind, below) in
             subst (λ (b : ℕ). p b ≡ true)
-            (get_or-chunk at n bytes (k - at) 0 (omega (arith, there, length-chunk at n bytes within, prefix_len-le-length p (chunk at n bytes))) ∙ ap (λ j. get_or bytes j 0) back)
+            (get_or-chunk at n bytes (k - at) 0
+            (omega (
+              arith,
+              there,
+              length-chunk at n bytes within,
+              prefix_len-le-length p (chunk at n bytes),
+            )) ∙ ap (λ j. get_or bytes j 0) back)
             (prefix_len_passes p (chunk at n bytes) (k - at) 0 there)
       ]
 
@@ -62,12 +76,23 @@ module _ (p : ℕ → Bool) (bytes : List ℕ) (at n : ℕ) (from : at ≤ prefi
       let long = length-chunk at n bytes within in
       elim (cases_lt (prefix_len p (chunk at n bytes)) n) [
         | inl stops ↦
-            let place = prefix_len_is p bytes (at + prefix_len p (chunk at n bytes)) 0 (omega (arith, stops)) passes (λ inside.
-            subst (λ (b : ℕ). p b ≡ false) (get_or-chunk at n bytes (prefix_len p (chunk at n bytes)) 0 stops) (prefix_len_stops p (chunk at n bytes) 0 (omega (arith, stops, long)))) in
+            let place = prefix_len_is p bytes (at + prefix_len p (chunk at n bytes)) 0
+            (omega (arith, stops)) passes (λ inside.
+            subst (λ (b : ℕ). p b ≡ false)
+            (get_or-chunk at n bytes (prefix_len p (chunk at n bytes)) 0 stops)
+            (prefix_len_stops p (chunk at n bytes) 0 (omega (arith, stops, long)))) in
             omega (arith, stops, place)
         | inr through ↦
             elim (cases_lt (prefix_len p bytes) (at + n)) [
-              | inl before ↦ absurd (true≢false (sym (passes (prefix_len p bytes) (omega (arith, before, through))) ∙ prefix_len_stops p bytes 0 (omega (arith, before))))
-              | inr behind ↦ omega (arith, through, behind, long, prefix_len-le-length p (chunk at n bytes))
+              | inl before ↦ absurd
+                  (true≢false (sym (passes (prefix_len p bytes) (omega (arith, before, through))) ∙
+                  prefix_len_stops p bytes 0 (omega (arith, before))))
+              | inr behind ↦ omega (
+                arith,
+                through,
+                behind,
+                long,
+                prefix_len-le-length p (chunk at n bytes),
+              )
             ]
       ]

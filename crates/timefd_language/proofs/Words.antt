@@ -23,11 +23,13 @@ equal-from : (a b : Text) → a ≡ b → equal a b ≡ true
 equal-from a b e = ap (equal a) (sym e) ∙ equal-refl a
 
 -- what `eq_ignore_ascii_case` says
-pub same_lowered : (r : Bool) (a b : Text) → (IsTrue r ↔ (map to_ascii_lowercase a ≡ map to_ascii_lowercase b)) → r ≡ same false a b
+pub same_lowered : (r : Bool) (a b : Text)
+    → (IsTrue r ↔ (map to_ascii_lowercase a ≡ map to_ascii_lowercase b)) → r ≡ same false a b
 same_lowered r a b test =
     same_from_decides r (same false a b) test (
       λ e. sym (all_lowered-is a) ∙ equal-true (map lowered a) (map lowered b) e ∙ all_lowered-is b,
-      λ e. equal-from (map lowered a) (map lowered b) (all_lowered-is a ∙ e ∙ sym (all_lowered-is b)),
+      λ e. equal-from (map lowered a) (map lowered b) (all_lowered-is a ∙ e ∙
+          sym (all_lowered-is b)),
     )
 
 -- what `==` says
@@ -40,4 +42,5 @@ same_bytes (a ∷ x) (b ∷ y) = ap (λ t. (a == b) && t) (same_bytes x y)
 -- a word that is found byte for byte is found without case too
 pub same_at_once : (strict : Bool) (a b : Text) → equal a b ≡ true → same strict a b ≡ true
 same_at_once true a b e = e
-same_at_once false a b e = equal-from (map lowered a) (map lowered b) (ap (map lowered) (equal-true a b e))
+same_at_once false a b e = equal-from (map lowered a) (map lowered b)
+    (ap (map lowered) (equal-true a b e))

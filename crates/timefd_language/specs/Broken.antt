@@ -62,7 +62,8 @@ broken_text (half_escape rest) = backslash ∷ rest
 broken_text (nameless white rest) = left ∷ white ++ rest
 broken_text (ill_modified h white word rest) = head_text h ++ white ++ misfit_text word ++ rest
 broken_text (too_deep h ns white rest) = before_inner h ns white ++ rest
-broken_text (broken_inside h ns white front inner) = before_inner h ns white ++ spelling front ++ broken_text inner
+broken_text (broken_inside h ns white front inner) =
+    before_inner h ns white ++ spelling front ++ broken_text inner
 broken_text (cut_off h ns white front) = before_inner h ns white ++ spelling front
 broken_text (unclosed h ns white rest) = head_text h ++ nested_text ns ++ white ++ rest
 broken_text (refused h ns white f rest) = head_text h ++ nested_text ns ++ white ++ right ∷ rest
@@ -80,7 +81,8 @@ broken_fault (bare_closing rest) = fault expected_closing_escape 0
 broken_fault (half_escape rest) = fault expected_escape (escape_index rest)
 broken_fault (nameless white rest) = fault missing_name (name_wanted_index white)
 broken_fault (ill_modified h white word rest) = misfit_fault word (length (head_text h ++ white))
-broken_fault (too_deep h ns white rest) = fault too_highly_nested (length (head_text h ++ nested_text ns ++ white))
+broken_fault (too_deep h ns white rest) =
+    fault too_highly_nested (length (head_text h ++ nested_text ns ++ white))
 broken_fault (broken_inside h ns white front inner) =
     let f = broken_fault inner in
     enclosed f.kind f.index (length (before_inner h ns white ++ spelling front))
@@ -106,7 +108,8 @@ abbrev pub IsBroken : DescriptionVersion → ℕ → ℕ → Broken → Type 0
 IsBroken v limit n (bare_closing rest) = IsTrue (is_version_three v) × (n ≡ 0)
 IsBroken v limit n (half_escape rest) = IsFalse (is_version_one v) × StopsBefore is_special rest
 IsBroken v limit n (nameless white rest) =
-    ZeroOrMore is_white white × StopsBefore is_white rest × StopsBefore is_word_byte rest × BeginsNoEscape v (white ++ rest)
+    ZeroOrMore is_white white × StopsBefore is_white rest × StopsBefore is_word_byte rest
+    × BeginsNoEscape v (white ++ rest)
 IsBroken v limit n (ill_modified h white word rest) =
     IsHead h × OneOrMore is_white white × IsMisfit word × StopsBefore is_word_byte rest
 IsBroken v limit n (too_deep h ns white rest) =
@@ -115,12 +118,14 @@ IsBroken v limit n (broken_inside h ns white front inner) =
     IsHead h × AreNested v limit n ns × ZeroOrMore is_white white × (n < limit)
     × ArePieces v limit (suc n) front × IsBroken v limit (suc n) inner
 IsBroken v limit n (cut_off h ns white front) =
-    IsHead h × AreNested v limit n ns × ZeroOrMore is_white white × (n < limit) × ArePieces v limit (suc n) front
+    IsHead h × AreNested v limit n ns × ZeroOrMore is_white white × (n < limit)
+    × ArePieces v limit (suc n) front
 IsBroken v limit n (unclosed h ns white rest) =
     IsHead h × AreNested v limit n ns × ZeroOrMore is_white white
     × StopsBefore is_white rest × StopsBefore is_bracket_byte rest × IsWholeBefore ns rest
 IsBroken v limit n (refused h ns white f rest) =
-    IsHead h × AreNested v limit n ns × ZeroOrMore is_white white × (bracket_verdict v h ns white ≡ Err f)
+    IsHead h × AreNested v limit n ns × ZeroOrMore is_white white
+    × (bracket_verdict v h ns white ≡ Err f)
 
 -- The text begins with a construct that no piece begins with, and has its fault.
 abbrev pub Bad : DescriptionVersion → ℕ → ℕ → Text → Fault → Type 0
@@ -131,4 +136,5 @@ Bad v limit n text f =
 abbrev pub FaultOf : DescriptionVersion → ℕ → Text → Fault → Type 0
 FaultOf v limit text f =
     (front : Pieces) × (b : Broken) × ArePieces v limit 0 front × IsBroken v limit 0 b
-    × (text ≡ spelling front ++ broken_text b) × (f ≡ raised (broken_fault b) (length (spelling front)))
+    × (text ≡ spelling front ++ broken_text b)
+    × (f ≡ raised (broken_fault b) (length (spelling front)))

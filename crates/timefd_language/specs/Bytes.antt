@@ -80,4 +80,5 @@ same false a b = equal (map lowered a) (map lowered b)
 -- the first of a list that has a name
 abbrev pub named : {A : Type 0} → (A → Text) → Bool → Text → List A → Option A
 named name strict text [] = None
-named name strict text (x ∷ xs) = elim (same strict (name x) text) [ true ↦ Some x | false ↦ named name strict text xs ]
+named name strict text (x ∷ xs) = elim (same strict (name x) text)
+    [ true ↦ Some x | false ↦ named name strict text xs ]

@@ -30,7 +30,8 @@ abbrev pub too_highly_nested : Kind
 too_highly_nested = not_supported (codes "highly-nested format description") []
 
 abbrev pub many_nested : Kind
-many_nested = not_supported (codes "more than one nested format description") (codes "`optional` components")
+many_nested = not_supported (codes "more than one nested format description")
+    (codes "`optional` components")
 
 abbrev pub optional_item : Kind
 optional_item = not_supported (codes "optional item") (codes "runtime-parsed format descriptions")

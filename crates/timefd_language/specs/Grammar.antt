@@ -6,9 +6,10 @@ use Rattle.timefd_component.specs.Tree.{Text, Tree, literal}
 use Rattle.timefd_language.specs.Bytes.{left, backslash, right, is_white, is_special, is_run_byte, is_version_three, ZeroOrMore, OneOrMore}
 use Rattle.timefd_fault.specs.Faults.{Fault}
 use Rattle.timefd_language.specs.Head.{Head, IsHead, head_text}
-use Rattle.timefd_language.specs.Verdict.{Part, verdict}
+use Rattle.timefd_language.specs.Verdict.{PlacedDescription, verdict}
 
--- A text in pieces: a run of bytes, an escape of two bytes, a `]`, or a bracket. A bracket has a head, nested
+-- A text in pieces: a run of bytes, an escape of two bytes, a `]`, or a bracket. A bracket has a
+-- head, nested
 -- descriptions, white bytes and `]`, and is one tree.
 mutual
   pub data Pieces : Type 0 where
@@ -30,7 +31,8 @@ abbrev mutual
   spelling (run bytes rest) = bytes ++ spelling rest
   spelling (escape a b rest) = a ∷ b ∷ spelling rest
   spelling (closing rest) = right ∷ spelling rest
-  spelling (bracket h ns white tree rest) = head_text h ++ nested_text ns ++ white ++ right ∷ spelling rest
+  spelling (bracket h ns white tree rest) =
+      head_text h ++ nested_text ns ++ white ++ right ∷ spelling rest
 
   pub nested_text : Nested → Text
   nested_text no_nested = []
@@ -49,7 +51,7 @@ is_empty [] = true
 is_empty (b ∷ bytes) = false
 
 -- the nested descriptions from a place on, as the verdict sees them
-abbrev pub parts_from : ℕ → Nested → List Part
+abbrev pub parts_from : ℕ → Nested → List PlacedDescription
 parts_from k no_nested = []
 parts_from k (nested white ps ns) =
     record { spaced = not (is_empty white); index = k + length white; trees = items ps }
@@ -58,7 +60,8 @@ parts_from k (nested white ps ns) =
 -- the verdict on a bracket
 abbrev pub bracket_verdict : DescriptionVersion → Head → Nested → Text → Result Tree Fault
 bracket_verdict v h ns white =
-    verdict (is_version_three v) h (parts_from (length (head_text h)) ns) (length (head_text h ++ nested_text ns ++ white))
+    verdict (is_version_three v) h (parts_from (length (head_text h)) ns)
+    (length (head_text h ++ nested_text ns ++ white))
 
 abbrev pub IsEscape : DescriptionVersion → ℕ → ℕ → Type 0
 IsEscape One a b = (a ≡ left) × (b ≡ left)
@@ -76,14 +79,16 @@ BeginsNoRun (bracket h ns white tree rest) = ⊤
 abbrev pub nesting_limit : ℕ
 nesting_limit = 127
 
--- Pieces of a version, with n nested descriptions around them, of which there may be at most limit around one another.
+-- Pieces of a version, with n nested descriptions around them, of which there may be at most limit
+-- around one another.
 abbrev mutual
   pub ArePieces : DescriptionVersion → ℕ → ℕ → Pieces → Type 0
   ArePieces v limit n no_pieces = ⊤
   ArePieces v limit n (run bytes rest) =
       OneOrMore (is_run_byte v) bytes × BeginsNoRun rest × ArePieces v limit n rest
   ArePieces v limit n (escape a b rest) = IsEscape v a b × ArePieces v limit n rest
-  ArePieces v limit n (closing rest) = IsFalse (is_version_three v) × (n ≡ 0) × ArePieces v limit n rest
+  ArePieces v limit n (closing rest) = IsFalse (is_version_three v) × (n ≡ 0)
+      × ArePieces v limit n rest
   ArePieces v limit n (bracket h ns white tree rest) =
       IsHead h × AreNested v limit n ns × ZeroOrMore is_white white
       × (bracket_verdict v h ns white ≡ Ok tree) × ArePieces v limit n rest
@@ -91,7 +96,8 @@ abbrev mutual
   pub AreNested : DescriptionVersion → ℕ → ℕ → Nested → Type 0
   AreNested v limit n no_nested = ⊤
   AreNested v limit n (nested white ps ns) =
-      ZeroOrMore is_white white × (n < limit) × ArePieces v limit (suc n) ps × AreNested v limit n ns
+      ZeroOrMore is_white white × (n < limit) × ArePieces v limit (suc n) ps
+      × AreNested v limit n ns
 
 -- The text, with n nested descriptions around it, spells the list.
 abbrev pub Spells : DescriptionVersion → ℕ → ℕ → Text → List Tree → Type 0

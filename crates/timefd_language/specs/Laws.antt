@@ -18,7 +18,8 @@ use Rattle.timefd_language.specs.Strftime.{Directives, AreDirectives, directives
 
 -- A text spells a list, or a fault is assigned to it.
 abbrev pub IsAnswered : DescriptionVersion → ℕ → Text → Type 0
-IsAnswered v limit text = ((list : List Tree) × Spells v limit 0 text list) ⊎ ((f : Fault) × FaultOf v limit text f)
+IsAnswered v limit text = ((list : List Tree) × Spells v limit 0 text list)
+    ⊎ ((f : Fault) × FaultOf v limit text f)
 
 -- A text has one answer.
 pub record HasOneAnswer (v : DescriptionVersion) (limit : ℕ) (text : Text) : Type 0 where
@@ -27,14 +28,17 @@ pub record HasOneAnswer (v : DescriptionVersion) (limit : ℕ) (text : Text) : T
   pub not_both : (a : List Tree) (f : Fault) → Spells v limit 0 text a → FaultOf v limit text f → ⊥
 
 abbrev pub OneAnswer : Type 0
-OneAnswer = (v : DescriptionVersion) (limit : ℕ) (text : Text) → IsAnswered v limit text × HasOneAnswer v limit text
+OneAnswer = (v : DescriptionVersion) (limit : ℕ) (text : Text) → IsAnswered v limit text
+    × HasOneAnswer v limit text
 
 -- A spelled text is cut into pieces in one way.
 abbrev pub OneCut : Type 0
-OneCut = (v : DescriptionVersion) (limit n : ℕ) (ps qs : Pieces) → ArePieces v limit n ps → ArePieces v limit n qs
+OneCut = (v : DescriptionVersion) (limit n : ℕ) (ps qs : Pieces) → ArePieces v limit n ps
+    → ArePieces v limit n qs
     → spelling ps ≡ spelling qs → ps ≡ qs
 
--- With any number of nested descriptions around it that the limit allows, each text is pieces, and behind them the
+-- With any number of nested descriptions around it that the limit allows, each text is pieces, and
+-- behind them the
 -- end, a `]` or a broken text, in one way.
 abbrev pub OneReading : Type 0
 OneReading = (v : DescriptionVersion) (limit n : ℕ) (text : Text) → n ≤ limit
@@ -42,18 +46,21 @@ OneReading = (v : DescriptionVersion) (limit n : ℕ) (text : Text) → n ≤ li
 
 -- Texts that are spelled may be joined.
 abbrev pub Joining : Type 0
-Joining = (v : DescriptionVersion) (limit : ℕ) (s t : Text) (a b : List Tree) → Spells v limit 0 s a → Spells v limit 0 t b
+Joining = (v : DescriptionVersion) (limit : ℕ) (s t : Text) (a b : List Tree) → Spells v limit 0 s a
+    → Spells v limit 0 t b
     → (c : List Tree) × Spells v limit 0 (s ++ t) c × (joined c ≡ joined (a ++ b))
 
 -- A fault behind a spelled text is shifted by its length.
 abbrev pub Shift : Type 0
-Shift = (v : DescriptionVersion) (limit : ℕ) (s t : Text) (a : List Tree) (f : Fault) → Spells v limit 0 s a → FaultOf v limit t f
+Shift = (v : DescriptionVersion) (limit : ℕ) (s t : Text) (a : List Tree) (f : Fault)
+    → Spells v limit 0 s a → FaultOf v limit t f
     → FaultOf v limit (s ++ t) (raised f (length s))
 
 -- Strftime.
 
 abbrev pub StrftimeIsAnswered : Text → Type 0
-StrftimeIsAnswered text = ((list : List Tree) × SpellsStrftime text list) ⊎ ((f : Fault) × StrftimeFaultOf text f)
+StrftimeIsAnswered text = ((list : List Tree) × SpellsStrftime text list)
+    ⊎ ((f : Fault) × StrftimeFaultOf text f)
 
 pub record HasOneStrftimeAnswer (text : Text) : Type 0 where
   pub one_list : (a b : List Tree) → SpellsStrftime text a → SpellsStrftime text b → a ≡ b
@@ -64,7 +71,8 @@ abbrev pub OneStrftimeAnswer : Type 0
 OneStrftimeAnswer = (text : Text) → StrftimeIsAnswered text × HasOneStrftimeAnswer text
 
 abbrev pub OneStrftimeCut : Type 0
-OneStrftimeCut = (a b : Directives) → AreDirectives a → AreDirectives b → directives_text a ≡ directives_text b → a ≡ b
+OneStrftimeCut = (a b : Directives) → AreDirectives a → AreDirectives b
+    → directives_text a ≡ directives_text b → a ≡ b
 
 abbrev pub StrftimeJoining : Type 0
 StrftimeJoining = (s t : Text) (a b : List Tree) → SpellsStrftime s a → SpellsStrftime t b
@@ -76,7 +84,8 @@ StrftimeShift = (s t : Text) (a : List Tree) (f : Fault) → SpellsStrftime s a 
 
 -- Limits.
 
--- What is spelled with a limit is spelled with every greater limit, with the same list, and a fault other than the
+-- What is spelled with a limit is spelled with every greater limit, with the same list, and a fault
+-- other than the
 -- highly-nested one is the same fault with every greater limit.
 abbrev pub GreaterLimit : Type 0
 GreaterLimit = (v : DescriptionVersion) (low high : ℕ) (text : Text) → low ≤ high
@@ -88,11 +97,13 @@ GreaterLimit = (v : DescriptionVersion) (low high : ℕ) (text : Text) → low �
 -- What version 1 spells version 2 spells, once it is rewritten.
 abbrev pub Lifting : Type 0
 Lifting = (limit : ℕ) (ps : Pieces) → ArePieces One limit 0 ps
-    → (list : List Tree) × Spells Two limit 0 (rewritten ps) list × (joined list ≡ joined (items ps))
+    → (list : List Tree) × Spells Two limit 0 (rewritten ps) list
+    × (joined list ≡ joined (items ps))
 
 -- Reserved bytes.
 
--- A text of version 3 is at least as long as what it reserves, and has no more trees than bytes, but one.
+-- A text of version 3 is at least as long as what it reserves, and has no more trees than bytes,
+-- but one.
 abbrev pub ReservesWithin : Type 0
 ReservesWithin = (limit n : ℕ) (text : Text) (list : List Tree) → Spells Three limit n text list
     → (reserve (pack list) ≤ length text) × (tree_count (pack list) ≤ length text + 1)
@@ -101,7 +112,8 @@ ReservesWithin = (limit n : ℕ) (text : Text) (list : List Tree) → Spells Thr
 
 -- In versions 1 and 2 the case of letters in heads makes no difference.
 abbrev pub Recasing : Type 0
-Recasing = (v : DescriptionVersion) (limit n : ℕ) (ps qs : Pieces) → IsFalse (is_version_three v) → ArePieces v limit n ps → Recased ps qs
+Recasing = (v : DescriptionVersion) (limit n : ℕ) (ps qs : Pieces) → IsFalse (is_version_three v)
+    → ArePieces v limit n ps → Recased ps qs
     → ArePieces v limit n qs × (items qs ≡ items ps)
 
 -- From version 3 to version 2.
@@ -115,7 +127,9 @@ Relaxing = (limit : ℕ) (ps : Pieces) → ArePieces Three limit 0 ps → IsFlat
 
 -- All components of a text are modern.
 abbrev pub Modernity : Type 0
-Modernity = (v : DescriptionVersion) (limit n : ℕ) (text : Text) (list : List Tree) → Spells v limit n text list → AreModern (trees list)
+Modernity = (v : DescriptionVersion) (limit n : ℕ) (text : Text) (list : List Tree)
+    → Spells v limit n text list → AreModern (trees list)
 
 abbrev pub StrftimeModernity : Type 0
-StrftimeModernity = (text : Text) (list : List Tree) → SpellsStrftime text list → AreModern (trees list)
+StrftimeModernity = (text : Text) (list : List Tree) → SpellsStrftime text list
+    → AreModern (trees list)

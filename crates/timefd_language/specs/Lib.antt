@@ -19,7 +19,7 @@ pub mod Rewritten
 pub mod Recased
 pub mod Relaxed
 pub mod Cut
-pub mod Shown
+pub mod FaultMeaning
 pub mod Invalid
 pub mod Laws
 pub mod Told

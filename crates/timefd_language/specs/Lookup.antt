@@ -16,9 +16,11 @@ IsNameOf strict word (Some Name.Optional) = same strict (codes "optional") word 
 IsNameOf strict word (Some Name.First) =
     (same strict (codes "optional") word ≡ false) × (same strict (codes "first") word ≡ true)
 IsNameOf strict word (Some (Name.Component name)) =
-    (same strict (codes "optional") word ≡ false) × (same strict (codes "first") word ≡ false) × (row_of strict word ≡ Some (row_for name))
+    (same strict (codes "optional") word ≡ false) × (same strict (codes "first") word ≡ false)
+    × (row_of strict word ≡ Some (row_for name))
 IsNameOf strict word None =
-    (same strict (codes "optional") word ≡ false) × (same strict (codes "first") word ≡ false) × (row_of strict word ≡ None)
+    (same strict (codes "optional") word ≡ false) × (same strict (codes "first") word ≡ false)
+    × (row_of strict word ≡ None)
 
 -- the key that one of the code is
 abbrev pub key_for : code_key.Key → Key

@@ -26,7 +26,13 @@ abbrev pub minute : Settings → Component
 minute s = Minute (record { padding = s.padding })
 
 abbrev pub month : Settings → Component
-month s = modern (Month (record { padding = s.padding; repr = s.month_repr; case_sensitive = s.case_sensitive }))
+month s =
+    modern (Month (record {
+      padding = s.padding;
+      repr = s.month_repr;
+      case_sensitive =
+          s.case_sensitive;
+    }))
 
 abbrev pub offset_hour : Settings → Component
 offset_hour s = OffsetHour (record { sign_is_mandatory = s.sign_is_mandatory; padding = s.padding })
@@ -50,10 +56,21 @@ abbrev pub subsecond : Settings → Component
 subsecond s = Subsecond (record { digits = s.digits })
 
 abbrev pub unix_timestamp : Settings → Component
-unix_timestamp s = modern (UnixTimestamp (record { precision = s.precision; sign_is_mandatory = s.sign_is_mandatory }))
+unix_timestamp s =
+    modern (UnixTimestamp (record {
+      precision = s.precision;
+      sign_is_mandatory =
+          s.sign_is_mandatory;
+    }))
 
 abbrev pub weekday : Settings → Component
-weekday s = modern (Weekday (record { repr = s.weekday_repr; one_indexed = s.one_indexed; case_sensitive = s.case_sensitive }))
+weekday s =
+    modern (Weekday (record {
+      repr = s.weekday_repr;
+      one_indexed = s.one_indexed;
+      case_sensitive =
+          s.case_sensitive;
+    }))
 
 abbrev pub week_number : Settings → Component
 week_number s = modern (WeekNumber (record { padding = s.padding; repr = s.week_number_repr }))
@@ -103,10 +120,14 @@ row_for ComponentName.Ordinal = row (codes "ordinal") (padding ∷ []) ordinal
 row_for ComponentName.Period = row (codes "period") (case ∷ case_sensitive ∷ []) period
 row_for ComponentName.Second = row (codes "second") (padding ∷ []) second
 row_for ComponentName.Subsecond = row (codes "subsecond") (digits ∷ []) subsecond
-row_for ComponentName.UnixTimestamp = row (codes "unix_timestamp") (precision ∷ sign ∷ []) unix_timestamp
-row_for ComponentName.Weekday = row (codes "weekday") (weekday_repr ∷ one_indexed ∷ case_sensitive ∷ []) weekday
-row_for ComponentName.WeekNumber = row (codes "week_number") (padding ∷ week_number_repr ∷ []) week_number
-row_for ComponentName.Year = row (codes "year") (padding ∷ year_repr ∷ range ∷ base ∷ sign ∷ []) year
+row_for ComponentName.UnixTimestamp =
+    row (codes "unix_timestamp") (precision ∷ sign ∷ []) unix_timestamp
+row_for ComponentName.Weekday = row (codes "weekday")
+    (weekday_repr ∷ one_indexed ∷ case_sensitive ∷ []) weekday
+row_for ComponentName.WeekNumber = row (codes "week_number") (padding ∷ week_number_repr ∷ [])
+    week_number
+row_for ComponentName.Year = row (codes "year") (padding ∷ year_repr ∷ range ∷ base ∷ sign ∷ [])
+    year
 
 abbrev pub component_names : List ComponentName
 component_names =

@@ -15,7 +15,8 @@ pub record RecasedModifier (m n : Modifier) : Type 0 where
 
 abbrev pub RecasedModifiers : List Modifier → List Modifier → Type 0
 RecasedModifiers [] ns = ns ≡ []
-RecasedModifiers (m ∷ ms) ns = (n : Modifier) × (rest : List Modifier) × (ns ≡ n ∷ rest) × RecasedModifier m n × RecasedModifiers ms rest
+RecasedModifiers (m ∷ ms) ns = (n : Modifier) × (rest : List Modifier) × (ns ≡ n ∷ rest)
+    × RecasedModifier m n × RecasedModifiers ms rest
 
 pub record RecasedHead (g h : Head) : Type 0 where
   pub white : g.white ≡ h.white
@@ -28,4 +29,5 @@ Recased (run bytes rest) qs = (more : Pieces) × (qs ≡ run bytes more) × Reca
 Recased (escape a b rest) qs = (more : Pieces) × (qs ≡ escape a b more) × Recased rest more
 Recased (closing rest) qs = (more : Pieces) × (qs ≡ closing more) × Recased rest more
 Recased (bracket h ns white tree rest) qs =
-    (g : Head) × (more : Pieces) × (qs ≡ bracket g ns white tree more) × RecasedHead h g × Recased rest more
+    (g : Head) × (more : Pieces) × (qs ≡ bracket g ns white tree more) × RecasedHead h g
+    × Recased rest more

@@ -22,13 +22,26 @@ IsFlat (bracket h ns white tree rest) = HasNone ns × IsFlat rest
 -- a year of the standard range as one of the extended range
 abbrev pub widened : Component → Component
 widened (CalendarYearFullStandardRange y) =
-    CalendarYearFullExtendedRange (record { padding = y.padding; sign_is_mandatory = y.sign_is_mandatory })
+    CalendarYearFullExtendedRange (record {
+      padding = y.padding;
+      sign_is_mandatory =
+          y.sign_is_mandatory;
+    })
 widened (CalendarYearCenturyStandardRange y) =
-    CalendarYearCenturyExtendedRange (record { padding = y.padding; sign_is_mandatory = y.sign_is_mandatory })
+    CalendarYearCenturyExtendedRange
+    (record { padding = y.padding; sign_is_mandatory = y.sign_is_mandatory })
 widened (IsoYearFullStandardRange y) =
-    IsoYearFullExtendedRange (record { padding = y.padding; sign_is_mandatory = y.sign_is_mandatory })
+    IsoYearFullExtendedRange (record {
+      padding = y.padding;
+      sign_is_mandatory =
+          y.sign_is_mandatory;
+    })
 widened (IsoYearCenturyStandardRange y) =
-    IsoYearCenturyExtendedRange (record { padding = y.padding; sign_is_mandatory = y.sign_is_mandatory })
+    IsoYearCenturyExtendedRange (record {
+      padding = y.padding;
+      sign_is_mandatory =
+          y.sign_is_mandatory;
+    })
 widened c = c
 
 -- no year of the extended range
@@ -53,7 +66,8 @@ AreStandard (bracket h ns white tree rest) = IsStandardIn h tree × AreStandard 
 
 -- and of the extended one in version 2
 abbrev pub relaxed_tree : Head → Tree → Tree
-relaxed_tree h (component c) = component (if is_set true (codes "range") (placed h) then c else widened c)
+relaxed_tree h (component c) = component
+    (if is_set true (codes "range") (placed h) then c else widened c)
 relaxed_tree h t = t
 
 abbrev pub relaxed : Pieces → Pieces

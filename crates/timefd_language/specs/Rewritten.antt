@@ -8,7 +8,8 @@ use Rattle.timefd_language.specs.Grammar.{Pieces, no_pieces, run, escape, closin
 -- each `\` doubled
 abbrev pub doubled : Text → Text
 doubled [] = []
-doubled (b ∷ bytes) = if b == backslash then backslash ∷ backslash ∷ doubled bytes else b ∷ doubled bytes
+doubled (b ∷ bytes) = if b == backslash then backslash ∷ backslash ∷ doubled bytes else b ∷ doubled
+    bytes
 
 -- brackets as they are, `[[` as `\[`, `]` as `\]`, and runs with each `\` doubled
 abbrev pub rewritten : Pieces → Text
@@ -16,4 +17,5 @@ rewritten no_pieces = []
 rewritten (run bytes rest) = doubled bytes ++ rewritten rest
 rewritten (escape a b rest) = backslash ∷ left ∷ rewritten rest
 rewritten (closing rest) = backslash ∷ right ∷ rewritten rest
-rewritten (bracket h ns white tree rest) = head_text h ++ nested_text ns ++ white ++ right ∷ rewritten rest
+rewritten (bracket h ns white tree rest) =
+    head_text h ++ nested_text ns ++ white ++ right ∷ rewritten rest

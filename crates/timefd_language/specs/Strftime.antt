@@ -54,11 +54,14 @@ IsBehind (flagged c) b = ⊤
 
 abbrev pub AreDirectives : Directives → Type 0
 AreDirectives no_directives = ⊤
-AreDirectives (plain bytes rest) = OneOrMore is_plain bytes × BeginsNoPlain rest × AreDirectives rest
-AreDirectives (directive f b tree rest) = IsFlag f × IsBehind f b × (item_of f b ≡ Some tree) × AreDirectives rest
+AreDirectives (plain bytes rest) = OneOrMore is_plain bytes × BeginsNoPlain rest
+    × AreDirectives rest
+AreDirectives (directive f b tree rest) = IsFlag f × IsBehind f b × (item_of f b ≡ Some tree)
+    × AreDirectives rest
 
 abbrev pub SpellsStrftime : Text → List Tree → Type 0
-SpellsStrftime bytes list = (ds : Directives) × AreDirectives ds × (bytes ≡ directives_text ds) × (list ≡ directive_items ds)
+SpellsStrftime bytes list = (ds : Directives) × AreDirectives ds × (bytes ≡ directives_text ds)
+    × (list ≡ directive_items ds)
 
 -- A directive that the end cuts off, or with another byte in the letter's place.
 pub data IllDirective : Type 0 where
@@ -94,4 +97,5 @@ IsIll (unknown f b rest) = IsFlag f × IsBehind f b × (item_of f b ≡ None)
 abbrev pub StrftimeFaultOf : Text → Fault → Type 0
 StrftimeFaultOf bytes f =
     (front : Directives) × (ill : IllDirective) × AreDirectives front × IsIll ill
-    × (bytes ≡ directives_text front ++ ill_text ill) × (f ≡ raised (ill_fault ill) (length (directives_text front)))
+    × (bytes ≡ directives_text front ++ ill_text ill)
+    × (f ≡ raised (ill_fault ill) (length (directives_text front)))

@@ -34,5 +34,6 @@ are_of_strings items = all_true (map is_of_strings items)
 abbrev pub AreItems : List BorrowedFormatItem → List Tree → Type 0
 AreItems items list = (item_trees items ≡ list) × IsTrue (are_of_strings items)
 
-pub are_items_once : (items : List BorrowedFormatItem) (list : List Tree) → IsProp (AreItems items list)
+pub are_items_once : (items : List BorrowedFormatItem) (list : List Tree)
+    → IsProp (AreItems items list)
 are_items_once items list = ×_prop (lists_equal_once (item_trees items) list) (Bool-set _ _)

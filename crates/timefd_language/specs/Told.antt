@@ -5,7 +5,7 @@ use Rattle.timefd_language.specs.declared.fault.ReadError.{ReadError}
 use Rattle.timefd_language.specs.declared.fault.ReadError.TheVariants as errors
 use Rattle.timefd_language.specs.declared.parse_error.ParseError.{ParseError}
 use Rattle.timefd_language.specs.declared.parse_error.ParseError.TheVariants.{Invalid, Memory}
-use Rattle.timefd_language.specs.Shown.{IsFault}
+use Rattle.timefd_language.specs.FaultMeaning.{IsFault}
 
 -- out of memory
 abbrev pub MemoryAlone : ParseError → Type 0

@@ -35,20 +35,26 @@ pub record Key : Type 0 where
 
 -- a key, what it sets, and its words with the values that they stand for
 abbrev pub key_of : {A : Type 0} → Text → (A → Setting) → List (Value A) → Key
-key_of key setting values = record { key = key; values = words (map (λ v. v.word sets setting v.sets) values) }
+key_of key setting values = record {
+  key = key;
+  values =
+      words (map (λ v. v.word sets setting v.sets) values);
+}
 
 -- The keys, each with its default first.
 
 abbrev pub padding : Key
 padding = key_of (codes "padding") Setting.Padding
-    (codes "zero" sets Padding.Zero ∷ codes "space" sets Padding.Space ∷ codes "none" sets Padding.None ∷ [])
+    (codes "zero" sets Padding.Zero ∷ codes "space" sets Padding.Space ∷ codes "none" sets
+    Padding.None ∷ [])
 
 abbrev pub trailing_input : Key
 trailing_input = key_of (codes "trailing_input") Setting.TrailingInput
     (codes "prohibit" sets TrailingInput.Prohibit ∷ codes "discard" sets TrailingInput.Discard ∷ [])
 
 abbrev pub hour_repr : Key
-hour_repr = key_of (codes "repr") Setting.Is12HourClock (codes "24" sets false ∷ codes "12" sets true ∷ [])
+hour_repr = key_of (codes "repr") Setting.Is12HourClock
+    (codes "24" sets false ∷ codes "12" sets true ∷ [])
 
 -- no default
 abbrev pub count : Key
@@ -56,16 +62,20 @@ count = record { key = codes "count"; values = numbers }
 
 abbrev pub month_repr : Key
 month_repr = key_of (codes "repr") Setting.MonthRepr
-    (codes "numerical" sets MonthRepr.Numerical ∷ codes "long" sets MonthRepr.Long ∷ codes "short" sets MonthRepr.Short ∷ [])
+    (codes "numerical" sets MonthRepr.Numerical ∷ codes "long" sets MonthRepr.Long ∷ codes "short"
+    sets MonthRepr.Short ∷ [])
 
 abbrev pub case_sensitive : Key
-case_sensitive = key_of (codes "case_sensitive") Setting.CaseSensitive (codes "true" sets true ∷ codes "false" sets false ∷ [])
+case_sensitive = key_of (codes "case_sensitive") Setting.CaseSensitive
+    (codes "true" sets true ∷ codes "false" sets false ∷ [])
 
 abbrev pub sign : Key
-sign = key_of (codes "sign") Setting.SignIsMandatory (codes "automatic" sets false ∷ codes "mandatory" sets true ∷ [])
+sign = key_of (codes "sign") Setting.SignIsMandatory
+    (codes "automatic" sets false ∷ codes "mandatory" sets true ∷ [])
 
 abbrev pub case : Key
-case = key_of (codes "case") Setting.IsUppercase (codes "upper" sets true ∷ codes "lower" sets false ∷ [])
+case = key_of (codes "case") Setting.IsUppercase
+    (codes "upper" sets true ∷ codes "lower" sets false ∷ [])
 
 abbrev pub digits : Key
 digits = key_of (codes "digits") Setting.Digits
@@ -95,32 +105,39 @@ weekday_repr = key_of (codes "repr") Setting.WeekdayRepr
     ∷ codes "monday" sets WeekdayRepr.Monday ∷ [])
 
 abbrev pub one_indexed : Key
-one_indexed = key_of (codes "one_indexed") Setting.OneIndexed (codes "true" sets true ∷ codes "false" sets false ∷ [])
+one_indexed = key_of (codes "one_indexed") Setting.OneIndexed
+    (codes "true" sets true ∷ codes "false" sets false ∷ [])
 
 abbrev pub week_number_repr : Key
 week_number_repr = key_of (codes "repr") Setting.WeekNumberRepr
-    (codes "iso" sets WeekNumberRepr.Iso ∷ codes "sunday" sets WeekNumberRepr.Sunday ∷ codes "monday" sets WeekNumberRepr.Monday ∷ [])
+    (codes "iso" sets WeekNumberRepr.Iso ∷ codes "sunday" sets WeekNumberRepr.Sunday ∷ codes
+    "monday" sets WeekNumberRepr.Monday ∷ [])
 
 abbrev pub year_repr : Key
 year_repr = key_of (codes "repr") Setting.YearRepr
-    (codes "full" sets YearRepr.Full ∷ codes "century" sets YearRepr.Century ∷ codes "last_two" sets YearRepr.LastTwo ∷ [])
+    (codes "full" sets YearRepr.Full ∷ codes "century" sets YearRepr.Century ∷ codes "last_two" sets
+    YearRepr.LastTwo ∷ [])
 
 -- in versions 1 and 2 the default is the second
 abbrev pub range : Key
-range = key_of (codes "range") Setting.Range (codes "standard" sets YearRange.Standard ∷ codes "extended" sets YearRange.Extended ∷ [])
+range = key_of (codes "range") Setting.Range
+    (codes "standard" sets YearRange.Standard ∷ codes "extended" sets YearRange.Extended ∷ [])
 
 abbrev pub base : Key
-base = key_of (codes "base") Setting.IsoWeekBased (codes "calendar" sets false ∷ codes "iso_week" sets true ∷ [])
+base = key_of (codes "base") Setting.IsoWeekBased
+    (codes "calendar" sets false ∷ codes "iso_week" sets true ∷ [])
 
 abbrev pub format : Key
-format = key_of (codes "format") Setting.Format (codes "true" sets true ∷ codes "false" sets false ∷ [])
+format = key_of (codes "format") Setting.Format
+    (codes "true" sets true ∷ codes "false" sets false ∷ [])
 
 -- Numbers.
 
 -- a decimal number
 abbrev pub digits_value : ℕ → Text → Option ℕ
 digits_value n [] = Some n
-digits_value n (b ∷ bytes) = elim (nat_le 48 b && nat_le b 57) [ true ↦ digits_value (n * 10 + (b - 48)) bytes | false ↦ None ]
+digits_value n (b ∷ bytes) = elim (nat_le 48 b && nat_le b 57)
+    [ true ↦ digits_value (n * 10 + (b - 48)) bytes | false ↦ None ]
 
 -- one or more digits
 abbrev pub digits_of : Text → Option ℕ
@@ -134,12 +151,14 @@ not_zero less_one = record { value = suc less_one; ok = zero-lt-suc less_one }
 abbrev pub counted : Option ℕ → Option Setting
 counted None = None
 counted (Some zero) = None
-counted (Some (suc n)) = elim (nat_le (suc n) 65535) [ true ↦ Some (Setting.Count (not_zero n)) | false ↦ None ]
+counted (Some (suc n)) = elim (nat_le (suc n) 65535)
+    [ true ↦ Some (Setting.Count (not_zero n)) | false ↦ None ]
 
 -- one or more digits, behind an optional sign
 abbrev pub count_of : Text → Option Setting
 count_of [] = None
-count_of (b ∷ bytes) = elim (b == plus) [ true ↦ counted (digits_of bytes) | false ↦ counted (digits_of (b ∷ bytes)) ]
+count_of (b ∷ bytes) = elim (b == plus)
+    [ true ↦ counted (digits_of bytes) | false ↦ counted (digits_of (b ∷ bytes)) ]
 
 -- Looking up.
 

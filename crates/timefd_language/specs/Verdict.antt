@@ -14,7 +14,7 @@ use Rattle.timefd_language.specs.Combinations.{Refusal, refusals}
 use Rattle.timefd_language.specs.Head.{Head, Placed, placed, name_index}
 
 -- a nested description: whether white bytes stand before it, where its `[` stands, and its trees
-pub record Part : Type 0 where
+pub record PlacedDescription : Type 0 where
   pub spaced : Bool
   pub index : ℕ
   pub trees : List Tree
@@ -41,18 +41,21 @@ is_set strict key [] = false
 is_set strict key (m ∷ ms) = same strict key m.key || is_set strict key ms
 
 abbrev pub bad_value : Bool → Key → Placed → Option Fault
-bad_value strict k m = refuse (not (is_some (setting_in strict k.values m.value))) (invalid_modifier m.value) m.value_index
+bad_value strict k m = refuse (not (is_some (setting_in strict k.values m.value)))
+    (invalid_modifier m.value) m.value_index
 
 abbrev pub bad_modifier : Bool → Option Key → List Placed → Placed → Option Fault
 bad_modifier strict None before m = Some (fault (invalid_modifier m.key) m.key_index)
 bad_modifier strict (Some k) before m =
-    refuse (strict && is_set strict k.key before) (duplicate_modifier k.key) m.key_index or bad_value strict k m
+    refuse (strict && is_set strict k.key before) (duplicate_modifier k.key) m.key_index or
+    bad_value strict k m
 
 -- the first bad modifier, behind those that stand before
 abbrev pub bad_modifiers : Bool → List Key → List Placed → List Placed → Option Fault
 bad_modifiers strict keys before [] = None
 bad_modifiers strict keys before (m ∷ ms) =
-    bad_modifier strict (key_in strict m.key keys) before m or bad_modifiers strict keys (before ++ m ∷ []) ms
+    bad_modifier strict (key_in strict m.key keys) before m or bad_modifiers strict keys
+    (before ++ m ∷ []) ms
 
 -- what a text sets a key to
 abbrev pub setting_of : Bool → Option Key → Text → Option Setting
@@ -67,7 +70,8 @@ with_option s (Some v) = with s v
 abbrev pub settings_from : Bool → List Key → Settings → List Placed → Settings
 settings_from strict keys s [] = s
 settings_from strict keys s (m ∷ ms) =
-    settings_from strict keys (with_option s (setting_of strict (key_in strict m.key keys) m.value)) ms
+    settings_from strict keys (with_option s (setting_of strict (key_in strict m.key keys) m.value))
+    ms
 
 abbrev pub settings : Bool → List Key → List Placed → Settings
 settings strict keys ms = settings_from strict keys (defaults strict) ms
@@ -77,7 +81,8 @@ settings strict keys ms = settings_from strict keys (defaults strict) ms
 -- the place of a key's modifier
 abbrev pub misplaced : Refusal → List Placed → Option Fault
 misplaced r [] = None
-misplaced r (m ∷ ms) = refuse (equal r.key m.key) (invalid_combination r.key r.context) m.key_index or misplaced r ms
+misplaced r (m ∷ ms) = refuse (equal r.key m.key) (invalid_combination r.key r.context) m.key_index
+    or misplaced r ms
 
 abbrev pub combined : List Refusal → List Placed → Option Fault
 combined [] ms = None
@@ -99,24 +104,25 @@ behind None r = r
 abbrev pub component_verdict : Bool → Head → Option Row → Result Tree Fault
 component_verdict strict h None = Err (fault (invalid_name h.name) (name_index h))
 component_verdict strict h (Some row) =
-    behind (bad_modifiers strict row.keys [] (placed h)) (made strict h (row.component (settings strict row.keys (placed h))))
+    behind (bad_modifiers strict row.keys [] (placed h))
+    (made strict h (row.component (settings strict row.keys (placed h))))
 
 -- The rules.
 
-abbrev pub touching : List Part → Option Fault
+abbrev pub touching : List PlacedDescription → Option Fault
 touching [] = None
 touching (p ∷ ps) = refuse (not p.spaced) expected_white p.index
 
-abbrev pub too_many : List Part → Option Fault
+abbrev pub too_many : List PlacedDescription → Option Fault
 too_many [] = None
 too_many (p ∷ []) = None
 too_many (p ∷ q ∷ ps) = Some (fault many_nested p.index)
 
-abbrev pub nested_refused : List Part → Option Fault
+abbrev pub nested_refused : List PlacedDescription → Option Fault
 nested_refused [] = None
 nested_refused (p ∷ ps) = Some (fault nested_here 0)
 
-abbrev pub nested_wanted : Kind → List Part → ℕ → Option Fault
+abbrev pub nested_wanted : Kind → List PlacedDescription → ℕ → Option Fault
 nested_wanted kind [] close = Some (fault kind close)
 nested_wanted kind (p ∷ ps) close = None
 
@@ -128,11 +134,11 @@ abbrev pub is_formatted : Bool → List Placed → Bool
 is_formatted strict ms = (settings strict (format ∷ []) ms).format
 
 -- the tree of the one list
-abbrev pub only : List Part → Tree
+abbrev pub only : List PlacedDescription → Tree
 only [] = pack []
 only (p ∷ ps) = pack p.trees
 
-abbrev pub optional_verdict : Bool → Head → List Part → ℕ → Result Tree Fault
+abbrev pub optional_verdict : Bool → Head → List PlacedDescription → ℕ → Result Tree Fault
 optional_verdict strict h parts close =
     unless
     (bad_modifiers strict (format ∷ []) [] (placed h)
@@ -141,15 +147,16 @@ optional_verdict strict h parts close =
     or refuse (not strict) optional_item 0)
     (optional (is_formatted strict (placed h)) (only parts))
 
-abbrev pub first_verdict : Bool → Head → List Part → ℕ → Result Tree Fault
+abbrev pub first_verdict : Bool → Head → List PlacedDescription → ℕ → Result Tree Fault
 first_verdict strict h parts close =
     unless
     (any_modifier (placed h)
-    or (if strict then nested_wanted expected_alternative parts close else Some (fault first_item 0)))
+    or (if strict then nested_wanted expected_alternative parts close else Some
+    (fault first_item 0)))
     (first (trees (map (λ p. pack p.trees) parts)))
 
 -- a bracket that begins at 0 and is closed at this place
-abbrev pub verdict : Bool → Head → List Part → ℕ → Result Tree Fault
+abbrev pub verdict : Bool → Head → List PlacedDescription → ℕ → Result Tree Fault
 verdict strict h parts close =
     behind (touching parts)
     (if same strict (codes "optional") h.name then optional_verdict strict h parts close

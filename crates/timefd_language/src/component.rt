@@ -13,7 +13,8 @@ use timefd_modifier as modifier;
 /// The component of a name with these settings; none only for `ignore` without a count.
 #[inline(always)]
 pub fn component_of(name: ComponentName, settings: Settings) -> Option<Component>
-    ensures { MatchOption result ((row_for name).component settings ≡ Err (missing_modifier (codes "count"))) (λ c. (row_for name).component settings ≡ Ok c) }
+    ensures { MatchOption result ((row_for name).component settings ≡ Err
+        (missing_modifier (codes "count"))) (λ c. (row_for name).component settings ≡ Ok c) }
 {
     let Settings {
         padding,

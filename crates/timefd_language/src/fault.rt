@@ -7,7 +7,7 @@ use std::alloc::{AllocError, AllocFailed};
 
 /// Why a text is refused.
 #[derive(Clone, Copy)]
-pub enum Kind<'a> {
+pub enum FaultKind<'a> {
     UnclosedBracket,
     InvalidName(&'a str),
     InvalidModifier(&'a str),
@@ -22,7 +22,7 @@ pub enum Kind<'a> {
 /// A fault, and how many bytes of the text remain from its place on.
 #[derive(Clone, Copy)]
 pub struct Fault<'a> {
-    pub kind: Kind<'a>,
+    pub kind: FaultKind<'a>,
     pub remaining: usize,
 }
 

@@ -2,10 +2,10 @@
 
 ghost use Rattle.std.specs.Prelude.{◌≡◌, ◌≤◌, IfOk};
 ghost use Rattle.timefd_fault.specs.Faults as spec;
-ghost use Rattle.timefd_language.specs.Shown.{IsFault, MemoryOr};
+ghost use Rattle.timefd_language.specs.FaultMeaning.{IsFault, MemoryOr};
 ghost use Rattle.timefd_language.specs.Told.{Tells};
 
-use crate::fault::{Fault, Kind, ReadError};
+use crate::fault::{Fault, FaultKind, ReadError};
 use std::alloc::{AllocError, Global};
 use timefd_fault::InvalidFormatDescription;
 
@@ -39,31 +39,31 @@ fn placed(alloc: Global, fault: Fault, len: usize) -> Result<InvalidFormatDescri
 {
     let index = len - fault.remaining;
     Ok(match fault.kind {
-        Kind::UnclosedBracket => InvalidFormatDescription::UnclosedOpeningBracket { index },
-        Kind::InvalidName(name) => {
+        FaultKind::UnclosedBracket => InvalidFormatDescription::UnclosedOpeningBracket { index },
+        FaultKind::InvalidName(name) => {
             let name = String::from_str(alloc, name)?;
             InvalidFormatDescription::InvalidComponentName { name, index }
         }
-        Kind::InvalidModifier(value) => {
+        FaultKind::InvalidModifier(value) => {
             let value = String::from_str(alloc, value)?;
             InvalidFormatDescription::InvalidModifier { value, index }
         }
-        Kind::MissingName => InvalidFormatDescription::MissingComponentName { index },
-        Kind::MissingModifier(name) => InvalidFormatDescription::MissingRequiredModifier {
+        FaultKind::MissingName => InvalidFormatDescription::MissingComponentName { index },
+        FaultKind::MissingModifier(name) => InvalidFormatDescription::MissingRequiredModifier {
             name,
             index,
         },
-        Kind::Expected(what) => InvalidFormatDescription::Expected { what, index },
-        Kind::NotSupported(what, context) => InvalidFormatDescription::NotSupported {
+        FaultKind::Expected(what) => InvalidFormatDescription::Expected { what, index },
+        FaultKind::NotSupported(what, context) => InvalidFormatDescription::NotSupported {
             what,
             context,
             index,
         },
-        Kind::DuplicateModifier(name) => InvalidFormatDescription::DuplicateModifier {
+        FaultKind::DuplicateModifier(name) => InvalidFormatDescription::DuplicateModifier {
             name,
             index,
         },
-        Kind::InvalidCombination(modifier, context) => {
+        FaultKind::InvalidCombination(modifier, context) => {
             InvalidFormatDescription::InvalidModifierCombination {
                 modifier,
                 context,

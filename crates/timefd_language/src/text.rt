@@ -55,10 +55,11 @@ fn is_special(byte: u8) -> bool
 fn is_in(class: Class, byte: u8) -> bool
     ensures { result ≡ class_test class byte }
 {
+    // Most bytes of a word stand behind all that end one.
     match class {
         Class::White => is_white(byte),
-        Class::Word => !is_special(byte) && !is_white(byte),
-        Class::Key => byte != b':' && !is_special(byte) && !is_white(byte),
+        Class::Word => byte > b']' || !is_special(byte) && !is_white(byte),
+        Class::Key => byte > b']' || byte != b':' && !is_special(byte) && !is_white(byte),
         Class::Run => !is_special(byte),
         Class::RunWithBackslash => !is_special(byte) || byte == b'\\',
         Class::Plain => byte != b'%',
@@ -71,7 +72,8 @@ const NEAR: usize = 8;
 /// How many bytes at the front are in the class, if that is one of literals.
 #[inline(always)]
 fn literal_len(bytes: &[u8], class: Class) -> Option<usize>
-    ensures { MatchOption result ⊤ (λ n. (n ≡ prefix_len (class_test class) bytes.now) × (n ≤ length bytes.now)) }
+    ensures { MatchOption result ⊤ (λ n. (n ≡ prefix_len (class_test class) bytes.now)
+        × (n ≤ length bytes.now)) }
 {
     match class {
         Class::Run => Some(len_before(bytes, b'[', b']', b'\\')),
@@ -149,7 +151,8 @@ pub fn start_of(text: &str) -> Start<'_>
 /// What follows a colon, if the text begins with one.
 #[inline(always)]
 pub fn behind_colon(text: &str) -> Option<&str>
-    ensures { MatchOption result (StopsBefore (λ b. b == 58) text.now) (λ rest. text.now ≡ 58 ∷ rest.now) }
+    ensures { MatchOption result (StopsBefore (λ b. b == 58) text.now)
+        (λ rest. text.now ≡ 58 ∷ rest.now) }
 {
     match text.as_bytes() {
         [b':', ..] => Some(tail(text)),
@@ -160,7 +163,9 @@ pub fn behind_colon(text: &str) -> Option<&str>
 /// The first byte and the rest, if the first is an ASCII byte that the escapes of versions 2 and 3 stand for.
 #[inline(always)]
 pub fn escaped(text: &str) -> Option<(&str, &str)>
-    ensures { MatchOption result (StopsBefore spec.is_special text.now) (λ x. (b : ℕ) × IsTrue (spec.is_special b) × (x.0.now ≡ b ∷ []) × (text.now ≡ b ∷ x.1.now) × IsUtf8 x.1.now) }
+    ensures { MatchOption result (StopsBefore spec.is_special text.now) (λ x. (b : ℕ)
+        × IsTrue (spec.is_special b) × (x.0.now ≡ b ∷ []) × (text.now ≡ b ∷ x.1.now)
+        × IsUtf8 x.1.now) }
 {
     match text.as_bytes() {
         [byte, ..] if is_special(*byte) => Some(text.split_at(1)),

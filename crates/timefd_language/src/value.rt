@@ -1,9 +1,9 @@
 //! The words of modifiers, and what they set.
 
-ghost use Rattle.std.specs.Prelude.{◌≡◌, Bool, option_map, Some, None, if◌then◌else◌};
-ghost use Rattle.timefd_language.specs.Bytes as bytes;
+ghost use Rattle.std.specs.Prelude.{◌≡◌, Bool, option_map, map};
+ghost use Rattle.timefd_language.specs.Bytes.{named};
 ghost use Rattle.timefd_language.specs.Values as spec;
-ghost use Rattle.timefd_language.specs.Values.{setting_in};
+ghost use Rattle.timefd_language.specs.Values.{setting_in, sets_of, ◌sets◌};
 ghost use Rattle.timefd_language.specs.Lookup.{key_for};
 ghost use Rattle.timefd_language.specs.declared.setting.Setting.{Setting};
 
@@ -42,165 +42,177 @@ pub fn setting_of(key: Key, strict: bool, word: &str) -> Option<Setting>
     Some(setting)
 }
 
-/// The value of one of two words.
+/// What a word stands for among these.
 #[inline(always)]
-fn either<T: Copy>(strict: bool, word: &str, first: (&str, T), second: (&str, T)) -> Option<T>
-    ensures { result ≡ (if bytes.same strict first.entry.0.now word.now then Some first.entry.1 else (if bytes.same strict second.entry.0.now word.now then Some second.entry.1 else None)) }
+fn value_of<T: Copy>(strict: bool, word: &str, values: &[(&str, T)]) -> Option<T>
+    ensures { (set : T → Setting) → option_map set result ≡ sets_of (named (λ v. v.word) strict
+        word.now (map (λ x. x.0.now sets set x.1) values.now)) }
 {
-    if same(strict, first.0, word) {
-        Some(first.1)
-    } else if same(strict, second.0, word) {
-        Some(second.1)
-    } else {
-        None
+    for (name, value) in values {
+        if same(strict, name, word) {
+            return Some(*value);
+        }
     }
+    None
 }
 
 fn trailing_input_of(strict: bool, word: &str) -> Option<TrailingInput>
-    ensures { option_map Setting.TrailingInput result ≡ setting_in strict spec.trailing_input.values word.now }
+    ensures { option_map Setting.TrailingInput result ≡ setting_in strict spec.trailing_input.values
+        word.now }
 {
-    either(
+    value_of(
         strict,
         word,
-        ("prohibit", TrailingInput::Prohibit),
-        ("discard", TrailingInput::Discard),
+        &[
+            ("prohibit", TrailingInput::Prohibit),
+            ("discard", TrailingInput::Discard),
+        ],
     )
 }
 
 fn is_12_hour_clock_of(strict: bool, word: &str) -> Option<bool>
-    ensures { option_map Setting.Is12HourClock result ≡ setting_in strict spec.hour_repr.values word.now }
+    ensures { option_map Setting.Is12HourClock result ≡ setting_in strict spec.hour_repr.values
+        word.now }
 {
-    either(strict, word, ("24", false), ("12", true))
+    value_of(strict, word, &[("24", false), ("12", true)])
 }
 
 fn sign_is_mandatory_of(strict: bool, word: &str) -> Option<bool>
-    ensures { option_map Setting.SignIsMandatory result ≡ setting_in strict spec.sign.values word.now }
+    ensures { option_map Setting.SignIsMandatory result ≡ setting_in strict spec.sign.values
+        word.now }
 {
-    either(strict, word, ("automatic", false), ("mandatory", true))
+    value_of(strict, word, &[("automatic", false), ("mandatory", true)])
 }
 
 fn is_uppercase_of(strict: bool, word: &str) -> Option<bool>
     ensures { option_map Setting.IsUppercase result ≡ setting_in strict spec.case.values word.now }
 {
-    either(strict, word, ("upper", true), ("lower", false))
+    value_of(strict, word, &[("upper", true), ("lower", false)])
 }
 
 fn range_of(strict: bool, word: &str) -> Option<YearRange>
     ensures { option_map Setting.Range result ≡ setting_in strict spec.range.values word.now }
 {
-    either(
+    value_of(
         strict,
         word,
-        ("standard", YearRange::Standard),
-        ("extended", YearRange::Extended),
+        &[
+            ("standard", YearRange::Standard),
+            ("extended", YearRange::Extended),
+        ],
     )
 }
 
 fn is_iso_week_based_of(strict: bool, word: &str) -> Option<bool>
     ensures { option_map Setting.IsoWeekBased result ≡ setting_in strict spec.base.values word.now }
 {
-    either(strict, word, ("calendar", false), ("iso_week", true))
+    value_of(strict, word, &[("calendar", false), ("iso_week", true)])
 }
 
 fn bool_of(strict: bool, word: &str) -> Option<bool>
-    ensures case_sensitive { option_map Setting.CaseSensitive result ≡ setting_in strict spec.case_sensitive.values word.now }
-    ensures one_indexed { option_map Setting.OneIndexed result ≡ setting_in strict spec.one_indexed.values word.now }
-    ensures format { option_map Setting.Format result ≡ setting_in strict spec.format.values word.now }
+    ensures case_sensitive { option_map Setting.CaseSensitive result ≡ setting_in strict
+        spec.case_sensitive.values word.now }
+    ensures one_indexed { option_map Setting.OneIndexed result ≡ setting_in strict
+        spec.one_indexed.values word.now }
+    ensures format { option_map Setting.Format result ≡ setting_in strict spec.format.values
+        word.now }
 {
-    either(strict, word, ("true", true), ("false", false))
+    value_of(strict, word, &[("true", true), ("false", false)])
 }
 
 fn padding_of(strict: bool, word: &str) -> Option<Padding>
     ensures { option_map Setting.Padding result ≡ setting_in strict spec.padding.values word.now }
 {
-    if same(strict, "zero", word) {
-        Some(Padding::Zero)
-    } else if same(strict, "space", word) {
-        Some(Padding::Space)
-    } else if same(strict, "none", word) {
-        Some(Padding::None)
-    } else {
-        None
-    }
+    value_of(
+        strict,
+        word,
+        &[
+            ("zero", Padding::Zero),
+            ("space", Padding::Space),
+            ("none", Padding::None),
+        ],
+    )
 }
 
 fn month_repr_of(strict: bool, word: &str) -> Option<MonthRepr>
-    ensures { option_map Setting.MonthRepr result ≡ setting_in strict spec.month_repr.values word.now }
+    ensures { option_map Setting.MonthRepr result ≡ setting_in strict spec.month_repr.values
+        word.now }
 {
-    if same(strict, "numerical", word) {
-        Some(MonthRepr::Numerical)
-    } else if same(strict, "long", word) {
-        Some(MonthRepr::Long)
-    } else if same(strict, "short", word) {
-        Some(MonthRepr::Short)
-    } else {
-        None
-    }
+    value_of(
+        strict,
+        word,
+        &[
+            ("numerical", MonthRepr::Numerical),
+            ("long", MonthRepr::Long),
+            ("short", MonthRepr::Short),
+        ],
+    )
 }
 
 fn week_number_repr_of(strict: bool, word: &str) -> Option<WeekNumberRepr>
-    ensures { option_map Setting.WeekNumberRepr result ≡ setting_in strict spec.week_number_repr.values word.now }
+    ensures { option_map Setting.WeekNumberRepr result ≡ setting_in strict
+        spec.week_number_repr.values word.now }
 {
-    if same(strict, "iso", word) {
-        Some(WeekNumberRepr::Iso)
-    } else if same(strict, "sunday", word) {
-        Some(WeekNumberRepr::Sunday)
-    } else if same(strict, "monday", word) {
-        Some(WeekNumberRepr::Monday)
-    } else {
-        None
-    }
+    value_of(
+        strict,
+        word,
+        &[
+            ("iso", WeekNumberRepr::Iso),
+            ("sunday", WeekNumberRepr::Sunday),
+            ("monday", WeekNumberRepr::Monday),
+        ],
+    )
 }
 
 fn year_repr_of(strict: bool, word: &str) -> Option<YearRepr>
     ensures { option_map Setting.YearRepr result ≡ setting_in strict spec.year_repr.values word.now }
 {
-    if same(strict, "full", word) {
-        Some(YearRepr::Full)
-    } else if same(strict, "century", word) {
-        Some(YearRepr::Century)
-    } else if same(strict, "last_two", word) {
-        Some(YearRepr::LastTwo)
-    } else {
-        None
-    }
+    value_of(
+        strict,
+        word,
+        &[
+            ("full", YearRepr::Full),
+            ("century", YearRepr::Century),
+            ("last_two", YearRepr::LastTwo),
+        ],
+    )
 }
 
 fn weekday_repr_of(strict: bool, word: &str) -> Option<WeekdayRepr>
-    ensures { option_map Setting.WeekdayRepr result ≡ setting_in strict spec.weekday_repr.values word.now }
+    ensures { option_map Setting.WeekdayRepr result ≡ setting_in strict spec.weekday_repr.values
+        word.now }
 {
-    if same(strict, "long", word) {
-        Some(WeekdayRepr::Long)
-    } else if same(strict, "short", word) {
-        Some(WeekdayRepr::Short)
-    } else if same(strict, "sunday", word) {
-        Some(WeekdayRepr::Sunday)
-    } else if same(strict, "monday", word) {
-        Some(WeekdayRepr::Monday)
-    } else {
-        None
-    }
+    value_of(
+        strict,
+        word,
+        &[
+            ("long", WeekdayRepr::Long),
+            ("short", WeekdayRepr::Short),
+            ("sunday", WeekdayRepr::Sunday),
+            ("monday", WeekdayRepr::Monday),
+        ],
+    )
 }
 
 fn precision_of(strict: bool, word: &str) -> Option<UnixTimestampPrecision>
     ensures { option_map Setting.Precision result ≡ setting_in strict spec.precision.values word.now }
 {
-    if same(strict, "second", word) {
-        Some(UnixTimestampPrecision::Second)
-    } else if same(strict, "millisecond", word) {
-        Some(UnixTimestampPrecision::Millisecond)
-    } else if same(strict, "microsecond", word) {
-        Some(UnixTimestampPrecision::Microsecond)
-    } else if same(strict, "nanosecond", word) {
-        Some(UnixTimestampPrecision::Nanosecond)
-    } else {
-        None
-    }
+    value_of(
+        strict,
+        word,
+        &[
+            ("second", UnixTimestampPrecision::Second),
+            ("millisecond", UnixTimestampPrecision::Millisecond),
+            ("microsecond", UnixTimestampPrecision::Microsecond),
+            ("nanosecond", UnixTimestampPrecision::Nanosecond),
+        ],
+    )
 }
 
 /// Digits have no case.
 fn digits_of(word: &str) -> Option<SubsecondDigits>
-    ensures { (strict : Bool) → option_map Setting.Digits result ≡ setting_in strict spec.digits.values word.now }
+    ensures { (strict : Bool) → option_map Setting.Digits result ≡ setting_in strict
+        spec.digits.values word.now }
 {
     match word.as_bytes() {
         b"1+" => Some(SubsecondDigits::OneOrMore),

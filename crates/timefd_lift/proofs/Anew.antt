@@ -10,7 +10,7 @@ use Rattle.timefd_language.specs.Head.{Head, head_text}
 use Rattle.timefd_language.specs.Grammar.{Pieces, no_pieces, run, escape, closing, bracket, no_nested, nested, spelling, nested_text, items, ArePieces, BeginsNoRun, is_empty, parts_from}
 use Rattle.timefd_lift.specs.Laws.{ComponentsRead, Writing}
 use Rattle.timefd_lift.specs.Written.{component_text, escape_before, tree_text, written}
-use Rattle.timefd_lift.proofs.Flat.{nested_is_refused}
+use Rattle.timefd_language.proofs.Lift.{nested_refuses}
 use Rattle.timefd_lift.proofs.Heads.{IsShown}
 use Rattle.timefd_lift.proofs.ComponentHeads.{component-shown}
 use Rattle.timefd_lift.proofs.Leaves.{IsLeaf, bracket-leaf}
@@ -43,34 +43,49 @@ record IsAnew (limit : ℕ) (ps qs : Pieces) : Type 0 where
 none_behind : (head : Text) → head ++ [] ++ [] ≡ head
 none_behind head = append-nil (head ++ []) ∙ append-nil head
 
-bracket_spelling : (text head rest : Text) → text ≡ head ++ right ∷ [] → head ++ [] ++ [] ++ right ∷ rest ≡ text ++ rest
+bracket_spelling : (text head rest : Text) → text ≡ head ++ right ∷ []
+    → head ++ [] ++ [] ++ right ∷ rest ≡ text ++ rest
 bracket_spelling text head rest is =
-    ap (λ x. x ++ right ∷ rest) (none_behind head) ∙ sym (ap (λ x. x ++ rest) is ∙ append_assoc head (right ∷ []) rest)
+    ap (λ x. x ++ right ∷ rest) (none_behind head) ∙
+    sym (ap (λ x. x ++ rest) is ∙ append_assoc head (right ∷ []) rest)
 
 leaf_spelling : (tree : Tree) (l : IsLeaf tree) → component_text (modern l.leaf) ≡ tree_text tree
 leaf_spelling tree l = ap tree_text l.is
 
-leaf_anew : (limit : ℕ) (h : Head) (white : Text) (tree : Tree) (ps qs : Pieces) (l : IsLeaf tree) → IsShown (component_text (modern l.leaf)) (modern l.leaf)
+leaf_anew : (limit : ℕ) (h : Head) (white : Text) (tree : Tree) (ps qs : Pieces) (l : IsLeaf tree)
+    → IsShown (component_text (modern l.leaf)) (modern l.leaf)
     → IsAnew limit ps qs → (more : Pieces) × IsAnew limit (bracket h no_nested white tree ps) more
 leaf_anew limit h white tree ps qs l shown rest = (
   bracket shown.head no_nested [] tree qs,
   record {
     are = (shown.is, tt, refl, shown.read _ ∙ ap Ok (ap component l.modern ∙ l.is), rest.are);
-    spelled = bracket_spelling (component_text (modern l.leaf)) (head_text shown.head) (spelling qs) shown.spelled
-        ∙ ap (λ x. x ++ spelling qs) (leaf_spelling tree l) ∙ ap (λ x. tree_text tree ++ x) rest.spelled;
+    spelled = bracket_spelling (component_text (modern l.leaf)) (head_text shown.head) (spelling qs)
+        shown.spelled
+        ∙ ap (λ x. x ++ spelling qs) (leaf_spelling tree l) ∙
+        ap (λ x. tree_text tree ++ x) rest.spelled;
     same = ap (λ x. tree ∷ x) rest.same;
     begins = λ b. tt;
   },
 )
 
 anew : (limit : ℕ) (ps : Pieces) → ArePieces Two limit 0 ps → (qs : Pieces) × IsAnew limit ps qs
-anew limit no_pieces are = (no_pieces, record { are = tt; spelled = refl; same = refl; begins = λ b. tt })
+anew limit no_pieces are = (
+  no_pieces,
+  record {
+    are = tt;
+    spelled = refl;
+    same = refl;
+    begins =
+        λ b. tt;
+  },
+)
 anew limit (run bytes rest) are =
     let more = anew limit rest are.2 in (
       run bytes more.0,
       record {
         are = (are.0, more.1.begins are.1, more.1.are);
-        spelled = ap (λ x. bytes ++ x) more.1.spelled ∙ ap (λ x. (x ++ bytes) ++ written (items rest)) (sym (run_escape bytes are.0));
+        spelled = ap (λ x. bytes ++ x) more.1.spelled ∙
+            ap (λ x. (x ++ bytes) ++ written (items rest)) (sym (run_escape bytes are.0));
         same = ap (λ x. literal bytes ∷ x) more.1.same;
         begins = λ b. b;
       },
@@ -80,7 +95,8 @@ anew limit (escape a b rest) are =
       escape backslash b more.0,
       record {
         are = ((refl, are.0.1), more.1.are);
-        spelled = ap (λ x. backslash ∷ b ∷ x) more.1.spelled ∙ ap (λ x. (x ++ b ∷ []) ++ written (items rest)) (sym (special_escape b are.0.1));
+        spelled = ap (λ x. backslash ∷ b ∷ x) more.1.spelled ∙
+            ap (λ x. (x ++ b ∷ []) ++ written (items rest)) (sym (special_escape b are.0.1));
         same = ap (λ x. literal (b ∷ []) ∷ x) more.1.same;
         begins = λ b. tt;
       },
@@ -100,8 +116,13 @@ anew limit (bracket h no_nested white tree rest) are =
     let l = bracket-leaf h _ tree are.3 in
     leaf_anew limit h white tree rest more.0 l (component-shown l.leaf l.counted) more.1
 anew limit (bracket h (nested w ps ns) white tree rest) are = absurd
-    (nested_is_refused h (record { spaced = not (is_empty w); index = length (head_text h) + length w; trees = items ps })
-    (parts_from (length (head_text h) + length w + 1 + length (spelling ps) + 1) ns) (length (head_text h ++ nested_text (nested w ps ns) ++ white)) tree are.3)
+    (nested_refuses h (record {
+      spaced = not (is_empty w);
+      index = length (head_text h) + length w;
+      trees = items ps;
+    })
+    (parts_from (length (head_text h) + length w + 1 + length (spelling ps) + 1) ns)
+    (length (head_text h ++ nested_text (nested w ps ns) ++ white)) tree are.3)
 
 pub writing_law : Writing
 writing_law limit text list s =
@@ -110,5 +131,10 @@ writing_law limit text list s =
 
 pub components_read_law : ComponentsRead
 components_read_law limit c counted =
-    let shown = component-shown c counted in
-    (bracket shown.head no_nested [] (component (modern c)) no_pieces, (shown.is, tt, refl, shown.read _, tt), shown.spelled ∙ ap (λ x. x ++ right ∷ []) (sym (none_behind (head_text shown.head))), refl)
+    let shown = component-shown c counted in (
+      bracket shown.head no_nested [] (component (modern c)) no_pieces,
+      (shown.is, tt, refl, shown.read _, tt),
+      shown.spelled ∙
+          ap (λ x. x ++ right ∷ []) (sym (none_behind (head_text shown.head))),
+      refl,
+    )

@@ -1,4 +1,5 @@
--- What is said of a text that was written byte after byte, where version 1 spells the text that it was made of.
+-- What is said of a text that was written byte after byte, where version 1 spells the text that it
+-- was made of.
 use Rattle.std.proofs.Common.{◌≡◌, List, ap, sym, ◌∙◌}
 use Rattle.timefd_component.specs.Tree.{Text, Tree, joined}
 use Rattle.timefd_language.specs.declared.description_version.DescriptionVersion.TheVariants.{One}
@@ -9,10 +10,13 @@ use Rattle.timefd_lift.specs.Answers.{IsSpelledBy, IsRewritten, HasItemsOf}
 use Rattle.timefd_lift.specs.Bytewise.{outside}
 use Rattle.timefd_lift.proofs.Rewriting.{outside-spelling}
 
-pub writes-rewritten : (text answer : Text) (ps : Pieces) → answer ≡ outside text → IsSpelledBy ps text → answer ≡ rewritten ps
-writes-rewritten text answer ps written spelled = written ∙ ap outside spelled.1 ∙ outside-spelling nesting_limit 0 ps spelled.0
+pub writes-rewritten : (text answer : Text) (ps : Pieces) → answer ≡ outside text
+    → IsSpelledBy ps text → answer ≡ rewritten ps
+writes-rewritten text answer ps written spelled = written ∙ ap outside spelled.1 ∙
+    outside-spelling nesting_limit 0 ps spelled.0
 
-pub is-rewritten : (text answer : Text) (list : List Tree) → answer ≡ outside text → Spells One nesting_limit 0 text list → IsRewritten text answer
+pub is-rewritten : (text answer : Text) (list : List Tree) → answer ≡ outside text
+    → Spells One nesting_limit 0 text list → IsRewritten text answer
 is-rewritten text answer list written s =
     (s.0, (s.1, s.2), writes-rewritten text answer s.0 written (s.1, s.2))
 
@@ -21,6 +25,11 @@ has-items law text answer written list s =
     let lifted = law nesting_limit s.0 s.1 in
     let spelled = lifted.1 in (
       lifted.0,
-      (spelled.0, spelled.1, writes-rewritten text answer s.0 written (s.1, s.2) ∙ spelled.2, spelled.3),
+      (
+        spelled.0,
+        spelled.1,
+        writes-rewritten text answer s.0 written (s.1, s.2) ∙ spelled.2,
+        spelled.3,
+      ),
       lifted.2 ∙ ap joined (sym s.3),
     )

@@ -2,5 +2,6 @@
 use Rattle.std.proofs.Common.{◌≡◌, ◌++◌, Result, OnOk, subst}
 use Rattle.timefd_component.specs.Tree.{Text}
 
-pub appended : {A E : Type 0} (r : Result A E) (old new text other : Text) → text ≡ other → OnOk r (new ≡ old ++ text) → OnOk r (new ≡ old ++ other)
+pub appended : {A E : Type 0} (r : Result A E) (old new text other : Text) → text ≡ other
+    → OnOk r (new ≡ old ++ text) → OnOk r (new ≡ old ++ other)
 appended r old new text other is = subst (λ t. OnOk r (new ≡ old ++ t)) is

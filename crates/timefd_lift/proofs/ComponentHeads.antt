@@ -46,13 +46,15 @@ hour : (is_12_hour_clock : Bool) (h : HourFields) → IsShownAs (modern_hour is_
 hour true h = hour_12 h.padding
 hour false h = hour_24 h.padding
 
-timestamp : (p : UnixTimestampPrecision) (t : UnixTimestampFields) → IsShownAs (modern_timestamp p t)
+timestamp : (p : UnixTimestampPrecision) (t : UnixTimestampFields)
+    → IsShownAs (modern_timestamp p t)
 timestamp UnixTimestampPrecision.Second t = timestamp_second t.sign_is_mandatory
 timestamp UnixTimestampPrecision.Millisecond t = timestamp_millisecond t.sign_is_mandatory
 timestamp UnixTimestampPrecision.Microsecond t = timestamp_microsecond t.sign_is_mandatory
 timestamp UnixTimestampPrecision.Nanosecond t = timestamp_nanosecond t.sign_is_mandatory
 
-year : (is_iso : Bool) (k : YearRepr) (r : YearRange) (y : YearFields) → IsShownAs (modern_year is_iso k r y)
+year : (is_iso : Bool) (k : YearRepr) (r : YearRange) (y : YearFields)
+    → IsShownAs (modern_year is_iso k r y)
 year false YearRepr.Full YearRange.Extended y = full_extended y.padding y.sign_is_mandatory
 year false YearRepr.Full YearRange.Standard y = full_standard y.padding y.sign_is_mandatory
 year false YearRepr.Century YearRange.Extended y = century_extended y.padding y.sign_is_mandatory
@@ -77,14 +79,22 @@ component-shown (WeekdayMonday m) counted = weekday_monday m.one_indexed
 component-shown (WeekNumberIso m) counted = week_iso m.padding
 component-shown (WeekNumberSunday m) counted = week_sunday m.padding
 component-shown (WeekNumberMonday m) counted = week_monday m.padding
-component-shown (CalendarYearFullExtendedRange m) counted = full_extended m.padding m.sign_is_mandatory
-component-shown (CalendarYearFullStandardRange m) counted = full_standard m.padding m.sign_is_mandatory
-component-shown (CalendarYearCenturyExtendedRange m) counted = century_extended m.padding m.sign_is_mandatory
-component-shown (CalendarYearCenturyStandardRange m) counted = century_standard m.padding m.sign_is_mandatory
-component-shown (IsoYearFullExtendedRange m) counted = iso_full_extended m.padding m.sign_is_mandatory
-component-shown (IsoYearFullStandardRange m) counted = iso_full_standard m.padding m.sign_is_mandatory
-component-shown (IsoYearCenturyExtendedRange m) counted = iso_century_extended m.padding m.sign_is_mandatory
-component-shown (IsoYearCenturyStandardRange m) counted = iso_century_standard m.padding m.sign_is_mandatory
+component-shown (CalendarYearFullExtendedRange m) counted =
+    full_extended m.padding m.sign_is_mandatory
+component-shown (CalendarYearFullStandardRange m) counted =
+    full_standard m.padding m.sign_is_mandatory
+component-shown (CalendarYearCenturyExtendedRange m) counted =
+    century_extended m.padding m.sign_is_mandatory
+component-shown (CalendarYearCenturyStandardRange m) counted =
+    century_standard m.padding m.sign_is_mandatory
+component-shown (IsoYearFullExtendedRange m) counted =
+    iso_full_extended m.padding m.sign_is_mandatory
+component-shown (IsoYearFullStandardRange m) counted =
+    iso_full_standard m.padding m.sign_is_mandatory
+component-shown (IsoYearCenturyExtendedRange m) counted =
+    iso_century_extended m.padding m.sign_is_mandatory
+component-shown (IsoYearCenturyStandardRange m) counted =
+    iso_century_standard m.padding m.sign_is_mandatory
 component-shown (CalendarYearLastTwo m) counted = last_two m.padding
 component-shown (IsoYearLastTwo m) counted = iso_last_two m.padding
 component-shown (Hour12 m) counted = hour_12 m.padding

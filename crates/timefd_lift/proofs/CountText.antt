@@ -26,7 +26,8 @@ digits_word : (digits : Text) → AllDigits 10 digits → ZeroOrMore is_word_byt
 digits_word [] all = refl
 digits_word (b ∷ digits) all =
     let range = digit_from_value b all.0 in
-    and_from (is_word_byte b) (list_all is_word_byte digits) (word_byte b range.0 range.1) (digits_word digits all.1)
+    and_from (is_word_byte b) (list_all is_word_byte digits) (word_byte b range.0 range.1)
+    (digits_word digits all.1)
 
 numeral_word : (digits : Text) → IsNumeral 10 digits → OneOrMore is_word_byte digits
 numeral_word [] is = absurd (omega (arith, is.0))
@@ -36,27 +37,42 @@ numeral_word (b ∷ digits) is = digits_word (b ∷ digits) is.1
 parsed : (n : ℕ) → 0 < n → n < 2 ^ 16 → ParsesUnsigned {E = ⊤} 16 10 (decimal n) (Ok n)
 parsed n some small =
     let numeral = decimal_is_IsNumeral n (omega arith) in
-    let first : get_or (decimal n) 0 0 ≢ 43 = λ e. omega (arith, first_decimal n some (omega arith)) in
-    let plain : without_leading_plus (decimal n) ≡ decimal n = without_leading_plus_none (decimal n) first in
-    subst (λ ds. (IsNumeral 10 ds × (digits_value 10 ds < 2 ^ 16)) × (n ≡ digits_value 10 ds)) (sym plain)
+    let first : get_or (decimal n) 0 0 ≢ 43 =
+    λ e. omega (arith, first_decimal n some (omega arith)) in
+    let plain : without_leading_plus (decimal n) ≡ decimal n =
+    without_leading_plus_none (decimal n) first in
+    subst (λ ds. (IsNumeral 10 ds × (digits_value 10 ds < 2 ^ 16)) × (n ≡ digits_value 10 ds))
+    (sym plain)
     ((numeral.0, subst (λ m. m < 2 ^ 16) (sym numeral.1) small), sym numeral.1)
 
-count_read : (x : NonZeroU16) → x.value ≤ 65535 → count_of (decimal x.value) ≡ Some (Setting.Count x)
-count_read x small = sym (read_count {E = ⊤} (decimal x.value) (Ok x.value) x.value (Some x) (parsed x.value x.ok (omega arith)) refl refl)
+count_read : (x : NonZeroU16) → x.value ≤ 65535
+    → count_of (decimal x.value) ≡ Some (Setting.Count x)
+count_read x small = sym (read_count {E = ⊤} (decimal x.value) (Ok x.value) x.value (Some x)
+    (parsed x.value x.ok (omega arith)) refl refl)
 
 ignore_read : (x : NonZeroU16) (close : ℕ) → count_of (decimal x.value) ≡ Some (Setting.Count x)
-    → verdict true (plain_head (codes "ignore") (codes "count" set_to decimal x.value ∷ [])) [] close ≡ Ok (component (Ignore (record { count = x })))
+    → verdict true (plain_head (codes "ignore") (codes "count" set_to decimal x.value ∷ [])) []
+    close ≡ Ok (component (Ignore (record { count = x })))
 ignore_read x close e = rw e refl
 
-ignore_spelled : (digits : Text) → in_brackets (codes "ignore count:") digits [] ≡ head_text (plain_head (codes "ignore") (codes "count" set_to digits ∷ [])) ++ right ∷ []
+ignore_spelled : (digits : Text) → in_brackets (codes "ignore count:") digits [] ≡ head_text
+    (plain_head (codes "ignore") (codes "count" set_to digits ∷ [])) ++ right ∷ []
 ignore_spelled digits = refl
 
-pub ignore : (x : NonZeroU16) → x.value ≤ 65535 → IsShown (component_text (Ignore (record { count = x }))) (Ignore (record { count = x }))
+pub ignore : (x : NonZeroU16) → x.value ≤ 65535
+    → IsShown (component_text (Ignore (record { count = x }))) (Ignore (record { count = x }))
 ignore x small =
     let numeral = decimal_is_IsNumeral x.value (omega arith) in
     record {
       head = plain_head (codes "ignore") (codes "count" set_to decimal x.value ∷ []);
-      is = record { white = refl; name = refl; modifiers = (record { white = refl; key = refl; value = numeral_word (decimal x.value) numeral.0 }, tt) };
+      is = record {
+        white = refl;
+        name = refl;
+        modifiers = (
+          record { white = refl; key = refl; value = numeral_word (decimal x.value) numeral.0 },
+          tt,
+        );
+      };
       spelled = ignore_spelled (decimal x.value);
       read = λ close. ignore_read x close (count_read x small);
     }

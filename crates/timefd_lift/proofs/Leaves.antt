@@ -49,7 +49,8 @@ counted_small None = tt
 counted_small (Some zero) = tt
 counted_small (Some (suc n)) = by (nat_le (suc n) 65535) refl
   where
-    by : (t : Bool) → nat_le (suc n) 65535 ≡ t → SetsSmall (elim t [ true ↦ Some (Setting.Count (not_zero n)) | false ↦ None ])
+    by : (t : Bool) → nat_le (suc n) 65535 ≡ t
+        → SetsSmall (elim t [ true ↦ Some (Setting.Count (not_zero n)) | false ↦ None ])
     by true e = (not_zero n, refl, leb-true (suc n) 65535 e)
     by false e = tt
 
@@ -57,33 +58,47 @@ count_small : (text : Text) → SetsSmall (count_of text)
 count_small [] = tt
 count_small (b ∷ bytes) = by (b == 43)
   where
-    by : (t : Bool) → SetsSmall (elim t [ true ↦ counted (digits_of bytes) | false ↦ counted (digits_of (b ∷ bytes)) ])
+    by : (t : Bool)
+        → SetsSmall (elim t [
+          | true ↦ counted (digits_of bytes)
+          | false ↦ counted
+              (digits_of (b ∷ bytes))
+        ])
     by true = counted_small (digits_of bytes)
     by false = counted_small (digits_of (b ∷ bytes))
 
-set_small : (s : Settings) (o : Option Setting) → IsSmall s.count → SetsSmall o → IsSmall (with_option s o).count
+set_small : (s : Settings) (o : Option Setting) → IsSmall s.count → SetsSmall o
+    → IsSmall (with_option s o).count
 set_small s None small sets = small
-set_small s (Some v) small sets = subst (λ w. IsSmall (with_option s (Some w)).count) (sym sets.1) sets.2
+set_small s (Some v) small sets = subst (λ w. IsSmall (with_option s (Some w)).count) (sym sets.1)
+    sets.2
 
-word_small : (strict : Bool) (key value : Text) → SetsSmall (setting_of strict (key_in strict key (count ∷ [])) value)
+word_small : (strict : Bool) (key value : Text)
+    → SetsSmall (setting_of strict (key_in strict key (count ∷ [])) value)
 word_small strict key value = by (same strict (codes "count") key)
   where
-    by : (t : Bool) → SetsSmall (setting_of strict (elim t [ true ↦ Some count | false ↦ None ]) value)
+    by : (t : Bool)
+        → SetsSmall (setting_of strict (elim t [ true ↦ Some count | false ↦ None ]) value)
     by true = count_small value
     by false = tt
 
-all_small : (strict : Bool) (s : Settings) (ms : List Placed) → IsSmall s.count → IsSmall (settings_from strict (count ∷ []) s ms).count
+all_small : (strict : Bool) (s : Settings) (ms : List Placed) → IsSmall s.count
+    → IsSmall (settings_from strict (count ∷ []) s ms).count
 all_small strict s [] small = small
 all_small strict s (m ∷ ms) small =
-    all_small strict (with_option s (setting_of strict (key_in strict m.key (count ∷ [])) m.value)) ms
-    (set_small s (setting_of strict (key_in strict m.key (count ∷ [])) m.value) small (word_small strict m.key m.value))
+    all_small strict (with_option s (setting_of strict (key_in strict m.key (count ∷ [])) m.value))
+    ms
+    (set_small s (setting_of strict (key_in strict m.key (count ∷ [])) m.value) small
+    (word_small strict m.key m.value))
 
 -- Rows.
 
 abbrev IsCountedRow : Row → Type 0
-IsCountedRow r = (strict : Bool) (ms : List Placed) (c : Component) → r.component (settings strict r.keys ms) ≡ Ok c → IsCounted c
+IsCountedRow r = (strict : Bool) (ms : List Placed) (c : Component)
+    → r.component (settings strict r.keys ms) ≡ Ok c → IsCounted c
 
-by_form : (d c : Component) → ◌≡◌ {A = Result Component Kind} (Ok d) (Ok c) → IsCounted d → IsCounted c
+by_form : (d c : Component) → ◌≡◌ {A = Result Component Kind} (Ok d) (Ok c) → IsCounted d
+    → IsCounted c
 by_form d c e counted = let is : d ≡ c = cc in subst IsCounted is counted
 
 month_counted : (r : MonthRepr) (m : Month) → IsCounted (modern_month r m)
@@ -106,13 +121,15 @@ hour_counted : (b : Bool) (h : Hour) → IsCounted (modern_hour b h)
 hour_counted true h = tt
 hour_counted false h = tt
 
-timestamp_counted : (p : UnixTimestampPrecision) (t : UnixTimestamp) → IsCounted (modern_timestamp p t)
+timestamp_counted : (p : UnixTimestampPrecision) (t : UnixTimestamp)
+    → IsCounted (modern_timestamp p t)
 timestamp_counted UnixTimestampPrecision.Second t = tt
 timestamp_counted UnixTimestampPrecision.Millisecond t = tt
 timestamp_counted UnixTimestampPrecision.Microsecond t = tt
 timestamp_counted UnixTimestampPrecision.Nanosecond t = tt
 
-year_counted : (iso : Bool) (k : YearRepr) (r : YearRange) (y : Year) → IsCounted (modern_year iso k r y)
+year_counted : (iso : Bool) (k : YearRepr) (r : YearRange) (y : Year)
+    → IsCounted (modern_year iso k r y)
 year_counted true YearRepr.Full YearRange.Extended y = tt
 year_counted true YearRepr.Full YearRange.Standard y = tt
 year_counted true YearRepr.Century YearRange.Extended y = tt
@@ -124,7 +141,8 @@ year_counted false YearRepr.Century YearRange.Extended y = tt
 year_counted false YearRepr.Century YearRange.Standard y = tt
 year_counted false YearRepr.LastTwo r y = tt
 
-ignore_counted : (o : Option NonZeroU16) (c : Component) → IsSmall o → ignored o ≡ Ok c → IsCounted c
+ignore_counted : (o : Option NonZeroU16) (c : Component) → IsSmall o → ignored o ≡ Ok c
+    → IsCounted c
 ignore_counted None c small e = absurd cc
 ignore_counted (Some n) c small e = by_form (Component.Ignore (record { count = n })) c e small
 
@@ -132,7 +150,9 @@ name_counted : (n : ComponentName) → IsCountedRow (row_for n)
 name_counted ComponentName.Day = λ strict ms c e. by_form _ c e tt
 name_counted ComponentName.End = λ strict ms c e. by_form _ c e tt
 name_counted ComponentName.Hour = λ strict ms c e. by_form _ c e (hour_counted _ _)
-name_counted ComponentName.Ignore = λ strict ms c e. ignore_counted (settings strict (count ∷ []) ms).count c (all_small strict (defaults strict) ms tt) e
+name_counted ComponentName.Ignore =
+    λ strict ms c e. ignore_counted (settings strict (count ∷ []) ms).count c
+    (all_small strict (defaults strict) ms tt) e
 name_counted ComponentName.Minute = λ strict ms c e. by_form _ c e tt
 name_counted ComponentName.Month = λ strict ms c e. by_form _ c e (month_counted _ _)
 name_counted ComponentName.OffsetHour = λ strict ms c e. by_form _ c e tt
@@ -150,20 +170,27 @@ name_counted ComponentName.Year = λ strict ms c e. by_form _ c e (year_counted 
 -- Brackets.
 
 abbrev IsGoodRow : Row → Type 0
-IsGoodRow r = (strict : Bool) (ms : List Placed) (c : Component) → r.component (settings strict r.keys ms) ≡ Ok c → (modern c ≡ c) × IsCounted c
+IsGoodRow r = (strict : Bool) (ms : List Placed) (c : Component)
+    → r.component (settings strict r.keys ms) ≡ Ok c → (modern c ≡ c) × IsCounted c
 
 name_good : (n : ComponentName) → IsGoodRow (row_for n)
-name_good n strict ms c e = (name_modern n (settings strict (row_for n).keys ms) c e, name_counted n strict ms c e)
+name_good n strict ms c e = (
+  name_modern n (settings strict (row_for n).keys ms) c e,
+  name_counted n strict ms c e,
+)
 
 rows_good : Each IsGoodRow rows
 rows_good = each-map row_for IsGoodRow component_names name_good
 
-row_good : (strict : Bool) (name : Text) (rs : List Row) (r : Row) → Each IsGoodRow rs → named (λ x. x.name) strict name rs ≡ Some r → IsGoodRow r
+row_good : (strict : Bool) (name : Text) (rs : List Row) (r : Row) → Each IsGoodRow rs
+    → named (λ x. x.name) strict name rs ≡ Some r → IsGoodRow r
 row_good strict name [] r all e = absurd cc
-row_good strict name (x ∷ rs) r all e = by (λ h. row_good strict name rs r all.1 h) (same strict x.name name) e
+row_good strict name (x ∷ rs) r all e =
+    by (λ h. row_good strict name rs r all.1 h) (same strict x.name name) e
   where
     by : (named (λ y. y.name) strict name rs ≡ Some r → IsGoodRow r) → (t : Bool)
-        → elim t [ true ↦ Some x | false ↦ named (λ y. y.name) strict name rs ] ≡ Some r → IsGoodRow r
+        → elim t [ true ↦ Some x | false ↦ named (λ y. y.name) strict name rs ] ≡ Some r
+        → IsGoodRow r
     by more true h = let is : x ≡ r = cc in subst IsGoodRow is all.0
     by more false h = more h
 
@@ -174,30 +201,37 @@ pub record IsLeaf (tree : Tree) : Type 0 where
   pub modern : modern leaf ≡ leaf
   pub counted : IsCounted leaf
 
-component_leaf : (strict : Bool) (h : Head) (tree : Tree) (o : Option Row) → row_of strict h.name ≡ o → component_verdict strict h o ≡ Ok tree → IsLeaf tree
+component_leaf : (strict : Bool) (h : Head) (tree : Tree) (o : Option Row)
+    → row_of strict h.name ≡ o → component_verdict strict h o ≡ Ok tree → IsLeaf tree
 component_leaf strict h tree None known e = absurd cc
 component_leaf strict h tree (Some r) known e =
     let leaf = made_ok strict h (r.component (settings strict r.keys (placed h))) tree
-    (behind_ok (bad_modifiers strict r.keys [] (placed h)) (made strict h (r.component (settings strict r.keys (placed h)))) tree e) in
+    (behind_ok (bad_modifiers strict r.keys [] (placed h))
+    (made strict h (r.component (settings strict r.keys (placed h)))) tree e) in
     let good = row_good strict h.name rows r rows_good known strict (placed h) leaf.0 leaf.2 in
     record { leaf = leaf.0; is = leaf.1; modern = good.0; counted = good.1 }
 
-third : (t : Tree) (a b : Bool) (x y z : Result Tree Fault) → (x ≡ Ok t → ⊥) → (y ≡ Ok t → ⊥) → cond a x (cond b y z) ≡ Ok t → z ≡ Ok t
+third : (t : Tree) (a b : Bool) (x y z : Result Tree Fault) → (x ≡ Ok t → ⊥) → (y ≡ Ok t → ⊥)
+    → cond a x (cond b y z) ≡ Ok t → z ≡ Ok t
 third t true b x y z no_x no_y e = absurd (no_x e)
 third t false true x y z no_x no_y e = absurd (no_y e)
 third t false false x y z no_x no_y e = e
 
-unless_some : (a : Option Fault) (b : Option Fault) (f : Fault) (t u : Tree) → unless (a or b or Some f) t ≡ Ok u → ⊥
+unless_some : (a : Option Fault) (b : Option Fault) (f : Fault) (t u : Tree)
+    → unless (a or b or Some f) t ≡ Ok u → ⊥
 unless_some (Some x) b f t u e = cc
 unless_some None (Some x) f t u e = cc
 unless_some None None f t u e = cc
 
 -- without nested descriptions
-pub bracket-leaf : (h : Head) (close : ℕ) (tree : Tree) → verdict false h [] close ≡ Ok tree → IsLeaf tree
+pub bracket-leaf : (h : Head) (close : ℕ) (tree : Tree) → verdict false h [] close ≡ Ok tree
+    → IsLeaf tree
 bracket-leaf h close tree e =
     component_leaf false h tree (row_of false h.name) refl
-    (third tree (same false (codes "optional") h.name) (same false (codes "first") h.name) (optional_verdict false h [] close) (first_verdict false h [] close)
+    (third tree (same false (codes "optional") h.name) (same false (codes "first") h.name)
+    (optional_verdict false h [] close) (first_verdict false h [] close)
     (component_verdict false h (row_of false h.name))
-    (λ o. unless_some (bad_modifiers false (format ∷ []) [] (placed h)) (Some (fault expected_nested close)) (fault optional_item 0) _ tree o)
+    (λ o. unless_some (bad_modifiers false (format ∷ []) [] (placed h))
+    (Some (fault expected_nested close)) (fault optional_item 0) _ tree o)
     (λ f. unless_some (any_modifier (placed h)) None (fault first_item 0) _ tree f)
     e)

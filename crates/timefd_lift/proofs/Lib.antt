@@ -1,4 +1,3 @@
-pub mod Flat
 pub mod Rewriting
 pub mod Answering
 pub mod Scanning

@@ -11,7 +11,7 @@ use Rattle.timefd_language.specs.Head.{head_text}
 use Rattle.timefd_language.specs.Strings.{is_of_strings, are_of_strings}
 use Rattle.timefd_lift.specs.Plain.{IsPlain, IsPlainItem, ArePlainItems}
 use Rattle.timefd_lift.specs.Written.{tree_text, written}
-use Rattle.timefd_lift.proofs.Flat.{nested_is_refused}
+use Rattle.timefd_language.proofs.Lift.{nested_refuses}
 use Rattle.timefd_lift.proofs.Leaves.{bracket-leaf}
 
 abbrev ArePlain : List Tree → Type 0
@@ -26,16 +26,23 @@ pieces_plain limit (closing rest) are = (tt, pieces_plain limit rest are.2)
 pieces_plain limit (bracket h no_nested white tree rest) are =
     (subst IsPlain (bracket-leaf h _ tree are.3).is tt, pieces_plain limit rest are.4)
 pieces_plain limit (bracket h (nested w ps ns) white tree rest) are = absurd
-    (nested_is_refused h (record { spaced = not (is_empty w); index = length (head_text h) + length w; trees = items ps })
-    (parts_from (length (head_text h) + length w + 1 + length (spelling ps) + 1) ns) (length (head_text h ++ nested_text (nested w ps ns) ++ white)) tree are.3)
+    (nested_refuses h (record {
+      spaced = not (is_empty w);
+      index = length (head_text h) + length w;
+      trees = items ps;
+    })
+    (parts_from (length (head_text h) + length w + 1 + length (spelling ps) + 1) ns)
+    (length (head_text h ++ nested_text (nested w ps ns) ++ white)) tree are.3)
 
-items_plain : (items : List BorrowedFormatItem) → ArePlain (item_trees items) → IsTrue (are_of_strings items) → ArePlainItems items
+items_plain : (items : List BorrowedFormatItem) → ArePlain (item_trees items)
+    → IsTrue (are_of_strings items) → ArePlainItems items
 items_plain [] plain strings = tt
 items_plain (item ∷ items) plain strings =
     let p = and_parts (is_of_strings item) (are_of_strings items) strings in
     ((plain.0, p.0), items_plain items plain.1 p.1)
 
-pub spelled-plain : (limit : ℕ) (text : Text) (list : List Tree) (items : List BorrowedFormatItem) → Spells Two limit 0 text list
+pub spelled-plain : (limit : ℕ) (text : Text) (list : List Tree) (items : List BorrowedFormatItem)
+    → Spells Two limit 0 text list
     → item_trees items ≡ list → IsTrue (are_of_strings items) → ArePlainItems items
 spelled-plain limit text list items s is strings =
     items_plain items (subst ArePlain (sym (is ∙ s.3)) (pieces_plain limit s.0 s.1)) strings
@@ -47,18 +54,23 @@ no-items (item ∷ items) e = absurd cc
 
 -- Item by item.
 
-first_left : (items : List BorrowedFormatItem) (at : ℕ) (x : BorrowedFormatItem) → at < length items → x ≡ get_or items at x → drop at items ≡ x ∷ drop (at + 1) items
+first_left : (items : List BorrowedFormatItem) (at : ℕ) (x : BorrowedFormatItem) → at < length items
+    → x ≡ get_or items at x → drop at items ≡ x ∷ drop (at + 1) items
 first_left items at x below is =
-    let first : drop at items ≡ get_or items at x ∷ drop (at + 1) items = rw add-one (drop-cons items at x below) in
+    let first : drop at items ≡ get_or items at x ∷ drop (at + 1) items =
+    rw add-one (drop-cons items at x below) in
     first ∙ ap (λ y. y ∷ drop (at + 1) items) (sym is)
 
-pub left-plain : (items : List BorrowedFormatItem) (at : ℕ) (x : BorrowedFormatItem) → at < length items → x ≡ get_or items at x
+pub left-plain : (items : List BorrowedFormatItem) (at : ℕ) (x : BorrowedFormatItem)
+    → at < length items → x ≡ get_or items at x
     → ArePlainItems (drop at items) → IsPlainItem x × ArePlainItems (drop (at + 1) items)
 left-plain items at x below is plain = subst ArePlainItems (first_left items at x below is) plain
 
 -- one more item is written
-pub left-written : (items : List BorrowedFormatItem) (at : ℕ) (x : BorrowedFormatItem) (answer next : Text) → at < length items → x ≡ get_or items at x
-    → answer ++ written (item_trees (drop at items)) ≡ written (item_trees items) → next ≡ answer ++ tree_text (item_tree x)
+pub left-written : (items : List BorrowedFormatItem) (at : ℕ) (x : BorrowedFormatItem)
+    (answer next : Text) → at < length items → x ≡ get_or items at x
+    → answer ++ written (item_trees (drop at items)) ≡ written (item_trees items)
+    → next ≡ answer ++ tree_text (item_tree x)
     → next ++ written (item_trees (drop (at + 1) items)) ≡ written (item_trees items)
 left-written items at x answer next below is so_far one =
     ap (λ y. y ++ written (item_trees (drop (at + 1) items))) one

@@ -10,22 +10,25 @@ use Rattle.timefd_language.specs.Head.{Head, IsHead, Modifier, AreModifiers, IsM
 use Rattle.timefd_language.specs.Grammar.{Pieces, no_pieces, run, escape, closing, bracket, no_nested, nested, spelling, nested_text, items, ArePieces, is_empty, parts_from}
 use Rattle.timefd_language.specs.Rewritten.{doubled, rewritten}
 use Rattle.timefd_lift.specs.Bytewise.{outside, inside}
-use Rattle.timefd_lift.proofs.Flat.{nested_is_refused}
+use Rattle.timefd_language.proofs.Lift.{nested_refuses}
 
 -- Runs.
 
 -- a run byte of version 1 that is no backslash
-is_plain : (b : ℕ) → is_run_byte One b ≡ true → (b == backslash) ≡ false → ((b == left) ≡ false) × ((b == right) ≡ false)
+is_plain : (b : ℕ) → is_run_byte One b ≡ true → (b == backslash) ≡ false → ((b == left) ≡ false)
+    × ((b == right) ≡ false)
 is_plain b r e = grind (arith, nat_tests)
 
-outside_run : (bytes rest : Text) → ZeroOrMore (is_run_byte One) bytes → outside (bytes ++ rest) ≡ doubled bytes ++ outside rest
+outside_run : (bytes rest : Text) → ZeroOrMore (is_run_byte One) bytes
+    → outside (bytes ++ rest) ≡ doubled bytes ++ outside rest
 outside_run [] rest h = refl
 outside_run (b ∷ bytes) rest h =
     let p = and_parts (is_run_byte One b) (list_all (is_run_byte One) bytes) h in
     let more = outside_run bytes rest p.1 in
     elim (cases_Bool (b == backslash)) [
       | inl same ↦ rw (eqb-true b backslash same) (ap (λ x. backslash ∷ backslash ∷ x) more)
-      | inr other ↦ let plain = is_plain b p.0 other in rw (plain.0, plain.1, other) (ap (λ x. b ∷ x) more)
+      | inr other ↦ let plain = is_plain b p.0 other in
+          rw (plain.0, plain.1, other) (ap (λ x. b ∷ x) more)
     ]
 
 run_passes : (bytes : Text) → OneOrMore (is_run_byte One) bytes → ZeroOrMore (is_run_byte One) bytes
@@ -52,13 +55,15 @@ word_inner b e = (and_parts (not (is_special b)) (not (is_white b)) e).0
 key_inner : (b : ℕ) → is_key_byte b ≡ true → not (is_special b) ≡ true
 key_inner b e = word_inner b (and_parts (not (b == colon)) (is_word_byte b) e).1
 
-all_of : (p q : ℕ → Bool) → ((b : ℕ) → p b ≡ true → q b ≡ true) → (bytes : Text) → ZeroOrMore p bytes → ZeroOrMore q bytes
+all_of : (p q : ℕ → Bool) → ((b : ℕ) → p b ≡ true → q b ≡ true) → (bytes : Text)
+    → ZeroOrMore p bytes → ZeroOrMore q bytes
 all_of p q h [] all = refl
 all_of p q h (b ∷ bytes) all =
     let parts = and_parts (p b) (list_all p bytes) all in
     and_from (q b) (list_all q bytes) (h b parts.0) (all_of p q h bytes parts.1)
 
-some_of : (p q : ℕ → Bool) → ((b : ℕ) → p b ≡ true → q b ≡ true) → (bytes : Text) → OneOrMore p bytes → ZeroOrMore q bytes
+some_of : (p q : ℕ → Bool) → ((b : ℕ) → p b ≡ true → q b ≡ true) → (bytes : Text)
+    → OneOrMore p bytes → ZeroOrMore q bytes
 some_of p q h [] some = absurd some
 some_of p q h (b ∷ bytes) some = all_of p q h (b ∷ bytes) some
 
@@ -71,34 +76,41 @@ all_append p (x ∷ a) b ha hb =
 modifier_inner : (m : Modifier) → IsModifier m → ZeroOrMore is_inner (modifier_text m)
 modifier_inner m is =
     all_append is_inner (m.white ++ m.key) (colon ∷ m.value)
-    (all_append is_inner m.white m.key (some_of is_white is_inner white_inner m.white is.white) (some_of is_key_byte is_inner key_inner m.key is.key))
-    (and_from (is_inner colon) (list_all is_inner m.value) refl (some_of is_word_byte is_inner word_inner m.value is.value))
+    (all_append is_inner m.white m.key (some_of is_white is_inner white_inner m.white is.white)
+    (some_of is_key_byte is_inner key_inner m.key is.key))
+    (and_from (is_inner colon) (list_all is_inner m.value) refl
+    (some_of is_word_byte is_inner word_inner m.value is.value))
 
 modifiers_inner : (ms : List Modifier) → AreModifiers ms → ZeroOrMore is_inner (modifiers_text ms)
 modifiers_inner [] are = refl
-modifiers_inner (m ∷ ms) are = all_append is_inner (modifier_text m) (modifiers_text ms) (modifier_inner m are.0) (modifiers_inner ms are.1)
+modifiers_inner (m ∷ ms) are = all_append is_inner (modifier_text m) (modifiers_text ms)
+    (modifier_inner m are.0) (modifiers_inner ms are.1)
 
 -- what stands between the brackets of a component
 abbrev between : Head → Text → Text
 between h white = h.white ++ h.name ++ modifiers_text h.modifiers ++ [] ++ white
 
-between_inner : (h : Head) (white : Text) → IsHead h → ZeroOrMore is_white white → ZeroOrMore is_inner (between h white)
+between_inner : (h : Head) (white : Text) → IsHead h → ZeroOrMore is_white white
+    → ZeroOrMore is_inner (between h white)
 between_inner h white is blank =
     all_append is_inner (h.white ++ h.name ++ modifiers_text h.modifiers ++ []) white
     (all_append is_inner (h.white ++ h.name ++ modifiers_text h.modifiers) []
     (all_append is_inner (h.white ++ h.name) (modifiers_text h.modifiers)
-    (all_append is_inner h.white h.name (all_of is_white is_inner white_inner h.white is.white) (some_of is_word_byte is_inner word_inner h.name is.name))
+    (all_append is_inner h.white h.name (all_of is_white is_inner white_inner h.white is.white)
+    (some_of is_word_byte is_inner word_inner h.name is.name))
     (modifiers_inner h.modifiers is.modifiers))
     refl)
     (all_of is_white is_inner white_inner white blank)
 
-inside_whole : (bytes rest : Text) → ZeroOrMore is_inner bytes → inside (bytes ++ right ∷ rest) ≡ bytes ++ right ∷ outside rest
+inside_whole : (bytes rest : Text) → ZeroOrMore is_inner bytes
+    → inside (bytes ++ right ∷ rest) ≡ bytes ++ right ∷ outside rest
 inside_whole [] rest h = refl
 inside_whole (b ∷ bytes) rest h =
     let p = and_parts (is_inner b) (list_all is_inner bytes) h in
     rw (not_right b p.0) (ap (λ x. b ∷ x) (inside_whole bytes rest p.1))
 
-outside_component : (bytes rest : Text) → ZeroOrMore is_inner bytes → outside (left ∷ bytes ++ right ∷ rest) ≡ left ∷ bytes ++ right ∷ outside rest
+outside_component : (bytes rest : Text) → ZeroOrMore is_inner bytes
+    → outside (left ∷ bytes ++ right ∷ rest) ≡ left ∷ bytes ++ right ∷ outside rest
 outside_component [] rest h = refl
 outside_component (b ∷ bytes) rest h =
     let p = and_parts (is_inner b) (list_all is_inner bytes) h in
@@ -106,16 +118,24 @@ outside_component (b ∷ bytes) rest h =
 
 -- All pieces.
 
-pub outside-spelling : (limit n : ℕ) (ps : Pieces) → ArePieces One limit n ps → outside (spelling ps) ≡ rewritten ps
+pub outside-spelling : (limit n : ℕ) (ps : Pieces) → ArePieces One limit n ps
+    → outside (spelling ps) ≡ rewritten ps
 outside-spelling limit n no_pieces are = refl
 outside-spelling limit n (run bytes rest) are =
-    outside_run bytes (spelling rest) (run_passes bytes are.0) ∙ ap (λ x. doubled bytes ++ x) (outside-spelling limit n rest are.2)
+    outside_run bytes (spelling rest) (run_passes bytes are.0) ∙
+    ap (λ x. doubled bytes ++ x) (outside-spelling limit n rest are.2)
 outside-spelling limit n (escape a b rest) are =
     rw (are.0.0, are.0.1) (ap (λ x. backslash ∷ left ∷ x) (outside-spelling limit n rest are.1))
-outside-spelling limit n (closing rest) are = ap (λ x. backslash ∷ right ∷ x) (outside-spelling limit n rest are.2)
+outside-spelling limit n (closing rest) are =
+    ap (λ x. backslash ∷ right ∷ x) (outside-spelling limit n rest are.2)
 outside-spelling limit n (bracket h no_nested white tree rest) are =
     outside_component (between h white) (spelling rest) (between_inner h white are.0 are.2)
     ∙ ap (λ x. left ∷ between h white ++ right ∷ x) (outside-spelling limit n rest are.4)
 outside-spelling limit n (bracket h (nested w ps ns) white tree rest) are = absurd
-    (nested_is_refused h (record { spaced = not (is_empty w); index = length (head_text h) + length w; trees = items ps })
-    (parts_from (length (head_text h) + length w + 1 + length (spelling ps) + 1) ns) (length (head_text h ++ nested_text (nested w ps ns) ++ white)) tree are.3)
+    (nested_refuses h (record {
+      spaced = not (is_empty w);
+      index = length (head_text h) + length w;
+      trees = items ps;
+    })
+    (parts_from (length (head_text h) + length w + 1 + length (spelling ps) + 1) ns)
+    (length (head_text h ++ nested_text (nested w ps ns) ++ white)) tree are.3)

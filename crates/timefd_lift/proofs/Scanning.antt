@@ -20,17 +20,21 @@ in_component : (t : Bool) (rest : Text) → cond t (outside rest) (inside rest) 
 in_component true rest = refl
 in_component false rest = refl
 
-plain_last : (b : ℕ) → ((b == right) || (b == backslash)) ≡ false → ((b == right) ≡ false) × ((b == backslash) ≡ false)
+plain_last : (b : ℕ) → ((b == right) || (b == backslash)) ≡ false → ((b == right) ≡ false)
+    × ((b == backslash) ≡ false)
 plain_last b e = grind (arith, nat_tests)
 
-plain_more : (b c : ℕ) → ((b == right) || (b == backslash) || ((b == left) && (c == left))) ≡ false → ((b == right) ≡ false) × ((b == backslash) ≡ false)
+plain_more : (b c : ℕ) → ((b == right) || (b == backslash) || ((b == left) && (c == left))) ≡ false
+    → ((b == right) ≡ false) × ((b == backslash) ≡ false)
 plain_more b c e = grind (arith, nat_tests)
 
-undoubled : (b c : ℕ) → ((b == right) || (b == backslash) || ((b == left) && (c == left))) ≡ false → (b == left) ≡ true → (c == left) ≡ false
+undoubled : (b c : ℕ) → ((b == right) || (b == backslash) || ((b == left) && (c == left))) ≡ false
+    → (b == left) ≡ true → (c == left) ≡ false
 undoubled b c e l = grind (arith, nat_tests)
 
 -- a byte for which no escape is written is kept, outside of components
-outside_step : (b : ℕ) (rest : Text) → is_escaped (b ∷ rest) ≡ false → outside (b ∷ rest) ≡ b ∷ scan (b == left) rest
+outside_step : (b : ℕ) (rest : Text) → is_escaped (b ∷ rest) ≡ false
+    → outside (b ∷ rest) ≡ b ∷ scan (b == left) rest
 outside_step b [] e =
     let plain = plain_last b e in
     elim (cases_Bool (b == left)) [
@@ -44,23 +48,31 @@ outside_step b (c ∷ rest) e =
       | inr other ↦ rw (other, plain.0, plain.1) refl
     ]
 
-scan-step : (s : Bool) (b : ℕ) (rest : Text) → (not s && is_escaped (b ∷ rest)) ≡ false → scan s (b ∷ rest) ≡ b ∷ scan (cond s (not (b == right)) (b == left)) rest
+scan-step : (s : Bool) (b : ℕ) (rest : Text) → (not s && is_escaped (b ∷ rest)) ≡ false
+    → scan s (b ∷ rest) ≡ b ∷ scan (cond s (not (b == right)) (b == left)) rest
 scan-step true b rest e = ap (λ x. b ∷ x) (in_component (b == right) rest)
 scan-step false b rest e = outside_step b rest e
 
 -- one more byte is kept
-pub kept-step : (bytes : Text) (n b : ℕ) (s t : Bool) → n < length bytes → b ≡ get_or bytes n 0 → t ≡ cond s (not (b == right)) (b == left)
-    → (not s && is_escaped (drop n bytes)) ≡ false → outside bytes ≡ take n bytes ++ scan s (drop n bytes)
+pub kept-step : (bytes : Text) (n b : ℕ) (s t : Bool) → n < length bytes → b ≡ get_or bytes n 0
+    → t ≡ cond s (not (b == right)) (b == left)
+    → (not s && is_escaped (drop n bytes)) ≡ false
+    → outside bytes ≡ take n bytes ++ scan s (drop n bytes)
     → outside bytes ≡ take (n + 1) bytes ++ scan t (drop (n + 1) bytes)
 kept-step bytes n b s t below at next no_escape so_far =
-    let parts : drop n bytes ≡ b ∷ drop (n + 1) bytes = rw (at, add-one) (drop-cons bytes n 0 below) in
+    let parts : drop n bytes ≡ b ∷ drop (n + 1) bytes =
+    rw (at, add-one) (drop-cons bytes n 0 below) in
     let one : scan s (drop n bytes) ≡ b ∷ scan t (drop (n + 1) bytes) =
-    ap (scan s) parts ∙ rw next (scan-step s b (drop (n + 1) bytes) (ap (λ x. not s && is_escaped x) (sym parts) ∙ no_escape)) in
-    so_far ∙ ap (λ x. take n bytes ++ x) one ∙ sym (append_assoc (take n bytes) (b ∷ []) (scan t (drop (n + 1) bytes)))
-    ∙ ap (λ x. x ++ scan t (drop (n + 1) bytes)) (sym (take_more bytes n 0 below ∙ ap (λ x. take n bytes ++ x ∷ []) (sym at)))
+    ap (scan s) parts ∙ rw next (scan-step s b (drop (n + 1) bytes)
+    (ap (λ x. not s && is_escaped x) (sym parts) ∙ no_escape)) in
+    so_far ∙ ap (λ x. take n bytes ++ x) one ∙
+    sym (append_assoc (take n bytes) (b ∷ []) (scan t (drop (n + 1) bytes)))
+    ∙ ap (λ x. x ++ scan t (drop (n + 1) bytes))
+    (sym (take_more bytes n 0 below ∙ ap (λ x. take n bytes ++ x ∷ []) (sym at)))
 
 -- the first byte for which an escape is written
 pub kept-stopped : (bytes : Text) (n : ℕ) (s : Bool) → (not s && is_escaped (drop n bytes)) ≡ true
-    → outside bytes ≡ take n bytes ++ scan s (drop n bytes) → outside bytes ≡ take n bytes ++ outside (drop n bytes)
+    → outside bytes ≡ take n bytes ++ scan s (drop n bytes)
+    → outside bytes ≡ take n bytes ++ outside (drop n bytes)
 kept-stopped bytes n true stop so_far = absurd cc
 kept-stopped bytes n false stop so_far = so_far

@@ -8,10 +8,13 @@ use Rattle.timefd_language.specs.Grammar.{Spells}
 use Rattle.timefd_lift.specs.Plain.{IsCounted}
 use Rattle.timefd_lift.specs.Written.{component_text, written}
 
--- The text of a component version 3 reads as that component, or as the one that a deprecated one stands for.
+-- The text of a component version 3 reads as that component, or as the one that a deprecated one
+-- stands for.
 abbrev pub ComponentsRead : Type 0
-ComponentsRead = (limit : ℕ) (c : Component) → IsCounted c → Spells Three limit 0 (component_text (modern c)) (component (modern c) ∷ [])
+ComponentsRead = (limit : ℕ) (c : Component) → IsCounted c
+    → Spells Three limit 0 (component_text (modern c)) (component (modern c) ∷ [])
 
 -- What version 2 spells version 3 spells, once it is written.
 abbrev pub Writing : Type 0
-Writing = (limit : ℕ) (text : Text) (list : List Tree) → Spells Two limit 0 text list → Spells Three limit 0 (written list) list
+Writing = (limit : ℕ) (text : Text) (list : List Tree) → Spells Two limit 0 text list
+    → Spells Three limit 0 (written list) list

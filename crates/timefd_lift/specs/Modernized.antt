@@ -7,8 +7,10 @@ use Rattle.timefd_lift.specs.Written.{written}
 
 -- version 2 spells the text with a list, and this is what is written of the list
 abbrev pub IsWrittenOf : Text → Text → Type 0
-IsWrittenOf text answer = (list : List Tree) × Spells Two nesting_limit 0 text list × (answer ≡ written list)
+IsWrittenOf text answer = (list : List Tree) × Spells Two nesting_limit 0 text list
+    × (answer ≡ written list)
 
 -- version 3 spells the answer as version 2 spells the text
 abbrev pub KeepsItemsOf : Text → Text → Type 0
-KeepsItemsOf text answer = (list : List Tree) → Spells Two nesting_limit 0 text list → Spells Three nesting_limit 0 answer list
+KeepsItemsOf text answer = (list : List Tree) → Spells Two nesting_limit 0 text list
+    → Spells Three nesting_limit 0 answer list

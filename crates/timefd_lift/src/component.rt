@@ -11,7 +11,8 @@ use timefd_items::modifier::Padding;
 
 /// Appends a bracket with a name and what stands behind it.
 fn push_bracket(text: &mut String, name: &str, first: &str, second: &str) -> Result<(), AllocError>
-    ensures { OnOk result (string_bytes text.new ≡ string_bytes text.old ++ spec.in_brackets name.now first.now second.now) }
+    ensures { OnOk result (string_bytes text.new ≡ string_bytes text.old ++ spec.in_brackets
+        name.now first.now second.now) }
 {
     text.push_str("[")?;
     text.push_str(name)?;
@@ -29,7 +30,8 @@ fn decimal_text(alloc: Global, n: u16) -> Result<String, AllocError>
 
 /// Appends a bracket that skips so many bytes.
 fn push_ignore(alloc: Global, text: &mut String, count: u16) -> Result<(), AllocError>
-    ensures { OnOk result (string_bytes text.new ≡ string_bytes text.old ++ spec.in_brackets (codes "ignore count:") (decimal count) []) }
+    ensures { OnOk result (string_bytes text.new ≡ string_bytes text.old ++ spec.in_brackets
+        (codes "ignore count:") (decimal count) []) }
 {
     let digits = decimal_text(alloc, count)?;
     push_bracket(text, "ignore count:", &digits, "")
@@ -41,7 +43,8 @@ pub fn push_component(
     text: &mut String,
     component: Component,
 ) -> Result<(), AllocError>
-    ensures { OnOk result (string_bytes text.new ≡ string_bytes text.old ++ spec.component_text (modern component)) }
+    ensures { OnOk result (string_bytes text.new ≡ string_bytes text.old ++ spec.component_text
+        (modern component)) }
 {
     match component.modern() {
         Component::Day(day) => push_bracket(text, "day", padded(day.padding), ""),
@@ -232,7 +235,8 @@ fn push_signed(
     padding: Padding,
     sign_is_mandatory: bool,
 ) -> Result<(), AllocError>
-    ensures { OnOk result (string_bytes text.new ≡ string_bytes text.old ++ spec.in_brackets name.now (spec.padded padding) (spec.signed sign_is_mandatory)) }
+    ensures { OnOk result (string_bytes text.new ≡ string_bytes text.old ++ spec.in_brackets
+        name.now (spec.padded padding) (spec.signed sign_is_mandatory)) }
 {
     push_bracket(text, name, padded(padding), signed(sign_is_mandatory))
 }

@@ -62,7 +62,8 @@ fn tail(text: &str) -> &str
 
 /// The escape that is written for the front of a text outside of components, and what follows.
 pub fn escape_of(text: &str) -> Option<(&'static str, &str)>
-    ensures { MatchOption result (IsFalse (spec.is_escaped text.now)) (λ x. IsEscape text.now x.0.now x.1.now) }
+    ensures { MatchOption result (IsFalse (spec.is_escaped text.now))
+        (λ x. IsEscape text.now x.0.now x.1.now) }
 {
     match text.as_bytes() {
         [b']', ..] => Some(("\\]", tail(text))),

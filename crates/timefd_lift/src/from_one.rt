@@ -31,7 +31,8 @@ pub fn v1_to_v2(alloc: Global, s: &str) -> Result<String, ParseError>
     // What version 1 spells is rewritten, and what has a fault is refused for it, unless memory
     // runs out.
     ensures spelled { (ps : Pieces) → IsSpelledBy ps s.now → IsTextOrMemory (rewritten ps) result }
-    ensures refused { (f : spec.Fault) → FaultOf One nesting_limit s.now f → MatchResult result (λ _. ⊥) (IsFaultOrMemory f) }
+    ensures refused { (f : spec.Fault) → FaultOf One nesting_limit s.now f
+        → MatchResult result (λ _. ⊥) (IsFaultOrMemory f) }
 
     // It is at most twice as long.
     ensures within { IfOk result (λ answer. length (string_bytes answer) ≤ 2 * length s.now) }

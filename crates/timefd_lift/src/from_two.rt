@@ -36,8 +36,10 @@ pub fn v2_to_v3(alloc: Global, s: &str) -> Result<String, ParseError>
 
     // What version 2 spells is written anew, and what has a fault is refused for it, unless memory
     // runs out.
-    ensures spelled { (list : List Tree) → Spells Two nesting_limit 0 s.now list → IsTextOrMemory (text.written list) result }
-    ensures refused { (f : spec.Fault) → FaultOf Two nesting_limit s.now f → MatchResult result (λ _. ⊥) (IsFaultOrMemory f) }
+    ensures spelled { (list : List Tree) → Spells Two nesting_limit 0 s.now list
+        → IsTextOrMemory (text.written list) result }
+    ensures refused { (f : spec.Fault) → FaultOf Two nesting_limit s.now f
+        → MatchResult result (λ _. ⊥) (IsFaultOrMemory f) }
 
     // The empty text takes no memory.
     ensures empty { s.now ≡ [] → IsOk result }
@@ -61,7 +63,8 @@ fn written(
     items: &[BorrowedFormatItem<'_>],
 ) -> Result<String, AllocError>
     requires { ArePlainItems items.now }
-    ensures written { IfOk result (λ answer. string_bytes answer ≡ text.written (item_trees items.now)) }
+    ensures written { IfOk result (λ answer. string_bytes answer ≡ text.written
+        (item_trees items.now)) }
     ensures empty { items.now ≡ [] → room ≡ 0 → IsOk result }
 {
     let mut answer = String::with_capacity(alloc, room)?;

@@ -16,7 +16,8 @@ pub fn push_item(
     item: &BorrowedFormatItem<'_>,
 ) -> Result<(), AllocError>
     requires { IsPlainItem item.now }
-    ensures { OnOk result (string_bytes text.new ≡ string_bytes text.old ++ spec.tree_text (item_tree item.now)) }
+    ensures { OnOk result (string_bytes text.new ≡ string_bytes text.old ++ spec.tree_text
+        (item_tree item.now)) }
 {
     match *item {
         BorrowedFormatItem::StringLiteral(literal) => push_literal(text, literal),
@@ -29,7 +30,8 @@ pub fn push_item(
 }
 
 fn push_literal(text: &mut String, literal: &str) -> Result<(), AllocError>
-    ensures { OnOk result (string_bytes text.new ≡ string_bytes text.old ++ (spec.escape_before literal.now ++ literal.now)) }
+    ensures { OnOk result (string_bytes text.new ≡ string_bytes
+        text.old ++ (spec.escape_before literal.now ++ literal.now)) }
 {
     text.push_str(escape_before(literal))?;
     text.push_str(literal)

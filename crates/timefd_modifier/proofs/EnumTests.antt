@@ -38,28 +38,48 @@ pub padding_is : IsEquality Padding (padding_eq.ghosts).eq
 padding_is = record { exact = λ a b. (same_true padding_type tt a b, true_same padding_type a b) }
 
 pub month_repr_is : IsEquality MonthRepr (month_repr_eq.ghosts).eq
-month_repr_is = record { exact = λ a b. (same_true month_repr_type tt a b, true_same month_repr_type a b) }
+month_repr_is =
+    record { exact = λ a b. (same_true month_repr_type tt a b, true_same month_repr_type a b) }
 
 pub weekday_repr_is : IsEquality WeekdayRepr (weekday_repr_eq.ghosts).eq
-weekday_repr_is = record { exact = λ a b. (same_true weekday_repr_type tt a b, true_same weekday_repr_type a b) }
+weekday_repr_is =
+    record { exact = λ a b. (same_true weekday_repr_type tt a b, true_same weekday_repr_type a b) }
 
 pub week_number_repr_is : IsEquality WeekNumberRepr (week_number_repr_eq.ghosts).eq
-week_number_repr_is = record { exact = λ a b. (same_true week_number_repr_type tt a b, true_same week_number_repr_type a b) }
+week_number_repr_is = record {
+  exact =
+      λ a b. (same_true week_number_repr_type tt a b, true_same week_number_repr_type a b);
+}
 
 pub year_repr_is : IsEquality YearRepr (year_repr_eq.ghosts).eq
-year_repr_is = record { exact = λ a b. (same_true year_repr_type tt a b, true_same year_repr_type a b) }
+year_repr_is =
+    record { exact = λ a b. (same_true year_repr_type tt a b, true_same year_repr_type a b) }
 
 pub year_range_is : IsEquality YearRange (year_range_eq.ghosts).eq
-year_range_is = record { exact = λ a b. (same_true year_range_type tt a b, true_same year_range_type a b) }
+year_range_is =
+    record { exact = λ a b. (same_true year_range_type tt a b, true_same year_range_type a b) }
 
 pub subsecond_digits_is : IsEquality SubsecondDigits (subsecond_digits_eq.ghosts).eq
-subsecond_digits_is = record { exact = λ a b. (same_true subsecond_digits_type tt a b, true_same subsecond_digits_type a b) }
+subsecond_digits_is = record {
+  exact =
+      λ a b. (same_true subsecond_digits_type tt a b, true_same subsecond_digits_type a b);
+}
 
-pub unix_timestamp_precision_is : IsEquality UnixTimestampPrecision (unix_timestamp_precision_eq.ghosts).eq
-unix_timestamp_precision_is = record { exact = λ a b. (same_true unix_timestamp_precision_type tt a b, true_same unix_timestamp_precision_type a b) }
+pub unix_timestamp_precision_is : IsEquality UnixTimestampPrecision
+    (unix_timestamp_precision_eq.ghosts).eq
+unix_timestamp_precision_is = record {
+  exact =
+      λ a b. (
+        same_true unix_timestamp_precision_type tt a b,
+        true_same unix_timestamp_precision_type a b,
+      );
+}
 
 pub trailing_input_is : IsEquality TrailingInput (trailing_input_eq.ghosts).eq
-trailing_input_is = record { exact = λ a b. (same_true trailing_input_type tt a b, true_same trailing_input_type a b) }
+trailing_input_is = record {
+  exact =
+      λ a b. (same_true trailing_input_type tt a b, true_same trailing_input_type a b);
+}
 
 bool_sound : (a b : Bool) → beq a b ≡ true → a ≡ b
 bool_sound true true e = refl
@@ -71,7 +91,9 @@ bool_same true = refl
 bool_same false = refl
 
 pub bool_is : IsEquality Bool beq
-bool_is = record { exact = λ a b. (bool_sound a b, λ e. subst (λ x. beq a x ≡ true) e (bool_same a)) }
+bool_is = record {
+  exact = λ a b. (bool_sound a b, λ e. subst (λ x. beq a x ≡ true) e (bool_same a));
+}
 
 abbrev pub same_count : NonZeroU16 → NonZeroU16 → Bool
 same_count a b = nat_eq a.value b.value
@@ -83,7 +105,8 @@ one_proof : (n : ℕ) → IsProp (0 < n)
 one_proof n = le_prop
 
 not_zero_same : (n m : ℕ) → n ≡ m → (p : 0 < n) (q : 0 < m) → not_zero n p ≡ not_zero m q
-not_zero_same n m e = subst (λ x. (p : 0 < n) (q : 0 < x) → not_zero n p ≡ not_zero x q) e (λ p q. ap (not_zero n) (one_proof n p q))
+not_zero_same n m e = subst (λ x. (p : 0 < n) (q : 0 < x) → not_zero n p ≡ not_zero x q) e
+    (λ p q. ap (not_zero n) (one_proof n p q))
 
 pub count_is : IsEquality NonZeroU16 same_count
 count_is = record {

@@ -105,7 +105,8 @@ use Rattle.timefd_modifier.specs.contracts.input.EndPartialEq.TheImpl as end_eq
 use Rattle.timefd_modifier.specs.declared.input.Ignore.{Ignore}
 use Rattle.timefd_modifier.specs.contracts.input.IgnorePartialEq.TheImpl as ignore_eq
 
--- This test is equality: it holds of two values exactly where they are the same, in variant and fields.
+-- This test is equality: it holds of two values exactly where they are the same, in variant and
+-- fields.
 pub record IsEquality (A : Type 0) (same : A → A → Bool) : Type 0 where
   pub exact : (a b : A) → (same a b ≡ true) ↔ (a ≡ b)
 
@@ -118,7 +119,8 @@ pub record ModifierEquality : Type 0 where
   pub year_repr : IsEquality YearRepr (year_repr_eq.ghosts).eq
   pub year_range : IsEquality YearRange (year_range_eq.ghosts).eq
   pub subsecond_digits : IsEquality SubsecondDigits (subsecond_digits_eq.ghosts).eq
-  pub unix_timestamp_precision : IsEquality UnixTimestampPrecision (unix_timestamp_precision_eq.ghosts).eq
+  pub unix_timestamp_precision : IsEquality UnixTimestampPrecision
+      (unix_timestamp_precision_eq.ghosts).eq
   pub trailing_input : IsEquality TrailingInput (trailing_input_eq.ghosts).eq
   pub day : IsEquality Day (day_eq.ghosts).eq
   pub ordinal : IsEquality Ordinal (ordinal_eq.ghosts).eq
@@ -135,15 +137,23 @@ pub record ModifierEquality : Type 0 where
   pub month_long : IsEquality MonthLong (month_long_eq.ghosts).eq
   pub month_numerical : IsEquality MonthNumerical (month_numerical_eq.ghosts).eq
   pub month : IsEquality Month (month_eq.ghosts).eq
-  pub calendar_year_full_extended_range : IsEquality CalendarYearFullExtendedRange (calendar_year_full_extended_range_eq.ghosts).eq
-  pub calendar_year_full_standard_range : IsEquality CalendarYearFullStandardRange (calendar_year_full_standard_range_eq.ghosts).eq
-  pub calendar_year_century_extended_range : IsEquality CalendarYearCenturyExtendedRange (calendar_year_century_extended_range_eq.ghosts).eq
-  pub calendar_year_century_standard_range : IsEquality CalendarYearCenturyStandardRange (calendar_year_century_standard_range_eq.ghosts).eq
+  pub calendar_year_full_extended_range : IsEquality CalendarYearFullExtendedRange
+      (calendar_year_full_extended_range_eq.ghosts).eq
+  pub calendar_year_full_standard_range : IsEquality CalendarYearFullStandardRange
+      (calendar_year_full_standard_range_eq.ghosts).eq
+  pub calendar_year_century_extended_range : IsEquality CalendarYearCenturyExtendedRange
+      (calendar_year_century_extended_range_eq.ghosts).eq
+  pub calendar_year_century_standard_range : IsEquality CalendarYearCenturyStandardRange
+      (calendar_year_century_standard_range_eq.ghosts).eq
   pub calendar_year_last_two : IsEquality CalendarYearLastTwo (calendar_year_last_two_eq.ghosts).eq
-  pub iso_year_full_extended_range : IsEquality IsoYearFullExtendedRange (iso_year_full_extended_range_eq.ghosts).eq
-  pub iso_year_full_standard_range : IsEquality IsoYearFullStandardRange (iso_year_full_standard_range_eq.ghosts).eq
-  pub iso_year_century_extended_range : IsEquality IsoYearCenturyExtendedRange (iso_year_century_extended_range_eq.ghosts).eq
-  pub iso_year_century_standard_range : IsEquality IsoYearCenturyStandardRange (iso_year_century_standard_range_eq.ghosts).eq
+  pub iso_year_full_extended_range : IsEquality IsoYearFullExtendedRange
+      (iso_year_full_extended_range_eq.ghosts).eq
+  pub iso_year_full_standard_range : IsEquality IsoYearFullStandardRange
+      (iso_year_full_standard_range_eq.ghosts).eq
+  pub iso_year_century_extended_range : IsEquality IsoYearCenturyExtendedRange
+      (iso_year_century_extended_range_eq.ghosts).eq
+  pub iso_year_century_standard_range : IsEquality IsoYearCenturyStandardRange
+      (iso_year_century_standard_range_eq.ghosts).eq
   pub iso_year_last_two : IsEquality IsoYearLastTwo (iso_year_last_two_eq.ghosts).eq
   pub year : IsEquality Year (year_eq.ghosts).eq
   pub hour12 : IsEquality Hour12 (hour12_eq.ghosts).eq
@@ -157,9 +167,12 @@ pub record ModifierEquality : Type 0 where
   pub offset_minute : IsEquality OffsetMinute (offset_minute_eq.ghosts).eq
   pub offset_second : IsEquality OffsetSecond (offset_second_eq.ghosts).eq
   pub unix_timestamp_second : IsEquality UnixTimestampSecond (unix_timestamp_second_eq.ghosts).eq
-  pub unix_timestamp_millisecond : IsEquality UnixTimestampMillisecond (unix_timestamp_millisecond_eq.ghosts).eq
-  pub unix_timestamp_microsecond : IsEquality UnixTimestampMicrosecond (unix_timestamp_microsecond_eq.ghosts).eq
-  pub unix_timestamp_nanosecond : IsEquality UnixTimestampNanosecond (unix_timestamp_nanosecond_eq.ghosts).eq
+  pub unix_timestamp_millisecond : IsEquality UnixTimestampMillisecond
+      (unix_timestamp_millisecond_eq.ghosts).eq
+  pub unix_timestamp_microsecond : IsEquality UnixTimestampMicrosecond
+      (unix_timestamp_microsecond_eq.ghosts).eq
+  pub unix_timestamp_nanosecond : IsEquality UnixTimestampNanosecond
+      (unix_timestamp_nanosecond_eq.ghosts).eq
   pub unix_timestamp : IsEquality UnixTimestamp (unix_timestamp_eq.ghosts).eq
   pub end : IsEquality End (end_eq.ghosts).eq
   pub ignore : IsEquality Ignore (ignore_eq.ghosts).eq

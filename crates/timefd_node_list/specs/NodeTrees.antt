@@ -1,5 +1,5 @@
 -- The trees that a list of nodes is, and how it grows.
-use Rattle.std.specs.Prelude.{ℕ, ◌≡◌, ◌+◌, ◌≤◌, List, [], ◌++◌, map, vec_len, vec_capacity}
+use Rattle.std.specs.Prelude.{ℕ, ◌≡◌, ◌+◌, ◌-◌, ◌≤◌, List, [], ◌++◌, map, vec_len, vec_capacity}
 use Rattle.timefd_node_list.specs.declared.node_list.NodeList.{NodeList}
 use Rattle.timefd_node_list.specs.Nodes.{Part, part, grown_by}
 use Rattle.timefd_component.specs.Reserved.{trees_count}
@@ -10,6 +10,13 @@ list_parts l = map part l.nodes.items
 
 abbrev pub list_trees : NodeList → List Tree
 list_trees l = grown_by [] (list_parts l)
+
+abbrev pub node_count : NodeList → ℕ
+node_count l = vec_len l.nodes
+
+-- for how many nodes more there is room
+abbrev pub room : NodeList → ℕ
+room l = vec_capacity l.nodes - vec_len l.nodes
 
 -- there is room for so many nodes more
 abbrev pub HasRoom : NodeList → ℕ → Type 0

@@ -34,10 +34,16 @@ pub record Part : Type 0 where
 
 abbrev pub part : Node → Part
 part (node.Literal lent) = record { role = text lent.now; nodes = 0; bytes = length lent.now }
-part (node.OwnedLiteral owned) = record { role = text (string_bytes owned); nodes = 0; bytes = length (string_bytes owned) }
+part (node.OwnedLiteral owned) = record {
+  role = text (string_bytes owned);
+  nodes = 0;
+  bytes =
+      length (string_bytes owned);
+}
 part (node.Component c kept) = record { role = shown c; nodes = 0; bytes = kept }
 part (node.Compound m) = record { role = together m.count; nodes = m.nodes; bytes = m.bytes }
-part (node.Optional format inner kept) = record { role = perhaps format; nodes = inner; bytes = kept }
+part (node.Optional format inner kept) =
+    record { role = perhaps format; nodes = inner; bytes = kept }
 part (node.First m) = record { role = either m.count; nodes = m.nodes; bytes = m.bytes }
 
 -- the tree that it makes of them

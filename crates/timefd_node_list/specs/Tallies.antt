@@ -1,6 +1,6 @@
 -- What is known of trees side by side.
-use Rattle.std.specs.Prelude.{ℕ, ◌≡◌, ◌+◌, ◌-◌, ◌^◌, List, [], ◌∷◌, Option, Some, None, ⊤}
-use Rattle.std.specs.Coded.{Unit-prop}
+use Rattle.std.specs.Prelude.{ℕ, ◌≡◌, ◌+◌, ◌-◌, ◌^◌, List, [], ◌∷◌, Option, Some, None, Bool, IsTrue}
+use Rattle.std.specs.Coded.{→_prop}
 use Rattle.std.proofs.Props.{props}
 use Rattle.timefd_node_list.specs.declared.tally.Tally.{Tally}
 use Rattle.timefd_node_list.specs.Nodes.{kept_bytes}
@@ -27,11 +27,9 @@ pub record IsTally (ts : List Tree) (t : Tally) : Type 0 where
   pub bytes : t.bytes ≡ kept_sum ts
   pub first : t.first ≡ kept_bytes (reserve_first (trees ts))
 
--- it is what these trees reserve, where it is known
-abbrev pub IsSum : List Tree → Option ℕ → Type 0
-IsSum ts None = ⊤
-IsSum ts (Some sum) = sum ≡ reserve_all (trees ts)
+-- it is what is kept of what these trees reserve, where that is known
+abbrev pub IsSum : List Tree → Bool → ℕ → Type 0
+IsSum ts known sum = IsTrue known → sum ≡ kept_bytes (reserve_all (trees ts))
 
-pub IsSum-prop : (ts : List Tree) (sum : Option ℕ) → IsProp (IsSum ts sum)
-IsSum-prop ts None = Unit-prop
-IsSum-prop ts (Some sum) = Prim.hlevel props
+pub IsSum-prop : (ts : List Tree) (known : Bool) (sum : ℕ) → IsProp (IsSum ts known sum)
+IsSum-prop ts known sum = →_prop (Prim.hlevel props)

@@ -10,7 +10,10 @@ use timefd_component::debug::ModifiersOf;
 
 /// The last tree of these nodes.
 #[cycle(debug_nodes)]
-pub fn write_last<W: fmt::Write>(nodes: &[Node<'_>], f: &mut fmt::Formatter<W>) -> fmt::Result
+pub(crate) fn write_last<W: fmt::Write>(
+    nodes: &[Node<'_>],
+    f: &mut fmt::Formatter<W>,
+) -> fmt::Result
     requires fit { Fit [] (map part nodes.now) }
     requires there { 1 ≤ length nodes.now }
 {

@@ -61,7 +61,8 @@ impl<'v, 'a> Members<'v, 'a> {
 
     /// The last one, and those in front of it. It takes the same time however many they are.
     pub fn split_last(self) -> Option<(Self, View<'v, 'a>)>
-        ensures { MatchOption result (member_trees self.entry ≡ []) (λ r. member_trees self.entry ≡ member_trees r.0 ++ view_tree r.1 ∷ []) }
+        ensures { MatchOption result (member_trees self.entry ≡ [])
+            (λ r. member_trees self.entry ≡ member_trees r.0 ++ view_tree r.1 ∷ []) }
     {
         if self.count == 0 {
             return None;

@@ -10,36 +10,54 @@ ghost use Rattle.timefd_component.specs.Tree.{compound, first, literal, optional
 use crate::node::{Members, Node};
 use crate::tally::{ending_tally, last_kept_bytes};
 use std::alloc::{AllocError, Global};
+use std::mem::forget;
 use timefd_component::Component;
 use timefd_component::reserved::reserved_bytes;
 
 /// Trees side by side. Nothing is moved where some of them become one: its node comes behind.
-#[derive(Drop)]
 pub struct NodeList<'a> {
     nodes: Vec<Node<'a>>,
+    // Whether a node owns its text.
+    owns: bool,
     ghost fit: { Fit [] (map part nodes.items) } by { Fit-prop [] (map part nodes.items) },
 }
 
+/// Where no node owns its text there is nothing to drop but the list, and none is looked at.
+impl Drop for NodeList<'_> {
+    fn drop(self) {
+        let NodeList { mut nodes, owns } = self;
+        if !owns {
+            'lent: while let Some(node) = nodes.pop() {
+                forget(node);
+            }
+        }
+    }
+}
+
 impl<'a> NodeList<'a> {
-    ghost use Rattle.timefd_node_list.specs.NodeTrees.{Adds, AddsNode, HasRoom, list_parts, list_trees};
+    ghost use Rattle.timefd_node_list.specs.NodeTrees.{Adds, AddsNode, HasRoom, list_parts, list_trees, node_count, room};
 
     /// No trees.
     pub fn new(alloc: Global) -> Self
-        ensures { list_trees result ≡ [] }
+        ensures empty { list_trees result ≡ [] }
+        ensures nodes { node_count result ≡ 0 }
     {
         NodeList {
             nodes: Vec::new(alloc),
+            owns: false,
         }
     }
 
     /// No trees, with room for so many nodes. An `Err` comes where there is no memory left.
     pub fn with_capacity(alloc: Global, count: usize) -> Result<Self, AllocError>
         ensures empty { IfOk result (λ list. list_trees list ≡ []) }
+        ensures nodes { IfOk result (λ list. node_count list ≡ 0) }
         ensures room { IfOk result (λ list. HasRoom list count) }
         ensures no_memory { count ≡ 0 → IsOk result }
     {
         Ok(NodeList {
             nodes: Vec::with_capacity(alloc, count)?,
+            owns: false,
         })
     }
 
@@ -49,6 +67,13 @@ impl<'a> NodeList<'a> {
         ensures fit { Fit [] (map part result.now) }
     {
         self.nodes.as_slice()
+    }
+
+    /// How many they are.
+    pub fn node_count(&self) -> usize
+        ensures { result ≡ node_count self.now }
+    {
+        self.nodes.len()
     }
 
     /// The bytes that the last tree keeps, or 0 where there is none.
@@ -68,7 +93,10 @@ impl<'a> NodeList<'a> {
             let copy = self.nodes[at].copied(alloc)?;
             copies.push(copy)?;
         }
-        Ok(NodeList { nodes: copies })
+        Ok(NodeList {
+            nodes: copies,
+            owns: self.owns,
+        })
     }
 
     /// A copy that borrows nothing. An `Err` comes where there is no memory left for it.
@@ -80,16 +108,29 @@ impl<'a> NodeList<'a> {
             let copy = self.nodes[at].owned(alloc)?;
             copies.push(copy)?;
         }
-        Ok(NodeList { nodes: copies })
+        Ok(NodeList {
+            nodes: copies,
+            owns: true,
+        })
     }
 
     /// Makes room for so many nodes more. An `Err` comes where there is no memory left for it.
     pub fn reserve(&mut self, count: usize) -> Result<(), AllocError>
         ensures room { OnOk result (HasRoom self.new count) }
         ensures kept { list_trees self.new ≡ list_trees self.old }
+        ensures nodes { node_count self.new ≡ node_count self.old }
         ensures no_memory { count ≡ 0 → IsOk result }
+        ensures succeeds { count ≤ room self.old → IsOk result }
+        ensures grows { room self.old ≤ room self.new }
     {
         self.nodes.reserve(count)
+    }
+
+    /// For how many nodes more there is room.
+    pub fn room(&self) -> usize
+        ensures { result ≡ room self.now }
+    {
+        self.nodes.capacity() - self.nodes.len()
     }
 
     /// Adds a text that is lent.
@@ -105,6 +146,7 @@ impl<'a> NodeList<'a> {
         requires { HasRoom self.old 1 }
         ensures { Adds self.old self.new (literal (string_bytes text) ∷ []) }
     {
+        self.owns = true;
         self.push(Node::OwnedLiteral(text));
     }
 
@@ -123,7 +165,8 @@ impl<'a> NodeList<'a> {
     pub fn compound(&mut self, count: usize)
         requires there { count ≤ length (list_trees self.old) }
         requires room { HasRoom self.old 1 }
-        ensures trees { list_trees self.new ≡ before count (list_trees self.old) ++ compound (trees (ending count (list_trees self.old))) ∷ [] }
+        ensures trees { list_trees self.new ≡ before count (list_trees self.old) ++ compound
+            (trees (ending count (list_trees self.old))) ∷ [] }
         ensures node { AddsNode self.old self.new }
     {
         let members = ending_tally(&self.nodes, count);
@@ -135,7 +178,8 @@ impl<'a> NodeList<'a> {
         requires all { count ≡ length (list_trees self.old) }
         requires bytes { bytes ≡ reserve_all (trees (list_trees self.old)) }
         requires room { HasRoom self.old 1 }
-        ensures trees { list_trees self.new ≡ before count (list_trees self.old) ++ compound (trees (ending count (list_trees self.old))) ∷ [] }
+        ensures trees { list_trees self.new ≡ before count (list_trees self.old) ++ compound
+            (trees (ending count (list_trees self.old))) ∷ [] }
         ensures node { AddsNode self.old self.new }
     {
         let nodes = self.nodes.len();
@@ -150,7 +194,8 @@ impl<'a> NodeList<'a> {
     pub fn first(&mut self, count: usize)
         requires there { count ≤ length (list_trees self.old) }
         requires room { HasRoom self.old 1 }
-        ensures trees { list_trees self.new ≡ before count (list_trees self.old) ++ first (trees (ending count (list_trees self.old))) ∷ [] }
+        ensures trees { list_trees self.new ≡ before count (list_trees self.old) ++ first
+            (trees (ending count (list_trees self.old))) ∷ [] }
         ensures node { AddsNode self.old self.new }
     {
         let members = ending_tally(&self.nodes, count);
@@ -161,7 +206,8 @@ impl<'a> NodeList<'a> {
     pub fn optional(&mut self, format: bool)
         requires there { 1 ≤ length (list_trees self.old) }
         requires room { HasRoom self.old 1 }
-        ensures trees { list_trees self.new ≡ before 1 (list_trees self.old) ++ optional format (pack (ending 1 (list_trees self.old))) ∷ [] }
+        ensures trees { list_trees self.new ≡ before 1 (list_trees self.old) ++ optional format
+            (pack (ending 1 (list_trees self.old))) ∷ [] }
         ensures node { AddsNode self.old self.new }
     {
         let member = ending_tally(&self.nodes, 1);

@@ -54,7 +54,12 @@ impl Tally {
     /// These and one more in front, which has so many nodes and keeps so many bytes.
     fn behind(self, nodes: usize, bytes: usize) -> Tally
         requires { self.nodes + nodes ≤ usize.MAX }
-        ensures { result ≡ record { nodes = self.nodes + nodes; bytes = spec.sum_within self.bytes bytes; first = bytes } }
+        ensures { result ≡ record {
+          nodes = self.nodes + nodes;
+          bytes =
+              spec.sum_within self.bytes bytes;
+          first = bytes;
+        } }
     {
         Tally {
             nodes: self.nodes + nodes,
@@ -124,7 +129,8 @@ pub fn without_ending<'n, 'a>(nodes: &'n [Node<'a>], count: usize) -> &'n [Node<
     requires there { count ≤ length (grown_by [] (map part nodes.now)) }
     ensures fit { Fit [] (map part result.now) }
     ensures shorter { length result.now ≤ length nodes.now }
-    ensures left { count + length (grown_by [] (map part result.now)) ≡ length (grown_by [] (map part nodes.now)) }
+    ensures left { count + length (grown_by [] (map part result.now)) ≡ length
+        (grown_by [] (map part nodes.now)) }
 {
     let behind = ending_tally(nodes, count).nodes;
     let rest = nodes.len() - behind;

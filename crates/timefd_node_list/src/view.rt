@@ -123,8 +123,10 @@ fn split_one<'n, 'a>(nodes: &'n [Node<'a>]) -> (&'n [Node<'a>], &'n Node<'a>)
     requires there { 1 ≤ length nodes.now }
     ensures fit { Fit [] (map part result.0.now) }
     ensures members { arity (part result.1.now).role ≡ length (grown_by [] (map part result.0.now)) }
-    ensures tree { pack (grown_by [] (map part nodes.now)) ≡ made (part result.1.now).role (grown_by [] (map part result.0.now)) }
-    ensures bytes { (part result.1.now).bytes ≡ kept_bytes (reserve (pack (grown_by [] (map part nodes.now)))) }
+    ensures tree { pack (grown_by [] (map part nodes.now)) ≡ made (part result.1.now).role
+        (grown_by [] (map part result.0.now)) }
+    ensures bytes { (part result.1.now).bytes ≡ kept_bytes
+        (reserve (pack (grown_by [] (map part nodes.now)))) }
 {
     let count = nodes.len() - 1;
     let last = &nodes[count];

@@ -1,5 +1,8 @@
 -- What the outputs of the readers count, and what their errors say, in terms of the language.
-use Rattle.std.proofs.Common.{◌≡◌, ℕ, List, length, ap, sym, ◌∙◌, subst}
+use Rattle.std.proofs.Common.{◌≡◌, ℕ, Result, Ok, Err, IfOk, IfErr, MatchResult, IsFalse, List, length, refl, ap, sym, ◌∙◌, subst}
+use Rattle.std.proofs.lemmas.Bool.{true≢false}
+use Rattle.timefd_language.specs.Bytes.{is_version_three}
+use Rattle.timefd_language.specs.Grammar.{Spells}
 use Rattle.std.proofs.lemmas.List.{length-map}
 use Rattle.std.specs.declared.vec.Vec.{Vec}
 use Rattle.std.specs.declared.alloc.Global.{Global}
@@ -15,34 +18,55 @@ use Rattle.timefd_parse.specs.declared.language.Language.TheVariants.{Version, S
 use Rattle.timefd_parse.specs.declared.parsing.BorrowedOutput.{BorrowedOutput}
 use Rattle.timefd_parse.specs.declared.parsing.BorrowedOutput.TheVariants.{Items, Description}
 use Rattle.timefd_language.specs.declared.parse_error.ParseError.{ParseError}
-use Rattle.timefd_language.specs.declared.parse_error.ParseError.TheVariants.{Invalid, Memory}
-use Rattle.timefd_parse.specs.Answers.{IsOutput, IsAssigned}
-use Rattle.timefd_strftime.specs.StrftimeAnswers.{IsStrftimeFault}
-use Rattle.timefd_parse.specs.Language.{amount, IsAssignedIn}
+use Rattle.timefd_language.specs.declared.parse_error.ParseError.TheVariants as told
+use Rattle.timefd_language.specs.Broken.{FaultOf}
+use Rattle.timefd_language.specs.Strftime.{StrftimeFaultOf}
+use Rattle.timefd_borrowed_fault.specs.declared.borrowed_parse_error.BorrowedParseError.{BorrowedParseError}
+use Rattle.timefd_borrowed_fault.specs.declared.borrowed_parse_error.BorrowedParseError.TheVariants.{Invalid, Memory}
+use Rattle.timefd_borrowed_fault.specs.BorrowedFaults.{HasShortWords, IsLentOf, IsMemory, IsOwned}
+use Rattle.timefd_borrowed_fault.proofs.ShortWords.{short_fault, short_strftime_fault}
+use Rattle.timefd_fault.specs.Faults.{Fault}
+use Rattle.timefd_borrowed_fault.proofs.OwnedLemmas.{owned_of}
+use Rattle.timefd_parse.specs.Answers.{IsOutput}
+use Rattle.timefd_parse.specs.declared.language.Language.{Language}
+use Rattle.timefd_parse.specs.Language.{amount, takes_memory, FaultIn, IsAssignedIn}
 
-pub items-counted : (items : Vec BorrowedFormatItem Global) (list : List Tree) → item_trees items.items ≡ list → items.len ≡ length list
-items-counted items list same = items.ok.0 ∙ sym (length-map items.items item_tree) ∙ ap length same
+pub lent-in-version : (v : DescriptionVersion) (limit : ℕ) (text : Text) (e : BorrowedParseError)
+    → IsLentOf (FaultOf v limit text) e → IsLentOf (FaultIn (Version v) limit text) e
+lent-in-version v limit text (Invalid f) is = is
+lent-in-version v limit text (Memory m) is = tt
 
-items-amount : (v : DescriptionVersion) (items : Vec BorrowedFormatItem Global) (list : List Tree) → IsOutput v list (Items items) → items.len ≡ amount (Version v) list
-items-amount One items list is = items-counted items list is
-items-amount Two items list is = items-counted items list is
-items-amount Three items list is = absurd is
+pub lent-in-strftime : (limit : ℕ) (text : Text) (e : BorrowedParseError)
+    → IsLentOf (StrftimeFaultOf text) e → IsLentOf (FaultIn Strftime limit text) e
+lent-in-strftime limit text (Invalid f) is = is
+lent-in-strftime limit text (Memory m) is = tt
 
-description-amount : (v : DescriptionVersion) (d : FormatDescriptionV3) (list : List Tree) → IsOutput v list (Description d) → reserve (description_tree d) ≡ amount (Version v) list
-description-amount One d list is = absurd is
-description-amount Two d list is = absurd is
-description-amount Three d list is = ap reserve is
+pub owned-assigned-in : (language : Language) (limit : ℕ) (text : Text) (e : BorrowedParseError)
+    (r : ParseError) → IsLentOf (FaultIn language limit text) e → IsOwned e r
+    → IsAssignedIn language limit text r
+owned-assigned-in language limit text e (told.Memory m) is owned = tt
+owned-assigned-in language limit text e (told.Invalid x) is owned =
+    owned_of (FaultIn language limit text) e x is owned
 
-pub amount-of-items : (v : DescriptionVersion) (o : BorrowedOutput) (items : Vec BorrowedFormatItem Global) (list : List Tree) → o ≡ Items items → IsOutput v list o → items.len ≡ amount (Version v) list
-amount-of-items v o items list same is = items-amount v items list (subst (IsOutput v list) same is)
+pub short_in : (language : Language) (limit : ℕ) (text : Text) (f : Fault)
+    → FaultIn language limit text f → HasShortWords f.kind
+short_in (Version v) limit text f is = short_fault v limit text f is
+short_in Strftime limit text f is = short_strftime_fault text f is
 
-pub amount-of-description : (v : DescriptionVersion) (o : BorrowedOutput) (d : FormatDescriptionV3) (list : List Tree) → o ≡ Description d → IsOutput v list o → reserve (description_tree d) ≡ amount (Version v) list
-amount-of-description v o d list same is = description-amount v d list (subst (IsOutput v list) same is)
+pub if_err_more : {T E : Type 0} (P Q : E → Type 0) → ((e : E) → P e → Q e) → (r : Result T E)
+    → IfErr r P → IfErr r Q
+if_err_more P Q more (Ok x) is = tt
+if_err_more P Q more (Err e) is = more e is
 
-pub assigned-in-version : (v : DescriptionVersion) (limit : ℕ) (text : Text) (e : ParseError) → IsAssigned v limit text e → IsAssignedIn (Version v) limit text e
-assigned-in-version v limit text (Invalid f) is = is
-assigned-in-version v limit text (Memory m) is = tt
+-- versions 1 and 2 hold as much as they have items
+pub lax-amount : (v : DescriptionVersion) (list : List Tree) → IsFalse (is_version_three v)
+    → length list ≡ amount (Version v) list
+lax-amount One list lax = refl
+lax-amount Two list lax = refl
+lax-amount Three list lax = absurd (true≢false lax)
 
-pub assigned-in-strftime : (limit : ℕ) (text : Text) (e : ParseError) → IsStrftimeFault text e → IsAssignedIn Strftime limit text e
-assigned-in-strftime limit text (Invalid f) is = is
-assigned-in-strftime limit text (Memory m) is = tt
+pub builds_nothing : (v : DescriptionVersion) → IsFalse (takes_memory (Version v))
+    → IsFalse (is_version_three v)
+builds_nothing One lax = lax
+builds_nothing Two lax = lax
+builds_nothing Three lax = lax

@@ -16,7 +16,8 @@ use Rattle.timefd_language.specs.Verdict.{unless, combined, made, verdict}
 use Rattle.timefd_parse.specs.Read.{LeadsOn, IsBare}
 use Rattle.timefd_language.proofs.ModernPieces.{name_modern}
 
-named_itself : (strict : Bool) (n : ComponentName) → IsNameOf strict (row_for n).name (Some (Name.Component n))
+named_itself : (strict : Bool) (n : ComponentName)
+    → IsNameOf strict (row_for n).name (Some (Name.Component n))
 named_itself true ComponentName.Day = (refl, refl, refl)
 named_itself true ComponentName.End = (refl, refl, refl)
 named_itself true ComponentName.Hour = (refl, refl, refl)
@@ -78,35 +79,48 @@ nothing_combined : (rs : List Refusal) → combined rs [] ≡ None
 nothing_combined [] = refl
 nothing_combined (r ∷ rs) = nothing_combined rs
 
-bare_made : (strict : Bool) (name : Text) (c : Component) → made strict (bare_head name) (Ok c) ≡ Ok (component c)
+bare_made : (strict : Bool) (name : Text) (c : Component)
+    → made strict (bare_head name) (Ok c) ≡ Ok (component c)
 unfolding bare_head
 bare_made true name c = ap (λ f. unless f (component c)) (nothing_combined (refusals c))
 bare_made false name c = refl
 
-bare_verdict : (strict : Bool) (n : ComponentName) (c : Component) (place : ℕ) → (row_for n).component (defaults strict) ≡ Ok c
+bare_verdict : (strict : Bool) (n : ComponentName) (c : Component) (place : ℕ)
+    → (row_for n).component (defaults strict) ≡ Ok c
     → verdict strict (bare_head (row_for n).name) [] place ≡ Ok (component c)
 unfolding bare_head
 bare_verdict strict n c place e =
     let is = named_itself strict n in
     rw (is.0, is.1, is.2, e) (bare_made strict (row_for n).name c)
 
-bare_leads : (v : DescriptionVersion) (limit n : ℕ) (inside closed rest : Text) (name : ComponentName) (c : Component)
-    → closed ≡ (row_for name).name ++ right ∷ [] → inside ≡ closed ++ rest → IsUtf8 rest → (row_for name).component (defaults (is_version_three v)) ≡ Ok c
+bare_leads : (v : DescriptionVersion) (limit n : ℕ) (inside closed rest : Text)
+    (name : ComponentName) (c : Component)
+    → closed ≡ (row_for name).name ++ right ∷ [] → inside ≡ closed ++ rest → IsUtf8 rest
+    → (row_for name).component (defaults (is_version_three v)) ≡ Ok c
     → LeadsOn v limit n (left ∷ inside) (component c) rest
 unfolding bare_head
 bare_leads v limit n inside closed rest name c spelled e utf8 made = record {
   leads = λ front tail are f. (
     bracket (bare_head (row_for name).name) no_nested [] (component c) front,
-    (record { white = refl; name = is_word name; modifiers = tt }, tt, refl, bare_verdict (is_version_three v) name c _ made, are),
-    ap (λ t. left ∷ t) (e ∙ ap (λ t. t ++ rest) spelled ∙ ap (λ t. ((row_for name).name ++ right ∷ []) ++ t) f) ∙ simp (append_assoc, append-nil),
+    (
+      record { white = refl; name = is_word name; modifiers = tt },
+      tt,
+      refl,
+      bare_verdict (is_version_three v) name c _ made,
+      are,
+    ),
+    ap (λ t. left ∷ t) (e ∙ ap (λ t. t ++ rest) spelled ∙
+        ap (λ t. ((row_for name).name ++ right ∷ []) ++ t) f) ∙ simp (append_assoc, append-nil),
     refl,
   );
   shorter = omega (arith, ap length e, length-append closed rest);
   utf8 = utf8;
 }
 
-pub is_bare : (v : DescriptionVersion) (inside closed rest : Text) (name : ComponentName) (c : Component)
-    → closed ≡ (row_for name).name ++ right ∷ [] → inside ≡ closed ++ rest → IsUtf8 rest → (row_for name).component (defaults (is_version_three v)) ≡ Ok c
+pub is_bare : (v : DescriptionVersion) (inside closed rest : Text) (name : ComponentName)
+    (c : Component)
+    → closed ≡ (row_for name).name ++ right ∷ [] → inside ≡ closed ++ rest → IsUtf8 rest
+    → (row_for name).component (defaults (is_version_three v)) ≡ Ok c
     → IsBare v inside c rest
 is_bare v inside closed rest name c spelled e utf8 made = record {
   leads = λ limit n. bare_leads v limit n inside closed rest name c spelled e utf8 made;

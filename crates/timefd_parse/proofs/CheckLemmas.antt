@@ -6,7 +6,7 @@ use Rattle.std.proofs.lemmas.Bool.{true≢false}
 use Rattle.timefd_component.specs.Tree.{Text}
 use Rattle.timefd_fault.specs.Faults.{Fault, fault, invalid_modifier, duplicate_modifier}
 use Rattle.timefd_language.specs.declared.fault.Fault as code_fault
-use Rattle.timefd_language.specs.declared.fault.Kind.TheVariants as kinds
+use Rattle.timefd_language.specs.declared.fault.FaultKind.TheVariants as kinds
 use Rattle.timefd_language.specs.declared.key.Key as code_key
 use Rattle.timefd_language.specs.declared.key.Key.TheVariants.{Padding, TrailingInput, HourRepr, Count, MonthRepr, CaseSensitive, Sign, Case, Digits, Precision, WeekdayRepr, OneIndexed, WeekNumberRepr, YearRepr, Range, Base, Format}
 use Rattle.timefd_parse.specs.declared.modifier.Modifier as code
@@ -22,7 +22,7 @@ use Rattle.timefd_language.specs.Values.{Key, key_in, setting_in}
 use Rattle.timefd_language.specs.Lookup.{key_for}
 use Rattle.timefd_parse.specs.Places.{place, with_place}
 use Rattle.timefd_language.specs.Verdict.{bad_modifier, bad_modifiers, ◌or◌, bad_value, refuse, is_set, settings, settings_from, setting_of, with_option}
-use Rattle.timefd_language.specs.Shown.{IsFault}
+use Rattle.timefd_language.specs.FaultMeaning.{IsFault}
 use Rattle.timefd_parse.specs.ReadModifiers.{IsPlaced}
 use Rattle.timefd_parse.specs.Checked.{keys_of, first_place, ShowsFault, ShowsPlace, Checks, ChecksOne}
 use Rattle.timefd_language.proofs.Lookup.{equal-true, Each, named-found}
@@ -41,19 +41,26 @@ or_assoc None b c = refl
 -- One more modifier, in the rules.
 
 pub bad_more : (strict : Bool) (keys : List Key) (before ps : List Placed) (p : Placed)
-    → bad_modifiers strict keys before (ps ++ p ∷ []) ≡ (bad_modifiers strict keys before ps or bad_modifier strict (key_in strict p.key keys) (before ++ ps) p)
+    → bad_modifiers strict keys before
+    (ps ++ p ∷ []) ≡ (bad_modifiers strict keys before ps or bad_modifier strict
+    (key_in strict p.key keys) (before ++ ps) p)
 bad_more strict keys before [] p =
-    or_none _ ∙ ap (λ b. bad_modifier strict (key_in strict p.key keys) b p) (sym (append-nil before))
+    or_none _ ∙ ap (λ b. bad_modifier strict (key_in strict p.key keys) b p)
+    (sym (append-nil before))
 bad_more strict keys before (q ∷ ps) p =
     let first : Option Fault = bad_modifier strict (key_in strict q.key keys) before q in
     ap (λ r. first or r) (bad_more strict keys (before ++ q ∷ []) ps p)
     ∙ or_assoc first _ _
-    ∙ ap (λ b. (first or bad_modifiers strict keys (before ++ q ∷ []) ps) or bad_modifier strict (key_in strict p.key keys) b p) (append_assoc before (q ∷ []) ps)
+    ∙ ap (λ b. (first or bad_modifiers strict keys (before ++ q ∷ []) ps) or bad_modifier strict
+    (key_in strict p.key keys) b p) (append_assoc before (q ∷ []) ps)
 
 settings_more : (strict : Bool) (keys : List Key) (s : Settings) (ps : List Placed) (p : Placed)
-    → settings_from strict keys s (ps ++ p ∷ []) ≡ with_option (settings_from strict keys s ps) (setting_of strict (key_in strict p.key keys) p.value)
+    → settings_from strict keys s (ps ++ p ∷ []) ≡ with_option (settings_from strict keys s ps)
+    (setting_of strict (key_in strict p.key keys) p.value)
 settings_more strict keys s [] p = refl
-settings_more strict keys s (q ∷ ps) p = settings_more strict keys (with_option s (setting_of strict (key_in strict q.key keys) q.value)) ps p
+settings_more strict keys s (q ∷ ps) p =
+    settings_more strict keys (with_option s (setting_of strict (key_in strict q.key keys) q.value))
+    ps p
 
 -- Places.
 
@@ -61,7 +68,9 @@ is_set_place : (key : Text) (ps : List Placed) → is_set true key ps ≡ is_som
 is_set_place key [] = refl
 is_set_place key (p ∷ ps) = by (equal key p.key) (is_set_place key ps)
   where
-    by : (t : Bool) → is_set true key ps ≡ is_some (first_place key ps) → (t || is_set true key ps) ≡ is_some (elim t as (λ _. Option ℕ) [ true ↦ Some p.key_index | false ↦ first_place key ps ])
+    by : (t : Bool) → is_set true key ps ≡ is_some (first_place key ps)
+        → (t || is_set true key ps) ≡ is_some
+        (elim t as (λ _. Option ℕ) [ true ↦ Some p.key_index | false ↦ first_place key ps ])
     by true e = refl
     by false e = e
 
@@ -73,33 +82,43 @@ abbrev place_if : Bool → ℕ → Option ℕ
 place_if true i = Some i
 place_if false i = None
 
-first_more : (key : Text) (ps : List Placed) (p : Placed) → first_place key (ps ++ p ∷ []) ≡ first_or (first_place key ps) (place_if (equal key p.key) p.key_index)
+first_more : (key : Text) (ps : List Placed) (p : Placed)
+    → first_place key (ps ++ p ∷ []) ≡ first_or (first_place key ps)
+    (place_if (equal key p.key) p.key_index)
 first_more key [] p = by (equal key p.key)
   where
-    by : (t : Bool) → elim t as (λ _. Option ℕ) [ true ↦ Some p.key_index | false ↦ None ] ≡ place_if t p.key_index
+    by : (t : Bool) → elim t as (λ _. Option ℕ) [ true ↦ Some p.key_index | false ↦ None ]
+        ≡ place_if t p.key_index
     by true = refl
     by false = refl
 first_more key (q ∷ ps) p = by (equal key q.key) (first_more key ps p)
   where
-    by : (t : Bool) → first_place key (ps ++ p ∷ []) ≡ first_or (first_place key ps) (place_if (equal key p.key) p.key_index)
-        → elim t as (λ _. Option ℕ) [ true ↦ Some q.key_index | false ↦ first_place key (ps ++ p ∷ []) ]
-        ≡ first_or (elim t as (λ _. Option ℕ) [ true ↦ Some q.key_index | false ↦ first_place key ps ]) (place_if (equal key p.key) p.key_index)
+    by : (t : Bool) → first_place key (ps ++ p ∷ []) ≡ first_or (first_place key ps)
+        (place_if (equal key p.key) p.key_index)
+        → elim t as (λ _. Option ℕ)
+        [ true ↦ Some q.key_index | false ↦ first_place key (ps ++ p ∷ []) ]
+        ≡ first_or (elim t as (λ _. Option ℕ)
+        [ true ↦ Some q.key_index | false ↦ first_place key ps ])
+        (place_if (equal key p.key) p.key_index)
     by true e = refl
     by false e = e
 
 -- what is shown, where there is none
 
-pub none_shown : (total : ℕ) (o : Option code_fault.Fault) (b : Option Fault) → ShowsFault total o b → o ≡ None → b ≡ None
+pub none_shown : (total : ℕ) (o : Option code_fault.Fault) (b : Option Fault) → ShowsFault total o b
+    → o ≡ None → b ≡ None
 none_shown total None None is e = refl
 none_shown total None (Some g) is e = absurd is
 none_shown total (Some f) b is e = absurd (cc)
 
-shows_none : (total : ℕ) (o : Option code_fault.Fault) (b : Option Fault) → o ≡ None → b ≡ None → ShowsFault total o b
+shows_none : (total : ℕ) (o : Option code_fault.Fault) (b : Option Fault) → o ≡ None → b ≡ None
+    → ShowsFault total o b
 shows_none total None None e d = tt
 shows_none total None (Some g) e d = absurd (cc)
 shows_none total (Some f) b e d = absurd (cc)
 
-some_shown : (total : ℕ) (o : Option ℕ) (i : Option ℕ) → ShowsPlace total o i → is_some o ≡ is_some i
+some_shown : (total : ℕ) (o : Option ℕ) (i : Option ℕ) → ShowsPlace total o i
+    → is_some o ≡ is_some i
 some_shown total None None is = refl
 some_shown total None (Some i) is = absurd is
 some_shown total (Some r) None is = absurd is
@@ -107,35 +126,48 @@ some_shown total (Some r) (Some i) is = refl
 
 -- Looking at one modifier.
 
-module _ (strict : Bool) (name : Option Name) (total : ℕ) (m : code.Modifier) (ps : List Placed) (p : Placed) (is : IsPlaced total m p) where
+module _ (strict : Bool) (name : Option Name) (total : ℕ) (m : code.Modifier) (ps : List Placed)
+    (p : Placed) (is : IsPlaced total m p) where
   abbrev Refused : code_fault.Fault → Type 0
-  Refused f = (g : Fault) × (bad_modifier strict (key_in strict p.key (keys_of name)) ps p ≡ Some g) × IsFault total f g
+  Refused f = (g : Fault) × (bad_modifier strict (key_in strict p.key (keys_of name)) ps p ≡ Some g)
+      × IsFault total f g
 
-  looked_up : (o : Option Key) → key_in strict m.key.now (keys_of name) ≡ o → key_in strict p.key (keys_of name) ≡ o
+  looked_up : (o : Option Key) → key_in strict m.key.now (keys_of name) ≡ o
+      → key_in strict p.key (keys_of name) ≡ o
   looked_up o e = ap (λ t. key_in strict t (keys_of name)) is.key ∙ e
 
   -- a key that isn't known
-  pub at_unknown : (o : Option code_key.Key) → option_map key_for o ≡ key_in strict m.key.now (keys_of name) → o ≡ None
+  pub at_unknown : (o : Option code_key.Key)
+      → option_map key_for o ≡ key_in strict m.key.now (keys_of name) → o ≡ None
       → Refused (record { kind = kinds.InvalidModifier m.key; remaining = m.key_remaining })
   at_unknown o known e =
-      let none : key_in strict p.key (keys_of name) ≡ None = looked_up None (sym known ∙ ap (option_map key_for) e) in (
+      let none : key_in strict p.key (keys_of name) ≡ None =
+      looked_up None (sym known ∙ ap (option_map key_for) e) in (
         fault (invalid_modifier p.key) p.key_index,
-        subst (λ k. bad_modifier strict k ps p ≡ Some (fault (invalid_modifier p.key) p.key_index)) (sym none) refl,
+        subst (λ k. bad_modifier strict k ps p ≡ Some (fault (invalid_modifier p.key) p.key_index))
+            (sym none) refl,
         record { kind = ap invalid_modifier is.key; place = is.key_place },
       )
 
-  found : (o : Option code_key.Key) (key : code_key.Key) → option_map key_for o ≡ key_in strict m.key.now (keys_of name) → o ≡ Some key
+  found : (o : Option code_key.Key) (key : code_key.Key)
+      → option_map key_for o ≡ key_in strict m.key.now (keys_of name) → o ≡ Some key
       → key_in strict p.key (keys_of name) ≡ Some (key_for key)
   found o key known e = looked_up (Some (key_for key)) (sym known ∙ ap (option_map key_for) e)
 
   -- a key that was there before
-  pub at_again : (o : Option code_key.Key) (key : code_key.Key) (spelling : Bor (List ℕ)) → option_map key_for o ≡ key_in strict m.key.now (keys_of name) → o ≡ Some key
-      → strict ≡ true → is_some (first_place (key_for key).key ps) ≡ true → spelling.now ≡ (key_for key).key
+  pub at_again : (o : Option code_key.Key) (key : code_key.Key) (spelling : Bor (List ℕ))
+      → option_map key_for o ≡ key_in strict m.key.now (keys_of name) → o ≡ Some key
+      → strict ≡ true → is_some (first_place (key_for key).key ps) ≡ true
+      → spelling.now ≡ (key_for key).key
       → Refused (record { kind = kinds.DuplicateModifier spelling; remaining = m.key_remaining })
   at_again o key spelling known e exact there spelled = (
     fault (duplicate_modifier (key_for key).key) p.key_index,
-    subst (λ k. bad_modifier strict k ps p ≡ Some (fault (duplicate_modifier (key_for key).key) p.key_index)) (sym (found o key known e))
-        (subst (λ b. (refuse b (duplicate_modifier (key_for key).key) p.key_index or bad_value strict (key_for key) p) ≡ Some (fault (duplicate_modifier (key_for key).key) p.key_index)) (sym (set_again strict exact)) refl),
+    subst (λ k. bad_modifier strict k ps p ≡ Some
+        (fault (duplicate_modifier (key_for key).key) p.key_index)) (sym (found o key known e))
+        (subst (λ b. (refuse b (duplicate_modifier (key_for key).key) p.key_index or bad_value
+        strict (key_for key) p) ≡ Some
+        (fault (duplicate_modifier (key_for key).key) p.key_index))
+        (sym (set_again strict exact)) refl),
     record { kind = ap duplicate_modifier (sym spelled); place = is.key_place },
   )
     where
@@ -143,38 +175,55 @@ module _ (strict : Bool) (name : Option Name) (total : ℕ) (m : code.Modifier) 
       set_again true e = is_set_place (key_for key).key ps ∙ there
       set_again false e = absurd (true≢false (sym e))
 
-  not_again : (key : code_key.Key) → (strict ≡ true → is_some (first_place (key_for key).key ps) ≡ false) → (strict && is_set strict (key_for key).key ps) ≡ false
+  not_again : (key : code_key.Key) → (strict ≡ true
+      → is_some (first_place (key_for key).key ps) ≡ false)
+      → (strict && is_set strict (key_for key).key ps) ≡ false
   not_again key new = by strict new
     where
-      by : (s : Bool) → (s ≡ true → is_some (first_place (key_for key).key ps) ≡ false) → (s && is_set s (key_for key).key ps) ≡ false
+      by : (s : Bool) → (s ≡ true → is_some (first_place (key_for key).key ps) ≡ false)
+          → (s && is_set s (key_for key).key ps) ≡ false
       by true h = is_set_place (key_for key).key ps ∙ h refl
       by false h = refl
 
-  checked : (o : Option code_key.Key) (key : code_key.Key) (v : Option Setting) → option_map key_for o ≡ key_in strict m.key.now (keys_of name) → o ≡ Some key
-      → (strict ≡ true → is_some (first_place (key_for key).key ps) ≡ false) → v ≡ setting_in strict (key_for key).values m.value.now
-      → bad_modifier strict (key_in strict p.key (keys_of name)) ps p ≡ refuse (not (is_some v)) (invalid_modifier p.value) p.value_index
+  checked : (o : Option code_key.Key) (key : code_key.Key) (v : Option Setting)
+      → option_map key_for o ≡ key_in strict m.key.now (keys_of name) → o ≡ Some key
+      → (strict ≡ true → is_some (first_place (key_for key).key ps) ≡ false)
+      → v ≡ setting_in strict (key_for key).values m.value.now
+      → bad_modifier strict (key_in strict p.key (keys_of name)) ps p ≡ refuse (not (is_some v))
+      (invalid_modifier p.value) p.value_index
   checked o key v known e new valued =
-      subst (λ k. bad_modifier strict k ps p ≡ refuse (not (is_some v)) (invalid_modifier p.value) p.value_index) (sym (found o key known e))
-      (subst (λ b. (refuse b (duplicate_modifier (key_for key).key) p.key_index or bad_value strict (key_for key) p) ≡ refuse (not (is_some v)) (invalid_modifier p.value) p.value_index) (sym (not_again key new))
-      (ap (λ w. refuse (not (is_some w)) (invalid_modifier p.value) p.value_index) (ap (setting_in strict (key_for key).values) is.value ∙ sym valued)))
+      subst (λ k. bad_modifier strict k ps p ≡ refuse (not (is_some v)) (invalid_modifier p.value)
+      p.value_index) (sym (found o key known e))
+      (subst (λ b. (refuse b (duplicate_modifier (key_for key).key) p.key_index or bad_value strict
+      (key_for key) p) ≡ refuse (not (is_some v)) (invalid_modifier p.value) p.value_index)
+      (sym (not_again key new))
+      (ap (λ w. refuse (not (is_some w)) (invalid_modifier p.value) p.value_index)
+      (ap (setting_in strict (key_for key).values) is.value ∙ sym valued)))
 
   -- a bad value
-  pub at_bad_value : (o : Option code_key.Key) (key : code_key.Key) (v : Option Setting) → option_map key_for o ≡ key_in strict m.key.now (keys_of name) → o ≡ Some key
-      → (strict ≡ true → is_some (first_place (key_for key).key ps) ≡ false) → v ≡ setting_in strict (key_for key).values m.value.now → v ≡ None
+  pub at_bad_value : (o : Option code_key.Key) (key : code_key.Key) (v : Option Setting)
+      → option_map key_for o ≡ key_in strict m.key.now (keys_of name) → o ≡ Some key
+      → (strict ≡ true → is_some (first_place (key_for key).key ps) ≡ false)
+      → v ≡ setting_in strict (key_for key).values m.value.now → v ≡ None
       → Refused (record { kind = kinds.InvalidModifier m.value; remaining = m.value_remaining })
   at_bad_value o key v known e new valued none = (
     fault (invalid_modifier p.value) p.value_index,
-    checked o key v known e new valued ∙ ap (λ w. refuse (not (is_some w)) (invalid_modifier p.value) p.value_index) none,
+    checked o key v known e new valued ∙
+        ap (λ w. refuse (not (is_some w)) (invalid_modifier p.value) p.value_index) none,
     record { kind = ap invalid_modifier is.value; place = is.value_place },
   )
 
   -- a good one
-  pub at_good : (o : Option code_key.Key) (key : code_key.Key) (v : Option Setting) (setting : Setting) → option_map key_for o ≡ key_in strict m.key.now (keys_of name) → o ≡ Some key
-      → (strict ≡ true → is_some (first_place (key_for key).key ps) ≡ false) → v ≡ setting_in strict (key_for key).values m.value.now → v ≡ Some setting
+  pub at_good : (o : Option code_key.Key) (key : code_key.Key) (v : Option Setting)
+      (setting : Setting) → option_map key_for o ≡ key_in strict m.key.now (keys_of name)
+      → o ≡ Some key
+      → (strict ≡ true → is_some (first_place (key_for key).key ps) ≡ false)
+      → v ≡ setting_in strict (key_for key).values m.value.now → v ≡ Some setting
       → ChecksOne strict name total (Ok (key, setting)) ps p
   at_good o key v setting known e new valued some = (
     found o key known e,
-    checked o key v known e new valued ∙ ap (λ w. refuse (not (is_some w)) (invalid_modifier p.value) p.value_index) some,
+    checked o key v known e new valued ∙
+        ap (λ w. refuse (not (is_some w)) (invalid_modifier p.value) p.value_index) some,
     ap (setting_in strict (key_for key).values) is.value ∙ sym valued ∙ some,
     λ exact. none_of (first_place (key_for key).key ps) (new exact),
   )
@@ -183,12 +232,15 @@ module _ (strict : Bool) (name : Option Name) (total : ℕ) (m : code.Modifier) 
       none_of None h = refl
       none_of (Some i) h = absurd (true≢false h)
 
-pub place_known : (total : ℕ) (o i : Option ℕ) (b : Bool) → ShowsPlace total o i → is_some o ≡ b → is_some i ≡ b
+pub place_known : (total : ℕ) (o i : Option ℕ) (b : Bool) → ShowsPlace total o i → is_some o ≡ b
+    → is_some i ≡ b
 place_known total o i b is e = sym (some_shown total o i is) ∙ e
 
 -- Taking one more.
 
-place_law : (p : Places) (k j : code_key.Key) (r : ℕ) → place (with_place p k r) j ≡ (if equal (key_for k).key (key_for j).key then Some r else place p j)
+place_law : (p : Places) (k j : code_key.Key) (r : ℕ)
+    → place (with_place p k r) j ≡ (if equal (key_for k).key (key_for j).key then Some r else place
+    p j)
 place_law p Padding Padding r = refl
 place_law p Padding _ r = refl
 place_law p TrailingInput Padding r = refl
@@ -235,78 +287,116 @@ or_no_place : (i : Option ℕ) → first_or i None ≡ i
 or_no_place None = refl
 or_no_place (Some i) = refl
 
-named_key : (keys : List Key) (text : Text) (k : Key) → key_in true text keys ≡ Some k → k.key ≡ text
-named_key keys text k e = (named-found (λ (x : Key). x.key) (λ (x : Key). ⊤) text keys k (all keys) e).1
+named_key : (keys : List Key) (text : Text) (k : Key) → key_in true text keys ≡ Some k
+    → k.key ≡ text
+named_key keys text k e = (named-found (λ (x : Key). x.key) (λ (x : Key). ⊤) text keys k (all keys)
+    e).1
   where
     all : (xs : List Key) → Each (λ (x : Key). ⊤) xs
     all [] = tt
     all (x ∷ xs) = (tt, all xs)
 
-place_more : (total : ℕ) (places : Places) (key j : code_key.Key) (r : ℕ) (ps : List Placed) (p : Placed) → (key_for key).key ≡ p.key → first_place (key_for key).key ps ≡ None → p.key_index + r ≡ total
-    → ShowsPlace total (place places j) (first_place (key_for j).key ps) → ShowsPlace total (place (with_place places key r) j) (first_place (key_for j).key (ps ++ p ∷ []))
-place_more total places key j r ps p is_named none at before = by (equal (key_for key).key (key_for j).key) refl
+place_more : (total : ℕ) (places : Places) (key j : code_key.Key) (r : ℕ) (ps : List Placed)
+    (p : Placed) → (key_for key).key ≡ p.key → first_place (key_for key).key ps ≡ None
+    → p.key_index + r ≡ total
+    → ShowsPlace total (place places j) (first_place (key_for j).key ps)
+    → ShowsPlace total (place (with_place places key r) j)
+    (first_place (key_for j).key (ps ++ p ∷ []))
+place_more total places key j r ps p is_named none at before =
+    by (equal (key_for key).key (key_for j).key) refl
   where
-    shows : (o i : Option ℕ) → place (with_place places key r) j ≡ o → first_place (key_for j).key (ps ++ p ∷ []) ≡ i → ShowsPlace total o i
-        → ShowsPlace total (place (with_place places key r) j) (first_place (key_for j).key (ps ++ p ∷ []))
-    shows o i e d h = subst (λ x. ShowsPlace total x (first_place (key_for j).key (ps ++ p ∷ []))) (sym e) (subst (ShowsPlace total o) (sym d) h)
+    shows : (o i : Option ℕ) → place (with_place places key r) j ≡ o
+        → first_place (key_for j).key (ps ++ p ∷ []) ≡ i → ShowsPlace total o i
+        → ShowsPlace total (place (with_place places key r) j)
+        (first_place (key_for j).key (ps ++ p ∷ []))
+    shows o i e d h = subst (λ x. ShowsPlace total x (first_place (key_for j).key (ps ++ p ∷ [])))
+        (sym e) (subst (ShowsPlace total o) (sym d) h)
 
-    by : (t : Bool) → equal (key_for key).key (key_for j).key ≡ t → ShowsPlace total (place (with_place places key r) j) (first_place (key_for j).key (ps ++ p ∷ []))
+    by : (t : Bool) → equal (key_for key).key (key_for j).key ≡ t
+        → ShowsPlace total (place (with_place places key r) j)
+        (first_place (key_for j).key (ps ++ p ∷ []))
     by true e =
-        let same : (key_for key).key ≡ (key_for j).key = equal-true (key_for key).key (key_for j).key e in
+        let same : (key_for key).key ≡ (key_for j).key =
+        equal-true (key_for key).key (key_for j).key e in
         shows (Some r) (Some p.key_index)
         (place_law places key j r ∙ ap (λ t. if t then Some r else place places j) e)
-        (first_more (key_for j).key ps p ∙ ap (λ i. first_or i (place_if (equal (key_for j).key p.key) p.key_index)) (ap (λ k. first_place k ps) (sym same) ∙ none)
-        ∙ ap (λ t. first_or None (place_if t p.key_index)) (ap (equal (key_for j).key) (sym is_named ∙ same) ∙ equal-refl (key_for j).key))
+        (first_more (key_for j).key ps p ∙
+        ap (λ i. first_or i (place_if (equal (key_for j).key p.key) p.key_index))
+        (ap (λ k. first_place k ps) (sym same) ∙ none)
+        ∙ ap (λ t. first_or None (place_if t p.key_index))
+        (ap (equal (key_for j).key) (sym is_named ∙ same) ∙ equal-refl (key_for j).key))
         at
     by false e =
         shows (place places j) (first_place (key_for j).key ps)
         (place_law places key j r ∙ ap (λ t. if t then Some r else place places j) e)
-        (first_more (key_for j).key ps p ∙ ap (λ t. first_or (first_place (key_for j).key ps) (place_if t p.key_index)) (ap (equal (key_for j).key) (sym is_named) ∙ equal_not (key_for key).key (key_for j).key e)
+        (first_more (key_for j).key ps p ∙
+        ap (λ t. first_or (first_place (key_for j).key ps) (place_if t p.key_index))
+        (ap (equal (key_for j).key) (sym is_named) ∙ equal_not (key_for key).key (key_for j).key
+        e)
         ∙ or_no_place (first_place (key_for j).key ps))
         before
 
 -- the parts of Modifiers that one more good modifier leaves
-pub take_good : (strict : Bool) (name : Option Name) (total : ℕ) (c : Modifiers) (m : code.Modifier) (ps : List Placed) (p : Placed) (key : code_key.Key) (setting : Setting) (settings' : Settings) (places' : Places)
-    → Checks strict name total c ps → c.fault ≡ None → IsPlaced total m p → ChecksOne strict name total (Ok (key, setting)) ps p
+pub take_good : (strict : Bool) (name : Option Name) (total : ℕ) (c : Modifiers) (m : code.Modifier)
+    (ps : List Placed) (p : Placed) (key : code_key.Key) (setting : Setting) (settings' : Settings)
+    (places' : Places)
+    → Checks strict name total c ps → c.fault ≡ None → IsPlaced total m p
+    → ChecksOne strict name total (Ok (key, setting)) ps p
     → settings' ≡ with c.settings setting → places' ≡ with_place c.places key m.key_remaining
-    → Checks strict name total (record { settings = settings'; places = places'; fault = c.fault }) (ps ++ p ∷ [])
+    → Checks strict name total (record { settings = settings'; places = places'; fault = c.fault })
+    (ps ++ p ∷ [])
 take_good strict name total c m ps p key setting settings' places' checks none is one s q = record {
   fault = shows_none total c.fault _ none
-      (bad_more strict (keys_of name) [] ps p ∙ ap (λ b. b or bad_modifier strict (key_in strict p.key (keys_of name)) ps p) (none_shown total c.fault _ checks.fault none) ∙ one.1);
+      (bad_more strict (keys_of name) [] ps p ∙
+      ap (λ b. b or bad_modifier strict (key_in strict p.key (keys_of name)) ps p)
+      (none_shown total c.fault _ checks.fault none) ∙ one.1);
   settings = λ e.
       s ∙ ap (λ x. with x setting) (checks.settings none)
-      ∙ ap (with_option (settings strict (keys_of name) ps)) (sym (ap (λ k. setting_of strict k p.value) one.0 ∙ one.2))
+      ∙ ap (with_option (settings strict (keys_of name) ps))
+      (sym (ap (λ k. setting_of strict k p.value) one.0 ∙ one.2))
       ∙ sym (settings_more strict (keys_of name) _ ps p);
   places = λ e exact k.
       subst (λ x. ShowsPlace total (place x k) (first_place (key_for k).key (ps ++ p ∷ []))) (sym q)
-      (place_more total c.places key k m.key_remaining ps p (named strict exact one.0) (one.3 exact) is.key_place (checks.places none exact k));
+      (place_more total c.places key k m.key_remaining ps p (named strict exact one.0) (one.3 exact)
+      is.key_place (checks.places none exact k));
 }
   where
-    named : (b : Bool) → b ≡ true → key_in b p.key (keys_of name) ≡ Some (key_for key) → (key_for key).key ≡ p.key
+    named : (b : Bool) → b ≡ true → key_in b p.key (keys_of name) ≡ Some (key_for key)
+        → (key_for key).key ≡ p.key
     named true e found = named_key (keys_of name) p.key (key_for key) found
     named false e found = absurd (true≢false (sym e))
 
-pub take_bad : (strict : Bool) (name : Option Name) (total : ℕ) (c : Modifiers) (ps : List Placed) (p : Placed) (f : code_fault.Fault) (settings' : Settings) (places' : Places)
-    → Checks strict name total c ps → c.fault ≡ None → ((g : Fault) × (bad_modifier strict (key_in strict p.key (keys_of name)) ps p ≡ Some g) × IsFault total f g)
-    → Checks strict name total (record { settings = settings'; places = places'; fault = Some f }) (ps ++ p ∷ [])
+pub take_bad : (strict : Bool) (name : Option Name) (total : ℕ) (c : Modifiers) (ps : List Placed)
+    (p : Placed) (f : code_fault.Fault) (settings' : Settings) (places' : Places)
+    → Checks strict name total c ps → c.fault ≡ None
+    → ((g : Fault) × (bad_modifier strict (key_in strict p.key (keys_of name)) ps p ≡ Some g)
+    × IsFault total f g)
+    → Checks strict name total (record { settings = settings'; places = places'; fault = Some f })
+    (ps ++ p ∷ [])
 take_bad strict name total c ps p f settings' places' checks none one = record {
   fault = subst (ShowsFault total (Some f))
-      (sym (bad_more strict (keys_of name) [] ps p ∙ ap (λ b. b or bad_modifier strict (key_in strict p.key (keys_of name)) ps p) (none_shown total c.fault _ checks.fault none) ∙ one.1))
+      (sym (bad_more strict (keys_of name) [] ps p ∙
+      ap (λ b. b or bad_modifier strict (key_in strict p.key (keys_of name)) ps p)
+      (none_shown total c.fault _ checks.fault none) ∙ one.1))
       one.2;
   settings = λ e. absurd (cc);
   places = λ e exact k. absurd (cc);
 }
 
 -- a fault stays the first
-pub take_after : (strict : Bool) (name : Option Name) (total : ℕ) (c : Modifiers) (ps : List Placed) (p : Placed) → Checks strict name total c ps → is_some c.fault ≡ true
+pub take_after : (strict : Bool) (name : Option Name) (total : ℕ) (c : Modifiers) (ps : List Placed)
+    (p : Placed) → Checks strict name total c ps → is_some c.fault ≡ true
     → Checks strict name total c (ps ++ p ∷ [])
 take_after strict name total c ps p checks some = record {
-  fault = subst (ShowsFault total c.fault) (sym (bad_more strict (keys_of name) [] ps p)) (still c.fault _ some checks.fault);
+  fault = subst (ShowsFault total c.fault) (sym (bad_more strict (keys_of name) [] ps p))
+      (still c.fault _ some checks.fault);
   settings = λ e. absurd (true≢false (sym some ∙ ap is_some e));
   places = λ e exact k. absurd (true≢false (sym some ∙ ap is_some e));
 }
   where
-    still : (o : Option code_fault.Fault) (b : Option Fault) → is_some o ≡ true → ShowsFault total o b → ShowsFault total o (b or bad_modifier strict (key_in strict p.key (keys_of name)) ps p)
+    still : (o : Option code_fault.Fault) (b : Option Fault) → is_some o ≡ true
+        → ShowsFault total o b → ShowsFault total o
+        (b or bad_modifier strict (key_in strict p.key (keys_of name)) ps p)
     still (Some f) (Some g) some is = is
     still (Some f) None some is = absurd is
     still None b some is = absurd (true≢false (sym some))

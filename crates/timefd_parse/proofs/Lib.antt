@@ -8,3 +8,4 @@ pub mod ReadLemmas
 pub mod NestedLemmas
 pub mod ParseLemmas
 pub mod AmountLemmas
+pub mod CountingLemmas

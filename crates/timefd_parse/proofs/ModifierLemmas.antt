@@ -7,7 +7,7 @@ use Rattle.timefd_language.specs.declared.fault.Fault as code_fault
 use Rattle.timefd_language.specs.Bytes.{colon, is_word_byte, is_key_byte, ZeroOrMore, OneOrMore, StopsBefore}
 use Rattle.timefd_language.specs.Broken.{no_colon, no_key, no_value, misfit_fault}
 use Rattle.timefd_language.specs.Cut.{IsCut}
-use Rattle.timefd_language.specs.Shown.{IsFault}
+use Rattle.timefd_language.specs.FaultMeaning.{IsFault}
 use Rattle.timefd_parse.specs.ReadModifiers.{BeginsWithWord, IsNoWord}
 
 -- Stretches.
@@ -16,11 +16,13 @@ pub empty : (text : Text) → length text ≡ 0 → text ≡ []
 empty [] e = refl
 empty (b ∷ text) e = absurd (omega arith)
 
-pub one_or_more : (test : ℕ → Bool) (text : Text) → 0 < length text → ZeroOrMore test text → OneOrMore test text
+pub one_or_more : (test : ℕ → Bool) (text : Text) → 0 < length text → ZeroOrMore test text
+    → OneOrMore test text
 one_or_more test [] some passes = absurd (omega arith)
 one_or_more test (b ∷ text) some passes = passes
 
-all_join : (test : ℕ → Bool) (a b : Text) → ZeroOrMore test a → ZeroOrMore test b → ZeroOrMore test (a ++ b)
+all_join : (test : ℕ → Bool) (a b : Text) → ZeroOrMore test a → ZeroOrMore test b
+    → ZeroOrMore test (a ++ b)
 all_join test [] b p q = q
 all_join test (x ∷ a) b p q =
     let h = and_parts (test x) (list_all test a) p in
@@ -35,57 +37,90 @@ keys_are_words : (text : Text) → ZeroOrMore is_key_byte text → ZeroOrMore is
 keys_are_words [] h = refl
 keys_are_words (b ∷ text) h =
     let p = and_parts (is_key_byte b) (list_all is_key_byte text) h in
-    and_from (is_word_byte b) (list_all is_word_byte text) (key_is_word b p.0) (keys_are_words text p.1)
+    and_from (is_word_byte b) (list_all is_word_byte text) (key_is_word b p.0)
+    (keys_are_words text p.1)
 
 word_stop : (b : ℕ) → is_key_byte b ≡ false → (b == colon) ≡ false → is_word_byte b ≡ false
 word_stop b key other = sym (rw other refl) ∙ key
 
-stops_word : (text : Text) → StopsBefore is_key_byte text → StopsBefore (λ b. b == 58) text → StopsBefore is_word_byte text
+stops_word : (text : Text) → StopsBefore is_key_byte text → StopsBefore (λ b. b == 58) text
+    → StopsBefore is_word_byte text
 stops_word [] stops other = tt
 stops_word (b ∷ text) stops other = word_stop b stops other
 
 -- Words.
 
-pub word_of_key : (text key behind : Text) → IsCut is_key_byte text key behind → StopsBefore (λ b. b == 58) behind → IsCut is_word_byte text key behind
+pub word_of_key : (text key behind : Text) → IsCut is_key_byte text key behind
+    → StopsBefore (λ b. b == 58) behind → IsCut is_word_byte text key behind
 word_of_key text key behind is other =
-    record { whole = is.whole; passes = keys_are_words key is.passes; stops = stops_word behind is.stops other }
+    record {
+      whole = is.whole;
+      passes = keys_are_words key is.passes;
+      stops =
+          stops_word behind is.stops other;
+    }
 
-pub no_word : (text key behind : Text) → IsCut is_key_byte text key behind → StopsBefore (λ b. b == 58) behind → length key ≡ 0 → StopsBefore is_word_byte text
+pub no_word : (text key behind : Text) → IsCut is_key_byte text key behind
+    → StopsBefore (λ b. b == 58) behind → length key ≡ 0 → StopsBefore is_word_byte text
 no_word text key behind is other none =
-    subst (StopsBefore is_word_byte) (sym (is.whole ∙ ap (λ t. t ++ behind) (empty key none))) (stops_word behind is.stops other)
+    subst (StopsBefore is_word_byte) (sym (is.whole ∙ ap (λ t. t ++ behind) (empty key none)))
+    (stops_word behind is.stops other)
 
-pub word_of_parts : (text key behind after value rest : Text) → IsCut is_key_byte text key behind → behind ≡ colon ∷ after → IsCut is_word_byte after value rest
+pub word_of_parts : (text key behind after value rest : Text) → IsCut is_key_byte text key behind
+    → behind ≡ colon ∷ after → IsCut is_word_byte after value rest
     → BeginsWithWord text (key ++ colon ∷ value) rest
 word_of_parts text key behind after value rest is e v = record {
   cut = record {
-    whole = is.whole ∙ ap (λ t. key ++ t) (e ∙ ap (λ t. colon ∷ t) v.whole) ∙ sym (append_assoc key (colon ∷ value) rest);
-    passes = all_join is_word_byte key (colon ∷ value) (keys_are_words key is.passes) (and_from (is_word_byte colon) (list_all is_word_byte value) refl v.passes);
+    whole = is.whole ∙ ap (λ t. key ++ t) (e ∙ ap (λ t. colon ∷ t) v.whole) ∙
+        sym (append_assoc key (colon ∷ value) rest);
+    passes = all_join is_word_byte key (colon ∷ value) (keys_are_words key is.passes)
+        (and_from (is_word_byte colon) (list_all is_word_byte value) refl v.passes);
     stops = v.stops;
   };
   some = simp length-append (omega arith);
 }
 
-pub behind_length : (text key behind after : Text) → IsCut is_key_byte text key behind → behind ≡ colon ∷ after → length text ≡ length key + 1 + length after
-behind_length text key behind after is e = omega (arith, ap length is.whole, length-append key behind, ap length e)
+pub behind_length : (text key behind after : Text) → IsCut is_key_byte text key behind
+    → behind ≡ colon ∷ after → length text ≡ length key + 1 + length after
+behind_length text key behind after is e =
+    omega (arith, ap length is.whole, length-append key behind, ap length e)
 
-pub misfit_no_colon : (text key behind : Text) (f : code_fault.Fault) → IsCut is_key_byte text key behind → StopsBefore (λ b. b == 58) behind → 0 < length key
+pub misfit_no_colon : (text key behind : Text) (f : code_fault.Fault)
+    → IsCut is_key_byte text key behind → StopsBefore (λ b. b == 58) behind → 0 < length key
     → IsFault (length text) f (misfit_fault (no_colon key) 0)
     → (word : Text) × (rest : Text) × BeginsWithWord text word rest × IsNoWord word (length text) f
-misfit_no_colon text key behind f is other some fault =
-    (key, behind, record { cut = word_of_key text key behind is other; some = some }, (no_colon key, one_or_more is_key_byte key some is.passes, refl, fault))
+misfit_no_colon text key behind f is other some fault = (
+  key,
+  behind,
+  record { cut = word_of_key text key behind is other; some = some },
+  (no_colon key, one_or_more is_key_byte key some is.passes, refl, fault),
+)
 
-pub misfit_no_key : (text key behind after value rest : Text) (f : code_fault.Fault) → IsCut is_key_byte text key behind → behind ≡ colon ∷ after → IsCut is_word_byte after value rest
+pub misfit_no_key : (text key behind after value rest : Text) (f : code_fault.Fault)
+    → IsCut is_key_byte text key behind → behind ≡ colon ∷ after
+    → IsCut is_word_byte after value rest
     → length key ≡ 0 → IsFault (length text) f (misfit_fault (no_key value) 0)
     → (word : Text) × (rest : Text) × BeginsWithWord text word rest × IsNoWord word (length text) f
-misfit_no_key text key behind after value rest f is e v none fault =
-    (key ++ colon ∷ value, rest, word_of_parts text key behind after value rest is e v, (no_key value, v.passes, ap (λ t. t ++ colon ∷ value) (empty key none), fault))
+misfit_no_key text key behind after value rest f is e v none fault = (
+  key ++ colon ∷ value,
+  rest,
+  word_of_parts text key behind after value rest is e v,
+  (no_key value, v.passes, ap (λ t. t ++ colon ∷ value) (empty key none), fault),
+)
 
-pub misfit_no_value : (text key behind after value rest : Text) (f : code_fault.Fault) → IsCut is_key_byte text key behind → behind ≡ colon ∷ after → IsCut is_word_byte after value rest
+pub misfit_no_value : (text key behind after value rest : Text) (f : code_fault.Fault)
+    → IsCut is_key_byte text key behind → behind ≡ colon ∷ after
+    → IsCut is_word_byte after value rest
     → 0 < length key → length value ≡ 0 → IsFault (length text) f (misfit_fault (no_value key) 0)
     → (word : Text) × (rest : Text) × BeginsWithWord text word rest × IsNoWord word (length text) f
 misfit_no_value text key behind after value rest f is e v some none fault = (
   key ++ colon ∷ value,
   rest,
   word_of_parts text key behind after value rest is e v,
-  (no_value key, one_or_more is_key_byte key some is.passes, ap (λ t. key ++ colon ∷ t) (empty value none), fault),
+  (
+    no_value key,
+    one_or_more is_key_byte key some is.passes,
+    ap (λ t. key ++ colon ∷ t) (empty value none),
+    fault,
+  ),
 )

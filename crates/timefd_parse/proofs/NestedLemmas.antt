@@ -20,57 +20,80 @@ use Rattle.timefd_fault.specs.Faults.{Fault, fault, unclosed_bracket}
 use Rattle.timefd_language.specs.Bytes.{left, right, backslash, is_run_byte, is_version_three, is_white, ZeroOrMore, StopsBefore}
 use Rattle.timefd_language.specs.Fault.{enclosed, too_highly_nested}
 use Rattle.timefd_language.specs.Head.{Head, head_text, modifiers_text}
-use Rattle.timefd_language.specs.Verdict.{Part, verdict}
+use Rattle.timefd_language.specs.Verdict.{PlacedDescription, verdict}
 use Rattle.timefd_language.specs.Grammar.{Pieces, bracket, Nested, no_nested, nested, ArePieces, AreNested, spelling, nested_text, items, parts_from, is_empty}
 use Rattle.timefd_language.specs.Broken.{Broken, too_deep, broken_inside, cut_off, unclosed, refused, IsBroken, broken_text, broken_fault, before_inner, IsWholeBefore, is_bracket_byte}
 use Rattle.timefd_language.specs.Cut.{IsCut, BeginsWith}
-use Rattle.timefd_language.specs.Shown.{IsFault, IsFaultAt, MemoryOr}
+use Rattle.timefd_language.specs.FaultMeaning.{IsFault, IsFaultAt, MemoryOr}
 use Rattle.timefd_parse.specs.Heads.{ShowsHead, BeginsWithHead}
 use Rattle.timefd_parse.specs.Pieces.{IsBuilt, IsPiece}
 use Rattle.timefd_parse.specs.Judged.{ShowsDescriptions, ShowsNested, JudgedFault, packed}
-use Rattle.timefd_parse.specs.Read.{Leads, IsFaultIn, IsEnd, AreItems, IsEnclosed, IsNested, IsNestedFault}
+use Rattle.timefd_parse.specs.Read.{Leads, IsFaultIn, IsEnd, PiecesToEnd, IsEnclosed, IsNested, IsNestedFault}
 use Rattle.timefd_parse.proofs.ReadLemmas.{memory_or}
 
 add : Nested → Text → Pieces → Nested
 add no_nested white ps = nested white ps no_nested
 add (nested w qs ns) white ps = nested w qs (add ns white ps)
 
-are_more : (v : DescriptionVersion) (limit n : ℕ) (ns : Nested) (white : Text) (ps : Pieces) → AreNested v limit n ns → ZeroOrMore is_white white → n < limit → ArePieces v limit (suc n) ps
+are_more : (v : DescriptionVersion) (limit n : ℕ) (ns : Nested) (white : Text) (ps : Pieces)
+    → AreNested v limit n ns → ZeroOrMore is_white white → n < limit → ArePieces v limit (suc n) ps
     → AreNested v limit n (add ns white ps)
 unfolding add
 are_more v limit n no_nested white ps are w lt is = (w, lt, is, tt)
-are_more v limit n (nested w0 qs ns) white ps are w lt is = (are.0, are.1, are.2, are_more v limit n ns white ps are.3 w lt is)
+are_more v limit n (nested w0 qs ns) white ps are w lt is =
+    (are.0, are.1, are.2, are_more v limit n ns white ps are.3 w lt is)
 
-text_more : (ns : Nested) (white : Text) (ps : Pieces) → nested_text (add ns white ps) ≡ nested_text ns ++ (white ++ left ∷ spelling ps ++ right ∷ [])
+text_more : (ns : Nested) (white : Text) (ps : Pieces)
+    → nested_text (add ns white ps) ≡ nested_text ns ++ (white ++ left ∷ spelling ps ++ right ∷ [])
 unfolding add
 text_more no_nested white ps = refl
-text_more (nested w qs ns) white ps = ap (λ t. w ++ left ∷ spelling qs ++ right ∷ t) (text_more ns white ps) ∙ simp append_assoc
+text_more (nested w qs ns) white ps =
+    ap (λ t. w ++ left ∷ spelling qs ++ right ∷ t) (text_more ns white ps) ∙ simp append_assoc
 
-part : ℕ → Text → Pieces → Part
-part k white ps = record { spaced = not (is_empty white); index = k + length white; trees = items ps }
+part : ℕ → Text → Pieces → PlacedDescription
+part k white ps = record {
+  spaced = not (is_empty white);
+  index = k + length white;
+  trees =
+      items ps;
+}
 
-parts_more : (k : ℕ) (ns : Nested) (white : Text) (ps : Pieces) → parts_from k (add ns white ps) ≡ parts_from k ns ++ part (k + length (nested_text ns)) white ps ∷ []
+parts_more : (k : ℕ) (ns : Nested) (white : Text) (ps : Pieces)
+    → parts_from k (add ns white ps) ≡ parts_from k ns ++ part (k + length (nested_text ns)) white
+    ps ∷ []
 unfolding add part
 parts_more k no_nested white ps = ap (λ j. part j white ps ∷ []) (omega arith)
 parts_more k (nested w qs ns) white ps =
-    let same : k + length w + 1 + length (spelling qs) + 1 + length (nested_text ns) ≡ k + length (nested_text (nested w qs ns)) = simp length-append (omega arith) in
-    ap (λ l. part k w qs ∷ l) (parts_more (k + length w + 1 + length (spelling qs) + 1) ns white ps ∙ ap (λ j. parts_from (k + length w + 1 + length (spelling qs) + 1) ns ++ part j white ps ∷ []) same)
+    let same : k + length w + 1 + length (spelling qs) + 1 + length (nested_text ns) ≡ k + length
+    (nested_text (nested w qs ns)) = simp length-append (omega arith) in
+    ap (λ l. part k w qs ∷ l) (parts_more (k + length w + 1 + length (spelling qs) + 1) ns white ps
+    ∙ ap (λ j. parts_from (k + length w + 1 + length (spelling qs) + 1) ns ++ part j white
+    ps ∷ []) same)
 
-shows_more : (total : ℕ) (spaced : Bool) (remaining : ℕ) (read : List Tree) (ps : List Part) (inner : Tree) (p : Part)
-    → ShowsDescriptions total spaced remaining read ps → (ps ≡ [] → (p.spaced ≡ spaced) × (p.index + remaining ≡ total)) → inner ≡ pack p.trees
+shows_more : (total : ℕ) (spaced : Bool) (remaining : ℕ) (read : List Tree)
+    (ps : List PlacedDescription) (inner : Tree) (p : PlacedDescription)
+    → ShowsDescriptions total spaced remaining read ps
+    → (ps ≡ [] → (p.spaced ≡ spaced) × (p.index + remaining ≡ total)) → inner ≡ pack p.trees
     → ShowsDescriptions total spaced remaining (read ++ inner ∷ []) (ps ++ p ∷ [])
 shows_more total spaced remaining read [] inner p shows first e =
     let f = first refl in
     (f.0, f.1, ap (λ l. l ++ inner ∷ []) shows ∙ ap (λ t. t ∷ []) e)
-shows_more total spaced remaining read (q ∷ ps) inner p shows first e =
-    (shows.0, shows.1, ap (λ l. l ++ inner ∷ []) shows.2 ∙ ap (λ t. map (λ (x : Part). pack x.trees) (q ∷ ps) ++ t ∷ []) e ∙ sym (map-append (λ (x : Part). pack x.trees) (q ∷ ps) (p ∷ [])))
+shows_more total spaced remaining read (q ∷ ps) inner p shows first e = (
+  shows.0,
+  shows.1,
+  ap (λ l. l ++ inner ∷ []) shows.2 ∙
+      ap (λ t. map (λ (x : PlacedDescription). pack x.trees) (q ∷ ps) ++ t ∷ []) e ∙
+      sym (map-append (λ (x : PlacedDescription). pack x.trees) (q ∷ ps) (p ∷ [])),
+)
 
 abbrev pub IsFirst : Bool → ℕ → Nested → Text → Text → Type 0
-IsFirst spaced remaining no_nested white rest = (not (is_empty white) ≡ spaced) × (remaining ≡ length rest)
+IsFirst spaced remaining no_nested white rest = (not (is_empty white) ≡ spaced)
+    × (remaining ≡ length rest)
 IsFirst spaced remaining (nested w ps ns) white rest = Unit {0}
 
 -- the nested descriptions that were read of a text, white bytes, and the rest
-pub record NestedBefore (v : DescriptionVersion) (limit n : ℕ) (start : Text) (spaced : Bool) (remaining : ℕ) (read : List Tree) (rest : Text) : Type 0 where
+pub record NestedBefore (v : DescriptionVersion) (limit n : ℕ) (start : Text) (spaced : Bool)
+    (remaining : ℕ) (read : List Tree) (rest : Text) : Type 0 where
   pub list : Nested
   pub white : Text
   pub are : AreNested v limit n list
@@ -79,10 +102,14 @@ pub record NestedBefore (v : DescriptionVersion) (limit n : ℕ) (start : Text) 
   pub whole : start ≡ nested_text list ++ white ++ rest
   pub wholly : IsWholeBefore list rest
   pub first : IsFirst spaced remaining list white rest
-  pub shows : (k total : ℕ) → k + length start ≡ total → ShowsDescriptions total spaced remaining read (parts_from k list)
+  pub shows : (k total : ℕ) → k + length start ≡ total
+      → ShowsDescriptions total spaced remaining read (parts_from k list)
 
-pub nothing_nested : (v : DescriptionVersion) (limit n : ℕ) (text : Text) (head : code_head.Head) (modifiers : code_modifiers.Modifiers) (rest : Text) (h : Head) (spaced : Bool) (remaining : ℕ) → BeginsWithHead (is_version_three v) text head modifiers rest h
-    → not (is_empty head.white.now) ≡ spaced → remaining ≡ length rest → NestedBefore v limit n (head.white.now ++ rest) spaced remaining [] rest
+pub nothing_nested : (v : DescriptionVersion) (limit n : ℕ) (text : Text) (head : code_head.Head)
+    (modifiers : code_modifiers.Modifiers) (rest : Text) (h : Head) (spaced : Bool) (remaining : ℕ)
+    → BeginsWithHead (is_version_three v) text head modifiers rest h
+    → not (is_empty head.white.now) ≡ spaced → remaining ≡ length rest
+    → NestedBefore v limit n (head.white.now ++ rest) spaced remaining [] rest
 nothing_nested v limit n text head modifiers rest h spaced remaining begins s r = record {
   list = no_nested;
   white = head.white.now;
@@ -95,96 +122,170 @@ nothing_nested v limit n text head modifiers rest h spaced remaining begins s r 
   shows = λ k total e. refl;
 }
 
-whole_more : (ns : Nested) (white : Text) (ps : Pieces) (rest : Text) → IsWholeBefore (add ns white ps) rest
+whole_more : (ns : Nested) (white : Text) (ps : Pieces) (rest : Text)
+    → IsWholeBefore (add ns white ps) rest
 unfolding add
 whole_more no_nested white ps rest = tt
 whole_more (nested w qs ns) white ps rest = tt
 
-first_more : (spaced : Bool) (remaining : ℕ) (ns : Nested) (white : Text) (ps : Pieces) (w rest : Text) → IsFirst spaced remaining (add ns white ps) w rest
+first_more : (spaced : Bool) (remaining : ℕ) (ns : Nested) (white : Text) (ps : Pieces)
+    (w rest : Text) → IsFirst spaced remaining (add ns white ps) w rest
 unfolding add
 first_more spaced remaining no_nested white ps w rest = tt
 first_more spaced remaining (nested v qs ns) white ps w rest = tt
 
-first_place : (k total : ℕ) (spaced : Bool) (remaining : ℕ) (ns : Nested) (white : Text) (ps : Pieces) (rest : Text) → IsFirst spaced remaining ns white rest → k + length (nested_text ns ++ white ++ rest) ≡ total
-    → parts_from k ns ≡ [] → ((part (k + length (nested_text ns)) white ps).spaced ≡ spaced) × ((part (k + length (nested_text ns)) white ps).index + remaining ≡ total)
+first_place : (k total : ℕ) (spaced : Bool) (remaining : ℕ) (ns : Nested) (white : Text)
+    (ps : Pieces) (rest : Text) → IsFirst spaced remaining ns white rest
+    → k + length (nested_text ns ++ white ++ rest) ≡ total
+    → parts_from k ns ≡ [] → ((part (k + length (nested_text ns)) white ps).spaced ≡ spaced)
+    × ((part (k + length (nested_text ns)) white ps).index + remaining ≡ total)
 unfolding part
-first_place k total spaced remaining no_nested white ps rest first e none = (first.0, omega (arith, e, first.1, length-append white rest))
+first_place k total spaced remaining no_nested white ps rest first e none =
+    (first.0, omega (arith, e, first.1, length-append white rest))
 first_place k total spaced remaining (nested w qs ns) white ps rest first e none = absurd (cc)
 
-pub nested_step : (v : DescriptionVersion) (limit n : ℕ) (start : Text) (spaced : Bool) (remaining : ℕ) (read : List Tree) (rest text after white' rest' : Text) (front : Pieces) (inner : Tree)
-    → NestedBefore v limit n start spaced remaining read rest → rest ≡ left ∷ text → n < limit → ArePieces v limit (suc n) front → text ≡ spelling front ++ right ∷ after
+pub nested_step : (v : DescriptionVersion) (limit n : ℕ) (start : Text) (spaced : Bool)
+    (remaining : ℕ) (read : List Tree) (rest text after white' rest' : Text) (front : Pieces)
+    (inner : Tree)
+    → NestedBefore v limit n start spaced remaining read rest → rest ≡ left ∷ text → n < limit
+    → ArePieces v limit (suc n) front → text ≡ spelling front ++ right ∷ after
     → IsCut is_white after white' rest' → inner ≡ pack (items front)
     → NestedBefore v limit n start spaced remaining (read ++ inner ∷ []) rest'
 unfolding part
-nested_step v limit n start spaced remaining read rest text after white' rest' front inner before opening lt are e cut tree = record {
-  list = add before.list before.white front;
-  white = white';
-  are = are_more v limit n before.list before.white front before.are before.all_white lt are;
-  all_white = cut.passes;
-  stops = cut.stops;
-  whole = before.whole ∙ ap (λ t. nested_text before.list ++ before.white ++ t) (opening ∙ ap (λ t. left ∷ t) (e ∙ ap (λ t. spelling front ++ right ∷ t) cut.whole)) ∙ rw (text_more before.list before.white front) (simp append_assoc);
-  wholly = whole_more before.list before.white front rest';
-  first = first_more spaced remaining before.list before.white front white' rest';
-  shows = λ k total f.
-      subst (λ ps. ShowsDescriptions total spaced remaining (read ++ inner ∷ []) ps) (sym (parts_more k before.list before.white front))
-      (shows_more total spaced remaining read (parts_from k before.list) inner (part (k + length (nested_text before.list)) before.white front) (before.shows k total f)
-      (first_place k total spaced remaining before.list before.white front rest before.first (ap (λ t. k + length t) (sym before.whole) ∙ f)) tree);
-}
+nested_step v limit n start spaced remaining read rest text after white' rest' front inner before
+    opening lt are e cut tree = record {
+      list = add before.list before.white front;
+      white = white';
+      are = are_more v limit n before.list before.white front before.are before.all_white lt are;
+      all_white = cut.passes;
+      stops = cut.stops;
+      whole = before.whole ∙ ap (λ t. nested_text before.list ++ before.white ++ t)
+          (opening ∙ ap (λ t. left ∷ t) (e ∙ ap (λ t. spelling front ++ right ∷ t) cut.whole)) ∙
+          rw (text_more before.list before.white front) (simp append_assoc);
+      wholly = whole_more before.list before.white front rest';
+      first = first_more spaced remaining before.list before.white front white' rest';
+      shows = λ k total f.
+          subst (λ ps. ShowsDescriptions total spaced remaining (read ++ inner ∷ []) ps)
+          (sym (parts_more k before.list before.white front))
+          (shows_more total spaced remaining read (parts_from k before.list) inner
+          (part (k + length (nested_text before.list)) before.white front) (before.shows k total f)
+          (first_place k total spaced remaining before.list before.white front rest before.first
+          (ap (λ t. k + length t) (sym before.whole) ∙ f)) tree);
+    }
 
 -- A nested description, from what the calls ensure.
 
 module _ (v : DescriptionVersion) (limit n start : ℕ) (text : Text) where
-  pub at_limit : (e : ReadError) → n ≡ limit → MemoryOr (λ f. IsFault (length text + 1) f (fault too_highly_nested 0)) e → MemoryOr (IsNestedFault v limit n start text) e
+  pub at_limit : (e : ReadError) → n ≡ limit
+      → MemoryOr (λ f. IsFault (length text + 1) f (fault too_highly_nested 0)) e
+      → MemoryOr (IsNestedFault v limit n start text) e
   at_limit e at is = memory_or _ (IsNestedFault v limit n start text) (λ f d. inl (at, d)) e is
 
-  pub inner_fails : (m : ℕ) (e r : ReadError) → m ≡ suc n → n < limit → MemoryOr (IsFaultIn v limit m text) e → IsEnclosed start e r → MemoryOr (IsNestedFault v limit n start text) r
-  inner_fails m errors.Memory r more lt is enclosing = subst (MemoryOr (IsNestedFault v limit n start text)) (sym enclosing) tt
+  pub inner_fails : (m : ℕ) (e r : ReadError) → m ≡ suc n → n < limit
+      → MemoryOr (IsFaultIn v limit m text) e → IsEnclosed start e r
+      → MemoryOr (IsNestedFault v limit n start text) r
+  inner_fails m errors.Memory r more lt is enclosing =
+      subst (MemoryOr (IsNestedFault v limit n start text)) (sym enclosing) tt
   inner_fails m (errors.Invalid f) r more lt is enclosing =
-      let in_suc : IsFaultIn v limit (suc n) text f = subst (λ k. IsFaultIn v limit k text f) more is in
+      let in_suc : IsFaultIn v limit (suc n) text f =
+      subst (λ k. IsFaultIn v limit k text f) more is in
       memory_or _ (IsNestedFault v limit n start text)
-      (λ f' raise. inr (inr (in_suc.0, in_suc.1, lt, in_suc.2, in_suc.3, in_suc.4, λ k e. raise (broken_fault in_suc.1) (length (broken_text in_suc.1)) k in_suc.5 e)))
+      (λ f' raise. inr (inr (
+        in_suc.0,
+        in_suc.1,
+        lt,
+        in_suc.2,
+        in_suc.3,
+        in_suc.4,
+        λ k e. raise (broken_fault in_suc.1) (length (broken_text in_suc.1)) k in_suc.5 e,
+      )))
       r enclosing
 
-  pub inner_cut_off : (m : ℕ) (inner : List Tree) (end : Text) (e : ReadError) → m ≡ suc n → n < limit → AreItems v limit m text inner end → end ≡ []
-      → MemoryOr (λ f. IsFault start f (fault unclosed_bracket 0)) e → MemoryOr (IsNestedFault v limit n start text) e
+  pub inner_cut_off : (m : ℕ) (inner : List Tree) (end : Text) (e : ReadError) → m ≡ suc n
+      → n < limit → PiecesToEnd v limit m text inner end → end ≡ []
+      → MemoryOr (λ f. IsFault start f (fault unclosed_bracket 0)) e
+      → MemoryOr (IsNestedFault v limit n start text) e
   inner_cut_off m inner end e more lt is none at_start =
-      let in_suc : AreItems v limit (suc n) text inner end = subst (λ k. AreItems v limit k text inner end) more is in
+      let in_suc : PiecesToEnd v limit (suc n) text inner end =
+      subst (λ k. PiecesToEnd v limit k text inner end) more is in
       memory_or _ (IsNestedFault v limit n start text)
-      (λ f c. inr (inl (in_suc.0, lt, in_suc.1, in_suc.2 ∙ ap (λ t. spelling in_suc.0 ++ t) none ∙ append-nil (spelling in_suc.0), c)))
+      (λ f c. inr (inl (
+        in_suc.0,
+        lt,
+        in_suc.1,
+        in_suc.2 ∙ ap (λ t. spelling in_suc.0 ++ t) none ∙
+            append-nil (spelling in_suc.0),
+        c,
+      )))
       e at_start
 
 module _ {v : DescriptionVersion} {limit n : ℕ} {text : Text} where
-  pub inner_read : (m : ℕ) (inner : List Tree) (end after : Text) (tree : Tree) → m ≡ suc n → n < limit → AreItems v limit m text inner end → end ≡ right ∷ after → tree ≡ pack inner → IsNested v limit n text tree after
+  pub inner_read : (m : ℕ) (inner : List Tree) (end after : Text) (tree : Tree) → m ≡ suc n
+      → n < limit → PiecesToEnd v limit m text inner end → end ≡ right ∷ after → tree ≡ pack inner
+      → IsNested v limit n text tree after
   inner_read m inner end after tree more lt is closing packed =
-      let in_suc : AreItems v limit (suc n) text inner end = subst (λ k. AreItems v limit k text inner end) more is in
-      (in_suc.0, lt, in_suc.1, in_suc.2 ∙ ap (λ t. spelling in_suc.0 ++ t) closing, packed ∙ ap pack (sym in_suc.3))
+      let in_suc : PiecesToEnd v limit (suc n) text inner end =
+      subst (λ k. PiecesToEnd v limit k text inner end) more is in (
+        in_suc.0,
+        lt,
+        in_suc.1,
+        in_suc.2 ∙ ap (λ t. spelling in_suc.0 ++ t) closing,
+        packed ∙
+            ap pack (sym in_suc.3),
+      )
 
-  pub nested_shorter : (tree : Tree) (after : Text) → IsNested v limit n text tree after → length after < length text
-  nested_shorter tree after is = omega (arith, ap length is.3, length-append (spelling is.0) (right ∷ after))
+  pub nested_shorter : (tree : Tree) (after : Text) → IsNested v limit n text tree after
+      → length after < length text
+  nested_shorter tree after is = omega (
+    arith,
+    ap length is.3,
+    length-append (spelling is.0) (right ∷ after),
+  )
 
 -- Brackets.
 
 -- what a verdict says of a bracket that it accepts, and of one that it refuses
-abbrev pub Accepts : Bool → ℕ → code_head.Head → code_modifiers.Modifiers → code_nested.Nested → ℕ → List Tree → List Tree → Piece → Type 0
+abbrev pub Accepts : Bool → ℕ → code_head.Head → code_modifiers.Modifiers → code_nested.Nested → ℕ
+    → List Tree → List Tree → Piece → Type 0
 Accepts strict total head modifiers inners end old new piece =
-    (place : ℕ) (h : Head) (parts : List Part) (base : List Tree) → ShowsHead strict total head modifiers h → ShowsNested total inners parts → place + end ≡ total
-    → IsBuilt strict base old (packed parts) → (tree : Tree) × (verdict strict h parts place ≡ Ok tree) × IsPiece strict base new piece tree
+    (place : ℕ) (h : Head) (parts : List PlacedDescription) (base : List Tree)
+    → ShowsHead strict total head modifiers h → ShowsNested total inners parts
+    → place + end ≡ total
+    → IsBuilt strict base old (packed parts)
+    → (tree : Tree) × (verdict strict h parts place ≡ Ok tree)
+    × IsPiece strict base new piece tree
 
-abbrev pub Refuses : Bool → ℕ → code_head.Head → code_modifiers.Modifiers → code_nested.Nested → ℕ → List Tree → ReadError → Type 0
+abbrev pub Refuses : Bool → ℕ → code_head.Head → code_modifiers.Modifiers → code_nested.Nested → ℕ
+    → List Tree → ReadError → Type 0
 Refuses strict total head modifiers inners end old e =
-    (place : ℕ) (h : Head) (parts : List Part) (base : List Tree) → ShowsHead strict total head modifiers h → ShowsNested total inners parts → place + end ≡ total
-    → IsBuilt strict base old (packed parts) → MemoryOr (JudgedFault total (verdict strict h parts place)) e
+    (place : ℕ) (h : Head) (parts : List PlacedDescription) (base : List Tree)
+    → ShowsHead strict total head modifiers h → ShowsNested total inners parts
+    → place + end ≡ total
+    → IsBuilt strict base old (packed parts)
+    → MemoryOr (JudgedFault total (verdict strict h parts place)) e
 
-shows_nested : (total : ℕ) (inners : code_nested.Nested) (read : List Tree) (parts : List Part) → ShowsDescriptions total inners.spaced inners.remaining read parts → inners.count ≡ length read → ShowsNested total inners parts
+shows_nested : (total : ℕ) (inners : code_nested.Nested) (read : List Tree)
+    (parts : List PlacedDescription)
+    → ShowsDescriptions total inners.spaced inners.remaining read parts → inners.count ≡ length read
+    → ShowsNested total inners parts
 shows_nested total inners read [] shows e = e ∙ ap length shows
-shows_nested total inners read (p ∷ ps) shows e = (shows.0, shows.1, e ∙ ap length shows.2 ∙ length-map (p ∷ ps) (λ (q : Part). pack q.trees))
+shows_nested total inners read (p ∷ ps) shows e = (
+  shows.0,
+  shows.1,
+  e ∙ ap length shows.2 ∙
+      length-map (p ∷ ps) (λ (q : PlacedDescription). pack q.trees),
+)
 
-read_packed : (total : ℕ) (spaced : Bool) (remaining : ℕ) (read : List Tree) (parts : List Part) → ShowsDescriptions total spaced remaining read parts → read ≡ packed parts
+read_packed : (total : ℕ) (spaced : Bool) (remaining : ℕ) (read : List Tree)
+    (parts : List PlacedDescription) → ShowsDescriptions total spaced remaining read parts
+    → read ≡ packed parts
 read_packed total spaced remaining read [] shows = shows
 read_packed total spaced remaining read (p ∷ ps) shows = shows.2
 
 -- the head of a bracket and nested descriptions were read, and this is the rest
-pub record BracketBefore (v : DescriptionVersion) (limit n : ℕ) (inside : Text) (head : code_head.Head) (modifiers : code_modifiers.Modifiers) (spaced : Bool) (remaining : ℕ) (read : List Tree) (rest : Text) : Type 0 where
+pub record BracketBefore (v : DescriptionVersion) (limit n : ℕ) (inside : Text)
+    (head : code_head.Head) (modifiers : code_modifiers.Modifiers) (spaced : Bool) (remaining : ℕ)
+    (read : List Tree) (rest : Text) : Type 0 where
   pub h : Head
   pub behind : Text
   pub begins : BeginsWithHead (is_version_three v) (left ∷ inside) head modifiers behind h
@@ -194,18 +295,31 @@ empty_length : (text : Text) → is_empty text ≡ (length text == 0)
 empty_length [] = refl
 empty_length (b ∷ text) = grind (arith, nat_tests)
 
-pub bracket_begins : {v : DescriptionVersion} {limit n : ℕ} {inside : Text} {head : code_head.Head} {modifiers : code_modifiers.Modifiers} {behind : Text} {empty : Bool} {h : Head} → BeginsWithHead (is_version_three v) (left ∷ inside) head modifiers behind h
-    → empty ≡ (length head.white.now == 0) → BracketBefore v limit n inside head modifiers (not empty) (length behind) [] behind
+pub bracket_begins : {v : DescriptionVersion} {limit n : ℕ} {inside : Text} {head : code_head.Head}
+    {modifiers : code_modifiers.Modifiers} {behind : Text} {empty : Bool} {h : Head}
+    → BeginsWithHead (is_version_three v) (left ∷ inside) head modifiers behind h
+    → empty ≡ (length head.white.now == 0)
+    → BracketBefore v limit n inside head modifiers (not empty) (length behind) [] behind
 bracket_begins {v} {limit} {n} {inside} {head} {modifiers} {behind} {empty} {h} begins e = record {
   h = h;
   behind = behind;
   begins = begins;
-  before = nothing_nested v limit n (left ∷ inside) head modifiers behind h (not empty) (length behind) begins (ap not (empty_length head.white.now ∙ sym e)) refl;
+  before = nothing_nested v limit n (left ∷ inside) head modifiers behind h (not empty)
+      (length behind) begins (ap not (empty_length head.white.now ∙ sym e)) refl;
 }
 
-pub behind_within : {strict : Bool} {inside : Text} {head : code_head.Head} {modifiers : code_modifiers.Modifiers} {behind : Text} {h : Head} → BeginsWithHead strict (left ∷ inside) head modifiers behind h → length behind ≤ length inside
+pub behind_within : {strict : Bool} {inside : Text} {head : code_head.Head}
+    {modifiers : code_modifiers.Modifiers} {behind : Text} {h : Head}
+    → BeginsWithHead strict (left ∷ inside) head modifiers behind h → length behind ≤ length inside
 behind_within {strict} {inside} {head} {modifiers} {behind} {h} begins =
-    omega (arith, ap length begins.whole, length-append (head_text h ++ head.white.now) behind, length-append (head_text h) head.white.now, length-append (left ∷ h.white ++ h.name) (modifiers_text h.modifiers), length-append (left ∷ h.white) h.name)
+    omega (
+      arith,
+      ap length begins.whole,
+      length-append (head_text h ++ head.white.now) behind,
+      length-append (head_text h) head.white.now,
+      length-append (left ∷ h.white ++ h.name) (modifiers_text h.modifiers),
+      length-append (left ∷ h.white) h.name,
+    )
 
 no_bracket_byte : (b : ℕ) → IsTrue (is_run_byte Three b) → is_bracket_byte b ≡ false
 no_bracket_byte b run = grind (arith, nat_tests)
@@ -217,149 +331,236 @@ first_byte : (a b : ℕ) (x y : Text) → a ∷ x ≡ b ∷ y → a ≡ b
 first_byte a b x y e = cc
 
 -- no `[` and no `]`
-pub no_bracket : (s : Start) (rest : Text) → BeginsWith s rest → ((x : Bor (List ℕ)) → s ≡ starts.Opening x → ⊥) → ((x : Bor (List ℕ)) → s ≡ starts.Closing x → ⊥) → StopsBefore is_bracket_byte rest
+pub no_bracket : (s : Start) (rest : Text) → BeginsWith s rest
+    → ((x : Bor (List ℕ)) → s ≡ starts.Opening x → ⊥)
+    → ((x : Bor (List ℕ)) → s ≡ starts.Closing x → ⊥) → StopsBefore is_bracket_byte rest
 no_bracket starts.End rest is opening closing = subst (StopsBefore is_bracket_byte) (sym is) tt
 no_bracket (starts.Opening x) rest is opening closing = absurd (opening x refl)
 no_bracket (starts.Closing x) rest is opening closing = absurd (closing x refl)
-no_bracket (starts.Backslash x) rest is opening closing = subst (StopsBefore is_bracket_byte) (sym is) refl
-no_bracket starts.Other rest is opening closing = subst (StopsBefore is_bracket_byte) (sym is.2) (no_bracket_byte is.0 is.3)
+no_bracket (starts.Backslash x) rest is opening closing =
+    subst (StopsBefore is_bracket_byte) (sym is) refl
+no_bracket starts.Other rest is opening closing =
+    subst (StopsBefore is_bracket_byte) (sym is.2) (no_bracket_byte is.0 is.3)
 
 -- the end of a nested description that no `]` follows
-pub no_closing : (n : ℕ) (s : Start) (rest : Text) → BeginsWith s rest → IsEnd n rest → ((x : Bor (List ℕ)) → s ≡ starts.Closing x → ⊥) → rest ≡ []
+pub no_closing : (n : ℕ) (s : Start) (rest : Text) → BeginsWith s rest → IsEnd n rest
+    → ((x : Bor (List ℕ)) → s ≡ starts.Closing x → ⊥) → rest ≡ []
 no_closing n s [] is end closing = refl
 no_closing n starts.End (b ∷ rest) is end closing = is
-no_closing n (starts.Opening x) (b ∷ rest) is end closing = absurd (omega (arith, first_byte b left rest x.now is, end.0))
+no_closing n (starts.Opening x) (b ∷ rest) is end closing =
+    absurd (omega (arith, first_byte b left rest x.now is, end.0))
 no_closing n (starts.Closing x) (b ∷ rest) is end closing = absurd (closing x refl)
-no_closing n (starts.Backslash x) (b ∷ rest) is end closing = absurd (omega (arith, first_byte b backslash rest x.now is, end.0))
-no_closing n starts.Other (b ∷ rest) is end closing = absurd (omega (arith, first_byte b is.0 rest is.1 is.2, end.0, run_byte_is_no_closing is.0 is.3))
+no_closing n (starts.Backslash x) (b ∷ rest) is end closing =
+    absurd (omega (arith, first_byte b backslash rest x.now is, end.0))
+no_closing n starts.Other (b ∷ rest) is end closing =
+    absurd (omega (
+      arith,
+      first_byte b is.0 rest is.1 is.2,
+      end.0,
+      run_byte_is_no_closing is.0 is.3,
+    ))
 
-module _ {v : DescriptionVersion} {limit n : ℕ} {inside : Text} {head : code_head.Head} {modifiers : code_modifiers.Modifiers} {spaced : Bool} {remaining : ℕ} {read : List Tree} {rest : Text} (b : BracketBefore v limit n inside head modifiers spaced remaining read rest) where
-  whole : left ∷ inside ≡ head_text b.h ++ nested_text b.before.list ++ b.before.white ++ rest
-  whole =
-      b.begins.whole ∙ append_assoc (head_text b.h) head.white.now b.behind ∙ ap (λ t. head_text b.h ++ t) b.before.whole
-      ∙ sym (append_assoc (head_text b.h) (nested_text b.before.list ++ b.before.white) rest) ∙ ap (λ t. t ++ rest) (sym (append_assoc (head_text b.h) (nested_text b.before.list) b.before.white))
+module _ {v : DescriptionVersion} {limit n : ℕ} {inside : Text} {head : code_head.Head}
+    {modifiers : code_modifiers.Modifiers} {spaced : Bool} {remaining : ℕ} {read : List Tree}
+    {rest : Text} (b : BracketBefore v limit n inside head modifiers spaced remaining read rest)
+  where
+    whole : left ∷ inside ≡ head_text b.h ++ nested_text b.before.list ++ b.before.white ++ rest
+    whole =
+        b.begins.whole ∙ append_assoc (head_text b.h) head.white.now b.behind ∙
+        ap (λ t. head_text b.h ++ t) b.before.whole
+        ∙ sym (append_assoc (head_text b.h) (nested_text b.before.list ++ b.before.white) rest) ∙
+        ap (λ t. t ++ rest) (sym (append_assoc (head_text b.h) (nested_text b.before.list)
+        b.before.white))
 
-  pub place : ℕ
-  place = length (head_text b.h ++ nested_text b.before.list ++ b.before.white)
+    pub place : ℕ
+    place = length (head_text b.h ++ nested_text b.before.list ++ b.before.white)
 
-  pub parts : List Part
-  parts = parts_from (length (head_text b.h)) b.before.list
+    pub parts : List PlacedDescription
+    parts = parts_from (length (head_text b.h)) b.before.list
 
-  pub place_of_rest : place + length rest ≡ length inside + 1
-  unfolding place
-  place_of_rest = omega (arith, ap length whole, length-append (head_text b.h ++ nested_text b.before.list ++ b.before.white) rest)
+    pub place_of_rest : place + length rest ≡ length inside + 1
+    unfolding place
+    place_of_rest = omega (
+      arith,
+      ap length whole,
+      length-append (head_text b.h ++ nested_text b.before.list ++ b.before.white) rest,
+    )
 
-  pub parts_shown : ShowsDescriptions (length inside + 1) spaced remaining read parts
-  unfolding parts
-  parts_shown = b.before.shows (length (head_text b.h)) (length inside + 1) (omega (arith, ap length b.begins.whole, length-append (head_text b.h ++ head.white.now) b.behind, length-append (head_text b.h) head.white.now, length-append head.white.now b.behind))
+    pub parts_shown : ShowsDescriptions (length inside + 1) spaced remaining read parts
+    unfolding parts
+    parts_shown = b.before.shows (length (head_text b.h)) (length inside + 1)
+        (omega (
+          arith,
+          ap length b.begins.whole,
+          length-append (head_text b.h ++ head.white.now)
+              b.behind,
+          length-append (head_text b.h) head.white.now,
+          length-append head.white.now b.behind,
+        ))
 
-  pub bracket_leads : (after : Text) (tree : Tree) → rest ≡ right ∷ after → verdict (is_version_three v) b.h parts place ≡ Ok tree → Leads v limit n (left ∷ inside) tree after
-  unfolding place parts
-  bracket_leads after tree closing ok = λ front tail are e. (
-    bracket b.h b.before.list b.before.white tree front,
-    (b.begins.is, b.before.are, b.before.all_white, ok, are),
-    whole ∙ ap (λ t. head_text b.h ++ nested_text b.before.list ++ b.before.white ++ t) (closing ∙ ap (λ t. right ∷ t) e) ∙ simp append_assoc,
-    refl,
-  )
+    pub bracket_leads : (after : Text) (tree : Tree) → rest ≡ right ∷ after
+        → verdict (is_version_three v) b.h parts place ≡ Ok tree
+        → Leads v limit n (left ∷ inside) tree after
+    unfolding place parts
+    bracket_leads after tree closing ok = λ front tail are e. (
+      bracket b.h b.before.list b.before.white tree front,
+      (b.begins.is, b.before.are, b.before.all_white, ok, are),
+      whole ∙ ap (λ t. head_text b.h ++ nested_text b.before.list ++ b.before.white ++ t)
+          (closing ∙ ap (λ t. right ∷ t) e) ∙ simp append_assoc,
+      refl,
+    )
 
-  pub bracket_refused : (after : Text) (f : code_fault.Fault) (g : Fault) → rest ≡ right ∷ after → verdict (is_version_three v) b.h parts place ≡ Err g → IsFault (length inside + 1) f g → IsFaultAt v limit n (left ∷ inside) f
-  unfolding place parts
-  bracket_refused after f g closing refuses is = (
-    refused b.h b.before.list b.before.white g after,
-    (b.begins.is, b.before.are, b.before.all_white, refuses),
-    whole ∙ ap (λ t. head_text b.h ++ nested_text b.before.list ++ b.before.white ++ t) closing,
-    record { kind = is.kind; place = omega (arith, is.place) },
-  )
+    pub bracket_refused : (after : Text) (f : code_fault.Fault) (g : Fault) → rest ≡ right ∷ after
+        → verdict (is_version_three v) b.h parts place ≡ Err g → IsFault (length inside + 1) f g
+        → IsFaultAt v limit n (left ∷ inside) f
+    unfolding place parts
+    bracket_refused after f g closing refuses is = (
+      refused b.h b.before.list b.before.white g after,
+      (b.begins.is, b.before.are, b.before.all_white, refuses),
+      whole ∙ ap (λ t. head_text b.h ++ nested_text b.before.list ++ b.before.white ++ t) closing,
+      record { kind = is.kind; place = omega (arith, is.place) },
+    )
 
-  pub bracket_unclosed : (f : code_fault.Fault) → StopsBefore is_bracket_byte rest → IsFault (length inside + 1) f (fault unclosed_bracket 0) → IsFaultAt v limit n (left ∷ inside) f
-  bracket_unclosed f stops is = (
-    unclosed b.h b.before.list b.before.white rest,
-    (b.begins.is, b.before.are, b.before.all_white, b.before.stops, stops, b.before.wholly),
-    whole,
-    record { kind = is.kind; place = omega (arith, is.place) },
-  )
+    pub bracket_unclosed : (f : code_fault.Fault) → StopsBefore is_bracket_byte rest
+        → IsFault (length inside + 1) f (fault unclosed_bracket 0)
+        → IsFaultAt v limit n (left ∷ inside) f
+    bracket_unclosed f stops is = (
+      unclosed b.h b.before.list b.before.white rest,
+      (b.begins.is, b.before.are, b.before.all_white, b.before.stops, stops, b.before.wholly),
+      whole,
+      record { kind = is.kind; place = omega (arith, is.place) },
+    )
 
-  pub bracket_too_deep : (f : code_fault.Fault) (text : Text) → rest ≡ left ∷ text → n ≡ limit → IsFault (length rest) f (fault too_highly_nested 0) → IsFaultAt v limit n (left ∷ inside) f
-  bracket_too_deep f text opening at_limit is = (
-    too_deep b.h b.before.list b.before.white text,
-    (b.begins.is, b.before.are, b.before.all_white, at_limit),
-    whole ∙ ap (λ t. head_text b.h ++ nested_text b.before.list ++ b.before.white ++ t) opening ∙ simp append_assoc,
-    record { kind = is.kind; place = omega (arith, is.place, ap length whole, length-append (head_text b.h ++ nested_text b.before.list ++ b.before.white) rest) },
-  )
+    pub bracket_too_deep : (f : code_fault.Fault) (text : Text) → rest ≡ left ∷ text → n ≡ limit
+        → IsFault (length rest) f (fault too_highly_nested 0) → IsFaultAt v limit n (left ∷ inside) f
+    bracket_too_deep f text opening at_limit is = (
+      too_deep b.h b.before.list b.before.white text,
+      (b.begins.is, b.before.are, b.before.all_white, at_limit),
+      whole ∙ ap (λ t. head_text b.h ++ nested_text b.before.list ++ b.before.white ++ t) opening ∙
+          simp append_assoc,
+      record {
+        kind = is.kind;
+        place =
+            omega (
+              arith,
+              is.place,
+              ap length whole,
+              length-append (head_text b.h ++ nested_text b.before.list ++ b.before.white) rest,
+            );
+      },
+    )
 
-  pub bracket_cut_off : (f : code_fault.Fault) (text : Text) (front : Pieces) → rest ≡ left ∷ text → n < limit → ArePieces v limit (suc n) front → text ≡ spelling front → IsFault (length inside + 1) f (fault unclosed_bracket 0)
-      → IsFaultAt v limit n (left ∷ inside) f
-  bracket_cut_off f text front opening lt are e is = (
-    cut_off b.h b.before.list b.before.white front,
-    (b.begins.is, b.before.are, b.before.all_white, lt, are),
-    whole ∙ ap (λ t. head_text b.h ++ nested_text b.before.list ++ b.before.white ++ t) (opening ∙ ap (λ t. left ∷ t) e) ∙ simp append_assoc,
-    record { kind = is.kind; place = omega (arith, is.place) },
-  )
+    pub bracket_cut_off : (f : code_fault.Fault) (text : Text) (front : Pieces) → rest ≡ left ∷ text
+        → n < limit → ArePieces v limit (suc n) front → text ≡ spelling front
+        → IsFault (length inside + 1) f (fault unclosed_bracket 0)
+        → IsFaultAt v limit n (left ∷ inside) f
+    bracket_cut_off f text front opening lt are e is = (
+      cut_off b.h b.before.list b.before.white front,
+      (b.begins.is, b.before.are, b.before.all_white, lt, are),
+      whole ∙ ap (λ t. head_text b.h ++ nested_text b.before.list ++ b.before.white ++ t)
+          (opening ∙ ap (λ t. left ∷ t) e) ∙ simp append_assoc,
+      record { kind = is.kind; place = omega (arith, is.place) },
+    )
 
-  pub bracket_broken : (f : code_fault.Fault) (text : Text) (front : Pieces) (c : Broken) → rest ≡ left ∷ text → n < limit → ArePieces v limit (suc n) front → IsBroken v limit (suc n) c
-      → text ≡ spelling front ++ broken_text c
-      → IsFault (length inside + 1) f (enclosed (broken_fault c).kind (broken_fault c).index (length (before_inner b.h b.before.list b.before.white ++ spelling front)))
-      → IsFaultAt v limit n (left ∷ inside) f
-  bracket_broken f text front c opening lt are broken e is = (
-    broken_inside b.h b.before.list b.before.white front c,
-    (b.begins.is, b.before.are, b.before.all_white, lt, are, broken),
-    whole ∙ ap (λ t. head_text b.h ++ nested_text b.before.list ++ b.before.white ++ t) (opening ∙ ap (λ t. left ∷ t) e) ∙ simp append_assoc,
-    record { kind = is.kind; place = omega (arith, is.place) },
-  )
+    pub bracket_broken : (f : code_fault.Fault) (text : Text) (front : Pieces) (c : Broken)
+        → rest ≡ left ∷ text → n < limit → ArePieces v limit (suc n) front
+        → IsBroken v limit (suc n) c
+        → text ≡ spelling front ++ broken_text c
+        → IsFault (length inside + 1) f
+        (enclosed (broken_fault c).kind (broken_fault c).index
+        (length (before_inner b.h b.before.list b.before.white ++ spelling front)))
+        → IsFaultAt v limit n (left ∷ inside) f
+    bracket_broken f text front c opening lt are broken e is = (
+      broken_inside b.h b.before.list b.before.white front c,
+      (b.begins.is, b.before.are, b.before.all_white, lt, are, broken),
+      whole ∙ ap (λ t. head_text b.h ++ nested_text b.before.list ++ b.before.white ++ t)
+          (opening ∙ ap (λ t. left ∷ t) e) ∙ simp append_assoc,
+      record { kind = is.kind; place = omega (arith, is.place) },
+    )
 
-  pub inner_place : (text : Text) (front : Pieces) (c : Broken) → rest ≡ left ∷ text → text ≡ spelling front ++ broken_text c
-      → length (before_inner b.h b.before.list b.before.white ++ spelling front) + length (broken_text c) ≡ length inside + 1
-  inner_place text front c opening e =
-      let whole_is : left ∷ inside ≡ before_inner b.h b.before.list b.before.white ++ spelling front ++ broken_text c =
-      whole ∙ ap (λ t. head_text b.h ++ nested_text b.before.list ++ b.before.white ++ t) (opening ∙ ap (λ t. left ∷ t) e) ∙ simp append_assoc in
-      omega (arith, ap length whole_is, length-append (before_inner b.h b.before.list b.before.white ++ spelling front) (broken_text c))
+    pub inner_place : (text : Text) (front : Pieces) (c : Broken) → rest ≡ left ∷ text
+        → text ≡ spelling front ++ broken_text c
+        → length (before_inner b.h b.before.list b.before.white ++ spelling front) + length
+        (broken_text c) ≡ length inside + 1
+    inner_place text front c opening e =
+        let whole_is : left ∷ inside ≡ before_inner b.h b.before.list b.before.white ++ spelling
+        front ++ broken_text c =
+        whole ∙ ap (λ t. head_text b.h ++ nested_text b.before.list ++ b.before.white ++ t)
+        (opening ∙ ap (λ t. left ∷ t) e) ∙ simp append_assoc in
+        omega (
+          arith,
+          ap length whole_is,
+          length-append (before_inner b.h b.before.list b.before.white ++ spelling front)
+              (broken_text c),
+        )
 
-  -- The same from what the calls ensure.
+    -- The same from what the calls ensure.
 
-  shown : ShowsHead (is_version_three v) (length inside + 1) head modifiers b.h
-  shown = let same : length (left ∷ inside) ≡ length inside + 1 = omega arith in subst (λ k. ShowsHead (is_version_three v) k head modifiers b.h) same b.begins.shows
+    shown : ShowsHead (is_version_three v) (length inside + 1) head modifiers b.h
+    shown = let same : length (left ∷ inside) ≡ length inside + 1 = omega arith in
+        subst (λ k. ShowsHead (is_version_three v) k head modifiers b.h) same b.begins.shows
 
-  module _ (count : ℕ) (base old : List Tree) (counted : count ≡ length read) (are : IsBuilt (is_version_three v) base old read) where
-    built_parts : IsBuilt (is_version_three v) base old (packed parts)
-    built_parts = λ three. are three ∙ ap (λ ts. base ++ ts) (read_packed _ _ _ read parts parts_shown)
+    module _ (count : ℕ) (base old : List Tree) (counted : count ≡ length read)
+        (are : IsBuilt (is_version_three v) base old read) where
+      built_parts : IsBuilt (is_version_three v) base old (packed parts)
+      built_parts = λ three. are three ∙
+          ap (λ ts. base ++ ts) (read_packed _ _ _ read parts parts_shown)
 
-    nested_shown : ShowsNested (length inside + 1) (record { spaced = spaced; remaining = remaining; count = count }) parts
-    nested_shown = shows_nested (length inside + 1) (record { spaced = spaced; remaining = remaining; count = count }) read parts parts_shown counted
+      nested_shown : ShowsNested (length inside + 1)
+          (record { spaced = spaced; remaining = remaining; count = count }) parts
+      nested_shown = shows_nested (length inside + 1)
+          (record { spaced = spaced; remaining = remaining; count = count }) read parts parts_shown
+          counted
 
-    pub accepted : (after : Text) (new : List Tree) (piece : Piece) → rest ≡ right ∷ after
-        → Accepts (is_version_three v) (length inside + 1) head modifiers (record { spaced = spaced; remaining = remaining; count = count }) (length rest) old new piece
-        → (tree : Tree) × Leads v limit n (left ∷ inside) tree after × IsPiece (is_version_three v) base new piece tree
-    accepted after new piece closing judged =
-        let j = judged place b.h parts base shown nested_shown place_of_rest built_parts in
-        (j.0, bracket_leads after j.0 closing j.1, j.2)
+      pub accepted : (after : Text) (new : List Tree) (piece : Piece) → rest ≡ right ∷ after
+          → Accepts (is_version_three v) (length inside + 1) head modifiers
+          (record { spaced = spaced; remaining = remaining; count = count }) (length rest) old new
+          piece
+          → (tree : Tree) × Leads v limit n (left ∷ inside) tree after
+          × IsPiece (is_version_three v) base new piece tree
+      accepted after new piece closing judged =
+          let j = judged place b.h parts base shown nested_shown place_of_rest built_parts in
+          (j.0, bracket_leads after j.0 closing j.1, j.2)
 
-    pub refuses : (after : Text) (e : ReadError) → rest ≡ right ∷ after
-        → Refuses (is_version_three v) (length inside + 1) head modifiers (record { spaced = spaced; remaining = remaining; count = count }) (length rest) old e
+      pub refuses : (after : Text) (e : ReadError) → rest ≡ right ∷ after
+          → Refuses (is_version_three v) (length inside + 1) head modifiers
+          (record { spaced = spaced; remaining = remaining; count = count }) (length rest) old e
+          → MemoryOr (IsFaultAt v limit n (left ∷ inside)) e
+      refuses after e closing judged =
+          memory_or _ (IsFaultAt v limit n (left ∷ inside))
+          (λ f is. bracket_refused after f is.0 closing is.1 is.2) e
+          (judged place b.h parts base shown nested_shown place_of_rest built_parts)
+
+    pub never_closed : (e : ReadError) → StopsBefore is_bracket_byte rest
+        → MemoryOr (λ f. IsFault (length inside + 1) f (fault unclosed_bracket 0)) e
         → MemoryOr (IsFaultAt v limit n (left ∷ inside)) e
-    refuses after e closing judged =
-        memory_or _ (IsFaultAt v limit n (left ∷ inside)) (λ f is. bracket_refused after f is.0 closing is.1 is.2) e
-        (judged place b.h parts base shown nested_shown place_of_rest built_parts)
+    never_closed e stops = memory_or _ (IsFaultAt v limit n (left ∷ inside))
+        (λ f is. bracket_unclosed f stops is) e
 
-  pub never_closed : (e : ReadError) → StopsBefore is_bracket_byte rest → MemoryOr (λ f. IsFault (length inside + 1) f (fault unclosed_bracket 0)) e → MemoryOr (IsFaultAt v limit n (left ∷ inside)) e
-  never_closed e stops = memory_or _ (IsFaultAt v limit n (left ∷ inside)) (λ f is. bracket_unclosed f stops is) e
+    pub nested_fault : (text : Text) (e : ReadError) → rest ≡ left ∷ text
+        → MemoryOr (IsNestedFault v limit n (length inside + 1) text) e
+        → MemoryOr (IsFaultAt v limit n (left ∷ inside)) e
+    nested_fault text e opening is = memory_or _ (IsFaultAt v limit n (left ∷ inside)) by e is
+      where
+        by : (f : code_fault.Fault) → IsNestedFault v limit n (length inside + 1) text f
+            → IsFaultAt v limit n (left ∷ inside) f
+        by f (inl d) =
+            let whole_rest : length text + 1 ≡ length rest = omega (arith, ap length opening) in
+            bracket_too_deep f text opening d.0
+            (subst (λ k. IsFault k f (fault too_highly_nested 0)) whole_rest d.1)
+        by f (inr (inl c)) = bracket_cut_off f text c.0 opening c.1 c.2 c.3 c.4
+        by f (inr (inr k)) =
+            bracket_broken f text k.0 k.1 opening k.2 k.3 k.4 k.5
+            (k.6 (length (before_inner b.h b.before.list b.before.white ++ spelling k.0))
+            (inner_place text k.0 k.1 opening k.5))
 
-  pub nested_fault : (text : Text) (e : ReadError) → rest ≡ left ∷ text → MemoryOr (IsNestedFault v limit n (length inside + 1) text) e → MemoryOr (IsFaultAt v limit n (left ∷ inside)) e
-  nested_fault text e opening is = memory_or _ (IsFaultAt v limit n (left ∷ inside)) by e is
-    where
-      by : (f : code_fault.Fault) → IsNestedFault v limit n (length inside + 1) text f → IsFaultAt v limit n (left ∷ inside) f
-      by f (inl d) =
-          let whole_rest : length text + 1 ≡ length rest = omega (arith, ap length opening) in
-          bracket_too_deep f text opening d.0 (subst (λ k. IsFault k f (fault too_highly_nested 0)) whole_rest d.1)
-      by f (inr (inl c)) = bracket_cut_off f text c.0 opening c.1 c.2 c.3 c.4
-      by f (inr (inr k)) =
-          bracket_broken f text k.0 k.1 opening k.2 k.3 k.4 k.5
-          (k.6 (length (before_inner b.h b.before.list b.before.white ++ spelling k.0)) (inner_place text k.0 k.1 opening k.5))
-
-  pub one_more : {text after white' rest' : Text} {tree : Tree} → rest ≡ left ∷ text → IsNested v limit n text tree after → IsCut is_white after white' rest'
-      → BracketBefore v limit n inside head modifiers spaced remaining (read ++ tree ∷ []) rest'
-  one_more {text} {after} {white'} {rest'} {tree} opening is cut = record {
-    h = b.h;
-    behind = b.behind;
-    begins = b.begins;
-    before = nested_step v limit n (head.white.now ++ b.behind) spaced remaining read rest text after white' rest' is.0 tree b.before opening is.1 is.2 is.3 cut is.4;
-  }
+    pub one_more : {text after white' rest' : Text} {tree : Tree} → rest ≡ left ∷ text
+        → IsNested v limit n text tree after → IsCut is_white after white' rest'
+        → BracketBefore v limit n inside head modifiers spaced remaining (read ++ tree ∷ []) rest'
+    one_more {text} {after} {white'} {rest'} {tree} opening is cut = record {
+      h = b.h;
+      behind = b.behind;
+      begins = b.begins;
+      before = nested_step v limit n (head.white.now ++ b.behind) spaced remaining read rest text
+          after white' rest' is.0 tree b.before opening is.1 is.2 is.3 cut is.4;
+    }

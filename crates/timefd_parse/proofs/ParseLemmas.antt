@@ -14,16 +14,20 @@ use Rattle.timefd_language.specs.declared.fault.ReadError.{ReadError}
 use Rattle.timefd_language.specs.declared.fault.ReadError.TheVariants as errors
 use Rattle.timefd_parse.specs.declared.parsing.BorrowedOutput.TheVariants.{Items}
 use Rattle.timefd_language.specs.declared.parse_error.ParseError.{ParseError}
-use Rattle.timefd_language.specs.declared.parse_error.ParseError.TheVariants.{Invalid, Memory}
+use Rattle.timefd_language.specs.declared.parse_error.ParseError.TheVariants as told
+use Rattle.timefd_borrowed_fault.specs.declared.borrowed_parse_error.BorrowedParseError.{BorrowedParseError}
+use Rattle.timefd_borrowed_fault.specs.declared.borrowed_parse_error.BorrowedParseError.TheVariants.{Invalid, Memory}
+use Rattle.timefd_borrowed_fault.specs.BorrowedFaults.{IsLentOf, IsLentOrMemory, IsMemory, IsOwned, IsRefusal, Lends}
+use Rattle.timefd_borrowed_fault.proofs.OwnedLemmas.{owned_of}
 use Rattle.timefd_language.specs.Bytes.{is_version_three}
 use Rattle.timefd_language.specs.Fault.{raised}
 use Rattle.timefd_language.specs.Grammar.{Spells, no_pieces, spelling}
 use Rattle.timefd_language.specs.Broken.{FaultOf, broken_text, broken_fault}
-use Rattle.timefd_language.specs.Shown.{IsFault, MemoryOr}
-use Rattle.timefd_parse.specs.Read.{IsFaultIn, AreItems}
-use Rattle.timefd_language.specs.Strings.{AreItems as AreTheItems}
+use Rattle.timefd_language.specs.FaultMeaning.{IsFault, MemoryOr}
+use Rattle.timefd_language.specs.Invalid.{IsInvalid}
+use Rattle.timefd_parse.specs.Read.{IsFaultIn, PiecesToEnd}
+use Rattle.timefd_language.specs.Strings.{AreItems}
 use Rattle.timefd_parse.specs.Answers.{IsOutput, IsAssigned}
-use Rattle.timefd_language.specs.Told.{IsFaultOrMemory, MemoryAlone, Tells}
 use Rattle.timefd_language.specs.Laws.{HasOneAnswer}
 use Rattle.timefd_language.proofs.LawLemmas.{one_answer_law}
 use Rattle.timefd_language.proofs.Reserved.{reserves_within_law}
@@ -32,62 +36,109 @@ use Rattle.timefd_parse.proofs.ReadLemmas.{end_outside}
 pub one : (v : DescriptionVersion) (limit : ℕ) (text : Text) → HasOneAnswer v limit text
 one v limit text = (one_answer_law v limit text).1
 
-pub items_spelled : (v : DescriptionVersion) (limit : ℕ) (text : Text) (read : List Tree) (rest : Text) → AreItems v limit 0 text read rest → Spells v limit 0 text read
-items_spelled v limit text read rest are =
-    (are.0, are.1, are.2 ∙ ap (λ t. spelling are.0 ++ t) (end_outside rest are.4) ∙ append-nil (spelling are.0), sym are.3)
+pub items_spelled : (v : DescriptionVersion) (limit : ℕ) (text : Text) (read : List Tree)
+    (rest : Text) → PiecesToEnd v limit 0 text read rest → Spells v limit 0 text read
+items_spelled v limit text read rest are = (
+  are.0,
+  are.1,
+  are.2 ∙ ap (λ t. spelling are.0 ++ t) (end_outside rest are.4) ∙
+      append-nil (spelling are.0),
+  sym are.3,
+)
 
-pub same_list : (v : DescriptionVersion) (limit : ℕ) (text : Text) (read : List Tree) (rest : Text) (list : List Tree) → AreItems v limit 0 text read rest → Spells v limit 0 text list → read ≡ list
-same_list v limit text read rest list are s = (one v limit text).one_list read list (items_spelled v limit text read rest are) s
+pub same_list : (v : DescriptionVersion) (limit : ℕ) (text : Text) (read : List Tree) (rest : Text)
+    (list : List Tree) → PiecesToEnd v limit 0 text read rest → Spells v limit 0 text list
+    → read ≡ list
+same_list v limit text read rest list are s =
+    (one v limit text).one_list read list (items_spelled v limit text read rest are) s
 
 -- the empty text was read as none
-pub none_read : (v : DescriptionVersion) (limit : ℕ) (text : Text) (read : List Tree) (rest : Text) → AreItems v limit 0 text read rest → text ≡ [] → read ≡ []
-none_read v limit text read rest are e = same_list v limit text read rest [] are (no_pieces, tt, e, refl)
+pub none_read : (v : DescriptionVersion) (limit : ℕ) (text : Text) (read : List Tree) (rest : Text)
+    → PiecesToEnd v limit 0 text read rest → text ≡ [] → read ≡ []
+none_read v limit text read rest are e =
+    same_list v limit text read rest [] are (no_pieces, tt, e, refl)
 
-pub no_fault_in : (v : DescriptionVersion) (limit : ℕ) (text : Text) (read : List Tree) (rest : Text) (f : Fault) → AreItems v limit 0 text read rest → FaultOf v limit text f → ⊥
-no_fault_in v limit text read rest f are h = (one v limit text).not_both read f (items_spelled v limit text read rest are) h
+pub no_fault_in : (v : DescriptionVersion) (limit : ℕ) (text : Text) (read : List Tree)
+    (rest : Text) (f : Fault) → PiecesToEnd v limit 0 text read rest → FaultOf v limit text f → ⊥
+no_fault_in v limit text read rest f are h =
+    (one v limit text).not_both read f (items_spelled v limit text read rest are) h
 
 -- Faults.
 
-record WholeFault (v : DescriptionVersion) (limit : ℕ) (text : Text) (f : code_fault.Fault) : Type 0 where
-  pub g : Fault
-  pub assigned : FaultOf v limit text g
-  pub is : IsFault (length text) f g
+record WholeFault (v : DescriptionVersion) (limit : ℕ) (text : Text) (f : code_fault.Fault) : Type 0
+  where
+    pub g : Fault
+    pub assigned : FaultOf v limit text g
+    pub is : IsFault (length text) f g
 
-whole_fault : (v : DescriptionVersion) (limit : ℕ) (text : Text) (f : code_fault.Fault) → IsFaultIn v limit 0 text f → WholeFault v limit text f
+whole_fault : (v : DescriptionVersion) (limit : ℕ) (text : Text) (f : code_fault.Fault)
+    → IsFaultIn v limit 0 text f → WholeFault v limit text f
 whole_fault v limit text f h = record {
   g = raised (broken_fault h.1) (length (spelling h.0));
   assigned = (h.0, h.1, h.2, h.3, h.4, refl);
-  is = record { kind = h.5.kind; place = omega (arith, h.5.place, ap length h.4, length-append (spelling h.0) (broken_text h.1)) };
+  is = record {
+    kind = h.5.kind;
+    place =
+        omega (arith, h.5.place, ap length h.4, length-append (spelling h.0) (broken_text h.1));
+  };
 }
 
-pub told_assigned : (v : DescriptionVersion) (limit : ℕ) (text : Text) (e : ReadError) (r : ParseError) → MemoryOr (IsFaultIn v limit 0 text) e → Tells (length text) e r → IsAssigned v limit text r
-told_assigned v limit text e (Memory m) h told = tt
-told_assigned v limit text errors.Memory (Invalid x) h told = absurd told
-told_assigned v limit text (errors.Invalid f) (Invalid x) h told =
+pub lent_assigned : (v : DescriptionVersion) (limit : ℕ) (text : Text) (e : ReadError)
+    (r : BorrowedParseError) → MemoryOr (IsFaultIn v limit 0 text) e → Lends (length text) e r
+    → IsLentOf (FaultOf v limit text) r
+lent_assigned v limit text e (Memory m) h lent = tt
+lent_assigned v limit text errors.Memory (Invalid x) h lent = absurd lent
+lent_assigned v limit text (errors.Invalid f) (Invalid x) h lent =
     let w = whole_fault v limit text f h in
-    subst (FaultOf v limit text) (sym (told w.g w.is)) w.assigned
+    subst (FaultOf v limit text) (sym (lent w.g w.is)) w.assigned
 
-pub told_spelled : (v : DescriptionVersion) (limit : ℕ) (text : Text) (e : ReadError) (r : ParseError) (list : List Tree) → MemoryOr (IsFaultIn v limit 0 text) e → Tells (length text) e r → Spells v limit 0 text list → MemoryAlone r
-told_spelled v limit text e (Memory m) list h told s = tt
-told_spelled v limit text errors.Memory (Invalid x) list h told s = told
-told_spelled v limit text (errors.Invalid f) (Invalid x) list h told s =
+pub lent_spelled : (v : DescriptionVersion) (limit : ℕ) (text : Text) (e : ReadError)
+    (r : BorrowedParseError) (list : List Tree) → MemoryOr (IsFaultIn v limit 0 text) e
+    → Lends (length text) e r → Spells v limit 0 text list → IsMemory r
+lent_spelled v limit text e (Memory m) list h lent s = tt
+lent_spelled v limit text errors.Memory (Invalid x) list h lent s = lent
+lent_spelled v limit text (errors.Invalid f) (Invalid x) list h lent s =
     let w = whole_fault v limit text f h in
     (one v limit text).not_both list w.g s w.assigned
 
-pub told_refused : (v : DescriptionVersion) (limit : ℕ) (text : Text) (e : ReadError) (r : ParseError) (f : Fault) → MemoryOr (IsFaultIn v limit 0 text) e → Tells (length text) e r → FaultOf v limit text f → IsFaultOrMemory f r
-told_refused v limit text e (Memory m) f h told is = tt
-told_refused v limit text errors.Memory (Invalid x) f h told is = absurd told
-told_refused v limit text (errors.Invalid g) (Invalid x) f h told is =
+pub lent_refused : (v : DescriptionVersion) (limit : ℕ) (text : Text) (e : ReadError)
+    (r : BorrowedParseError) (f : Fault) → MemoryOr (IsFaultIn v limit 0 text) e
+    → Lends (length text) e r → FaultOf v limit text f → IsLentOrMemory f r
+lent_refused v limit text e (Memory m) f h lent is = tt
+lent_refused v limit text errors.Memory (Invalid x) f h lent is = absurd lent
+lent_refused v limit text (errors.Invalid g) (Invalid x) f h lent is =
     let w = whole_fault v limit text g h in
-    told w.g w.is ∙ (one v limit text).one_fault w.g f w.assigned is
+    lent w.g w.is ∙ (one v limit text).one_fault w.g f w.assigned is
+
+-- The same of what the caller owns.
+
+pub owned_assigned : (v : DescriptionVersion) (limit : ℕ) (text : Text) (e : BorrowedParseError)
+    (r : ParseError) → IsLentOf (FaultOf v limit text) e → IsOwned e r → IsAssigned v limit text r
+owned_assigned v limit text e (told.Memory m) is owned = tt
+owned_assigned v limit text e (told.Invalid x) is owned =
+    owned_of (FaultOf v limit text) e x is owned
+
+-- where memory did not run out, a fault is lent
+pub lent_refusal : (v : DescriptionVersion) (limit : ℕ) (text : Text) (e : ReadError)
+    (r : BorrowedParseError) → MemoryOr (IsFaultIn v limit 0 text) e → IsInvalid e
+    → Lends (length text) e r → IsRefusal r
+lent_refusal v limit text e (Invalid x) h is lends = tt
+lent_refusal v limit text errors.Memory (Memory m) h is lends = absurd is
+lent_refusal v limit text (errors.Invalid f) (Memory m) h is lends =
+    let w = whole_fault v limit text f h in
+    lends w.g w.is
 
 -- Outputs.
 
-pub items_output : (v : DescriptionVersion) (items : Vec BorrowedFormatItem Global) (list : List Tree) → IsFalse (is_version_three v) → AreTheItems items.items list → IsOutput v list (Items items)
+pub items_output : (v : DescriptionVersion) (items : Vec BorrowedFormatItem Global)
+    (list : List Tree) → IsFalse (is_version_three v) → AreItems items.items list
+    → IsOutput v list (Items items)
 items_output One items list lax are = are.0
 items_output Two items list lax are = are.0
 items_output Three items list lax are = absurd (true≢false lax)
 
-pub reserves_at_most : (limit : ℕ) (text : Text) (read : List Tree) (rest : Text) (tree : Tree) → AreItems Three limit 0 text read rest → tree ≡ pack read → reserve tree ≤ length text
+pub reserves_at_most : (limit : ℕ) (text : Text) (read : List Tree) (rest : Text) (tree : Tree)
+    → PiecesToEnd Three limit 0 text read rest → tree ≡ pack read → reserve tree ≤ length text
 reserves_at_most limit text read rest tree are e =
-    subst (λ t. reserve t ≤ length text) (sym e) (reserves_within_law limit 0 text read (items_spelled Three limit text read rest are)).0
+    subst (λ t. reserve t ≤ length text) (sym e)
+    (reserves_within_law limit 0 text read (items_spelled Three limit text read rest are)).0

@@ -14,10 +14,11 @@ use Rattle.timefd_language.specs.declared.parse_error.ParseError.TheVariants.{In
 use Rattle.timefd_language.specs.Broken.{FaultOf}
 use Rattle.timefd_language.specs.declared.fault.ReadError.{ReadError}
 use Rattle.timefd_language.specs.declared.fault.ReadError.TheVariants as errors
-use Rattle.timefd_language.specs.Shown.{IsFault}
+use Rattle.timefd_language.specs.FaultMeaning.{IsFault}
 use Rattle.timefd_language.specs.Strings.{are_of_strings}
 
--- The items of the list in versions 1 and 2, and in version 3 the description that they are packed to.
+-- The items of the list in versions 1 and 2, and in version 3 the description that they are packed
+-- to.
 abbrev pub IsOutput : DescriptionVersion → List Tree → BorrowedOutput → Type 0
 IsOutput One list (Items items) = map item_tree items.items ≡ list
 IsOutput Two list (Items items) = map item_tree items.items ≡ list

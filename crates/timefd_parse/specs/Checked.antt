@@ -13,7 +13,7 @@ use Rattle.timefd_language.specs.Values.{Key, key_in, setting_in}
 use Rattle.timefd_language.specs.Lookup.{key_for, keys_for}
 use Rattle.timefd_parse.specs.Places.{place}
 use Rattle.timefd_language.specs.Verdict.{bad_modifier, bad_modifiers, settings}
-use Rattle.timefd_language.specs.Shown.{IsFault}
+use Rattle.timefd_language.specs.FaultMeaning.{IsFault}
 
 -- the keys of a name; an unknown name has none
 abbrev pub keys_of : Option Name → List Key
@@ -23,7 +23,8 @@ keys_of (Some name) = keys_for name
 -- the place of the first modifier with a key
 abbrev pub first_place : Text → List Placed → Option ℕ
 first_place key [] = None
-first_place key (p ∷ ps) = elim (equal key p.key) [ true ↦ Some p.key_index | false ↦ first_place key ps ]
+first_place key (p ∷ ps) = elim (equal key p.key)
+    [ true ↦ Some p.key_index | false ↦ first_place key ps ]
 
 abbrev pub ShowsFault : ℕ → Option code_fault.Fault → Option Fault → Type 0
 ShowsFault total None None = ⊤
@@ -38,17 +39,21 @@ ShowsPlace total (Some remaining) None = ⊥
 ShowsPlace total (Some remaining) (Some index) = index + remaining ≡ total
 
 -- The modifiers were taken in turn.
-pub record Checks (strict : Bool) (name : Option Name) (total : ℕ) (c : Modifiers) (ps : List Placed) : Type 0 where
+pub record Checks (strict : Bool) (name : Option Name) (total : ℕ) (c : Modifiers)
+    (ps : List Placed) : Type 0 where
   pub fault : ShowsFault total c.fault (bad_modifiers strict (keys_of name) [] ps)
   pub settings : c.fault ≡ None → c.settings ≡ settings strict (keys_of name) ps
-  pub places : c.fault ≡ None → IsTrue strict → (k : code_key.Key) → ShowsPlace total (place c.places k) (first_place (key_for k).key ps)
+  pub places : c.fault ≡ None → IsTrue strict → (k : code_key.Key)
+      → ShowsPlace total (place c.places k) (first_place (key_for k).key ps)
 
 -- One more was looked at, behind these.
-abbrev pub ChecksOne : Bool → Option Name → ℕ → Result (code_key.Key × Setting) code_fault.Fault → List Placed → Placed → Type 0
+abbrev pub ChecksOne : Bool → Option Name → ℕ → Result (code_key.Key × Setting) code_fault.Fault
+    → List Placed → Placed → Type 0
 ChecksOne strict name total (Ok x) ps p =
     (key_in strict p.key (keys_of name) ≡ Some (key_for x.0))
     × (bad_modifier strict (key_in strict p.key (keys_of name)) ps p ≡ None)
     × (setting_in strict (key_for x.0).values p.value ≡ Some x.1)
     × (IsTrue strict → first_place (key_for x.0).key ps ≡ None)
 ChecksOne strict name total (Err f) ps p =
-    (g : Fault) × (bad_modifier strict (key_in strict p.key (keys_of name)) ps p ≡ Some g) × IsFault total f g
+    (g : Fault) × (bad_modifier strict (key_in strict p.key (keys_of name)) ps p ≡ Some g)
+    × IsFault total f g

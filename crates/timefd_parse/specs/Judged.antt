@@ -12,51 +12,56 @@ use Rattle.timefd_parse.specs.declared.verdict.Nested as code_nested
 use Rattle.timefd_language.specs.Head.{Placed}
 use Rattle.timefd_language.specs.declared.name.Name.{Name}
 use Rattle.timefd_language.specs.declared.name.Name.TheVariants as names
-use Rattle.timefd_language.specs.Verdict.{Part, ◌or◌, touching, nested_refused}
+use Rattle.timefd_language.specs.Verdict.{PlacedDescription, ◌or◌, touching, nested_refused}
 use Rattle.timefd_language.specs.Lookup.{key_for}
 use Rattle.timefd_parse.specs.Places.{place}
 use Rattle.timefd_parse.specs.Pieces.{IsPiece}
-use Rattle.timefd_language.specs.Shown.{IsFault, MemoryOr}
+use Rattle.timefd_language.specs.FaultMeaning.{IsFault, MemoryOr}
 use Rattle.timefd_parse.specs.Checked.{first_place, ShowsPlace}
 
 -- each nested description is packed
-abbrev pub packed : List Part → List Tree
+abbrev pub packed : List PlacedDescription → List Tree
 packed parts = map (λ q. pack q.trees) parts
 
 -- the trees of the nested descriptions, and where the first of them stands
-abbrev pub ShowsDescriptions : ℕ → Bool → ℕ → List Tree → List Part → Type 0
+abbrev pub ShowsDescriptions : ℕ → Bool → ℕ → List Tree → List PlacedDescription → Type 0
 ShowsDescriptions total spaced remaining read [] = read ≡ []
 ShowsDescriptions total spaced remaining read (p ∷ ps) =
     (p.spaced ≡ spaced) × (p.index + remaining ≡ total) × (read ≡ packed (p ∷ ps))
 
 -- how many there are, and where the first of them stands
-abbrev pub ShowsNested : ℕ → code_nested.Nested → List Part → Type 0
+abbrev pub ShowsNested : ℕ → code_nested.Nested → List PlacedDescription → Type 0
 ShowsNested total n [] = n.count ≡ 0
-ShowsNested total n (p ∷ ps) = (p.spaced ≡ n.spaced) × (p.index + n.remaining ≡ total) × (n.count ≡ length (p ∷ ps))
+ShowsNested total n (p ∷ ps) = (p.spaced ≡ n.spaced) × (p.index + n.remaining ≡ total)
+    × (n.count ≡ length (p ∷ ps))
 
 -- where the keys stand
 abbrev pub ShowsPlaces : ℕ → Places → List Placed → Type 0
-ShowsPlaces total places ps = (k : code_key.Key) → ShowsPlace total (place places k) (first_place (key_for k).key ps)
+ShowsPlaces total places ps = (k : code_key.Key)
+    → ShowsPlace total (place places k) (first_place (key_for k).key ps)
 
 abbrev pub JudgedFault : ℕ → Result Tree Fault → code_fault.Fault → Type 0
 JudgedFault total rule f = (g : Fault) × (rule ≡ Err g) × IsFault total f g
 
--- The tree, or the fault. The lists are the trees that were built before the bracket was read, and after.
-abbrev pub Judged : ℕ → Bool → List Tree → List Tree → Result Piece code_error.ReadError → Result Tree Fault → Type 0
+-- The tree, or the fault. The lists are the trees that were built before the bracket was read, and
+-- after.
+abbrev pub Judged : ℕ → Bool → List Tree → List Tree → Result Piece code_error.ReadError
+    → Result Tree Fault → Type 0
 Judged total strict old new r rule =
-    MatchResult r (λ x. (tree : Tree) × (rule ≡ Ok tree) × IsPiece strict old new x tree) (MemoryOr (JudgedFault total rule))
+    MatchResult r (λ x. (tree : Tree) × (rule ≡ Ok tree) × IsPiece strict old new x tree)
+    (MemoryOr (JudgedFault total rule))
 
 -- the same of a component, which takes no memory
 abbrev pub JudgedComponent : ℕ → Result Component code_fault.Fault → Result Tree Fault → Type 0
 JudgedComponent total r rule = MatchResult r (λ c. rule ≡ Ok (component c)) (JudgedFault total rule)
 
 -- whether nested descriptions may stand in a bracket of this name
-abbrev pub refused_in : Option Name → List Part → Option Fault
+abbrev pub refused_in : Option Name → List PlacedDescription → Option Fault
 refused_in (Some names.Optional) parts = None
 refused_in (Some names.First) parts = None
 refused_in (Some (names.Component n)) parts = nested_refused parts
 refused_in None parts = nested_refused parts
 
 -- the fault of nested descriptions that stand where they may not
-abbrev pub placing : Option Name → List Part → Option Fault
+abbrev pub placing : Option Name → List PlacedDescription → Option Fault
 placing name parts = touching parts or refused_in name parts

@@ -1,5 +1,10 @@
 -- The languages, and what a text is in each.
-use Rattle.std.specs.Prelude.{ℕ, List, length, ⊤}
+use Rattle.std.specs.Prelude.{ℕ, ◌≡◌, Bool, true, false, [], List, length, IfOk, IsFalse, IsOk, MatchResult, Result, ⊤}
+use Rattle.std.specs.Result.{IfErr}
+use Rattle.timefd_borrowed_fault.specs.declared.borrowed_parse_error.BorrowedParseError.{BorrowedParseError}
+use Rattle.timefd_borrowed_fault.specs.BorrowedFaults.{IsLentOf, IsLentOrMemory, IsMemory, IsRefusal}
+use Rattle.timefd_language.specs.Bytes.{is_version_three}
+use Rattle.timefd_language.specs.declared.description_version.DescriptionVersion.{DescriptionVersion}
 use Rattle.timefd_component.specs.Tree.{Text, Tree, pack}
 use Rattle.timefd_fault.specs.Faults.{Fault, fault_of}
 use Rattle.timefd_component.specs.Reserved.{reserve}
@@ -29,6 +34,27 @@ amount (Version One) list = length list
 amount (Version Two) list = length list
 amount (Version Three) list = reserve (pack list)
 amount Strftime list = length list
+
+-- whether a reader that counts builds anything: the nodes of version 3
+abbrev pub takes_memory : Language → Bool
+takes_memory (Version One) = false
+takes_memory (Version Two) = false
+takes_memory (Version Three) = true
+takes_memory Strftime = false
+
+-- The answer is how much a text of the version holds, or its fault, or that memory ran out.
+pub record IsAmount (version : DescriptionVersion) (limit : ℕ) (text : Text)
+    (r : Result ℕ BorrowedParseError) : Type 0 where
+  pub found : IfOk r (λ n. (list : List Tree) × SpellsIn (Version version) limit text list
+      × (n ≡ amount (Version version) list))
+  pub fault : IfErr r (IsLentOf (FaultIn (Version version) limit text))
+  pub spelled : (list : List Tree) → SpellsIn (Version version) limit text list
+      → MatchResult r (λ n. n ≡ amount (Version version) list) IsMemory
+  pub refused : (f : Fault) → FaultIn (Version version) limit text f
+      → MatchResult r (λ _. ⊥) (IsLentOrMemory f)
+  -- Versions 1 and 2 take no memory, and the empty text takes none.
+  pub memory : IsFalse (is_version_three version) → IfErr r IsRefusal
+  pub empty : text ≡ [] → IsOk r
 
 -- a fault that the rules of the language assign to the text, or out of memory
 abbrev pub IsAssignedIn : Language → ℕ → Text → ParseError → Type 0

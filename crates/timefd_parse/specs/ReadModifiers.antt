@@ -1,5 +1,5 @@
 -- How a modifier that was read stands to the rules.
-use Rattle.timefd_language.specs.Shown.{IsFault}
+use Rattle.timefd_language.specs.FaultMeaning.{IsFault}
 use Rattle.timefd_language.specs.Broken.{Misfit, IsMisfit, misfit_text, misfit_fault}
 use Rattle.timefd_language.specs.Bytes.{colon, is_word_byte, is_key_byte, OneOrMore, StopsBefore}
 use Rattle.std.specs.Prelude.{ℕ, ◌≡◌, ◌+◌, ◌<◌, List, ◌∷◌, ◌++◌, length, Option, Some, None, Result, MatchResult, ⊤}
@@ -27,7 +27,8 @@ pub record IsWord (word : Text) (remaining : ℕ) (m : code_modifier.Modifier) :
 
 -- the word is no modifier
 abbrev pub IsNoWord : Text → ℕ → code_fault.Fault → Type 0
-IsNoWord word remaining f = (m : Misfit) × IsMisfit m × (word ≡ misfit_text m) × IsFault remaining f (misfit_fault m 0)
+IsNoWord word remaining f = (m : Misfit) × IsMisfit m × (word ≡ misfit_text m)
+    × IsFault remaining f (misfit_fault m 0)
 
 -- the text begins with this word
 pub record BeginsWithWord (text word rest : Text) : Type 0 where
@@ -37,9 +38,12 @@ pub record BeginsWithWord (text word rest : Text) : Type 0 where
 abbrev pub ReadsWord : Text → Option (code_modifier.Modifier × Bor (List ℕ)) → Type 0
 ReadsWord text None = StopsBefore is_word_byte text
 ReadsWord text (Some x) =
-    (word : Text) × BeginsWithWord text word x.1.now × IsWord word (length text) x.0 × IsUtf8 x.1.now
+    (word : Text) × BeginsWithWord text word x.1.now × IsWord word (length text) x.0
+    × IsUtf8 x.1.now
 
-abbrev pub ReadsModifier : Text → Result (Option (code_modifier.Modifier × Bor (List ℕ))) code_fault.Fault → Type 0
+abbrev pub ReadsModifier : Text → Result (Option (code_modifier.Modifier × Bor (List ℕ)))
+    code_fault.Fault → Type 0
 ReadsModifier text r =
     MatchResult r (ReadsWord text)
-    (λ f. (word : Text) × (rest : Text) × BeginsWithWord text word rest × IsNoWord word (length text) f)
+    (λ f. (word : Text) × (rest : Text) × BeginsWithWord text word rest
+    × IsNoWord word (length text) f)

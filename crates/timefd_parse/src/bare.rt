@@ -47,7 +47,8 @@ fn alone<'a>(
 /// The component of `year` with no modifiers, whose range of years depends on the version.
 #[inline(always)]
 fn plain_year(version: DescriptionVersion) -> Component
-    ensures { (row_for names.ComponentName.Year).component (defaults (is_version_three version)) ≡ Ok result }
+    ensures { (row_for names.ComponentName.Year).component (defaults (is_version_three version))
+        ≡ Ok result }
 {
     match version {
         DescriptionVersion::One | DescriptionVersion::Two => {

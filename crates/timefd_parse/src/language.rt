@@ -1,18 +1,21 @@
 //! The languages of texts, and how much a text of any of them holds.
 
-ghost use Rattle.std.specs.Prelude.{◌≡◌, ◌≤◌, [], List, IfOk, IsOk, MatchResult};
+ghost use Rattle.std.specs.Prelude.{◌≡◌, ◌≤◌, [], List, IfOk, IsFalse, IsOk, MatchResult};
 ghost use Rattle.std.specs.Result.{IfErr};
 ghost use Rattle.timefd_component.specs.Tree.{Tree};
 ghost use Rattle.timefd_fault.specs.Faults as spec;
+ghost use Rattle.timefd_borrowed_fault.specs.BorrowedFaults.{HasShortFault, IsLentOf, IsLentOrMemory, IsMemory, IsRefusal};
 ghost use Rattle.timefd_language.specs.Told.{IsFaultOrMemory, MemoryAlone};
+ghost use Rattle.timefd_language.specs.Bytes.{is_version_three};
 ghost use Rattle.timefd_language.specs.Grammar.{nesting_limit};
-ghost use Rattle.timefd_parse.specs.Language.{SpellsIn, FaultIn, amount, IsAssignedIn};
+ghost use Rattle.timefd_parse.specs.Language.{SpellsIn, FaultIn, amount, takes_memory, IsAmount, IsAssignedIn};
 
-use crate::parsing::{BorrowedOutput, parse_borrowed_within};
+use crate::counting::{count_bytes, count_items};
 use std::alloc::Global;
+use timefd_borrowed_fault::BorrowedParseError;
 use timefd_language::description_version::DescriptionVersion;
 use timefd_language::parse_error::ParseError;
-use timefd_strftime::{StrftimeTables, count_of, parse_strftime_borrowed};
+use timefd_strftime::count_strftime;
 
 /// The language of a text. `time` has a call for each; this type is this port's own.
 #[derive(Debug, Clone, Copy, PartialEq, Eq)]
@@ -51,9 +54,46 @@ pub fn amount_within(
     // The empty text takes no memory.
     ensures empty { text.now ≡ [] → IsOk result }
 {
+    match amount_all_borrowed(alloc, language, limit, text) {
+        Ok(amount) => Ok(amount),
+        Err(error) => Err(error.into_owned(alloc)),
+    }
+}
+
+/// How much a text holds, as `amount_within` says it, with a fault that borrows what it quotes.
+///
+/// The error is `Invalid` with the fault of the text, or `Memory` where memory ran out.
+#[inline(always)]
+pub fn amount_all_borrowed(
+    alloc: Global,
+    language: Language,
+    limit: u8,
+    text: &str,
+) -> Result<usize, BorrowedParseError<'_>>
+    requires { limit ≤ nesting_limit }
+
+    // What is accepted is spelled so, and what is refused is refused for the fault that the rules
+    // assign.
+    ensures found { IfOk result (λ n.
+        (list : List Tree) × SpellsIn language limit text.now list × (n ≡ amount language list)) }
+    ensures fault { IfErr result (IsLentOf (FaultIn language limit text.now)) }
+
+    // What is spelled is accepted, and what has a fault is refused for it, unless memory runs out.
+    ensures spelled { (list : List Tree) → SpellsIn language limit text.now list
+        → MatchResult result (λ n. n ≡ amount language list) IsMemory }
+    ensures refused { (f : spec.Fault) → FaultIn language limit text.now f
+        → MatchResult result (λ _. ⊥) (IsLentOrMemory f) }
+
+    // The words of a fault are short, so that its sentence can be written.
+    ensures words { IfErr result HasShortFault }
+
+    // Versions 1 and 2 and strftime take no memory, and the empty text takes none in version 3.
+    ensures memory { IsFalse (takes_memory language) → IfErr result IsRefusal }
+    ensures empty { text.now ≡ [] → IsOk result }
+{
     match language {
         Language::Version(version) => version_amount(alloc, version, limit, text),
-        Language::Strftime => strftime_amount(alloc, text),
+        Language::Strftime => strftime_amount(text),
     }
 }
 
@@ -64,58 +104,33 @@ fn version_amount(
     version: DescriptionVersion,
     limit: u8,
     text: &str,
-) -> Result<usize, ParseError>
+) -> Result<usize, BorrowedParseError<'_>>
     requires { limit ≤ nesting_limit }
-    ensures found { IfOk result (λ n. (list : List Tree)
-        × SpellsIn (Language.Version version) limit text.now list
-        × (n ≡ amount (Language.Version version) list)) }
-    ensures fault { IfErr result (IsAssignedIn (Language.Version version) limit text.now) }
-    ensures spelled { (list : List Tree) → SpellsIn (Language.Version version) limit text.now list
-        → MatchResult result (λ n. n ≡ amount (Language.Version version) list) MemoryAlone }
-    ensures refused { (f : spec.Fault) → FaultIn (Language.Version version) limit text.now f
-        → MatchResult result (λ _. ⊥) (IsFaultOrMemory f) }
-    ensures empty { text.now ≡ [] → IsOk result }
+    ensures { IsAmount version limit text.now result }
 {
-    match parse_borrowed_within(alloc, version, limit, text) {
-        Ok(BorrowedOutput::Items(items)) => Ok(items.len()),
-        Ok(BorrowedOutput::Description(description)) => Ok(description.max_bytes_needed()),
-        Err(error) => Err(error),
+    // Each version is a constant in its own loop over the pieces.
+    match version {
+        DescriptionVersion::One => count_items(alloc, DescriptionVersion::One, limit, text),
+        DescriptionVersion::Two => count_items(alloc, DescriptionVersion::Two, limit, text),
+        DescriptionVersion::Three => count_bytes(alloc, limit, text),
     }
 }
 
 /// How many items a text of strftime has.
 #[inline(never)]
-fn strftime_amount(alloc: Global, text: &str) -> Result<usize, ParseError>
+fn strftime_amount(text: &str) -> Result<usize, BorrowedParseError<'_>>
     ensures found { IfOk result (λ n. (list : List Tree)
         × SpellsIn Language.Strftime 0 text.now list × (n ≡ amount Language.Strftime list)) }
-    ensures fault { IfErr result (IsAssignedIn Language.Strftime 0 text.now) }
+    ensures fault { IfErr result (IsLentOf (FaultIn Language.Strftime 0 text.now)) }
     ensures spelled { (list : List Tree) → SpellsIn Language.Strftime 0 text.now list
-        → MatchResult result (λ n. n ≡ amount Language.Strftime list) MemoryAlone }
+        → MatchResult result (λ n. n ≡ amount Language.Strftime list) IsMemory }
     ensures refused { (f : spec.Fault) → FaultIn Language.Strftime 0 text.now f
-        → MatchResult result (λ _. ⊥) (IsFaultOrMemory f) }
+        → MatchResult result (λ _. ⊥) (IsLentOrMemory f) }
+    ensures no_memory { IfErr result IsRefusal }
     ensures empty { text.now ≡ [] → IsOk result }
 {
-    match count_of(text) {
-        Some(count) => Ok(count),
-        None => read_amount(alloc, text),
-    }
-}
-
-/// The same by reading it, which tells the fault of a text that has one.
-#[inline(never)]
-fn read_amount(alloc: Global, text: &str) -> Result<usize, ParseError>
-    ensures found { IfOk result (λ n. (list : List Tree)
-        × SpellsIn Language.Strftime 0 text.now list × (n ≡ amount Language.Strftime list)) }
-    ensures fault { IfErr result (IsAssignedIn Language.Strftime 0 text.now) }
-    ensures spelled { (list : List Tree) → SpellsIn Language.Strftime 0 text.now list
-        → MatchResult result (λ n. n ≡ amount Language.Strftime list) MemoryAlone }
-    ensures refused { (f : spec.Fault) → FaultIn Language.Strftime 0 text.now f
-        → MatchResult result (λ _. ⊥) (IsFaultOrMemory f) }
-    ensures empty { text.now ≡ [] → IsOk result }
-{
-    let tables = StrftimeTables::new();
-    match parse_strftime_borrowed(alloc, &tables, text) {
-        Ok(items) => Ok(items.len()),
-        Err(error) => Err(error),
+    match count_strftime(text) {
+        Ok(count) => Ok(count),
+        Err(fault) => Err(BorrowedParseError::Invalid(fault)),
     }
 }

@@ -4,7 +4,9 @@
 #![tactic(auto)]
 
 mod bare;
+mod borrowing;
 mod building;
+mod counting;
 mod head;
 mod language;
 mod modifier;
@@ -15,8 +17,13 @@ mod places;
 mod read;
 mod verdict;
 
-pub use language::{Language, amount_within};
+pub use borrowing::parse_all_borrowed;
+pub use language::{Language, amount_all_borrowed, amount_within};
 pub use parsing::{BorrowedOutput, NESTING_LIMIT, parse, parse_borrowed, parse_borrowed_within};
+pub use timefd_borrowed_fault::{BorrowedFault, BorrowedParseError, Excerpt};
 pub use timefd_items::{BorrowedFormatItem, FormatDescriptionV3, InvalidFormatDescription};
+pub use timefd_language::fault::FaultKind;
 pub use timefd_language::{DescriptionVersion, ParseError, laws};
-pub use timefd_strftime::{StrftimeTables, parse_strftime_borrowed};
+pub use timefd_strftime::{
+    StrftimeTables, count_strftime, parse_strftime_all_borrowed, parse_strftime_borrowed,
+};

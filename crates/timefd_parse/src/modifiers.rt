@@ -9,7 +9,7 @@ ghost use Rattle.timefd_language.specs.Values.{key_in};
 
 use crate::modifier::Modifier;
 use crate::places::Places;
-use timefd_language::fault::{Fault, Kind};
+use timefd_language::fault::{Fault, FaultKind};
 use timefd_language::key::{Key, key_of};
 use timefd_language::name::Name;
 use timefd_language::setting::{Setting, Settings};
@@ -41,7 +41,8 @@ impl<'a> Modifiers<'a> {
     /// Takes the next modifier of a bracket with this name.
     #[inline(never)]
     pub fn take(&mut self, strict: bool, name: Option<Name>, modifier: Modifier<'a>)
-        ensures { (total : ℕ) (ps : List Placed) (p : Placed) → Checks strict name total self.old ps → IsPlaced total modifier.entry p → Checks strict name total self.new (ps ++ p ∷ []) }
+        ensures { (total : ℕ) (ps : List Placed) (p : Placed) → Checks strict name total self.old ps
+            → IsPlaced total modifier.entry p → Checks strict name total self.new (ps ++ p ∷ []) }
     {
         if self.fault.is_some() {
             return;
@@ -62,24 +63,26 @@ impl<'a> Modifiers<'a> {
         name: Option<Name>,
         modifier: Modifier<'a>,
     ) -> Result<(Key, Setting), Fault<'a>>
-        ensures { (total : ℕ) (ps : List Placed) (p : Placed) → Checks strict name total self.now ps → self.now.fault ≡ None → IsPlaced total modifier.entry p → ChecksOne strict name total result ps p }
+        ensures { (total : ℕ) (ps : List Placed) (p : Placed) → Checks strict name total self.now ps
+            → self.now.fault ≡ None → IsPlaced total modifier.entry p
+            → ChecksOne strict name total result ps p }
     {
         let Some(key) = known_key(strict, name, modifier.key) else {
             return Err(Fault {
-                kind: Kind::InvalidModifier(modifier.key),
+                kind: FaultKind::InvalidModifier(modifier.key),
                 remaining: modifier.key_remaining,
             });
         };
         if strict && self.places.of(key).is_some() {
             return Err(Fault {
-                kind: Kind::DuplicateModifier(key.spelling()),
+                kind: FaultKind::DuplicateModifier(key.spelling()),
                 remaining: modifier.key_remaining,
             });
         }
         match setting_of(key, strict, modifier.value) {
             Some(setting) => Ok((key, setting)),
             None => Err(Fault {
-                kind: Kind::InvalidModifier(modifier.value),
+                kind: FaultKind::InvalidModifier(modifier.value),
                 remaining: modifier.value_remaining,
             }),
         }

@@ -12,17 +12,14 @@ ghost use Rattle.timefd_language.specs.Grammar.{Spells, nesting_limit};
 ghost use Rattle.timefd_language.specs.Broken.{FaultOf};
 ghost use Rattle.timefd_parse.specs.Answers.{IsOutput, IsAssigned, ReservesAtMost, HasStrings};
 ghost use Rattle.timefd_language.specs.Told.{IsFaultOrMemory, MemoryAlone, Tells};
-ghost use Rattle.timefd_language.specs.Shown.{IsFault, MemoryOr};
+ghost use Rattle.timefd_language.specs.FaultMeaning.{IsFault, MemoryOr};
 ghost use Rattle.timefd_language.specs.Strings.{AreItems};
 
-use crate::read::{items, members, node_room};
-use std::alloc::{AllocError, Global};
-use timefd_items::{
-    BorrowedFormatItem, DescriptionBuilder, FormatDescriptionV3, InvalidFormatDescription,
-};
+use crate::borrowing::{parse_all_borrowed, parse_items};
+use std::alloc::Global;
+use timefd_items::{BorrowedFormatItem, FormatDescriptionV3};
 use timefd_language::description_version::DescriptionVersion;
-use timefd_language::fault::{Fault, Kind, ReadError};
-use timefd_language::parse_error::{ParseError, told};
+use timefd_language::parse_error::ParseError;
 
 /// How many nested descriptions may stand around one another, at most.
 pub const NESTING_LIMIT: u8 = 127;
@@ -100,15 +97,9 @@ pub fn parse_borrowed_within<'a>(
     // The empty text takes no memory.
     ensures empty { s.now ≡ [] → IsOk result }
 {
-    if let DescriptionVersion::Three = version {
-        return match parse_description(alloc, limit, s) {
-            Ok(description) => Ok(BorrowedOutput::Description(description)),
-            Err(error) => Err(error),
-        };
-    }
-    match parse_items(alloc, version, limit, s) {
-        Ok(items) => Ok(BorrowedOutput::Items(items)),
-        Err(error) => Err(error),
+    match parse_all_borrowed(alloc, version, limit, s) {
+        Ok(output) => Ok(output),
+        Err(error) => Err(error.into_owned(alloc)),
     }
 }
 
@@ -131,58 +122,8 @@ pub fn parse<'a>(alloc: Global, s: &'a str) -> Result<Vec<BorrowedFormatItem<'a>
     // The empty text takes no memory.
     ensures empty { s.now ≡ [] → IsOk result }
 {
-    parse_items(alloc, DescriptionVersion::One, NESTING_LIMIT, s)
-}
-
-/// The items of a text of version 1 or 2.
-fn parse_items<'a>(
-    alloc: Global,
-    version: DescriptionVersion,
-    limit: u8,
-    s: &'a str,
-) -> Result<Vec<BorrowedFormatItem<'a>>, ParseError>
-    requires { IsFalse (is_version_three version) }
-    ensures found { IfOk result (λ items. (list : List Tree)
-        × Spells version limit 0 s.now list × AreItems items.items list) }
-    ensures fault { IfErr result (IsAssigned version limit s.now) }
-    ensures spelled { (list : List Tree) → Spells version limit 0 s.now list
-        → MatchResult result (λ items. AreItems items.items list) MemoryAlone }
-    ensures refused { (f : spec.Fault) → FaultOf version limit s.now f
-        → MatchResult result (λ _. ⊥) (IsFaultOrMemory f) }
-    ensures empty { s.now ≡ [] → IsOk result }
-{
-    match items(alloc, version, s, limit) {
+    match parse_items(alloc, DescriptionVersion::One, NESTING_LIMIT, s) {
         Ok(items) => Ok(items),
-        Err(error) => Err(told(alloc, error, s.len())),
-    }
-}
-
-/// The description that a text of version 3 spells.
-fn parse_description<'a>(
-    alloc: Global,
-    limit: u8,
-    s: &'a str,
-) -> Result<FormatDescriptionV3<'a>, ParseError>
-    ensures found { IfOk result (λ d. (list : List Tree)
-        × Spells Three limit 0 s.now list × (description_tree d ≡ pack list)) }
-    ensures fault { IfErr result (IsAssigned Three limit s.now) }
-    ensures spelled { (list : List Tree) → Spells Three limit 0 s.now list
-        → MatchResult result (λ d. description_tree d ≡ pack list) MemoryAlone }
-    ensures refused { (f : spec.Fault) → FaultOf Three limit s.now f
-        → MatchResult result (λ _. ⊥) (IsFaultOrMemory f) }
-    ensures reserved { IfOk result (λ d. reserve (description_tree d) ≤ length s.now) }
-    ensures empty { s.now ≡ [] → IsOk result }
-{
-    let len = s.len();
-    let mut builder = DescriptionBuilder::new(alloc);
-    if let Err(error) = builder.reserve(node_room(s)) {
-        return Err(ParseError::Memory(error));
-    }
-    match members(&mut builder, DescriptionVersion::Three, s, limit, 0) {
-        Ok(_) => match builder.finish() {
-            Ok(description) => Ok(description),
-            Err(error) => Err(ParseError::Memory(error)),
-        },
-        Err(error) => Err(told(alloc, error, len)),
+        Err(error) => Err(error.into_owned(alloc)),
     }
 }

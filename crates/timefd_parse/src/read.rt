@@ -9,7 +9,7 @@ ghost use Rattle.timefd_language.specs.Bytes.{is_version_three};
 ghost use Rattle.timefd_parse.specs.Read.{BeginsRun, BeginsClosing, LeadsOn, ReadsEscape, ReadsPiece, ReadsNext, ReadsMembers, ReadsNested, ReadsItems, IsEnclosed};
 ghost use Rattle.timefd_language.specs.Fault.{too_highly_nested};
 ghost use Rattle.timefd_language.specs.Invalid.{IsInvalid};
-ghost use Rattle.timefd_language.specs.Shown.{IsFault, MemoryOr};
+ghost use Rattle.timefd_language.specs.FaultMeaning.{IsFault, MemoryOr};
 ghost use Rattle.timefd_items.specs.Builder.{built};
 ghost use Rattle.timefd_fault.specs.Faults.{fault, unclosed_bracket};
 ghost use Rattle.timefd_component.specs.Tree.{literal};
@@ -23,7 +23,7 @@ use crate::verdict::{Nested, Span, verdict};
 use std::alloc::Global;
 use timefd_items::{BorrowedFormatItem, DescriptionBuilder};
 use timefd_language::description_version::DescriptionVersion;
-use timefd_language::fault::{Fault, Kind, ReadError};
+use timefd_language::fault::{Fault, FaultKind, ReadError};
 use timefd_language::text::{Class, Start, cut, cut_run, escaped, start_of};
 
 /// The run that a text begins with.
@@ -42,7 +42,7 @@ fn closing<'a>(version: DescriptionVersion, text: &'a str) -> Result<(&'a str, &
 {
     if let DescriptionVersion::Three = version {
         return Err(Fault {
-            kind: Kind::Expected("right bracket to be escaped"),
+            kind: FaultKind::Expected("right bracket to be escaped"),
             remaining: text.len(),
         });
     }
@@ -66,7 +66,7 @@ fn backslash<'a>(
         None => {
             let remaining = if after.is_empty() { 1 } else { after.len() };
             Err(Fault {
-                kind: Kind::Expected("valid escape sequence"),
+                kind: FaultKind::Expected("valid escape sequence"),
                 remaining,
             })
         }
@@ -75,7 +75,9 @@ fn backslash<'a>(
 
 /// In version 1 the second of two opening brackets, and what follows it.
 fn doubled<'a>(version: DescriptionVersion, inside: &'a str) -> Option<(&'a str, &'a str)>
-    ensures { MatchOption result (BeginsNoEscape version inside.now) (λ x. (version ≡ spec_version.DescriptionVersion.One) × (x.0.now ≡ 91 ∷ []) × (inside.now ≡ 91 ∷ x.1.now) × IsUtf8 x.1.now) }
+    ensures { MatchOption result (BeginsNoEscape version inside.now)
+        (λ x. (version ≡ spec_version.DescriptionVersion.One) × (x.0.now ≡ 91 ∷ [])
+        × (inside.now ≡ 91 ∷ x.1.now) × IsUtf8 x.1.now) }
 {
     if let (DescriptionVersion::One, Start::Opening(_)) = (version, start_of(inside)) {
         return Some(inside.split_at(1));
@@ -91,7 +93,7 @@ fn enclosed<'a>(error: ReadError<'a>, start: usize) -> ReadError<'a>
     match error {
         ReadError::Invalid(
             Fault {
-                kind: Kind::UnclosedBracket,
+                kind: FaultKind::UnclosedBracket,
                 remaining: _,
             },
         ) => unclosed(start),
@@ -105,7 +107,7 @@ fn unclosed<'a>(start: usize) -> ReadError<'a>
     ensures invalid { IsInvalid result }
 {
     ReadError::Invalid(Fault {
-        kind: Kind::UnclosedBracket,
+        kind: FaultKind::UnclosedBracket,
         remaining: start,
     })
 }
@@ -116,7 +118,7 @@ fn too_deep<'a>(remaining: usize) -> ReadError<'a>
     ensures invalid { IsInvalid result }
 {
     ReadError::Invalid(Fault {
-        kind: Kind::NotSupported("highly-nested format description", ""),
+        kind: FaultKind::NotSupported("highly-nested format description", ""),
         remaining,
     })
 }
@@ -124,7 +126,7 @@ fn too_deep<'a>(remaining: usize) -> ReadError<'a>
 /// The next piece of a list of items, or none at the list's end.
 #[inline(always)]
 #[cycle(read)]
-fn next_piece<'a>(
+pub fn next_piece<'a>(
     builder: &mut DescriptionBuilder<'a>,
     version: DescriptionVersion,
     text: &'a str,
@@ -132,7 +134,9 @@ fn next_piece<'a>(
     around: u8,
 ) -> Result<Option<(Piece<'a>, &'a str)>, ReadError<'a>>
     requires { around ≤ limit }
-    ensures next { ReadsNext version limit around text.now (built builder.old) (built builder.new) result }
+    ensures next { ReadsNext version limit around text.now (built builder.old) (built builder.new)
+        result }
+    ensures invalid { IsFalse (is_version_three version) → IfErr result IsInvalid }
     ensures some { IfErr result (λ _. 0 < length text.now) }
 {
     match start_of(text) {
@@ -172,7 +176,9 @@ pub fn members<'a>(
     around: u8,
 ) -> Result<(usize, &'a str), ReadError<'a>>
     requires { around ≤ limit }
-    ensures members { ReadsMembers version limit around text.now (built builder.old) (built builder.new) result }
+    ensures members { ReadsMembers version limit around text.now (built builder.old)
+        (built builder.new) result }
+    ensures invalid { IsFalse (is_version_three version) → IfErr result IsInvalid }
     ensures some { IfErr result (λ _. 0 < length text.now) }
 {
     let mut count = 0;
@@ -199,7 +205,9 @@ fn nested<'a>(
     start: usize,
 ) -> Result<&'a str, ReadError<'a>>
     requires { around ≤ limit }
-    ensures { ReadsNested version limit around start text.now (built builder.old) (built builder.new) result }
+    ensures nested { ReadsNested version limit around start text.now (built builder.old)
+        (built builder.new) result }
+    ensures invalid { IsFalse (is_version_three version) → IfErr result IsInvalid }
 {
     if around == limit {
         return Err(too_deep(text.len() + 1));
@@ -226,7 +234,9 @@ fn bracket<'a>(
 ) -> Result<(Piece<'a>, &'a str), ReadError<'a>>
     requires within { around ≤ limit }
     requires begins { BeginsNoEscape version inside.now }
-    ensures { ReadsPiece version limit around (91 ∷ inside.now) (built builder.old) (built builder.new) result }
+    ensures piece { ReadsPiece version limit around (91 ∷ inside.now) (built builder.old)
+        (built builder.new) result }
+    ensures invalid { IsFalse (is_version_three version) → IfErr result IsInvalid }
 {
     let start = inside.len() + 1;
     let strict = version.is_strict();

@@ -8,7 +8,7 @@ ghost use Rattle.timefd_language.specs.Head as spec;
 ghost use Rattle.timefd_language.specs.Head.{Placed, placed};
 ghost use Rattle.timefd_language.specs.Names.{row_for};
 ghost use Rattle.timefd_language.specs.Verdict as rules;
-ghost use Rattle.timefd_language.specs.Verdict.{Part};
+ghost use Rattle.timefd_language.specs.Verdict.{PlacedDescription};
 ghost use Rattle.timefd_language.specs.declared.name.Name as spec_name;
 ghost use Rattle.timefd_parse.specs.Checked.{Checks, ShowsFault};
 ghost use Rattle.timefd_parse.specs.Heads.{ShowsHead};
@@ -23,7 +23,7 @@ use crate::places::Places;
 use timefd_items::{Component, DescriptionBuilder};
 use timefd_language::combination::refusals;
 use timefd_language::component::component_of;
-use timefd_language::fault::{Fault, Kind, ReadError};
+use timefd_language::fault::{Fault, FaultKind, ReadError};
 use timefd_language::name::{ComponentName, Name};
 
 /// The nested descriptions of a bracket.
@@ -52,21 +52,26 @@ fn optional<'a>(
     span: Span,
 ) -> Result<Piece<'a>, ReadError<'a>>
     requires { IsTrue strict → nested.count ≤ length (built builder.old) }
-    ensures tree { (place : ℕ) (h : spec.Head) (parts : List Part) (base : List Tree) → Checks strict (Some spec_name.Name.Optional) span.start modifiers.now (placed h) → ShowsNested span.start nested parts → place + span.end ≡ span.start → IsBuilt strict base (built builder.old) (packed parts) → Judged span.start strict base (built builder.new) result (rules.optional_verdict strict h parts place) }
+    ensures tree { (place : ℕ) (h : spec.Head) (parts : List PlacedDescription) (base : List Tree)
+        → Checks strict (Some spec_name.Name.Optional) span.start modifiers.now (placed h)
+        → ShowsNested span.start nested parts → place + span.end ≡ span.start
+        → IsBuilt strict base (built builder.old) (packed parts)
+        → Judged span.start strict base (built builder.new) result
+        (rules.optional_verdict strict h parts place) }
     ensures invalid { IsFalse strict → IfErr result IsInvalid }
 {
     if let Some(fault) = modifiers.fault {
         return Err(ReadError::Invalid(fault));
     }
     if nested.count == 0 {
-        let kind = Kind::Expected("nested format description");
+        let kind = FaultKind::Expected("nested format description");
         return Err(ReadError::Invalid(Fault {
             kind,
             remaining: span.end,
         }));
     }
     if nested.count > 1 {
-        let kind = Kind::NotSupported(
+        let kind = FaultKind::NotSupported(
             "more than one nested format description",
             "`optional` components",
         );
@@ -76,7 +81,7 @@ fn optional<'a>(
         }));
     }
     if !strict {
-        let kind = Kind::NotSupported("optional item", "runtime-parsed format descriptions");
+        let kind = FaultKind::NotSupported("optional item", "runtime-parsed format descriptions");
         return Err(ReadError::Invalid(Fault {
             kind,
             remaining: span.start,
@@ -95,20 +100,26 @@ fn first<'a>(
     span: Span,
 ) -> Result<Piece<'a>, ReadError<'a>>
     requires { IsTrue strict → nested.count ≤ length (built builder.old) }
-    ensures { (place : ℕ) (h : spec.Head) (parts : List Part) (base : List Tree) → Checks strict (Some spec_name.Name.First) span.start modifiers.now (placed h) → ShowsNested span.start nested parts → place + span.end ≡ span.start → IsBuilt strict base (built builder.old) (packed parts) → Judged span.start strict base (built builder.new) result (rules.first_verdict strict h parts place) }
+    ensures tree { (place : ℕ) (h : spec.Head) (parts : List PlacedDescription) (base : List Tree)
+        → Checks strict (Some spec_name.Name.First) span.start modifiers.now (placed h)
+        → ShowsNested span.start nested parts → place + span.end ≡ span.start
+        → IsBuilt strict base (built builder.old) (packed parts)
+        → Judged span.start strict base (built builder.new) result
+        (rules.first_verdict strict h parts place) }
+    ensures invalid { IsFalse strict → IfErr result IsInvalid }
 {
     if let Some(fault) = modifiers.fault {
         return Err(ReadError::Invalid(fault));
     }
     if !strict {
-        let kind = Kind::NotSupported("'first' item", "runtime-parsed format descriptions");
+        let kind = FaultKind::NotSupported("'first' item", "runtime-parsed format descriptions");
         return Err(ReadError::Invalid(Fault {
             kind,
             remaining: span.start,
         }));
     }
     if nested.count == 0 {
-        let kind = Kind::Expected("at least one nested format description");
+        let kind = FaultKind::Expected("at least one nested format description");
         return Err(ReadError::Invalid(Fault {
             kind,
             remaining: span.end,
@@ -120,14 +131,15 @@ fn first<'a>(
 
 /// The first key that version 3 refuses with the component.
 fn combination_fault(strict: bool, component: Component, places: &Places) -> Option<Fault<'static>>
-    ensures { (total : ℕ) (ps : List Placed) → (IsTrue strict → ShowsPlaces total places.now ps) → ShowsFault total result (rules.combination strict component ps) }
+    ensures { (total : ℕ) (ps : List Placed) → (IsTrue strict → ShowsPlaces total places.now ps)
+        → ShowsFault total result (rules.combination strict component ps) }
 {
     if !strict {
         return None;
     }
     'refusals: for refusal in refusals(component) {
         if let Some(remaining) = places.of(refusal.key) {
-            let kind = Kind::InvalidCombination(refusal.key.spelling(), refusal.context);
+            let kind = FaultKind::InvalidCombination(refusal.key.spelling(), refusal.context);
             return Some(Fault { kind, remaining });
         }
     }
@@ -141,7 +153,9 @@ fn component<'a>(
     modifiers: &Modifiers<'a>,
     name: ComponentName,
 ) -> Result<Component, Fault<'a>>
-    ensures tree { (total : ℕ) (h : spec.Head) → ShowsHead strict total head.now modifiers.now h → head.now.name ≡ Some (spec_name.Name.Component name) → JudgedComponent total result (rules.component_verdict strict h (Some (row_for name))) }
+    ensures tree { (total : ℕ) (h : spec.Head) → ShowsHead strict total head.now modifiers.now h
+        → head.now.name ≡ Some (spec_name.Name.Component name)
+        → JudgedComponent total result (rules.component_verdict strict h (Some (row_for name))) }
     ensures modern { IfOk result (λ c. modern c ≡ c) }
 {
     if let Some(fault) = modifiers.fault {
@@ -149,7 +163,7 @@ fn component<'a>(
     }
     let Some(component) = component_of(name, modifiers.settings) else {
         return Err(Fault {
-            kind: Kind::MissingModifier("count"),
+            kind: FaultKind::MissingModifier("count"),
             remaining: head.remaining,
         });
     };
@@ -161,21 +175,22 @@ fn component<'a>(
 
 /// The fault of nested descriptions that stand where they may not.
 fn placing_fault<'a>(head: &Head<'a>, nested: Nested, span: Span) -> Option<Fault<'a>>
-    ensures { (parts : List Part) → ShowsNested span.start nested parts → ShowsFault span.start result (placing head.now.name parts) }
+    ensures { (parts : List PlacedDescription) → ShowsNested span.start nested parts
+        → ShowsFault span.start result (placing head.now.name parts) }
 {
     if nested.count == 0 {
         return None;
     }
     if !nested.spaced {
         return Some(Fault {
-            kind: Kind::Expected("whitespace before nested format description"),
+            kind: FaultKind::Expected("whitespace before nested format description"),
             remaining: nested.remaining,
         });
     }
     match head.name {
         Some(Name::Optional | Name::First) => None,
         Some(Name::Component(_)) | None => Some(Fault {
-            kind: Kind::NotSupported("nested format descriptions", "on this component"),
+            kind: FaultKind::NotSupported("nested format descriptions", "on this component"),
             remaining: span.start,
         }),
     }
@@ -191,7 +206,12 @@ pub fn verdict<'a>(
     span: Span,
 ) -> Result<Piece<'a>, ReadError<'a>>
     requires { IsTrue strict → nested.count ≤ length (built builder.old) }
-    ensures { (place : ℕ) (h : spec.Head) (parts : List Part) (base : List Tree) → ShowsHead strict span.start head.now modifiers.now h → ShowsNested span.start nested parts → place + span.end ≡ span.start → IsBuilt strict base (built builder.old) (packed parts) → Judged span.start strict base (built builder.new) result (rules.verdict strict h parts place) }
+    ensures tree { (place : ℕ) (h : spec.Head) (parts : List PlacedDescription) (base : List Tree)
+        → ShowsHead strict span.start head.now modifiers.now h → ShowsNested span.start nested parts
+        → place + span.end ≡ span.start → IsBuilt strict base (built builder.old) (packed parts)
+        → Judged span.start strict base (built builder.new) result
+        (rules.verdict strict h parts place) }
+    ensures invalid { IsFalse strict → IfErr result IsInvalid }
 {
     if let Some(fault) = placing_fault(head, nested, span) {
         return Err(ReadError::Invalid(fault));
@@ -203,7 +223,7 @@ pub fn verdict<'a>(
             strict, head, modifiers, name,
         )?)),
         None => Err(ReadError::Invalid(Fault {
-            kind: Kind::InvalidName(head.word),
+            kind: FaultKind::InvalidName(head.word),
             remaining: head.remaining,
         })),
     }

@@ -21,7 +21,8 @@ pub trait Sink {
     fn write(&mut self, buf: &[u8]) -> Result<usize, Failed>
         ensures within { IfOk result (λ n. n ≤ length buf.now) }
         ensures some { IfOk result (λ n. 0 < length buf.now → 0 < n) }
-        ensures moves { IfOk result (λ n. Appends (contents self.old) (contents self.new) (take n buf.now)) }
+        ensures moves { IfOk result
+            (λ n. Appends (contents self.old) (contents self.new) (take n buf.now)) }
         ensures unflushed { IfOk result (λ n. 0 < n → IsFalse (is_flushed self.new)) }
         ensures fails { IsErr result ↔ IsTrue (has_failed self.new) }
         ensures stays { IsTrue (has_failed self.old) → IsTrue (has_failed self.new) };

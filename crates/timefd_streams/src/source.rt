@@ -18,8 +18,10 @@ pub trait Source {
     /// the buffer has no room.
     fn read(&mut self, buf: &mut [u8]) -> Result<usize, Failed>
         ensures within { IfOk result (λ n. n ≤ length buf.new) }
-        ensures moves { IfOk result (λ n. Consumes (remaining self.old) (remaining self.new) (take n buf.new)) }
-        ensures at_end { IfOk result (λ n. n ≡ 0 → 0 < length buf.new → IsAtEnd (remaining self.new)) }
+        ensures moves { IfOk result
+            (λ n. Consumes (remaining self.old) (remaining self.new) (take n buf.new)) }
+        ensures at_end { IfOk result (λ n. n ≡ 0 → 0 < length buf.new
+            → IsAtEnd (remaining self.new)) }
         ensures fails { IsErr result ↔ IsTrue (has_failed self.new) }
         ensures stays { IsTrue (has_failed self.old) → IsTrue (has_failed self.new) };
 }

@@ -43,7 +43,8 @@ impl From<AllocError> for ReadError {
 
 /// All bytes that the source has left. It fails where a read does, or memory runs out.
 pub fn read_all<R: Source>(alloc: Global, source: &mut R) -> Result<Vec<u8>, ReadError>
-    ensures bytes { IfOk result (λ all. ReadsAll (R.remaining source.old) (R.remaining source.new) all.items) }
+    ensures bytes { IfOk result (λ all. ReadsAll (R.remaining source.old) (R.remaining source.new)
+        all.items) }
     ensures works { OnOk result (IsFalse (R.has_failed source.new)) }
     ensures fails { IfErr result (λ e. e ≡ ReadError.Failed → IsTrue (R.has_failed source.new)) }
 {

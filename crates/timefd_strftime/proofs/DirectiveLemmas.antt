@@ -21,12 +21,16 @@ use Rattle.timefd_language.specs.declared.fault.Fault as code_fault
 use Rattle.timefd_language.specs.declared.fault.ReadError.{ReadError}
 use Rattle.timefd_language.specs.declared.fault.ReadError.TheVariants as errors
 use Rattle.timefd_language.specs.declared.parse_error.ParseError.{ParseError}
-use Rattle.timefd_language.specs.declared.parse_error.ParseError.TheVariants.{Invalid, Memory}
+use Rattle.timefd_language.specs.declared.parse_error.ParseError.TheVariants as told
+use Rattle.timefd_borrowed_fault.specs.declared.borrowed_fault.BorrowedFault.{BorrowedFault}
+use Rattle.timefd_borrowed_fault.specs.declared.borrowed_parse_error.BorrowedParseError.{BorrowedParseError}
+use Rattle.timefd_borrowed_fault.specs.declared.borrowed_parse_error.BorrowedParseError.TheVariants.{Invalid, Memory}
+use Rattle.timefd_borrowed_fault.specs.BorrowedFaults.{lent_fault, IsLentOf, IsLentOrMemory, IsMemory, IsOwned, Lends}
+use Rattle.timefd_borrowed_fault.proofs.OwnedLemmas.{owned_of}
 use Rattle.timefd_language.specs.Fault.{raised, expected_escape}
 use Rattle.timefd_language.specs.Cut.{IsCut}
 use Rattle.timefd_strftime.specs.StrftimeReading.{MayFollow, BeginsWithFlag, Leads, LeadsTo, HasItems, IsStrftimeFaultAt, IsStrftimeFaultIn, IsRestOf}
-use Rattle.timefd_language.specs.Shown.{kind_of, IsFault, MemoryOr}
-use Rattle.timefd_language.specs.Told.{IsFaultOrMemory, MemoryAlone, Tells}
+use Rattle.timefd_language.specs.FaultMeaning.{kind_of, IsFault, MemoryOr}
 use Rattle.timefd_strftime.specs.StrftimeAnswers.{IsStrftimeFault}
 use Rattle.timefd_language.proofs.StrftimeReader.{directive_regrouped, begins_no_plain, strftime_one_answer_law}
 
@@ -43,61 +47,106 @@ none_left (b ∷ text) none = absurd (omega arith)
 
 -- Directives.
 
-is_behind : (f : Flag) (b : ℕ) (rest after : Text) → rest ≡ b ∷ after → MayFollow f rest → IsBehind f b
+is_behind : (f : Flag) (b : ℕ) (rest after : Text) → rest ≡ b ∷ after → MayFollow f rest
+    → IsBehind f b
 is_behind unflagged b rest after e h = subst (StopsBefore is_flag) e h
 is_behind (flagged c) b rest after e h = tt
 
 -- what a letter stands for behind the flag leads on
-letter_leads : (behind rest after : Text) (padding : Option Padding) (b : ℕ) (tree : Tree) (h : BeginsWithFlag behind padding rest) → rest ≡ b ∷ after
+letter_leads : (behind rest after : Text) (padding : Option Padding) (b : ℕ) (tree : Tree)
+    (h : BeginsWithFlag behind padding rest) → rest ≡ b ∷ after
     → item_of h.0 b ≡ Some tree → Leads (percent ∷ behind) tree after
 letter_leads behind rest after padding b tree h e of = λ front tail are i. (
   directive h.0 b tree front,
   (h.1, is_behind h.0 b rest after e h.4, of, are),
-  ap (λ t. percent ∷ t) (h.3 ∙ ap (λ t. flag_text h.0 ++ t) (e ∙ ap (λ t. b ∷ t) i)) ∙ sym (directive_regrouped h.0 b (directives_text front) tail),
+  ap (λ t. percent ∷ t) (h.3 ∙ ap (λ t. flag_text h.0 ++ t) (e ∙ ap (λ t. b ∷ t) i)) ∙
+      sym (directive_regrouped h.0 b (directives_text front) tail),
   refl,
 )
 
-pub directive_leads : (behind rest after : Text) (padding : Option Padding) (b : ℕ) (tree : Tree) (item : Flag → Tree) → BeginsWithFlag behind padding rest
-    → rest ≡ b ∷ after → ((f : Flag) → item_of f b ≡ Some (item f)) → ((f : Flag) → flag_padding f ≡ padding → tree ≡ item f) → Leads (percent ∷ behind) tree after
-directive_leads behind rest after padding b tree item h e of is = letter_leads behind rest after padding b tree h e (of h.0 ∙ ap Some (sym (is h.0 h.2)))
+pub directive_leads : (behind rest after : Text) (padding : Option Padding) (b : ℕ) (tree : Tree)
+    (item : Flag → Tree) → BeginsWithFlag behind padding rest
+    → rest ≡ b ∷ after → ((f : Flag) → item_of f b ≡ Some (item f))
+    → ((f : Flag) → flag_padding f ≡ padding → tree ≡ item f)
+    → Leads (percent ∷ behind) tree after
+directive_leads behind rest after padding b tree item h e of is =
+    letter_leads behind rest after padding b tree h e (of h.0 ∙ ap Some (sym (is h.0 h.2)))
 
-pub directive_leads_to : (behind rest after : Text) (padding : Option Padding) (b : ℕ) (letter : Letter) → BeginsWithFlag behind padding rest
+pub directive_leads_to : (behind rest after : Text) (padding : Option Padding) (b : ℕ)
+    (letter : Letter) → BeginsWithFlag behind padding rest
     → rest ≡ b ∷ after → IsLetter b (Some letter) → IsUtf8 after → LeadsTo (percent ∷ behind) after
 directive_leads_to behind rest after padding b letter h e of utf8 = record {
   tree = letter_tree letter h.0;
   leads = letter_leads behind rest after padding b (letter_tree letter h.0) h e (of h.0);
-  left = record { shorter = omega (arith, ap length h.3, length-append (flag_text h.0) rest, ap length e); utf8 = utf8 };
+  left = record {
+    shorter = omega (
+      arith,
+      ap length h.3,
+      length-append (flag_text h.0) rest,
+      ap length e,
+    );
+    utf8 = utf8;
+  };
 }
 
-pub directive_unknown : (behind rest : Text) (padding : Option Padding) (bad : code_fault.Fault) → BeginsWithFlag behind padding rest → 0 < length rest
-    → ((f : Flag) → item_of f (get_or rest 0 0) ≡ None) → kind_of bad.kind ≡ unknown_kind (get_or rest 0 0) → bad.remaining ≡ length rest → IsStrftimeFaultAt (percent ∷ behind) bad
+pub directive_unknown : (behind rest : Text) (padding : Option Padding) (bad : code_fault.Fault)
+    → BeginsWithFlag behind padding rest → 0 < length rest
+    → ((f : Flag) → item_of f (get_or rest 0 0) ≡ None)
+    → kind_of bad.kind ≡ unknown_kind (get_or rest 0 0) → bad.remaining ≡ length rest
+    → IsStrftimeFaultAt (percent ∷ behind) bad
 directive_unknown behind rest padding bad h some none kind place =
     let e : rest ≡ get_or rest 0 0 ∷ drop 1 rest = first_and_rest rest some in (
       unknown h.0 (get_or rest 0 0) (drop 1 rest),
       (h.1, is_behind h.0 (get_or rest 0 0) rest (drop 1 rest) e h.4, none h.0),
       ap (λ t. percent ∷ t) (h.3 ∙ ap (λ t. flag_text h.0 ++ t) e),
-      record { kind = sym kind; place = omega (arith, place, ap length h.3, length-append (flag_text h.0) rest) },
+      record {
+        kind = sym kind;
+        place =
+            omega (arith, place, ap length h.3, length-append (flag_text h.0) rest);
+      },
     )
 
-pub directive_cut_short : (behind rest : Text) (padding : Option Padding) (bad : code_fault.Fault) → BeginsWithFlag behind padding rest → rest ≡ []
-    → kind_of bad.kind ≡ expected_escape → ((f : Flag) → flag_padding f ≡ padding → cut_index f + bad.remaining ≡ 1 + length (flag_text f)) → IsStrftimeFaultAt (percent ∷ behind) bad
+pub directive_cut_short : (behind rest : Text) (padding : Option Padding) (bad : code_fault.Fault)
+    → BeginsWithFlag behind padding rest → rest ≡ []
+    → kind_of bad.kind ≡ expected_escape
+    → ((f : Flag) → flag_padding f ≡ padding
+    → cut_index f + bad.remaining ≡ 1 + length (flag_text f))
+    → IsStrftimeFaultAt (percent ∷ behind) bad
 directive_cut_short behind rest padding bad h none kind place = (
   cut_short h.0,
   h.1,
   ap (λ t. percent ∷ t) (h.3 ∙ ap (λ t. flag_text h.0 ++ t) none ∙ append-nil (flag_text h.0)),
-  record { kind = sym kind; place = omega (arith, place h.0 h.2, ap length h.3, length-append (flag_text h.0) rest, ap length none) },
+  record {
+    kind = sym kind;
+    place =
+        omega (
+          arith,
+          place h.0 h.2,
+          ap length h.3,
+          length-append (flag_text h.0) rest,
+          ap length none,
+        );
+  },
 )
 
 -- Runs.
 
-run_some : (text front rest : Text) (b : ℕ) (more : Text) → IsCut is_plain text front rest → text ≡ b ∷ more → IsTrue (is_plain b) → OneOrMore is_plain front
-run_some text [] rest b more is e passes = absurd (both_ways (is_plain b) (subst (StopsBefore is_plain) (sym is.whole ∙ e) is.stops) passes)
+run_some : (text front rest : Text) (b : ℕ) (more : Text) → IsCut is_plain text front rest
+    → text ≡ b ∷ more → IsTrue (is_plain b) → OneOrMore is_plain front
+run_some text [] rest b more is e passes =
+    absurd (both_ways (is_plain b) (subst (StopsBefore is_plain) (sym is.whole ∙ e) is.stops)
+    passes)
 run_some text (c ∷ front) rest b more is e passes = is.passes
 
-pub run_leads : (text front rest : Text) (b : ℕ) (more : Text) → IsCut is_plain text front rest → text ≡ b ∷ more → IsTrue (is_plain b) → Leads text (literal front) rest
+pub run_leads : (text front rest : Text) (b : ℕ) (more : Text) → IsCut is_plain text front rest
+    → text ≡ b ∷ more → IsTrue (is_plain b) → Leads text (literal front) rest
 run_leads text bytes rest b more is e passes = λ front tail are f. (
   plain bytes front,
-  (run_some text bytes rest b more is e passes, begins_no_plain front tail are (subst (StopsBefore is_plain) f is.stops), are),
+  (
+    run_some text bytes rest b more is e passes,
+    begins_no_plain front tail are (subst (StopsBefore is_plain) f is.stops),
+    are,
+  ),
   is.whole ∙ ap (λ t. bytes ++ t) f ∙ sym (append_assoc bytes (directives_text front) tail),
   refl,
 )
@@ -106,38 +155,62 @@ some_length : (front : Text) → OneOrMore is_plain front → 0 < length front
 some_length [] some = absurd some
 some_length (b ∷ front) some = omega arith
 
-pub run_leads_to : (text front rest : Text) (b : ℕ) (more : Text) → IsCut is_plain text front rest → text ≡ b ∷ more → IsTrue (is_plain b) → IsUtf8 rest → LeadsTo text rest
+pub run_leads_to : (text front rest : Text) (b : ℕ) (more : Text) → IsCut is_plain text front rest
+    → text ≡ b ∷ more → IsTrue (is_plain b) → IsUtf8 rest → LeadsTo text rest
 run_leads_to text bytes rest b more is e passes utf8 = record {
   tree = literal bytes;
   leads = run_leads text bytes rest b more is e passes;
-  left = record { shorter = omega (arith, ap length is.whole, length-append bytes rest, some_length bytes (run_some text bytes rest b more is e passes)); utf8 = utf8 };
+  left = record {
+    shorter = omega (
+      arith,
+      ap length is.whole,
+      length-append bytes rest,
+      some_length bytes (run_some text bytes rest b more is e passes),
+    );
+    utf8 = utf8;
+  };
 }
 
-pub leads_from : (text same : Text) (rest after : Bor (List ℕ)) → text ≡ same → after ≡ rest → LeadsTo same rest.now → LeadsTo text after.now
+pub leads_from : (text same : Text) (rest after : Bor (List ℕ)) → text ≡ same → after ≡ rest
+    → LeadsTo same rest.now → LeadsTo text after.now
 leads_from text same rest after e a to =
-    subst (λ (r : Bor (List ℕ)). LeadsTo text r.now) (sym a) (subst (λ (t : Text). LeadsTo t rest.now) (sym e) to)
+    subst (λ (r : Bor (List ℕ)). LeadsTo text r.now) (sym a)
+    (subst (λ (t : Text). LeadsTo t rest.now) (sym e) to)
 
 -- What was read of a text so far: what the rest begins with, the text begins with behind the trees.
 abbrev pub Continues : Text → List Tree → Text → Type 0
 Continues text done rest =
     (front : Directives) (tail : Text) → AreDirectives front → rest ≡ directives_text front ++ tail
-    → (whole : Directives) × AreDirectives whole × (text ≡ directives_text whole ++ tail) × (directive_items whole ≡ done ++ directive_items front)
+    → (whole : Directives) × AreDirectives whole × (text ≡ directives_text whole ++ tail)
+    × (directive_items whole ≡ done ++ directive_items front)
 
 pub continues_first : (text : Text) → Continues text [] text
 continues_first text = λ front tail are e. (front, are, e, refl)
 
-pub continues_more : (text rest after : Text) (done : List BorrowedFormatItem) (item : BorrowedFormatItem) → Continues text (map item_tree done) rest
+pub continues_more : (text rest after : Text) (done : List BorrowedFormatItem)
+    (item : BorrowedFormatItem) → Continues text (map item_tree done) rest
     → Leads rest (item_tree item) after → Continues text (map item_tree (done ++ item ∷ [])) after
 continues_more text rest after done item before leads =
-    subst (λ (trees : List Tree). Continues text trees after) (sym (map-append item_tree done (item ∷ []))) (λ front tail are e.
+    subst (λ (trees : List Tree). Continues text trees after)
+    (sym (map-append item_tree done (item ∷ []))) (λ front tail are e.
     let a = leads front tail are e in
-    let w = before a.0 tail a.1 a.2 in
-    (w.0, w.1, w.2, w.3 ∙ ap (λ ts. map item_tree done ++ ts) a.3 ∙ sym (append_assoc (map item_tree done) (item_tree item ∷ []) (directive_items front))))
+    let w = before a.0 tail a.1 a.2 in (
+      w.0,
+      w.1,
+      w.2,
+      w.3 ∙ ap (λ ts. map item_tree done ++ ts) a.3 ∙
+          sym (append_assoc (map item_tree done) (item_tree item ∷ []) (directive_items front)),
+    ))
 
-pub all_read : (text rest : Text) (done : List Tree) → Continues text done rest → rest ≡ [] → SpellsStrftime text done
+pub all_read : (text rest : Text) (done : List Tree) → Continues text done rest → rest ≡ []
+    → SpellsStrftime text done
 all_read text rest done before end =
-    let w = before no_directives rest tt refl in
-    (w.0, w.1, w.2 ∙ ap (λ t. directives_text w.0 ++ t) end ∙ append-nil (directives_text w.0), sym (w.3 ∙ append-nil done))
+    let w = before no_directives rest tt refl in (
+      w.0,
+      w.1,
+      w.2 ∙ ap (λ t. directives_text w.0 ++ t) end ∙ append-nil (directives_text w.0),
+      sym (w.3 ∙ append-nil done),
+    )
 
 -- so many pieces of a text were read, up to the rest
 abbrev pub CountsTo : Text → ℕ → Text → Type 0
@@ -146,23 +219,40 @@ CountsTo text n rest = (done : List Tree) × Continues text done rest × (n ≡ 
 pub counts_none : (text : Text) → CountsTo text 0 text
 counts_none text = ([], continues_first text, refl)
 
-pub counts_more : (text rest after : Text) (n : ℕ) → CountsTo text n rest → LeadsTo rest after → CountsTo text (n + 1) after
+pub counts_more : (text rest after : Text) (n : ℕ) → CountsTo text n rest → LeadsTo rest after
+    → CountsTo text (n + 1) after
 counts_more text rest after n before to = (
   before.0 ++ to.tree ∷ [],
   λ front tail are e. (
       let a = to.leads front tail are e in
-      let w = before.1 a.0 tail a.1 a.2 in
-      (w.0, w.1, w.2, w.3 ∙ ap (λ ts. before.0 ++ ts) a.3 ∙ sym (append_assoc before.0 (to.tree ∷ []) (directive_items front)))),
+      let w = before.1 a.0 tail a.1 a.2 in (
+        w.0,
+        w.1,
+        w.2,
+        w.3 ∙ ap (λ ts. before.0 ++ ts) a.3 ∙
+            sym (append_assoc before.0 (to.tree ∷ []) (directive_items front)),
+      )),
   omega (arith, before.2, length-append before.0 (to.tree ∷ [])),
 )
 
 pub all_counted : (text rest : Text) (n : ℕ) → CountsTo text n rest → rest ≡ [] → HasItems text n
 all_counted text rest n before end = (before.0, all_read text rest before.0 before.1 end, before.2)
 
-pub fault_behind : (text rest : Text) (done : List Tree) (f : code_fault.Fault) → Continues text done rest → IsStrftimeFaultAt rest f → IsStrftimeFaultIn text f
+pub fault_behind : (text rest : Text) (done : List Tree) (f : code_fault.Fault)
+    → Continues text done rest → IsStrftimeFaultAt rest f → IsStrftimeFaultIn text f
 fault_behind text rest done f before bad =
-    let w = before no_directives rest tt refl in
-    (w.0, bad.0, w.1, bad.1, w.2 ∙ ap (λ t. directives_text w.0 ++ t) bad.2, subst (λ (t : Text). IsFault (length t) f (ill_fault bad.0)) bad.2 bad.3)
+    let w = before no_directives rest tt refl in (
+      w.0,
+      bad.0,
+      w.1,
+      bad.1,
+      w.2 ∙ ap (λ t. directives_text w.0 ++ t) bad.2,
+      subst (λ (t : Text). IsFault (length t) f (ill_fault bad.0)) bad.2 bad.3,
+    )
+
+pub counted_fault : (text rest : Text) (n : ℕ) (f : code_fault.Fault) → CountsTo text n rest
+    → IsStrftimeFaultAt rest f → IsStrftimeFaultIn text f
+counted_fault text rest n f before bad = fault_behind text rest before.0 f before.1 bad
 
 -- Whole texts.
 
@@ -171,44 +261,71 @@ pub record WholeFault (text : Text) (f : code_fault.Fault) : Type 0 where
   pub assigned : StrftimeFaultOf text g
   pub is : IsFault (length text) f g
 
-pub whole_fault : (text : Text) (f : code_fault.Fault) → IsStrftimeFaultIn text f → WholeFault text f
+pub whole_fault : (text : Text) (f : code_fault.Fault) → IsStrftimeFaultIn text f
+    → WholeFault text f
 whole_fault text f h = record {
   g = raised (ill_fault h.1) (length (directives_text h.0));
   assigned = (h.0, h.1, h.2, h.3, h.4, refl);
-  is = record { kind = h.5.kind; place = omega (arith, h.5.place, ap length h.4, length-append (directives_text h.0) (ill_text h.1)) };
+  is = record {
+    kind = h.5.kind;
+    place =
+        omega (arith, h.5.place, ap length h.4, length-append (directives_text h.0) (ill_text h.1));
+  };
 }
 
 pub one : (text : Text) → HasOneStrftimeAnswer text
 one text = (strftime_one_answer_law text).1
 
-pub counted_once : (text : Text) (n : ℕ) → HasItems text n → (list : List Tree) → SpellsStrftime text list → n ≡ length list
+pub counted_once : (text : Text) (n : ℕ) → HasItems text n → (list : List Tree)
+    → SpellsStrftime text list → n ≡ length list
 counted_once text n found list s = found.2 ∙ ap length ((one text).one_list found.0 list found.1 s)
 
-pub counted_unrefused : (text : Text) (n : ℕ) → HasItems text n → (f : Fault) → StrftimeFaultOf text f → ⊥
+pub counted_unrefused : (text : Text) (n : ℕ) → HasItems text n → (f : Fault)
+    → StrftimeFaultOf text f → ⊥
 counted_unrefused text n found f h = (one text).not_both found.0 f found.1 h
 
--- What the caller is told.
+-- What the caller is lent.
 
-pub told_strftime : (text : Text) (e : ReadError) (r : ParseError) → MemoryOr (IsStrftimeFaultIn text) e → Tells (length text) e r → IsStrftimeFault text r
-told_strftime text e (Memory m) h told = tt
-told_strftime text errors.Memory (Invalid x) h told = absurd told
-told_strftime text (errors.Invalid f) (Invalid x) h told =
+pub lent_strftime : (text : Text) (e : ReadError) (r : BorrowedParseError)
+    → MemoryOr (IsStrftimeFaultIn text) e → Lends (length text) e r
+    → IsLentOf (StrftimeFaultOf text) r
+lent_strftime text e (Memory m) h lent = tt
+lent_strftime text errors.Memory (Invalid x) h lent = absurd lent
+lent_strftime text (errors.Invalid f) (Invalid x) h lent =
     let w = whole_fault text f h in
-    subst (StrftimeFaultOf text) (sym (told w.g w.is)) w.assigned
+    subst (StrftimeFaultOf text) (sym (lent w.g w.is)) w.assigned
 
-pub told_strftime_spelled : (text : Text) (e : ReadError) (r : ParseError) (list : List Tree) → MemoryOr (IsStrftimeFaultIn text) e → Tells (length text) e r → SpellsStrftime text list → MemoryAlone r
-told_strftime_spelled text e (Memory m) list h told s = tt
-told_strftime_spelled text errors.Memory (Invalid x) list h told s = told
-told_strftime_spelled text (errors.Invalid f) (Invalid x) list h told s =
+pub lent_strftime_fault : (text : Text) (f : code_fault.Fault) (b : BorrowedFault)
+    → IsStrftimeFaultIn text f → ((g : Fault) → IsFault (length text) f g → lent_fault b ≡ g)
+    → StrftimeFaultOf text (lent_fault b)
+lent_strftime_fault text f b h lent =
+    let w = whole_fault text f h in
+    subst (StrftimeFaultOf text) (sym (lent w.g w.is)) w.assigned
+
+pub lent_strftime_spelled : (text : Text) (e : ReadError) (r : BorrowedParseError)
+    (list : List Tree) → MemoryOr (IsStrftimeFaultIn text) e → Lends (length text) e r
+    → SpellsStrftime text list → IsMemory r
+lent_strftime_spelled text e (Memory m) list h lent s = tt
+lent_strftime_spelled text errors.Memory (Invalid x) list h lent s = lent
+lent_strftime_spelled text (errors.Invalid f) (Invalid x) list h lent s =
     let w = whole_fault text f h in
     (one text).not_both list w.g s w.assigned
 
-pub told_strftime_refused : (text : Text) (e : ReadError) (r : ParseError) (f : Fault) → MemoryOr (IsStrftimeFaultIn text) e → Tells (length text) e r → StrftimeFaultOf text f → IsFaultOrMemory f r
-told_strftime_refused text e (Memory m) f h told is = tt
-told_strftime_refused text errors.Memory (Invalid x) f h told is = absurd told
-told_strftime_refused text (errors.Invalid g) (Invalid x) f h told is =
+pub lent_strftime_refused : (text : Text) (e : ReadError) (r : BorrowedParseError) (f : Fault)
+    → MemoryOr (IsStrftimeFaultIn text) e → Lends (length text) e r → StrftimeFaultOf text f
+    → IsLentOrMemory f r
+lent_strftime_refused text e (Memory m) f h lent is = tt
+lent_strftime_refused text errors.Memory (Invalid x) f h lent is = absurd lent
+lent_strftime_refused text (errors.Invalid g) (Invalid x) f h lent is =
     let w = whole_fault text g h in
-    told w.g w.is ∙ (one text).one_fault w.g f w.assigned is
+    lent w.g w.is ∙ (one text).one_fault w.g f w.assigned is
+
+-- The same of what the caller owns.
+
+pub owned_strftime : (text : Text) (e : BorrowedParseError) (r : ParseError)
+    → IsLentOf (StrftimeFaultOf text) e → IsOwned e r → IsStrftimeFault text r
+owned_strftime text e (told.Memory m) is owned = tt
+owned_strftime text e (told.Invalid x) is owned = owned_of (StrftimeFaultOf text) e x is owned
 
 -- an item and what follows it
 pub record IsPiece (text : Text) (piece : BorrowedFormatItem × Bor (List ℕ)) : Type 0 where
@@ -216,5 +333,6 @@ pub record IsPiece (text : Text) (piece : BorrowedFormatItem × Bor (List ℕ)) 
   pub rest : IsRestOf text piece.1.now
   pub strings : IsTrue (is_of_strings piece.0)
 
-pub piece_at : (text same : Text) (piece : BorrowedFormatItem × Bor (List ℕ)) → text ≡ same → IsPiece same piece → IsPiece text piece
+pub piece_at : (text same : Text) (piece : BorrowedFormatItem × Bor (List ℕ)) → text ≡ same
+    → IsPiece same piece → IsPiece text piece
 piece_at text same piece e is = subst (λ (t : Text). IsPiece t piece) (sym e) is

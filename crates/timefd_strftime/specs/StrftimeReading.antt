@@ -12,7 +12,7 @@ use Rattle.timefd_language.specs.declared.fault.Fault.{Fault}
 use Rattle.timefd_language.specs.Bytes.{StopsBefore}
 use Rattle.timefd_language.specs.Letters.{Flag, unflagged, flagged}
 use Rattle.timefd_strftime.specs.LetterMeaning.{flag_padding}
-use Rattle.timefd_language.specs.Shown.{IsFault}
+use Rattle.timefd_language.specs.FaultMeaning.{IsFault}
 use Rattle.timefd_language.specs.Strftime.{percent, is_flag, is_plain, flag_text, IsFlag, Directives, AreDirectives, directives_text, directive_items, SpellsStrftime, IllDirective, ill_text, ill_fault, IsIll}
 
 -- Steps.
@@ -30,7 +30,8 @@ MayFollow (flagged b) rest = ⊤
 -- the text is a flag, which asks for this padding, and the rest
 abbrev pub BeginsWithFlag : Text → Option Padding → Text → Type 0
 BeginsWithFlag text padding rest =
-    (f : Flag) × IsFlag f × (flag_padding f ≡ padding) × (text ≡ flag_text f ++ rest) × MayFollow f rest
+    (f : Flag) × IsFlag f × (flag_padding f ≡ padding) × (text ≡ flag_text f ++ rest)
+    × MayFollow f rest
 
 -- less of the text is left
 pub record IsRestOf (text rest : Text) : Type 0 where
@@ -39,11 +40,13 @@ pub record IsRestOf (text rest : Text) : Type 0 where
 
 -- Pieces.
 
--- The text is a piece, which is this tree, and the rest: what the rest begins with, the text begins with behind it.
+-- The text is a piece, which is this tree, and the rest: what the rest begins with, the text begins
+-- with behind it.
 abbrev pub Leads : Text → Tree → Text → Type 0
 Leads text tree rest =
     (front : Directives) (tail : Text) → AreDirectives front → rest ≡ directives_text front ++ tail
-    → (whole : Directives) × AreDirectives whole × (text ≡ directives_text whole ++ tail) × (directive_items whole ≡ tree ∷ directive_items front)
+    → (whole : Directives) × AreDirectives whole × (text ≡ directives_text whole ++ tail)
+    × (directive_items whole ≡ tree ∷ directive_items front)
 
 -- the text begins with a piece, which ends where the rest begins
 pub record LeadsTo (text rest : Text) : Type 0 where
@@ -59,14 +62,17 @@ HasItems text n = (list : List Tree) × SpellsStrftime text list × (n ≡ lengt
 
 -- the text begins with what is no directive, and this is its fault
 abbrev pub IsStrftimeFaultAt : Text → Fault → Type 0
-IsStrftimeFaultAt text f = (ill : IllDirective) × IsIll ill × (text ≡ ill_text ill) × IsFault (length text) f (ill_fault ill)
+IsStrftimeFaultAt text f = (ill : IllDirective) × IsIll ill × (text ≡ ill_text ill)
+    × IsFault (length text) f (ill_fault ill)
 
 -- a directive and the rest, or a fault
 abbrev pub ReadsDirective : Text → Result (BorrowedFormatItem × Bor (List ℕ)) Fault → Type 0
-ReadsDirective text r = MatchResult r (λ x. Leads text (item_tree x.0) x.1.now) (IsStrftimeFaultAt text)
+ReadsDirective text r = MatchResult r (λ x. Leads text (item_tree x.0) x.1.now)
+    (IsStrftimeFaultAt text)
 
 -- directives, and what is none behind them, with its fault
 abbrev pub IsStrftimeFaultIn : Text → Fault → Type 0
 IsStrftimeFaultIn text f =
     (front : Directives) × (ill : IllDirective) × AreDirectives front × IsIll ill
-    × (text ≡ directives_text front ++ ill_text ill) × IsFault (length (ill_text ill)) f (ill_fault ill)
+    × (text ≡ directives_text front ++ ill_text ill)
+    × IsFault (length (ill_text ill)) f (ill_fault ill)

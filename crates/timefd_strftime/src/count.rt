@@ -1,23 +1,43 @@
 //! How many items a text of strftime has, without making them.
 
-ghost use Rattle.std.specs.Prelude.{◌∷◌, MatchOption, ⊤};
+ghost use Rattle.std.specs.Prelude.{◌≡◌, ◌∷◌, List, IfOk, MatchResult, length};
+ghost use Rattle.std.specs.Result.{IfErr};
+ghost use Rattle.timefd_component.specs.Tree.{Tree};
 ghost use Rattle.timefd_strftime.specs.declared.text.PieceStart.TheVariants.{Literal};
-ghost use Rattle.timefd_language.specs.Strftime.{percent};
-ghost use Rattle.timefd_strftime.specs.StrftimeReading.{BeginsPiece, HasItems, LeadsTo};
+ghost use Rattle.timefd_language.specs.Strftime.{SpellsStrftime, StrftimeFaultOf, percent};
+ghost use Rattle.timefd_borrowed_fault.specs.BorrowedFaults.{lent_fault};
+ghost use Rattle.timefd_strftime.specs.StrftimeReading.{BeginsPiece, HasItems, IsStrftimeFaultAt, IsStrftimeFaultIn, LeadsTo};
 
+use crate::directive::{cut_short, unknown};
 use crate::letter::letter_of;
 use crate::text::{PieceStart, cut_flag, piece_start_of};
+use timefd_borrowed_fault::BorrowedFault;
+use timefd_language::fault::Fault;
 use timefd_language::text::{Class, cut, tail};
 
-/// How many items the text has; none where it has a fault.
-pub fn count_of(text: &str) -> Option<usize>
-    ensures { MatchOption result ⊤ (HasItems text.now) }
+/// How many items a text of strftime has. It takes no memory, and is this port's own.
+///
+/// The error is the fault of the text.
+pub fn count_strftime<'a>(s: &'a str) -> Result<usize, BorrowedFault<'a>>
+    ensures found { IfOk result (λ n. (list : List Tree) × SpellsStrftime s.now list
+        × (n ≡ length list)) }
+    ensures fault { IfErr result (λ f. StrftimeFaultOf s.now (lent_fault f)) }
+{
+    match count_of(s) {
+        Ok(count) => Ok(count),
+        Err(fault) => Err(BorrowedFault::of(fault, s.len())),
+    }
+}
+
+/// How many items the text has, or its fault.
+fn count_of<'a>(text: &'a str) -> Result<usize, Fault<'a>>
+    ensures { MatchResult result (HasItems text.now) (IsStrftimeFaultIn text.now) }
 {
     let mut count = 0;
     let mut rest = text;
     'pieces: loop {
         let after = match piece_start_of(rest) {
-            PieceStart::End => return Some(count),
+            PieceStart::End => return Ok(count),
             PieceStart::Directive(behind) => behind_directive(behind)?,
             PieceStart::Literal => behind_run(rest),
         };
@@ -26,18 +46,22 @@ pub fn count_of(text: &str) -> Option<usize>
     }
 }
 
-/// What follows the directive that has this behind its `%`, if it is one.
+/// What follows the directive that has this behind its `%`.
 #[inline(always)]
-fn behind_directive(behind: &str) -> Option<&str>
-    ensures { MatchOption result ⊤ (λ rest. LeadsTo (percent ∷ behind.now) rest.now) }
+fn behind_directive<'a>(behind: &'a str) -> Result<&'a str, Fault<'a>>
+    ensures { MatchResult result (λ rest. LeadsTo (percent ∷ behind.now) rest.now)
+        (IsStrftimeFaultAt (percent ∷ behind.now)) }
 {
-    let (_, text) = cut_flag(behind);
+    let (padding, text) = cut_flag(behind);
     let [byte, ..] = text.as_bytes() else {
-        return None;
+        return Err(cut_short(padding));
     };
     match letter_of(*byte) {
-        Some(_) => Some(tail(text)),
-        None => None,
+        Some(_) => Ok(tail(text)),
+        None => Err(Fault {
+            kind: unknown(text),
+            remaining: text.len(),
+        }),
     }
 }
 

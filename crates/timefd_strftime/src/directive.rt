@@ -5,7 +5,7 @@ ghost use Rattle.timefd_format_item.specs.Meaning.{item_tree};
 ghost use Rattle.timefd_strftime.specs.LetterMeaning.{flag_padding, letter_tree};
 ghost use Rattle.timefd_language.specs.Letters.{Flag};
 ghost use Rattle.timefd_language.specs.Fault.{expected_escape};
-ghost use Rattle.timefd_language.specs.Shown.{kind_of};
+ghost use Rattle.timefd_language.specs.FaultMeaning.{kind_of};
 ghost use Rattle.timefd_language.specs.Strftime.{cut_index, flag_text, percent, unknown_kind};
 ghost use Rattle.timefd_strftime.specs.StrftimeReading.{IsRestOf, ReadsDirective};
 ghost use Rattle.timefd_language.specs.Strings.{is_of_strings};
@@ -15,7 +15,7 @@ use crate::letter::{Letter, letter_of, padded};
 use crate::tables::StrftimeTables;
 use crate::text::cut_flag;
 use timefd_format_item::BorrowedFormatItem;
-use timefd_language::fault::{Fault, Kind};
+use timefd_language::fault::{Fault, FaultKind};
 use timefd_language::text::tail;
 use timefd_modifier::Padding;
 
@@ -43,16 +43,17 @@ pub fn directive<'a>(
 }
 
 /// The fault of a text that ends before a letter: it stands at the `%`, or right behind the flag.
-fn cut_short<'a>(padding: Option<Padding>) -> Fault<'a>
+pub fn cut_short<'a>(padding: Option<Padding>) -> Fault<'a>
     ensures kind { kind_of result.kind ≡ expected_escape }
-    ensures place { (f : Flag) → flag_padding f ≡ padding → cut_index f + result.remaining ≡ 1 + length (flag_text f) }
+    ensures place { (f : Flag) → flag_padding f ≡ padding
+        → cut_index f + result.remaining ≡ 1 + length (flag_text f) }
 {
     let remaining = match padding {
         Some(_) => 0,
         None => 1,
     };
     Fault {
-        kind: Kind::Expected("valid escape sequence"),
+        kind: FaultKind::Expected("valid escape sequence"),
         remaining,
     }
 }
@@ -78,15 +79,15 @@ fn item<'a>(
 }
 
 /// Why a text in a letter's place, which begins with none, is refused.
-fn unknown(text: &str) -> Kind<'_>
+pub fn unknown(text: &str) -> FaultKind<'_>
     requires { 0 < length text.now }
     ensures { kind_of result ≡ unknown_kind (slice_index text.now 0) }
 {
     let first = text.as_bytes()[0];
     match first {
-        b'O' => Kind::NotSupported("modifier", ""),
-        b'Z' => Kind::NotSupported("component", ""),
-        byte if byte.is_ascii() => Kind::InvalidName(text.split_at(1).0),
-        _ => Kind::InvalidName("\u{FFFD}"),
+        b'O' => FaultKind::NotSupported("modifier", ""),
+        b'Z' => FaultKind::NotSupported("component", ""),
+        byte if byte.is_ascii() => FaultKind::InvalidName(text.split_at(1).0),
+        _ => FaultKind::InvalidName("\u{FFFD}"),
     }
 }

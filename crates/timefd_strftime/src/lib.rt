@@ -9,8 +9,8 @@ mod parsing;
 mod tables;
 mod text;
 
-pub use count::count_of;
-pub use parsing::parse_strftime_borrowed;
+pub use count::count_strftime;
+pub use parsing::{parse_strftime_all_borrowed, parse_strftime_borrowed};
 pub use tables::StrftimeTables;
 pub use timefd_format_item::BorrowedFormatItem;
 pub use timefd_language::ParseError;

@@ -6,10 +6,11 @@ ghost use Rattle.timefd_fault.specs.Faults as spec;
 ghost use Rattle.timefd_format_item.specs.Meaning.{item_tree, item_trees};
 ghost use Rattle.timefd_component.specs.Tree.{Tree};
 ghost use Rattle.timefd_strftime.specs.declared.text.PieceStart.TheVariants.{Literal};
+ghost use Rattle.timefd_borrowed_fault.specs.BorrowedFaults.{IsLentOf, IsLentOrMemory, IsMemory};
 ghost use Rattle.timefd_language.specs.Told.{IsFaultOrMemory, MemoryAlone};
 ghost use Rattle.timefd_language.specs.Strftime.{SpellsStrftime, StrftimeFaultOf};
 ghost use Rattle.timefd_strftime.specs.StrftimeAnswers.{IsStrftimeFault};
-ghost use Rattle.timefd_language.specs.Shown.{MemoryOr};
+ghost use Rattle.timefd_language.specs.FaultMeaning.{MemoryOr};
 ghost use Rattle.timefd_strftime.specs.StrftimeReading.{BeginsPiece, IsStrftimeFaultIn, IsRestOf, Leads};
 ghost use Rattle.timefd_language.specs.Strings.{are_of_strings, is_of_strings};
 
@@ -18,9 +19,10 @@ use crate::item::literal_item;
 use crate::tables::StrftimeTables;
 use crate::text::{PieceStart, piece_start_of};
 use std::alloc::Global;
+use timefd_borrowed_fault::borrowed_parse_error::{BorrowedParseError, lent};
 use timefd_format_item::BorrowedFormatItem;
 use timefd_language::fault::ReadError;
-use timefd_language::parse_error::{ParseError, told};
+use timefd_language::parse_error::ParseError;
 use timefd_language::text::{Class, cut};
 
 /// Reads a text of strftime: `time`'s `parse_strftime_borrowed`. The items of composite letters borrow
@@ -37,8 +39,41 @@ pub fn parse_strftime_borrowed<'a>(
     ensures fault { IfErr result (IsStrftimeFault s.now) }
 
     // What is spelled is accepted, and what has a fault is refused for it, unless memory runs out.
-    ensures spelled { (list : List Tree) → SpellsStrftime s.now list → MatchResult result (λ items. item_trees items.items ≡ list) MemoryAlone }
-    ensures refused { (f : spec.Fault) → StrftimeFaultOf s.now f → MatchResult result (λ _. ⊥) (IsFaultOrMemory f) }
+    ensures spelled { (list : List Tree) → SpellsStrftime s.now list
+        → MatchResult result (λ items. item_trees items.items ≡ list) MemoryAlone }
+    ensures refused { (f : spec.Fault) → StrftimeFaultOf s.now f
+        → MatchResult result (λ _. ⊥) (IsFaultOrMemory f) }
+
+    // No literal is one of bytes, not even in a composite letter's list.
+    ensures strings { IfOk result (λ items. IsTrue (are_of_strings items.items)) }
+
+    // The empty text takes no memory.
+    ensures empty { s.now ≡ [] → IsOk result }
+{
+    match parse_strftime_all_borrowed(alloc, tables, s) {
+        Ok(items) => Ok(items),
+        Err(error) => Err(error.into_owned(alloc)),
+    }
+}
+
+/// Reads a text of strftime as `parse_strftime_borrowed` does, with a fault that borrows what it
+/// quotes. This call is this port's own.
+///
+/// The error is `Invalid` with the fault of the text, or `Memory` where memory ran out.
+pub fn parse_strftime_all_borrowed<'a>(
+    alloc: Global,
+    tables: &'a StrftimeTables<'a>,
+    s: &'a str,
+) -> Result<Vec<BorrowedFormatItem<'a>>, BorrowedParseError<'a>>
+    // What is accepted is spelled so, and what is refused is refused for the fault that the rules assign.
+    ensures found { IfOk result (λ items. SpellsStrftime s.now (item_trees items.items)) }
+    ensures fault { IfErr result (IsLentOf (StrftimeFaultOf s.now)) }
+
+    // What is spelled is accepted, and what has a fault is refused for it, unless memory runs out.
+    ensures spelled { (list : List Tree) → SpellsStrftime s.now list
+        → MatchResult result (λ items. item_trees items.items ≡ list) IsMemory }
+    ensures refused { (f : spec.Fault) → StrftimeFaultOf s.now f
+        → MatchResult result (λ _. ⊥) (IsLentOrMemory f) }
 
     // No literal is one of bytes, not even in a composite letter's list.
     ensures strings { IfOk result (λ items. IsTrue (are_of_strings items.items)) }
@@ -48,7 +83,7 @@ pub fn parse_strftime_borrowed<'a>(
 {
     match items(alloc, tables, s) {
         Ok(items) => Ok(items),
-        Err(error) => Err(told(alloc, error, s.len())),
+        Err(error) => Err(lent(error, s.len())),
     }
 }
 

@@ -9,9 +9,11 @@ use Rattle.timefd_language.specs.Told.{MemoryAlone}
 use Rattle.timefd_language.specs.Grammar.{Spells, items, nesting_limit}
 use Rattle.timefd_lift.specs.Answers.{IsRewritten, HasItemsOf}
 
-pub no_fault : (text answer read : Text) (e : ParseError) (f : InvalidFormatDescription) → read ≡ answer
+pub no_fault : (text answer read : Text) (e : ParseError) (f : InvalidFormatDescription)
+    → read ≡ answer
     → IsRewritten text answer → HasItemsOf text answer
-    → ((list : List Tree) → Spells Two nesting_limit 0 read list → MemoryAlone e) → e ≡ Invalid f → ⊥
+    → ((list : List Tree) → Spells Two nesting_limit 0 read list → MemoryAlone e) → e ≡ Invalid f
+    → ⊥
 no_fault text answer read e f same r has memory is =
     let two = has (items r.0) (r.0, r.1.0, r.1.1, refl) in
     subst MemoryAlone is (memory two.0 (rw same two.1))

@@ -17,9 +17,12 @@ column_behind front = char_count (begun_line front) + 1
 abbrev pub message : Text → ℕ → ℕ → Text → Text → Text
 message name line column sentence shown =
     name ++ (codes ":" ++ (decimal line ++ (codes ":" ++ (decimal column ++ (codes ": " ++ (sentence
-    ++ (codes "\n" ++ (shown ++ (codes "\n" ++ ((replicate (column - 1) 32 ++ codes "^") ++ codes "\n"))))))))))
+    ++ (codes
+    "\n" ++ (shown ++ (codes "\n" ++ ((replicate (column - 1) 32 ++ codes "^") ++ codes
+    "\n"))))))))))
 
 -- The message names the fault's line and column, and has its sentence and a caret under its column.
 abbrev pub IsMessage : Text → Text → Fault → Text → Type 0
 IsMessage name text f result =
-    (shown : Text) × (result ≡ message name (line_behind (take f.index text)) (column_behind (take f.index text)) (sentence f) shown)
+    (shown : Text) × (result ≡ message name (line_behind (take f.index text))
+    (column_behind (take f.index text)) (sentence f) shown)

@@ -52,7 +52,8 @@ fn full_year(
     padding: Padding,
     year: u16,
 ) -> Result<String, AllocError>
-    ensures { IfOk result (λ text. string_bytes text ≡ plus_where sign_is_mandatory ++ filled padding 4 year) }
+    ensures { IfOk result (λ text. string_bytes text ≡ plus_where sign_is_mandatory ++ filled
+        padding 4 year) }
 {
     let digits = four_digits(alloc, padding, year)?;
     if sign_is_mandatory {

@@ -16,7 +16,8 @@ pub struct Date {
 impl Date {
     /// The date of these numbers, where they are ones of a date.
     pub fn new(year: u16, month: u8, day: u8) -> Option<Date>
-        ensures { IfSome result (λ date. (date.year ≡ year) × (date.month ≡ month) × (date.day ≡ day)) }
+        ensures { IfSome result (λ date. (date.year ≡ year) × (date.month ≡ month)
+            × (date.day ≡ day)) }
     {
         if year <= 9999 && 1 <= month && month <= 12 && 1 <= day && day <= 31 {
             Some(Date { year, month, day })

@@ -19,7 +19,8 @@ pub fn lint(
     name: &str,
     text: &str,
 ) -> Result<Option<String>, AllocError>
-    ensures accepted { IfOk result (λ found. found ≡ None → (list : List Tree) × Spells version nesting_limit 0 text.now list) }
+    ensures accepted { IfOk result (λ found. found ≡ None
+        → (list : List Tree) × Spells version nesting_limit 0 text.now list) }
     ensures refused { IfOk result (λ found. IfSome found (λ message.
         (f : spec.Fault) × FaultOf version nesting_limit text.now f × IsMessage name.now text.now f (string_bytes message))) }
 {
@@ -37,7 +38,8 @@ fn message(
     text: &str,
     fault: &InvalidFormatDescription,
 ) -> Result<String, AllocError>
-    ensures { IfOk result (λ message. IsMessage name.now text.now (spec.fault_of fault.now) (string_bytes message)) }
+    ensures { IfOk result (λ message. IsMessage name.now text.now (spec.fault_of fault.now)
+        (string_bytes message)) }
 {
     let Place { line, column } = place_of(text, fault.index());
     let shown = text.lines().nth(line - 1).unwrap_or("");

@@ -20,7 +20,8 @@ impl Place {
     fn behind(self, byte: u8) -> Place
         requires { (self.line < 2 ^ 63) × (self.column < 2 ^ 63) }
         ensures line { result.line ≡ self.line + (if byte == 10 then 1 else 0) }
-        ensures column { result.column ≡ (if byte == 10 then 1 else self.column + (if is_char_start byte then 1 else 0)) }
+        ensures column { result.column
+            ≡ (if byte == 10 then 1 else self.column + (if is_char_start byte then 1 else 0)) }
     {
         if byte == b'\n' {
             Place {

@@ -17,7 +17,8 @@ pub struct Upgraded {
 /// The text of version 2 that means what a stored text of version 1 means. It is an error where
 /// version 1 refuses the text, and where memory runs out.
 pub fn upgrade(alloc: Global, stored: &str) -> Result<Upgraded, ParseError>
-    ensures same_items { IfOk result (λ upgraded. HasItemsOf stored.now (string_bytes upgraded.text)) }
+    ensures same_items { IfOk result
+        (λ upgraded. HasItemsOf stored.now (string_bytes upgraded.text)) }
 {
     let text = match v1_to_v2(alloc, stored) {
         Ok(text) => text,

@@ -20,8 +20,10 @@ pub fn write_date(
     date: Date,
     description: &FormatDescriptionV3<'_>,
 ) -> Result<String, WriteError>
-    ensures rendered { IfOk result (λ text. Renders (description_tree description.now) (string_bytes text)) }
-    ensures within { IfOk result (λ text. length (string_bytes text) ≤ reserve (description_tree description.now)) }
+    ensures rendered { IfOk result (λ text. Renders (description_tree description.now)
+        (string_bytes text)) }
+    ensures within { IfOk result (λ text. length (string_bytes text) ≤ reserve
+        (description_tree description.now)) }
 {
     let mut out = String::with_capacity(alloc, description.max_bytes_needed())?;
     write(alloc, &mut out, date, &description.to_inner(alloc)?)?;
@@ -36,7 +38,8 @@ fn write(
     date: Date,
     part: &FormatDescriptionV3Inner<'_>,
 ) -> Result<(), WriteError>
-    ensures { OnOk result (Appends (inner_tree part.now) (string_bytes out.old) (string_bytes out.new)) }
+    ensures { OnOk result (Appends (inner_tree part.now) (string_bytes out.old)
+        (string_bytes out.new)) }
 {
     match part {
         FormatDescriptionV3Inner::Day(day) => {
@@ -99,7 +102,8 @@ fn write_all(
     date: Date,
     parts: &[FormatDescriptionV3Inner<'_>],
 ) -> Result<(), WriteError>
-    ensures { OnOk result (AppendsAll (trees (map inner_tree parts.now)) (string_bytes out.old) (string_bytes out.new)) }
+    ensures { OnOk result (AppendsAll (trees (map inner_tree parts.now)) (string_bytes out.old)
+        (string_bytes out.new)) }
 {
     'parts: for at in 0..parts.len() {
         write(alloc, out, date, &parts[at])?;

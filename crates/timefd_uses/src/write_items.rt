@@ -34,7 +34,8 @@ fn write(
     date: Date,
     item: &BorrowedFormatItem<'_>,
 ) -> Result<(), WriteError>
-    ensures { OnOk result (Appends (item_tree item.now) (string_bytes out.old) (string_bytes out.new)) }
+    ensures { OnOk result (Appends (item_tree item.now) (string_bytes out.old)
+        (string_bytes out.new)) }
 {
     match *item {
         BorrowedFormatItem::Literal(_) => Err(WriteError::NotOfADate),
@@ -57,7 +58,8 @@ fn write_all(
     date: Date,
     items: &[BorrowedFormatItem<'_>],
 ) -> Result<(), WriteError>
-    ensures { OnOk result (AppendsAll (trees (item_trees items.now)) (string_bytes out.old) (string_bytes out.new)) }
+    ensures { OnOk result (AppendsAll (trees (item_trees items.now)) (string_bytes out.old)
+        (string_bytes out.new)) }
 {
     'items: for at in 0..items.len() {
         write(alloc, out, date, &items[at])?;

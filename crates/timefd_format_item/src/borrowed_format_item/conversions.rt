@@ -58,7 +58,8 @@ impl<'a> BorrowedFormatItem<'a> {
     /// `TryFrom` onto a slice.
     pub fn into_items(self) -> Result<&'a [BorrowedFormatItem<'a>], DifferentVariant>
         ensures content { IfOk result (λ items. self.entry ≡ BorrowedFormatItem.Compound items) }
-        ensures ok { IfOk result (λ items. trees_in (item_tree self.entry) ≡ Some (trees (item_trees items.now))) }
+        ensures ok { IfOk result (λ items. trees_in (item_tree self.entry) ≡ Some
+            (trees (item_trees items.now))) }
         ensures err { IfErr result (λ e. trees_in (item_tree self.entry) ≡ None) }
     {
         match self {
@@ -79,7 +80,8 @@ impl<'a> BorrowedFormatItem<'a> {
 
     /// Whether this is `Compound` of equal items. It stands for `==` with a slice.
     pub fn eq_items(&self, other: &[BorrowedFormatItem<'_>]) -> bool
-        ensures { IsTrue result ↔ (trees_in (item_tree self.now) ≡ Some (trees (item_trees other.now))) }
+        ensures { IsTrue result ↔ (trees_in (item_tree self.now) ≡ Some
+            (trees (item_trees other.now))) }
     {
         match self.into_items() {
             Ok(items) => same_all(items, other),

@@ -1,7 +1,7 @@
 //! Descriptions put together part by part.
 
-ghost use Rattle.std.specs.Prelude.{◌≡◌, ◌-◌, ◌^◌, ◌≤◌, None, if◌then◌else◌, length};
-ghost use Rattle.timefd_node_list.specs.NodeTrees.{list_trees};
+ghost use Rattle.std.specs.Prelude.{◌≡◌, ◌+◌, ◌-◌, ◌^◌, ◌≤◌, length};
+ghost use Rattle.timefd_node_list.specs.NodeTrees.{list_trees, node_count, room as list_room};
 ghost use Rattle.timefd_node_list.specs.Nodes.{largest};
 ghost use Rattle.timefd_node_list.specs.Tallies.{IsSum, IsSum-prop};
 
@@ -9,7 +9,7 @@ use super::FormatDescriptionV3;
 use std::alloc::{AllocError, Global};
 use timefd_component::Component;
 use timefd_node_list::node_list::NodeList;
-use timefd_node_list::tally::{ending_tally, sum_within};
+use timefd_node_list::tally::ending_tally;
 
 /// A description that is put together part by part: trees side by side, to which literals and
 /// components are added, and of which the last become one. After an `Err`, which comes where there
@@ -17,18 +17,20 @@ use timefd_node_list::tally::{ending_tally, sum_within};
 #[derive(Drop)]
 pub struct DescriptionBuilder<'a> {
     list: NodeList<'a>,
-    len: usize,
-    // The bytes that all of them reserve, where that is known.
-    bytes: Option<usize>,
-    ghost counted: { len ≡ length (list_trees list) },
+    // How many nodes stand inside of trees. Adding a part leaves that as it is.
+    inner: usize,
+    // Whether it is known what all of them reserve, and then that, at most `usize::MAX`.
+    known: bool,
+    bytes: usize,
+    ghost counted: { inner + length (list_trees list) ≡ node_count list },
     // So the sum of what their nodes keep is the sum of what they reserve.
     ghost each_fits: { largest (list_trees list) ≤ 2 ^ 64 - 1 },
-    ghost summed: { IsSum (list_trees list) bytes } by { IsSum-prop (list_trees list) bytes },
+    ghost summed: { IsSum (list_trees list) known bytes } by { IsSum-prop (list_trees list) known bytes },
 }
 
 impl<'a> DescriptionBuilder<'a> {
-    ghost use Rattle.std.specs.Prelude.{◌≡◌, ◌++◌, ◌∷◌, [], nat_le, IfOk, IsOk, OnErr, OnOk};
-    ghost use Rattle.timefd_items.specs.Builder.{built};
+    ghost use Rattle.std.specs.Prelude.{◌≡◌, ◌++◌, ◌∷◌, [], ◌+◌, nat_le, IfOk, IsOk, OnErr, OnOk};
+    ghost use Rattle.timefd_items.specs.Builder.{built, room};
     ghost use Rattle.timefd_items.specs.Description.{description_tree};
     ghost use Rattle.timefd_component.specs.Modern.{modern};
     ghost use Rattle.timefd_node_list.specs.Nodes.{before, ending};
@@ -40,10 +42,31 @@ impl<'a> DescriptionBuilder<'a> {
     pub fn new(alloc: Global) -> Self
         ensures { built result ≡ [] }
     {
+        DescriptionBuilder::empty(NodeList::new(alloc))
+    }
+
+    /// No trees, with room for so many parts, where a caller knows how many it will add. An `Err`
+    /// comes where there is no memory left.
+    pub fn with_capacity(alloc: Global, count: usize) -> Result<Self, AllocError>
+        ensures empty { IfOk result (λ builder. built builder ≡ []) }
+        ensures room { IfOk result (λ builder. count ≤ room builder) }
+        ensures no_memory { count ≡ 0 → IsOk result }
+    {
+        let list = NodeList::with_capacity(alloc, count)?;
+        Ok(DescriptionBuilder::empty(list))
+    }
+
+    fn empty(list: NodeList<'a>) -> Self
+        requires trees { list_trees list ≡ [] }
+        requires nodes { node_count list ≡ 0 }
+        ensures empty { built result ≡ [] }
+        ensures room { room result ≡ list_room list.entry }
+    {
         DescriptionBuilder {
-            list: NodeList::new(alloc),
-            len: 0,
-            bytes: Some(0),
+            list,
+            inner: 0,
+            known: true,
+            bytes: 0,
         }
     }
 
@@ -52,15 +75,26 @@ impl<'a> DescriptionBuilder<'a> {
     pub fn reserve(&mut self, count: usize) -> Result<(), AllocError>
         ensures kept { built self.new ≡ built self.old }
         ensures no_memory { count ≡ 0 → IsOk result }
+        ensures room { OnOk result (count ≤ room self.new) }
+        ensures grows { room self.old ≤ room self.new }
+        ensures succeeds { count ≤ room self.old → IsOk result }
     {
         self.list.reserve(count)
+    }
+
+    /// For how many parts more there is room: so many calls that add a part, or make one of the
+    /// last ones, take no memory.
+    pub fn room(&self) -> usize
+        ensures { result ≡ room self.now }
+    {
+        self.list.room()
     }
 
     /// How many trees there are.
     pub fn len(&self) -> usize
         ensures { result ≡ length (built self.now) }
     {
-        self.len
+        self.list.node_count() - self.inner
     }
 
     /// Whether a `usize` counts the bytes that the last trees, so many, reserve.
@@ -75,23 +109,26 @@ impl<'a> DescriptionBuilder<'a> {
     pub fn literal(&mut self, text: &'a str) -> Result<(), AllocError>
         ensures added { OnOk result (built self.new ≡ built self.old ++ literal text.now ∷ []) }
         ensures kept { OnErr result (built self.new ≡ built self.old) }
+        ensures uses { room self.old ≤ room self.new + 1 }
+        ensures succeeds { 1 ≤ room self.old → IsOk result }
     {
         self.list.reserve(1)?;
         self.list.literal(text);
-        self.len += 1;
-        self.bytes = sum_within(self.bytes, text.len());
+        self.bytes = self.bytes.saturating_add(text.len());
         Ok(())
     }
 
     /// Adds a component, in its modern form.
     pub fn component(&mut self, component: Component) -> Result<(), AllocError>
-        ensures added { OnOk result (built self.new ≡ built self.old ++ spec.component (modern component) ∷ []) }
+        ensures added { OnOk result
+            (built self.new ≡ built self.old ++ spec.component (modern component) ∷ []) }
         ensures kept { OnErr result (built self.new ≡ built self.old) }
+        ensures uses { room self.old ≤ room self.new + 1 }
+        ensures succeeds { 1 ≤ room self.old → IsOk result }
     {
         self.list.reserve(1)?;
         let bytes = self.list.component(component);
-        self.len += 1;
-        self.bytes = sum_within(self.bytes, bytes);
+        self.bytes = self.bytes.saturating_add(bytes);
         Ok(())
     }
 
@@ -101,41 +138,52 @@ impl<'a> DescriptionBuilder<'a> {
     pub fn pack(&mut self, count: usize) -> Result<(), AllocError>
         requires there { count ≤ length (built self.old) }
         requires fits { reserve_all (trees (ending count (built self.old))) ≤ usize.MAX }
-        ensures packed { OnOk result (built self.new ≡ before count (built self.old) ++ pack (ending count (built self.old)) ∷ []) }
+        ensures packed { OnOk result
+            (built self.new ≡ before count (built self.old) ++ pack
+            (ending count (built self.old)) ∷ []) }
         ensures kept { OnErr result (built self.new ≡ built self.old) }
         ensures one { count ≡ 1 → IsOk result }
+        ensures uses { room self.old ≤ room self.new + 1 }
+        ensures succeeds { 1 ≤ room self.old → IsOk result }
     {
         if count == 1 {
             return Ok(());
         }
         self.list.reserve(1)?;
         self.list.compound(count);
-        self.len = self.len - count + 1;
+        self.inner += count;
         Ok(())
     }
 
     /// Makes the last tree one that a parser may skip.
     pub fn optional(&mut self, format: bool) -> Result<(), AllocError>
         requires { 1 ≤ length (built self.old) }
-        ensures made { OnOk result (built self.new ≡ before 1 (built self.old) ++ optional format (pack (ending 1 (built self.old))) ∷ []) }
+        ensures made { OnOk result (built self.new ≡ before 1 (built self.old) ++ optional format
+            (pack (ending 1 (built self.old))) ∷ []) }
         ensures kept { OnErr result (built self.new ≡ built self.old) }
+        ensures uses { room self.old ≤ room self.new + 1 }
+        ensures succeeds { 1 ≤ room self.old → IsOk result }
     {
         self.list.reserve(1)?;
         self.list.optional(format);
-        self.bytes = sum_if(self.bytes, format);
+        self.inner += 1;
+        self.known &= format;
         Ok(())
     }
 
     /// Makes the last trees, so many, the alternatives of one.
     pub fn first(&mut self, count: usize) -> Result<(), AllocError>
         requires { count ≤ length (built self.old) }
-        ensures made { OnOk result (built self.new ≡ before count (built self.old) ++ first (trees (ending count (built self.old))) ∷ []) }
+        ensures made { OnOk result (built self.new ≡ before count (built self.old) ++ first
+            (trees (ending count (built self.old))) ∷ []) }
         ensures kept { OnErr result (built self.new ≡ built self.old) }
+        ensures uses { room self.old ≤ room self.new + 1 }
+        ensures succeeds { 1 ≤ room self.old → IsOk result }
     {
         self.list.reserve(1)?;
         self.list.first(count);
-        self.len = self.len - count + 1;
-        self.bytes = None;
+        self.inner += count;
+        self.known = false;
         Ok(())
     }
 
@@ -143,28 +191,26 @@ impl<'a> DescriptionBuilder<'a> {
     /// and an `Err` drops the trees.
     pub fn finish(self) -> Result<FormatDescriptionV3<'a>, AllocError>
         requires { reserve_all (trees (built self)) ≤ usize.MAX }
-        ensures ok { IfOk result (λ description. description_tree description ≡ pack (built self.entry)) }
+        ensures ok { IfOk result (λ description. description_tree description ≡ pack
+            (built self.entry)) }
         ensures empty { built self.entry ≡ [] → IsOk result }
+        ensures succeeds { 1 ≤ room self.entry → IsOk result }
     {
         let DescriptionBuilder {
             mut list,
-            len,
+            inner,
+            known,
             bytes,
         } = self;
+        let len = list.node_count() - inner;
         if len > 1 {
             list.reserve(1)?;
-            match bytes {
-                Some(bytes) => list.compound_of_all(len, bytes),
-                None => list.compound(len),
+            if known {
+                list.compound_of_all(len, bytes);
+            } else {
+                list.compound(len);
             }
         }
         Ok(FormatDescriptionV3 { list })
     }
-}
-
-/// The sum, if the last of what it counts is formatted, and so still counts.
-fn sum_if(sum: Option<usize>, format: bool) -> Option<usize>
-    ensures { result ≡ (if format then sum else None) }
-{
-    if format { sum } else { None }
 }

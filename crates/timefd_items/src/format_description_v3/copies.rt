@@ -1,7 +1,7 @@
 //! Copies of descriptions, of the same meaning.
 
-ghost use Rattle.std.specs.Prelude.{◌≡◌, IfOk, IfSome, map};
-ghost use Rattle.timefd_items.specs.Meaning.{inner_tree};
+ghost use Rattle.std.specs.Prelude.{◌≡◌, IfOk, IfSome, IsFalse, IsOk, map};
+ghost use Rattle.timefd_items.specs.Meaning.{inner_tree, owns};
 ghost use Rattle.timefd_component.specs.Modern.{modern};
 ghost use Rattle.timefd_component.specs.Tree.{component_in, optional};
 
@@ -11,10 +11,11 @@ use timefd_component::Component;
 
 impl<'a> FormatDescriptionV3Inner<'a> {
     /// A copy of the same meaning, which borrows what this one borrows and owns what it owns. An
-    /// `Err` comes where there is no memory left for it.
+    /// `Err` comes where there is no memory left for it; a component or what borrows takes none.
     #[cycle(clone)]
     pub fn clone(&self, alloc: Global) -> Result<Self, AllocError>
-        ensures { IfOk result (λ copy. inner_tree copy ≡ inner_tree self.now) }
+        ensures same { IfOk result (λ copy. inner_tree copy ≡ inner_tree self.now) }
+        ensures no_memory { IsFalse (owns self.now) → IsOk result }
     {
         if let Some(component) = self.component() {
             return Ok(FormatDescriptionV3Inner::from(component));

@@ -33,8 +33,10 @@ fn one_tree<'a>(
     trees: &mut Vec<FormatDescriptionV3Inner<'a>>,
 ) -> Result<FormatDescriptionV3Inner<'a>, AllocError>
     requires { arity (part node.now).role ≤ length trees.old.items }
-    ensures tree { IfOk result (λ tree. inner_tree tree ≡ made (part node.now).role (ending (arity (part node.now).role) (map inner_tree trees.old.items))) }
-    ensures taken { OnOk result (map inner_tree trees.new.items ≡ before (arity (part node.now).role) (map inner_tree trees.old.items)) }
+    ensures tree { IfOk result (λ tree. inner_tree tree ≡ made (part node.now).role
+        (ending (arity (part node.now).role) (map inner_tree trees.old.items))) }
+    ensures taken { OnOk result (map inner_tree trees.new.items ≡ before (arity (part node.now).role)
+        (map inner_tree trees.old.items)) }
 {
     match node {
         &Node::Literal(text) => Ok(FormatDescriptionV3Inner::BorrowedLiteral(text)),
@@ -54,8 +56,10 @@ fn compound<'a>(
     count: usize,
 ) -> Result<FormatDescriptionV3Inner<'a>, AllocError>
     requires { count ≤ length trees.old.items }
-    ensures tree { IfOk result (λ tree. inner_tree tree ≡ spec.compound (spec.trees (ending count (map inner_tree trees.old.items)))) }
-    ensures taken { OnOk result (map inner_tree trees.new.items ≡ before count (map inner_tree trees.old.items)) }
+    ensures tree { IfOk result (λ tree. inner_tree tree ≡ spec.compound
+        (spec.trees (ending count (map inner_tree trees.old.items)))) }
+    ensures taken { OnOk result (map inner_tree trees.new.items ≡ before count
+        (map inner_tree trees.old.items)) }
 {
     let items = trees.split_off(trees.len() - count)?;
     Ok(compound_of(items))
@@ -67,8 +71,10 @@ fn first<'a>(
     count: usize,
 ) -> Result<FormatDescriptionV3Inner<'a>, AllocError>
     requires { count ≤ length trees.old.items }
-    ensures tree { IfOk result (λ tree. inner_tree tree ≡ spec.first (spec.trees (ending count (map inner_tree trees.old.items)))) }
-    ensures taken { OnOk result (map inner_tree trees.new.items ≡ before count (map inner_tree trees.old.items)) }
+    ensures tree { IfOk result (λ tree. inner_tree tree ≡ spec.first
+        (spec.trees (ending count (map inner_tree trees.old.items)))) }
+    ensures taken { OnOk result (map inner_tree trees.new.items ≡ before count
+        (map inner_tree trees.old.items)) }
 {
     let items = trees.split_off(trees.len() - count)?;
     Ok(first_of(items))

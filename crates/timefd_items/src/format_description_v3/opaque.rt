@@ -37,10 +37,13 @@ impl<'a> FormatDescriptionV3Inner<'a> {
     /// looked at first, then whether there is memory, and only then is the tree taken apart. The
     /// compound of none takes no memory.
     pub fn into_opaque(self, alloc: Global) -> Result<FormatDescriptionV3<'a>, NotOpaque<'a>>
-        ensures ok { IfOk result (λ description. description_tree description ≡ inner_tree self.entry) }
+        ensures ok { IfOk result (λ description. description_tree description ≡ inner_tree
+            self.entry) }
         ensures fits { IfOk result (λ description. reserve (inner_tree self.entry) ≤ usize.MAX) }
         ensures kept { IfErr result (λ refused. inner_tree refused.tree ≡ inner_tree self.entry) }
-        ensures too_many { IfErr result (λ refused. (refused.cause ≡ OpaqueCause.TooManyBytes) ↔ (usize.MAX < reserve (inner_tree self.entry))) }
+        ensures too_many { IfErr result
+            (λ refused. (refused.cause ≡ OpaqueCause.TooManyBytes) ↔
+            (usize.MAX < reserve (inner_tree self.entry))) }
         ensures empty { inner_tree self.entry ≡ compound no_trees → IsOk result }
     {
         if self.bytes_within(usize::MAX).is_none() {

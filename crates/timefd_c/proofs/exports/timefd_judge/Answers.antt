@@ -8,4 +8,5 @@ returns-clause-judges c =
     let v = c.verdict_on.ensures in
     subst (λ l. Judges l c.args.text.now c.answer.result) c.from_number.ensures
     (subst (Judges c.from_number.result c.args.text.now) (sym c.answer.ensures)
-    (judged _ _ c.verdict_on.result v.says v.spelled v.faulty v.no_text v.no_language v.empty))
+    (judged _ _ c.verdict_on.result v.says v.spelled v.faulty v.no_text v.no_language v.empty
+    v.memory))

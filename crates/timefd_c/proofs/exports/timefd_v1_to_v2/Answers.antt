@@ -17,12 +17,23 @@ returns-in-Ok-v1_to_v2 c =
     let v = c.in-Ok-v1_to_v2.ensures in
     let answer = c.in-Ok-v1_to_v2.converted in
     record {
-      converts = subst (λ bytes. Converts bytes c.args.buffer.now c.write_whole.new.buffer (record { status = ACCEPTED; value = c.len.result; sentence_len = 0; written = c.write_whole.result })) read.0 (
-        converted One IsRewritten HasItemsOf c.in-Ok.text.now c.args.buffer.now c.write_whole.new.buffer (string_bytes answer) c.deref.result.now c.len.result c.write_whole.result
-            c.deref.ensures (c.len.ensures ∙ answer.bytes.ok.0) (subst IsUtf8 (sym read.0) read.1)
-            v.rewritten v.same_items (λ other other_is. v.spelled other_is.0 other_is.1 ∙ sym other_is.2) v.refused c.write_whole.ensures.whole c.write_whole.ensures.too_short,
-        λ e. omega (arith, v.within, c.len.ensures, answer.bytes.ok.0),
-      );
+      converts = subst (λ bytes. Converts bytes c.args.buffer.now c.write_whole.new.buffer
+          (record {
+            status = ACCEPTED;
+            value = c.len.result;
+            sentence_len = 0;
+            written =
+                c.write_whole.result;
+          })) read.0 (
+            converted One IsRewritten HasItemsOf c.in-Ok.text.now c.args.buffer.now
+                c.write_whole.new.buffer (string_bytes answer) c.deref.result.now c.len.result
+                c.write_whole.result
+                c.deref.ensures (c.len.ensures ∙ answer.bytes.ok.0) (subst IsUtf8 (sym read.0) read.1)
+                v.rewritten v.same_items (λ other other_is. v.spelled other_is.0 other_is.1 ∙
+                sym other_is.2) v.refused c.write_whole.ensures.whole
+                c.write_whole.ensures.too_short,
+            λ e. omega (arith, v.within, c.len.ensures, answer.bytes.ok.0),
+          );
     }
 
 pub returns-in-Err-Invalid : goal.returns-in-Err-Invalid
@@ -36,10 +47,12 @@ returns-in-Err-Invalid c =
       converts = subst (λ bytes. Converts bytes buffer buffer c.plain-in-Err-Invalid.result) read.0
           (subst (Converts text buffer buffer) (sym c.plain-in-Err-Invalid.ensures)
           (subst (λ i. Converts text buffer buffer (plain REFUSED i)) (sym c.index.ensures) (
-            refused One IsRewritten HasItemsOf text buffer (fault_of c.in-Err-Invalid.fault) (subst IsUtf8 (sym read.0) read.1)
+            refused One IsRewritten HasItemsOf text buffer (fault_of c.in-Err-Invalid.fault)
+                (subst IsUtf8 (sym read.0) read.1)
                 (subst (IsAssigned One nesting_limit text) is v.fault)
                 (λ other other_is. subst MemoryAlone is (v.spelled other_is.0 other_is.1))
-                (λ f has. subst (IsFaultOrMemory f) is (v.refused f has)) (λ nil. let no : false ≡ true = v.empty nil in absurd cc),
+                (λ f has. subst (IsFaultOrMemory f) is (v.refused f has))
+                (λ nil. let no : false ≡ true = v.empty nil in absurd cc),
             λ e. absurd (omega (arith, e)),
           )));
     }

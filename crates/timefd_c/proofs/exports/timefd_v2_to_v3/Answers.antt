@@ -17,10 +17,21 @@ returns-in-Ok-v2_to_v3 c =
     let v = c.in-Ok-v2_to_v3.ensures in
     let answer = c.in-Ok-v2_to_v3.modern in
     record {
-      converts = subst (λ bytes. ConvertsBy Two IsWrittenOf KeepsItemsOf bytes c.args.buffer.now c.write_whole.new.buffer (record { status = ACCEPTED; value = c.len.result; sentence_len = 0; written = c.write_whole.result })) read.0
-          (converted Two IsWrittenOf KeepsItemsOf c.in-Ok.text.now c.args.buffer.now c.write_whole.new.buffer (string_bytes answer) c.deref.result.now c.len.result c.write_whole.result
+      converts = subst (λ bytes. ConvertsBy Two IsWrittenOf KeepsItemsOf bytes c.args.buffer.now
+          c.write_whole.new.buffer (record {
+            status = ACCEPTED;
+            value = c.len.result;
+            sentence_len =
+                0;
+            written = c.write_whole.result;
+          })) read.0
+          (converted Two IsWrittenOf KeepsItemsOf c.in-Ok.text.now c.args.buffer.now
+          c.write_whole.new.buffer (string_bytes answer) c.deref.result.now c.len.result
+          c.write_whole.result
           c.deref.ensures (c.len.ensures ∙ answer.bytes.ok.0) (subst IsUtf8 (sym read.0) read.1)
-          v.rewritten v.same_items (λ other other_is. v.spelled other_is.0 other_is.1 ∙ sym other_is.2) v.refused c.write_whole.ensures.whole c.write_whole.ensures.too_short);
+          v.rewritten v.same_items (λ other other_is. v.spelled other_is.0 other_is.1 ∙
+          sym other_is.2) v.refused c.write_whole.ensures.whole
+          c.write_whole.ensures.too_short);
     }
 
 pub returns-in-Err-Invalid : goal.returns-in-Err-Invalid
@@ -31,11 +42,16 @@ returns-in-Err-Invalid c =
     let text = c.in-Ok.text.now in
     let buffer = c.args.buffer.now in
     record {
-      converts = subst (λ bytes. ConvertsBy Two IsWrittenOf KeepsItemsOf bytes buffer buffer c.plain-in-Err-Invalid.result) read.0
-          (subst (ConvertsBy Two IsWrittenOf KeepsItemsOf text buffer buffer) (sym c.plain-in-Err-Invalid.ensures)
-          (subst (λ i. ConvertsBy Two IsWrittenOf KeepsItemsOf text buffer buffer (plain REFUSED i)) (sym c.index.ensures)
-          (refused Two IsWrittenOf KeepsItemsOf text buffer (fault_of c.in-Err-Invalid.fault) (subst IsUtf8 (sym read.0) read.1)
+      converts = subst (λ bytes. ConvertsBy Two IsWrittenOf KeepsItemsOf bytes buffer buffer
+          c.plain-in-Err-Invalid.result) read.0
+          (subst (ConvertsBy Two IsWrittenOf KeepsItemsOf text buffer buffer)
+          (sym c.plain-in-Err-Invalid.ensures)
+          (subst (λ i. ConvertsBy Two IsWrittenOf KeepsItemsOf text buffer buffer (plain REFUSED i))
+          (sym c.index.ensures)
+          (refused Two IsWrittenOf KeepsItemsOf text buffer (fault_of c.in-Err-Invalid.fault)
+          (subst IsUtf8 (sym read.0) read.1)
           (subst (IsAssigned Two nesting_limit text) is v.fault)
           (λ other other_is. subst MemoryAlone is (v.spelled other_is.0 other_is.1))
-          (λ f has. subst (IsFaultOrMemory f) is (v.refused f has)) (λ nil. let no : false ≡ true = v.empty nil in absurd cc))));
+          (λ f has. subst (IsFaultOrMemory f) is (v.refused f has)) (λ nil. let no : false ≡ true =
+          v.empty nil in absurd cc))));
     }

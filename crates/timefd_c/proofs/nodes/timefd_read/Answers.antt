@@ -1,6 +1,9 @@
-use Rattle.std.proofs.Common.{◌∙◌, Some, IsUtf8, subst, sym}
+use Rattle.std.proofs.Common.{◌≡◌, ◌∙◌, Some, IsUtf8, false, true, refl, subst, sym}
 use Rattle.timefd_c.specs.Reading.{Reads}
-use Rattle.timefd_c.proofs.ReadingLemmas.{reported, told}
+use Rattle.timefd_c.proofs.ReadingLemmas.{reported, faulted, told}
+use Rattle.timefd_borrowed_fault.specs.BorrowedFaults.{lent_fault, IsLentOf, IsLentOrMemory, IsMemory}
+use Rattle.timefd_language.specs.Grammar.{nesting_limit}
+use Rattle.timefd_parse.specs.Language.{FaultIn}
 use Rattle.timefd_c.proofs.nodes.timefd_read.Goals as goal
 
 pub returns-in-Ok-read : goal.returns-in-Ok-read
@@ -8,8 +11,39 @@ returns-in-Ok-read c =
     let text = c.in-Ok.ensures.cases in
     let r = c.in-Ok-read.ensures in
     record {
-      reads = subst (λ l. Reads l c.args.text.now c.args.nodes.now c.read.new.nodes c.args.literals.now c.read.new.literals (told c.in-Ok-read.report)) (sym c.in-Some.is ∙ c.from_number.ensures)
-          (subst (λ bytes. Reads (Some c.in-Some.language) bytes c.args.nodes.now c.read.new.nodes c.args.literals.now c.read.new.literals (told c.in-Ok-read.report)) text.0
-          (reported c.in-Some.language c.in-Ok.text.now c.args.nodes.now c.read.new.nodes c.args.literals.now c.read.new.literals c.in-Ok-read.report
+      reads = subst (λ l. Reads l c.args.text.now c.args.nodes.now c.read.new.nodes
+          c.args.literals.now c.read.new.literals (told c.in-Ok-read.report))
+          (sym c.in-Some.is ∙ c.from_number.ensures)
+          (subst (λ bytes. Reads (Some c.in-Some.language) bytes c.args.nodes.now c.read.new.nodes
+          c.args.literals.now c.read.new.literals (told c.in-Ok-read.report)) text.0
+          (reported c.in-Some.language c.in-Ok.text.now c.args.nodes.now c.read.new.nodes
+          c.args.literals.now c.read.new.literals c.in-Ok-read.report
           (subst IsUtf8 (sym text.0) text.1) r.found r.spelled r.refused));
+    }
+
+pub returns-in-Err-Invalid : goal.returns-in-Err-Invalid
+returns-in-Err-Invalid c =
+    let text = c.in-Ok.ensures.cases in
+    let r = c.in-Err-Invalid.ensures in
+    let is = c.in-Err-Invalid.field-0-is in
+    let language = c.in-Some.language in
+    let bytes = c.in-Ok.text.now in
+    let ns = c.args.nodes.now in
+    let a = c.args.literals.now in
+    let ms = c.read.new.nodes in
+    let b = c.read.new.literals in
+    let answer = c.plain-in-Err-Invalid.result in
+    record {
+      reads = subst (λ l. Reads l c.args.text.now ns ms a b answer)
+          (sym c.in-Some.is ∙ c.from_number.ensures)
+          (subst (λ t. Reads (Some language) t ns ms a b answer) text.0
+          (subst (λ x. Reads (Some language) bytes ns x a b answer) (sym (r.nodes_kept refl))
+          (subst (λ x. Reads (Some language) bytes ns ns a x answer) (sym (r.literals_kept refl))
+          (subst (Reads (Some language) bytes ns ns a a) (sym c.plain-in-Err-Invalid.ensures)
+          (faulted language bytes ns a (lent_fault c.in-Err-Invalid.fault)
+          (subst IsUtf8 (sym text.0) text.1)
+          (subst (IsLentOf (FaultIn language nesting_limit bytes)) is r.fault)
+          (λ list s. subst IsMemory is (r.spelled list s))
+          (λ g h. subst (IsLentOrMemory g) is (r.refused g h))
+          (λ nil. let no : false ≡ true = r.empty nil in absurd cc))))));
     }

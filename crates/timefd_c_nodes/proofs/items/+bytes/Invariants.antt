@@ -9,5 +9,6 @@ use Rattle.timefd_c_nodes.proofs.items.+bytes.Given as goal
 abbrev pub invariant-items_bytes-items : goal.invariant-items_bytes-items
 invariant-items_bytes-items l = record {
   capped : l.bytes ≡ kept_bytes l.bytes;
-  all : kept_bytes (l.bytes + reserve_all (trees (map item_tree (drop l.at l.items)))) ≡ kept_bytes (reserve_all (trees (map item_tree l.items)));
+  all : kept_bytes (l.bytes + reserve_all (trees (map item_tree (drop l.at l.items)))) ≡ kept_bytes
+      (reserve_all (trees (map item_tree l.items)));
 }

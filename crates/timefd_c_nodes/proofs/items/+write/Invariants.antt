@@ -9,7 +9,8 @@ use Rattle.timefd_c_nodes.proofs.items.+write.Given as goal
 -- the items that are left are left to be written
 abbrev pub invariant-write_all-items : goal.invariant-write_all-items
 invariant-write_all-items l =
-    Rest (walked_all (trees (map item_tree l.items))) (walked_all (trees (map item_tree (drop l.at l.items))))
+    Rest (walked_all (trees (map item_tree l.items)))
+    (walked_all (trees (map item_tree (drop l.at l.items))))
     l.fn.from l.place l.fn.nodes l.nodes l.fn.literals l.literals
 
 -- a list is above each of its items, and an item above its members

@@ -7,4 +7,6 @@ use Rattle.timefd_c_nodes.proofs.size.+size.Given as goal
 
 -- those so far, and the items that are left, are all
 abbrev pub invariant-items_size-items : goal.invariant-items_size-items
-invariant-items_size-items l = Counts l.size (walked_all (trees (map item_tree (drop l.at l.items)))) (walked_all (trees (map item_tree l.items)))
+invariant-items_size-items l = Counts l.size
+    (walked_all (trees (map item_tree (drop l.at l.items))))
+    (walked_all (trees (map item_tree l.items)))

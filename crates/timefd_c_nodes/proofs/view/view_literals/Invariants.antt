@@ -6,4 +6,5 @@ use Rattle.timefd_c_nodes.proofs.view.view_literals.Given as goal
 
 -- the bytes so far, and those of the parts that are left, are all
 abbrev pub invariant-parts : goal.invariant-parts
-invariant-parts l = l.bytes + length (literals_of (walk_trees l.part-iterator)) ≡ length (literals_of (walked (view_tree l.fn.view)))
+invariant-parts l = l.bytes + length (literals_of (walk_trees l.part-iterator)) ≡ length
+    (literals_of (walked (view_tree l.fn.view)))

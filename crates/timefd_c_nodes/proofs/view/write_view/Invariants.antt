@@ -6,4 +6,5 @@ use Rattle.timefd_c_nodes.proofs.view.write_view.Given as goal
 
 -- the parts that the walk has left are left to be written
 abbrev pub invariant-parts : goal.invariant-parts
-invariant-parts l = Rest (walked (view_tree l.fn.view)) (walk_trees l.part-iterator) START l.at l.fn.nodes l.nodes l.fn.literals l.literals
+invariant-parts l = Rest (walked (view_tree l.fn.view)) (walk_trees l.part-iterator) START l.at
+    l.fn.nodes l.nodes l.fn.literals l.literals

@@ -8,4 +8,5 @@ use Rattle.timefd_format_item.proofs.borrowed_format_item.+same.Given as goal
 abbrev pub invariant-same_all-items : goal.invariant-same_all-items
 invariant-same_all-items l =
     same_trees (trees (map item_tree l.left)) (trees (map item_tree l.right))
-    ≡ same_trees (trees (map item_tree (drop l.at l.left))) (trees (map item_tree (drop l.at l.right)))
+    ≡ same_trees (trees (map item_tree (drop l.at l.left)))
+    (trees (map item_tree (drop l.at l.right)))

@@ -4,4 +4,5 @@ use Rattle.timefd_language.specs.Lookup.{key_for, keys_for}
 use Rattle.timefd_language.proofs.key.key_of.Given as goal
 
 abbrev pub invariant-loop-key : goal.invariant-loop-key
-invariant-loop-key l = key_in l.strict l.word (keys_for l.fn.name) ≡ key_in l.strict l.word (map key_for (drop l.key-index l.key-items))
+invariant-loop-key l = key_in l.strict l.word (keys_for l.fn.name) ≡ key_in l.strict l.word
+    (map key_for (drop l.key-index l.key-items))

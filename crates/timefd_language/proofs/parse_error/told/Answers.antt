@@ -4,4 +4,5 @@ use Rattle.timefd_language.specs.Told.{Tells}
 use Rattle.timefd_language.proofs.parse_error.told.Goals as goal
 
 pub returns-in-Ok : goal.returns-in-Ok
-returns-in-Ok c = subst (λ e. Tells c.args.len e (Invalid c.in-Ok.fault)) (sym c.in-Invalid.is) c.in-Ok.ensures
+returns-in-Ok c = subst (λ e. Tells c.args.len e (Invalid c.in-Ok.fault)) (sym c.in-Invalid.is)
+    c.in-Ok.ensures

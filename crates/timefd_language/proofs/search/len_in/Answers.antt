@@ -12,8 +12,10 @@ returns-then-marks-eq0 g c =
     let bytes = chunk a.at g.row.N a.bytes.now in
     let long = length-chunk a.at g.row.N a.bytes.now c.requires.within in
     let marks = marks_are bytes g.row.N a.first a.second a.third long c.requires.lanes in
-    ap (λ k. a.at + k) (sym (leading_from_mask_l (is_one_of a.first a.second a.third) bytes (sym marks ∙ c.if-marks-eq0.true) ∙ long))
-    ∙ front_in_chunk (is_none_of a.first a.second a.third) a.bytes.now a.at g.row.N c.requires.from c.requires.within
+    ap (λ k. a.at + k) (sym (leading_from_mask_l (is_one_of a.first a.second a.third) bytes
+    (sym marks ∙ c.if-marks-eq0.true) ∙ long))
+    ∙ front_in_chunk (is_none_of a.first a.second a.third) a.bytes.now a.at g.row.N c.requires.from
+    c.requires.within
 
 pub returns-else-marks-eq0 : goal.returns-else-marks-eq0
 returns-else-marks-eq0 g c =
@@ -21,5 +23,8 @@ returns-else-marks-eq0 g c =
     let bytes = chunk a.at g.row.N a.bytes.now in
     let long = length-chunk a.at g.row.N a.bytes.now c.requires.within in
     let marks = marks_are bytes g.row.N a.first a.second a.third long c.requires.lanes in
-    ap (λ k. a.at + k) (ap (count_trailing_zeros 64) marks ∙ trailing_mask_l (is_one_of a.first a.second a.third) 64 bytes (omega (arith, long)) (omega (arith, marks, c.if-marks-eq0.false)))
-    ∙ front_in_chunk (is_none_of a.first a.second a.third) a.bytes.now a.at g.row.N c.requires.from c.requires.within
+    ap (λ k. a.at + k) (ap (count_trailing_zeros 64) marks ∙
+    trailing_mask_l (is_one_of a.first a.second a.third) 64 bytes (omega (arith, long))
+    (omega (arith, marks, c.if-marks-eq0.false)))
+    ∙ front_in_chunk (is_none_of a.first a.second a.third) a.bytes.now a.at g.row.N c.requires.from
+    c.requires.within

@@ -5,7 +5,8 @@ use Rattle.timefd_language.proofs.CutLemmas.{boundary, cut_at_prefix, utf8_behin
 use Rattle.timefd_language.proofs.text.cut.Goals as goal
 
 pub split_at-requires : goal.split_at-requires
-split_at-requires c = rw (c.run_len.ensures.len, c.as_bytes.ensures.value) (boundary c.args.class c.args.text.now c.utf8.text)
+split_at-requires c = rw (c.run_len.ensures.len, c.as_bytes.ensures.value)
+    (boundary c.args.class c.args.text.now c.utf8.text)
 
 pub returns-clause-parts : goal.returns-clause-parts
 returns-clause-parts c =

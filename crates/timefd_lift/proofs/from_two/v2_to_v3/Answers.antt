@@ -13,22 +13,29 @@ written-requires c =
     let read = c.in-Ok-Items.ensures in
     let is = c.in-Ok-Items.field-0-is in
     subst ArePlainItems (sym c.deref.ensures.value)
-    (spelled-plain nesting_limit c.args.s.now read.found.0 c.in-Ok-Items.items.items read.found.1 (subst (IsOutput Two read.found.0) is read.found.2)
+    (spelled-plain nesting_limit c.args.s.now read.found.0 c.in-Ok-Items.items.items read.found.1
+    (subst (IsOutput Two read.found.0) is read.found.2)
     (subst HasStrings is read.strings))
 
 pub returns-in-Ok-clause-spelled : goal.returns-in-Ok-clause-spelled
 returns-in-Ok-clause-spelled c = λ list s.
     c.in-Ok.ensures.written ∙ ap (λ items. written (item_trees items)) c.deref.ensures.value
-    ∙ ap written (subst (IsOutput Two list) c.in-Ok-Items.field-0-is (c.in-Ok-Items.ensures.spelled list s))
+    ∙ ap written (subst (IsOutput Two list) c.in-Ok-Items.field-0-is
+    (c.in-Ok-Items.ensures.spelled list s))
 
 pub returns-in-Ok-clause-same_items : goal.returns-in-Ok-clause-same_items
 returns-in-Ok-clause-same_items c = λ list s.
-    let is = c.in-Ok.ensures.written ∙ ap (λ items. written (item_trees items)) c.deref.ensures.value
-    ∙ ap written (subst (IsOutput Two list) c.in-Ok-Items.field-0-is (c.in-Ok-Items.ensures.spelled list s)) in
-    subst (λ answer. Spells Three nesting_limit 0 answer list) (sym is) (c.writing.ensures nesting_limit c.args.s.now list s)
+    let is = c.in-Ok.ensures.written ∙
+    ap (λ items. written (item_trees items)) c.deref.ensures.value
+    ∙ ap written (subst (IsOutput Two list) c.in-Ok-Items.field-0-is
+    (c.in-Ok-Items.ensures.spelled list s)) in
+    subst (λ answer. Spells Three nesting_limit 0 answer list) (sym is)
+    (c.writing.ensures nesting_limit c.args.s.now list s)
 
 pub returns-in-Ok-Items-clause-empty : goal.returns-in-Ok-Items-clause-empty
 returns-in-Ok-Items-clause-empty c = λ nil.
     let none : c.deref.result.now ≡ [] =
-    c.deref.ensures.value ∙ no-items c.in-Ok-Items.items.items (subst (IsOutput Two []) c.in-Ok-Items.field-0-is (c.in-Ok-Items.ensures.spelled [] (no_pieces, tt, nil, refl))) in
+    c.deref.ensures.value ∙ no-items c.in-Ok-Items.items.items
+    (subst (IsOutput Two []) c.in-Ok-Items.field-0-is
+    (c.in-Ok-Items.ensures.spelled [] (no_pieces, tt, nil, refl))) in
     search rules

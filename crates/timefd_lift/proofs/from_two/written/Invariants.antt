@@ -7,4 +7,6 @@ use Rattle.timefd_lift.proofs.from_two.written.Given as goal
 -- what is written so far, and the items that are left, are what is written of all
 abbrev pub invariant-items : goal.invariant-items
 invariant-items l =
-    ArePlainItems (drop l.at l.items) × (string_bytes l.answer ++ written (item_trees (drop l.at l.items)) ≡ written (item_trees l.items))
+    ArePlainItems (drop l.at l.items)
+    × (string_bytes l.answer ++ written (item_trees (drop l.at l.items)) ≡ written
+    (item_trees l.items))

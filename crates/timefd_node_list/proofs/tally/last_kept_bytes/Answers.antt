@@ -4,4 +4,5 @@ use Rattle.timefd_node_list.proofs.tally.last_kept_bytes.Goals as goal
 
 pub returns : goal.returns
 returns c =
-    c.bytes.ensures ∙ last_node_kept c.args.nodes.now c.index-nodes-count.result c.requires (omega (arith, c.if-count-eq0.false)) c.index-nodes-count.is
+    c.bytes.ensures ∙ last_node_kept c.args.nodes.now c.index-nodes-count.result c.requires
+    (omega (arith, c.if-count-eq0.false)) c.index-nodes-count.is

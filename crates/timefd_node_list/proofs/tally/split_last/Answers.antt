@@ -7,4 +7,6 @@ returns-clause-fit c = fit_take [] c.args.nodes.now _ c.requires.fit
 
 pub returns-clause-members : goal.returns-clause-members
 returns-clause-members c =
-    last_members c.args.nodes.now c.index-nodes-count.result (length c.args.nodes.now - 1) (length c.args.nodes.now - 1) c.requires.fit refl (omega (arith, c.requires.there)) c.index-nodes-count.is
+    last_members c.args.nodes.now c.index-nodes-count.result (length c.args.nodes.now - 1)
+    (length c.args.nodes.now - 1) c.requires.fit refl (omega (arith, c.requires.there))
+    c.index-nodes-count.is

@@ -7,10 +7,13 @@ pub returns-clause-fit : goal.returns-clause-fit
 returns-clause-fit c = fit_take [] c.args.nodes.now _ c.requires.fit
 
 pub returns-clause-members : goal.returns-clause-members
-returns-clause-members c = (one c.args.nodes.now _ c.requires.fit c.requires.one c.requires.there c.index-nodes-count.is).members
+returns-clause-members c = (one c.args.nodes.now _ c.requires.fit c.requires.one c.requires.there
+    c.index-nodes-count.is).members
 
 pub returns-clause-tree : goal.returns-clause-tree
-returns-clause-tree c = (one c.args.nodes.now _ c.requires.fit c.requires.one c.requires.there c.index-nodes-count.is).tree
+returns-clause-tree c = (one c.args.nodes.now _ c.requires.fit c.requires.one c.requires.there
+    c.index-nodes-count.is).tree
 
 pub returns-clause-bytes : goal.returns-clause-bytes
-returns-clause-bytes c = (one c.args.nodes.now _ c.requires.fit c.requires.one c.requires.there c.index-nodes-count.is).bytes
+returns-clause-bytes c = (one c.args.nodes.now _ c.requires.fit c.requires.one c.requires.there
+    c.index-nodes-count.is).bytes

@@ -8,32 +8,58 @@ use Rattle.timefd_parse.proofs.head.read_head.Goals.{then-is_empty-2, else-is_em
 
 pub returns-then-is_empty : goal.returns-then-is_empty
 returns-then-is_empty c = λ v limit n none.
-    let place : c.if-is_empty-2.remaining + name_wanted_index c.cut.result.0.now ≡ length c.args.inside.now + 1 =
+    let place : c.if-is_empty-2.remaining + name_wanted_index c.cut.result.0.now ≡ length
+    c.args.inside.now + 1 =
     elim c.if-is_empty-2.branch [
-      | then-is_empty-2 w ↦ omega (arith, w.remaining-is, name_wanted_none c.cut.result.0.now (eqb-true _ 0 (sym w.if-is_empty-2.ensures)))
-      | else-is_empty-2 w ↦ omega (arith, w.remaining-is, name_wanted_some c.cut.result.0.now (false-eqb _ 0 w.if-is_empty-2.ensures))
+      | then-is_empty-2 w ↦ omega (
+        arith,
+        w.remaining-is,
+        name_wanted_none c.cut.result.0.now (eqb-true _ 0 (sym w.if-is_empty-2.ensures)),
+      )
+      | else-is_empty-2 w ↦ omega (
+        arith,
+        w.remaining-is,
+        name_wanted_some c.cut.result.0.now (false-eqb _ 0 w.if-is_empty-2.ensures),
+      )
     ] in
-    nameless_fault v limit n _ _ _ _ _ _ none c.cut.ensures.parts c.cut-2.ensures.parts (eqb-true _ 0 (sym c.if-is_empty.ensures)) place
+    nameless_fault v limit n _ _ _ _ _ _ none c.cut.ensures.parts c.cut-2.ensures.parts
+    (eqb-true _ 0 (sym c.if-is_empty.ensures)) place
 
 pub modifiers-init : goal.modifiers-init
-modifiers-init c = record { text = c.cut-2.ensures.utf8; before = no_modifiers _ _ _ _ c.cut-2.ensures.parts.stops c.requires }
+modifiers-init c = record {
+  text = c.cut-2.ensures.utf8;
+  before =
+      no_modifiers _ _ _ _ c.cut-2.ensures.parts.stops c.requires;
+}
 
 pub returns-in_err-modifier : goal.returns-in_err-modifier
 returns-in_err-modifier c =
     let p = err_from_is_err_and c.from_residual.result c.from_residual.ensures.1 in
     rw (p.1, p.2)
-    (λ v limit n none. modifier_fault v limit n _ _ _ _ _ _ _ _ _ _ _ _ c.cut.ensures.parts c.cut-2.ensures.parts (omega (arith, false-eqb _ 0 c.if-is_empty.ensures)) c.modifiers.invariant.before
+    (λ v limit n none. modifier_fault v limit n _ _ _ _ _ _ _ _ _ _ _ _ c.cut.ensures.parts
+    c.cut-2.ensures.parts (omega (arith, false-eqb _ 0 c.if-is_empty.ensures))
+    c.modifiers.invariant.before
     c.cut-in-modifiers.ensures.parts c.in_err-modifier.ensures)
 
 pub returns-in_default : goal.returns-in_default
 returns-in_default c =
-    let none = subst (ReadsWord c.cut-in-modifiers.result.1.now) c.in_default.is c.in_ok-modifier.ensures in
-    let some : 0 < length c.cut-2.result.0.now = omega (arith, false-eqb _ 0 c.if-is_empty.ensures) in (
-      head_found _ _ _ _ _ _ _ _ _ _ c.cut.ensures.parts c.cut-2.ensures.parts some c.modifiers.invariant.before c.cut-in-modifiers.ensures.parts none refl refl c.name_of-name.ensures,
+    let none = subst (ReadsWord c.cut-in-modifiers.result.1.now) c.in_default.is
+    c.in_ok-modifier.ensures in
+    let some : 0 < length c.cut-2.result.0.now =
+    omega (arith, false-eqb _ 0 c.if-is_empty.ensures) in (
+      head_found _ _ _ _ _ _ _ _ _ _ c.cut.ensures.parts c.cut-2.ensures.parts some
+          c.modifiers.invariant.before c.cut-in-modifiers.ensures.parts none refl refl
+          c.name_of-name.ensures,
       c.cut-in-modifiers.ensures.utf8,
     )
 
 pub modifiers-preserved : goal.modifiers-preserved
 modifiers-preserved c =
-    let one = subst (ReadsWord c.cut-in-modifiers.result.1.now) c.in-Some.is c.in_ok-modifier.ensures in
-    record { text = one.3; before = modifiers_step _ _ _ _ _ _ _ _ _ _ _ c.modifiers.invariant.before c.cut-in-modifiers.ensures.parts one.1 one.2 c.take.ensures }
+    let one = subst (ReadsWord c.cut-in-modifiers.result.1.now) c.in-Some.is
+    c.in_ok-modifier.ensures in
+    record {
+      text = one.3;
+      before =
+          modifiers_step _ _ _ _ _ _ _ _ _ _ _ c.modifiers.invariant.before
+          c.cut-in-modifiers.ensures.parts one.1 one.2 c.take.ensures;
+    }

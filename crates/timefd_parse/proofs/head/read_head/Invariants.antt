@@ -3,7 +3,10 @@ use Rattle.timefd_parse.proofs.HeadLemmas.{ModifiersBefore}
 use Rattle.timefd_parse.proofs.head.read_head.Given as goal
 
 abbrev pub invariant-modifiers : goal.invariant-modifiers
-invariant-modifiers l = record { text : IsUtf8 l.rest; before : ModifiersBefore l.strict l.name l.initial.rest l.modifiers l.rest }
+invariant-modifiers l = record {
+  text : IsUtf8 l.rest;
+  before : ModifiersBefore l.strict l.name l.initial.rest l.modifiers l.rest;
+}
 
 abbrev pub decreases-modifiers : goal.decreases-modifiers
 decreases-modifiers l = length l.rest

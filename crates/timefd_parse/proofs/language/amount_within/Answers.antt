@@ -1,36 +1,16 @@
-use Rattle.std.proofs.Common.{◌≡◌, List, IfOk, IfErr, MatchResult, sym, subst}
-use Rattle.timefd_fault.specs.Faults.{Fault}
-use Rattle.timefd_component.specs.Tree.{Tree}
-use Rattle.timefd_language.specs.Told.{IsFaultOrMemory, MemoryAlone}
-use Rattle.timefd_parse.specs.Language.{SpellsIn, FaultIn, amount, IsAssignedIn}
+use Rattle.timefd_borrowed_fault.proofs.OwnedLemmas.{owned_fault, owned_memory}
+use Rattle.timefd_parse.proofs.AmountLemmas.{owned-assigned-in}
 use Rattle.timefd_parse.proofs.language.amount_within.Goals as goal
 
-pub returns-in-Version-clause-found : goal.returns-in-Version-clause-found
-returns-in-Version-clause-found c =
-    subst (λ l. IfOk c.version_amount.result (λ n. (list : List Tree) × SpellsIn l c.args.limit c.args.text.now list × (n ≡ amount l list))) (sym c.in-Version.is) c.version_amount.ensures.found
+pub returns-in-Err-clause-fault : goal.returns-in-Err-clause-fault
+returns-in-Err-clause-fault c =
+    owned-assigned-in c.args.language c.args.limit c.args.text.now _ _ c.in-Err.ensures.fault
+    c.into_owned.ensures
 
-pub returns-in-Version-clause-fault : goal.returns-in-Version-clause-fault
-returns-in-Version-clause-fault c = subst (λ l. IfErr c.version_amount.result (IsAssignedIn l c.args.limit c.args.text.now)) (sym c.in-Version.is) c.version_amount.ensures.fault
+pub returns-in-Err-clause-spelled : goal.returns-in-Err-clause-spelled
+returns-in-Err-clause-spelled c = λ list s.
+    owned_memory _ _ (c.in-Err.ensures.spelled list s) c.into_owned.ensures
 
-pub returns-in-Version-clause-spelled : goal.returns-in-Version-clause-spelled
-returns-in-Version-clause-spelled c =
-    subst (λ l. (list : List Tree) → SpellsIn l c.args.limit c.args.text.now list → MatchResult c.version_amount.result (λ n. n ≡ amount l list) MemoryAlone) (sym c.in-Version.is) c.version_amount.ensures.spelled
-
-pub returns-in-Version-clause-refused : goal.returns-in-Version-clause-refused
-returns-in-Version-clause-refused c =
-    subst (λ l. (f : Fault) → FaultIn l c.args.limit c.args.text.now f → MatchResult c.version_amount.result (λ _. ⊥) (IsFaultOrMemory f)) (sym c.in-Version.is) c.version_amount.ensures.refused
-
-pub returns-in-Strftime-clause-found : goal.returns-in-Strftime-clause-found
-returns-in-Strftime-clause-found c =
-    subst (λ l. IfOk c.strftime_amount.result (λ n. (list : List Tree) × SpellsIn l c.args.limit c.args.text.now list × (n ≡ amount l list))) (sym c.in-Strftime.is) c.strftime_amount.ensures.found
-
-pub returns-in-Strftime-clause-fault : goal.returns-in-Strftime-clause-fault
-returns-in-Strftime-clause-fault c = subst (λ l. IfErr c.strftime_amount.result (IsAssignedIn l c.args.limit c.args.text.now)) (sym c.in-Strftime.is) c.strftime_amount.ensures.fault
-
-pub returns-in-Strftime-clause-spelled : goal.returns-in-Strftime-clause-spelled
-returns-in-Strftime-clause-spelled c =
-    subst (λ l. (list : List Tree) → SpellsIn l c.args.limit c.args.text.now list → MatchResult c.strftime_amount.result (λ n. n ≡ amount l list) MemoryAlone) (sym c.in-Strftime.is) c.strftime_amount.ensures.spelled
-
-pub returns-in-Strftime-clause-refused : goal.returns-in-Strftime-clause-refused
-returns-in-Strftime-clause-refused c =
-    subst (λ l. (f : Fault) → FaultIn l c.args.limit c.args.text.now f → MatchResult c.strftime_amount.result (λ _. ⊥) (IsFaultOrMemory f)) (sym c.in-Strftime.is) c.strftime_amount.ensures.refused
+pub returns-in-Err-clause-refused : goal.returns-in-Err-clause-refused
+returns-in-Err-clause-refused c = λ f h.
+    owned_fault f _ _ (c.in-Err.ensures.refused f h) c.into_owned.ensures

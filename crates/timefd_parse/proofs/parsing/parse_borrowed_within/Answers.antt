@@ -1,32 +1,16 @@
-use Rattle.std.proofs.Common.{List, refl, sym, subst}
-use Rattle.timefd_fault.specs.Faults.{Fault}
-use Rattle.timefd_component.specs.Tree.{Tree}
-use Rattle.timefd_language.specs.Told.{IsFaultOrMemory, MemoryAlone}
-use Rattle.timefd_language.specs.Broken.{FaultOf}
-use Rattle.timefd_language.specs.Grammar.{Spells}
-use Rattle.timefd_parse.proofs.ParseLemmas.{items_output}
-use Rattle.timefd_parse.proofs.ReadLemmas.{not_three}
+use Rattle.timefd_borrowed_fault.proofs.OwnedLemmas.{owned_fault, owned_memory}
+use Rattle.timefd_parse.proofs.ParseLemmas.{owned_assigned}
 use Rattle.timefd_parse.proofs.parsing.parse_borrowed_within.Goals as goal
 
-pub returns-in-Ok-clause-refused : goal.returns-in-Ok-clause-refused
-returns-in-Ok-clause-refused c = subst (λ v. (f : Fault) → FaultOf v c.args.limit c.args.s.now f → ⊥) (sym c.in-Three.is) c.in-Ok.ensures.refused
+pub returns-in-Err-clause-fault : goal.returns-in-Err-clause-fault
+returns-in-Err-clause-fault c =
+    owned_assigned c.args.version c.args.limit c.args.s.now _ _ c.in-Err.ensures.fault
+    c.into_owned.ensures
 
 pub returns-in-Err-clause-spelled : goal.returns-in-Err-clause-spelled
-returns-in-Err-clause-spelled c = subst (λ v. (list : List Tree) → Spells v c.args.limit 0 c.args.s.now list → MemoryAlone c.in-Err.error) (sym c.in-Three.is) c.in-Err.ensures.spelled
+returns-in-Err-clause-spelled c = λ list s.
+    owned_memory _ _ (c.in-Err.ensures.spelled list s) c.into_owned.ensures
 
 pub returns-in-Err-clause-refused : goal.returns-in-Err-clause-refused
-returns-in-Err-clause-refused c = subst (λ v. (f : Fault) → FaultOf v c.args.limit c.args.s.now f → IsFaultOrMemory f c.in-Err.error) (sym c.in-Three.is) c.in-Err.ensures.refused
-
-pub returns-in-Ok-parse_items : goal.returns-in-Ok-parse_items
-returns-in-Ok-parse_items c =
-    let lax = not_three _ c.in_default.not-Three in
-    let found = c.in-Ok-parse_items.ensures.found in
-    record {
-      found = (found.0, found.1, items_output _ _ _ lax found.2);
-      fault = tt;
-      spelled = λ list s. items_output _ _ list lax (c.in-Ok-parse_items.ensures.spelled list s);
-      refused = c.in-Ok-parse_items.ensures.refused;
-      strings = found.2.1;
-      reserved = tt;
-      empty = λ e. refl;
-    }
+returns-in-Err-clause-refused c = λ f h.
+    owned_fault f _ _ (c.in-Err.ensures.refused f h) c.into_owned.ensures

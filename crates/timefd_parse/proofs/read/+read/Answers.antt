@@ -13,19 +13,31 @@ use Rattle.timefd_parse.proofs.read.+read.Goals as goal
 pub bracket-inner-init : goal.bracket-inner-init
 bracket-inner-init t c =
     let e = c.in_ok-head.ensures in
-    let begins = subst (λ s. BeginsWithHead s (left ∷ c.args.inside.now) c.in_ok-head.head c.read_head.new.modifiers c.in_ok-head.behind.now e.0.0) c.is_strict-strict.ensures e.0.1 in
-    (e.1, omega (arith, behind_within begins), [], bracket_begins begins c.is_empty-spaced.ensures, refl, built_none _ _)
+    let begins = subst (λ s. BeginsWithHead s (left ∷ c.args.inside.now) c.in_ok-head.head
+    c.read_head.new.modifiers c.in_ok-head.behind.now e.0.0) c.is_strict-strict.ensures e.0.1 in (
+      e.1,
+      omega (arith, behind_within begins),
+      [],
+      bracket_begins begins c.is_empty-spaced.ensures,
+      refl,
+      built_none _ _,
+    )
 
-pub nested-returns-then-around-limit : goal.nested-returns-then-around-limit
-nested-returns-then-around-limit t c = at_limit _ _ _ _ _ _ c.if-around-limit.true c.too_deep.ensures.fault
+pub nested-returns-then-around-limit-clause-nested : goal.nested-returns-then-around-limit-clause-nested
+nested-returns-then-around-limit-clause-nested t c =
+    at_limit _ _ _ _ _ _ c.if-around-limit.true c.too_deep.ensures.fault
 
-pub nested-returns-in-Err : goal.nested-returns-in-Err
-nested-returns-in-Err t c = inner_fails _ _ _ _ _ _ _ _ (omega arith) (omega (arith, c.if-around-limit.false, c.requires)) c.in-Err.ensures.members c.enclosed.ensures.fault
+pub nested-returns-in-Err-clause-nested : goal.nested-returns-in-Err-clause-nested
+nested-returns-in-Err-clause-nested t c = inner_fails _ _ _ _ _ _ _ _ (omega arith)
+    (omega (arith, c.if-around-limit.false, c.requires)) c.in-Err.ensures.members
+    c.enclosed.ensures.fault
 
-pub nested-returns-in_default : goal.nested-returns-in_default
-nested-returns-in_default t c =
-    inner_cut_off _ _ _ _ _ _ _ _ _ (omega arith) (omega (arith, c.if-around-limit.false, c.requires)) c.in-Ok.ensures.members.1
-    (no_closing _ _ _ c.start_of.ensures c.in-Ok.ensures.members.1.4 c.in_default.not-Closing) c.unclosed.ensures.fault
+pub nested-returns-in_default-clause-nested : goal.nested-returns-in_default-clause-nested
+nested-returns-in_default-clause-nested t c =
+    inner_cut_off _ _ _ _ _ _ _ _ _ (omega arith)
+    (omega (arith, c.if-around-limit.false, c.requires)) c.in-Ok.ensures.members.1
+    (no_closing _ _ _ c.start_of.ensures c.in-Ok.ensures.members.1.4 c.in_default.not-Closing)
+    c.unclosed.ensures.fault
 
 pub nested-pack-requires-clause-there : goal.nested-pack-requires-clause-there
 nested-pack-requires-clause-there t c =
@@ -36,26 +48,42 @@ nested-pack-requires-clause-there t c =
 pub nested-pack-requires-clause-fits : goal.nested-pack-requires-clause-fits
 nested-pack-requires-clause-fits t c =
     let m = c.in-Ok.ensures.members in
-    λ three. omega (arith, built_within c.args.version c.args.limit _ c.args.text.now _ _ _ m.0 _ m.1 m.3 m.2 three)
+    λ three. omega (
+      arith,
+      built_within c.args.version c.args.limit _ c.args.text.now _ _ _ m.0 _
+          m.1 m.3 m.2 three,
+    )
 
-pub nested-returns : goal.nested-returns
-nested-returns t c =
-    let m = c.in-Ok.ensures.members in
-    (pack m.0, inner_read _ _ _ _ _ (omega arith) (omega (arith, c.if-around-limit.false, c.requires)) m.1 c.in-Closing.ensures refl, c.in_ok-pack.ensures _ m.0 m.3 m.2)
+pub nested-returns-clause-nested : goal.nested-returns-clause-nested
+nested-returns-clause-nested t c =
+    let m = c.in-Ok.ensures.members in (
+      pack m.0,
+      inner_read _ _ _ _ _ (omega arith)
+          (omega (arith, c.if-around-limit.false, c.requires)) m.1 c.in-Closing.ensures refl,
+      c.in_ok-pack.ensures.built _ m.0 m.3 m.2,
+    )
 
-pub bracket-returns-in_err-after-in-Opening : goal.bracket-returns-in_err-after-in-Opening
-bracket-returns-in_err-after-in-Opening t c =
-    let p = err_from_is_err_and c.from_residual-in_err-after-in-Opening.result c.from_residual-in_err-after-in-Opening.ensures.1 in
-    rw (p.1, p.2) (nested_fault c.inner.invariant.3 _ _ c.in-Opening.ensures c.in_err-after-in-Opening.ensures)
+pub bracket-returns-in_err-after-in-Opening-clause-piece : goal.bracket-returns-in_err-after-in-Opening-clause-piece
+bracket-returns-in_err-after-in-Opening-clause-piece t c =
+    let p = err_from_is_err_and c.from_residual-in_err-after-in-Opening.result
+    c.from_residual-in_err-after-in-Opening.ensures.1 in
+    rw (p.1, p.2) (nested_fault c.inner.invariant.3 _ _ c.in-Opening.ensures
+    c.in_err-after-in-Opening.ensures.nested)
 
 pub bracket-overflow_add-count : goal.bracket-overflow_add-count
 bracket-overflow_add-count t c = omega (arith, c.inner.invariant.1, ap length c.in-Opening.ensures)
 
 pub bracket-inner-preserved : goal.bracket-inner-preserved
 bracket-inner-preserved t c =
-    let n = c.in_ok-after-in-Opening.ensures in (
+    let n = c.in_ok-after-in-Opening.ensures.nested in (
       c.cut.ensures.utf8,
-      omega (arith, c.inner.invariant.1, ap length c.in-Opening.ensures, nested_shorter _ _ n.1, cut_shorter _ _ _ _ c.cut.ensures.parts),
+      omega (
+        arith,
+        c.inner.invariant.1,
+        ap length c.in-Opening.ensures,
+        nested_shorter _ _ n.1,
+        cut_shorter _ _ _ _ c.cut.ensures.parts,
+      ),
       c.inner.invariant.2 ++ n.0 ∷ [],
       one_more c.inner.invariant.3 c.in-Opening.ensures n.1 c.cut.ensures.parts,
       omega (arith, c.inner.invariant.4, length-append c.inner.invariant.2 (n.0 ∷ [])),
@@ -63,24 +91,39 @@ bracket-inner-preserved t c =
     )
 
 pub bracket-verdict-requires : goal.bracket-verdict-requires
-bracket-verdict-requires t c = λ strict. built_there _ _ _ _ _ c.inner.invariant.5 c.inner.invariant.4 (sym c.is_strict-strict.ensures ∙ strict)
+bracket-verdict-requires t c = λ strict. built_there _ _ _ _ _ c.inner.invariant.5
+    c.inner.invariant.4 (sym c.is_strict-strict.ensures ∙ strict)
 
-pub bracket-returns-in_err-piece-in-Closing : goal.bracket-returns-in_err-piece-in-Closing
-bracket-returns-in_err-piece-in-Closing t c =
-    let p = err_from_is_err_and c.from_residual-in_err-piece-in-Closing.result c.from_residual-in_err-piece-in-Closing.ensures.1 in
+pub bracket-returns-in_err-piece-in-Closing-clause-piece : goal.bracket-returns-in_err-piece-in-Closing-clause-piece
+bracket-returns-in_err-piece-in-Closing-clause-piece t c =
+    let p = err_from_is_err_and c.from_residual-in_err-piece-in-Closing.result
+    c.from_residual-in_err-piece-in-Closing.ensures.1 in
     let judged = subst
-    (λ s. Refuses s (length c.args.inside.now + 1) c.in_ok-head.head c.read_head.new.modifiers (record { spaced = not c.is_empty-spaced.result; remaining = length c.in_ok-head.behind.now; count = c.inner.count })
+    (λ s. Refuses s (length c.args.inside.now + 1) c.in_ok-head.head c.read_head.new.modifiers
+    (record {
+      spaced = not c.is_empty-spaced.result;
+      remaining = length c.in_ok-head.behind.now;
+      count = c.inner.count;
+    })
     (length c.inner.rest.now) (built c.inner.builder) c.in_err-piece-in-Closing.field-0.0)
-    c.is_strict-strict.ensures c.in_err-piece-in-Closing.ensures in
-    rw (p.1, p.2) (refuses c.inner.invariant.3 _ _ _ c.inner.invariant.4 c.inner.invariant.5 _ c.in_err-piece-in-Closing.field-0.0 c.in-Closing.ensures judged)
+    c.is_strict-strict.ensures c.in_err-piece-in-Closing.ensures.tree in
+    rw (p.1, p.2) (refuses c.inner.invariant.3 _ _ _ c.inner.invariant.4 c.inner.invariant.5 _
+    c.in_err-piece-in-Closing.field-0.0 c.in-Closing.ensures judged)
 
-pub bracket-returns-in-Closing : goal.bracket-returns-in-Closing
-bracket-returns-in-Closing t c =
+pub bracket-returns-in-Closing-clause-piece : goal.bracket-returns-in-Closing-clause-piece
+bracket-returns-in-Closing-clause-piece t c =
     let judged = subst
-    (λ s. Accepts s (length c.args.inside.now + 1) c.in_ok-head.head c.read_head.new.modifiers (record { spaced = not c.is_empty-spaced.result; remaining = length c.in_ok-head.behind.now; count = c.inner.count })
-    (length c.inner.rest.now) (built c.inner.builder) (built c.verdict.new.builder) c.in_ok-piece-in-Closing.piece)
-    c.is_strict-strict.ensures c.in_ok-piece-in-Closing.ensures in
-    let a = accepted c.inner.invariant.3 _ _ _ c.inner.invariant.4 c.inner.invariant.5 _ (built c.verdict.new.builder) c.in_ok-piece-in-Closing.piece c.in-Closing.ensures judged in (
+    (λ s. Accepts s (length c.args.inside.now + 1) c.in_ok-head.head c.read_head.new.modifiers
+    (record {
+      spaced = not c.is_empty-spaced.result;
+      remaining = length c.in_ok-head.behind.now;
+      count = c.inner.count;
+    })
+    (length c.inner.rest.now) (built c.inner.builder) (built c.verdict.new.builder)
+    c.in_ok-piece-in-Closing.piece)
+    c.is_strict-strict.ensures c.in_ok-piece-in-Closing.ensures.tree in
+    let a = accepted c.inner.invariant.3 _ _ _ c.inner.invariant.4 c.inner.invariant.5 _
+    (built c.verdict.new.builder) c.in_ok-piece-in-Closing.piece c.in-Closing.ensures judged in (
       a.0,
       record {
         leads = a.1;
@@ -90,65 +133,121 @@ bracket-returns-in-Closing t c =
       a.2,
     )
 
-pub bracket-returns-in_default : goal.bracket-returns-in_default
-bracket-returns-in_default t c =
-    never_closed c.inner.invariant.3 _ (no_bracket _ _ c.start_of.ensures c.in_default.not-Opening c.in_default.not-Closing) c.unclosed.ensures.fault
+pub bracket-returns-in_default-clause-piece : goal.bracket-returns-in_default-clause-piece
+bracket-returns-in_default-clause-piece t c =
+    never_closed c.inner.invariant.3 _
+    (no_bracket _ _ c.start_of.ensures c.in_default.not-Opening c.in_default.not-Closing)
+    c.unclosed.ensures.fault
 
 pub members-returns-in_err-piece : goal.members-returns-in_err-piece
 members-returns-in_err-piece t c =
     let p = err_from_is_err_and c.from_residual.result c.from_residual.ensures.1 in
     rw (p.1, p.2) (record {
-      members = memory_or _ (IsFaultIn c.args.version c.args.limit c.args.around c.args.text.now) (λ f is. items_fault _ _ _ _ c.pieces.rest.now _ f c.pieces.invariant.3 is) c.in_err-piece.field-0.0 c.in_err-piece.ensures.next;
+      members = memory_or _ (IsFaultIn c.args.version c.args.limit c.args.around c.args.text.now)
+          (λ f is. items_fault _ _ _ _ c.pieces.rest.now _ f c.pieces.invariant.3 is)
+          c.in_err-piece.field-0.0 c.in_err-piece.ensures.next;
       some = omega (arith, c.in_err-piece.ensures.some, c.pieces.invariant.1);
+      invalid = c.in_err-piece.ensures.invalid;
     })
 
 pub members-returns-in_default : goal.members-returns-in_default
 members-returns-in_default t c =
-    let next = subst (IsNext c.args.version c.args.limit c.args.around c.pieces.rest.now (built c.pieces.builder) (built c.next_piece.new.builder)) c.in_default.is c.in_ok-piece.ensures.next in
-    record { members = members_end c.args.version c.args.limit c.args.around c.args.text.now c.pieces.rest.now c.pieces.invariant.2 _ _ _ _ c.pieces.invariant.3 next.0 c.pieces.invariant.4 c.pieces.invariant.5 next.1; some = tt }
+    let next = subst (IsNext c.args.version c.args.limit c.args.around c.pieces.rest.now
+    (built c.pieces.builder) (built c.next_piece.new.builder)) c.in_default.is
+    c.in_ok-piece.ensures.next in
+    record {
+      members = members_end c.args.version c.args.limit c.args.around c.args.text.now
+          c.pieces.rest.now c.pieces.invariant.2 _ _ _ _ c.pieces.invariant.3 next.0
+          c.pieces.invariant.4 c.pieces.invariant.5 next.1;
+      some = tt;
+      invalid = λ lax. tt;
+    }
 
 pub members-overflow_add-count : goal.members-overflow_add-count
 members-overflow_add-count t c =
-    let next = subst (IsNext c.args.version c.args.limit c.args.around c.pieces.rest.now (built c.pieces.builder) (built c.next_piece.new.builder)) c.in-Some.is c.in_ok-piece.ensures.next in
+    let next = subst (IsNext c.args.version c.args.limit c.args.around c.pieces.rest.now
+    (built c.pieces.builder) (built c.next_piece.new.builder)) c.in-Some.is
+    c.in_ok-piece.ensures.next in
     omega (arith, next.1.shorter, c.pieces.invariant.1)
 
 pub members-pieces-preserved : goal.members-pieces-preserved
 members-pieces-preserved t c =
-    let next = subst (IsNext c.args.version c.args.limit c.args.around c.pieces.rest.now (built c.pieces.builder) (built c.next_piece.new.builder)) c.in-Some.is c.in_ok-piece.ensures.next in (
+    let next = subst (IsNext c.args.version c.args.limit c.args.around c.pieces.rest.now
+    (built c.pieces.builder) (built c.next_piece.new.builder)) c.in-Some.is
+    c.in_ok-piece.ensures.next in (
       next.1.utf8,
       omega (arith, next.1.shorter, c.pieces.invariant.1),
       c.pieces.invariant.2 ++ next.0 ∷ [],
       continues_more _ _ _ _ _ _ _ _ c.pieces.invariant.3 next.1.leads,
       omega (arith, c.pieces.invariant.4, length-append c.pieces.invariant.2 (next.0 ∷ [])),
-      built_more _ _ _ _ _ _ c.pieces.invariant.5 (c.in_ok-add.ensures (built c.pieces.builder) next.0 next.2),
+      built_more _ _ _ _ _ _ c.pieces.invariant.5
+          (c.in_ok-add.ensures.built (built c.pieces.builder) next.0 next.2),
     )
 
 pub next_piece-returns-in_err-literal-in-Closing-2 : goal.next_piece-returns-in_err-literal-in-Closing-2
 next_piece-returns-in_err-literal-in-Closing-2 t c =
     let p = err_from_is_err_and c.from_residual.result c.from_residual.ensures.1 in
     rw (p.1, p.2) (record {
-      next = fault_outside _ _ _ _ _ (omega (arith, c.if-around-gt0.false)) (c.in_err-literal-in-Closing-2.ensures c.args.limit);
+      next = fault_outside _ _ _ _ _ (omega (arith, c.if-around-gt0.false))
+          (c.in_err-literal-in-Closing-2.ensures c.args.limit);
       some = omega (arith, ap length c.in-Closing.ensures);
+      invalid = λ lax. tt;
     })
 
 pub next_piece-returns-in_ok-literal-in-Closing-2 : goal.next_piece-returns-in_ok-literal-in-Closing-2
 next_piece-returns-in_ok-literal-in-Closing-2 t c = record {
-  next = (_, closing_outside _ _ _ _ _ _ (omega (arith, c.if-around-gt0.false)) (c.in_ok-literal-in-Closing-2.ensures c.args.limit), (refl, λ three. refl));
+  next = (
+    _,
+    closing_outside _ _ _ _ _ _ (omega (arith, c.if-around-gt0.false))
+        (c.in_ok-literal-in-Closing-2.ensures c.args.limit),
+    (refl, λ three. refl),
+  );
   some = tt;
+  invalid = λ lax. tt;
 }
 
 pub next_piece-returns-in-Some : goal.next_piece-returns-in-Some
 next_piece-returns-in-Some t c = record {
-  next = (_, opening_leads _ _ _ _ _ _ _ c.in-Opening.ensures (c.in-Some.ensures.leads c.args.limit c.args.around), (refl, c.in-Some.ensures.is_modern, λ three. refl));
+  next = (
+    _,
+    opening_leads _ _ _ _ _ _ _ c.in-Opening.ensures
+        (c.in-Some.ensures.leads c.args.limit c.args.around),
+    (refl, c.in-Some.ensures.is_modern, λ three. refl),
+  );
   some = tt;
+  invalid = λ lax. tt;
 }
 
 pub next_piece-returns-in-Some-doubled : goal.next_piece-returns-in-Some-doubled
 next_piece-returns-in-Some-doubled t c =
-    let e = c.in-Some-doubled.ensures in record { next = (_, doubled_leads _ _ _ _ _ _ _ e.0 e.1 c.in-Opening.ensures e.2 e.3, (refl, λ three. refl)); some = tt }
+    let e = c.in-Some-doubled.ensures in
+    record {
+      next = (
+        _,
+        doubled_leads _ _ _ _ _ _ _ e.0 e.1 c.in-Opening.ensures e.2 e.3,
+        (refl, λ three. refl),
+      );
+      some = tt;
+      invalid = λ lax. tt;
+    }
 
 pub next_piece-returns-in_ok-literal-in-Backslash : goal.next_piece-returns-in_ok-literal-in-Backslash
-next_piece-returns-in_ok-literal-in-Backslash t c = record { next = (_, c.in_ok-literal-in-Backslash.ensures c.args.limit c.args.around, (refl, λ three. refl)); some = tt }
+next_piece-returns-in_ok-literal-in-Backslash t c =
+    record {
+      next = (
+        _,
+        c.in_ok-literal-in-Backslash.ensures c.args.limit c.args.around,
+        (refl, λ three. refl),
+      );
+      some = tt;
+      invalid = λ lax. tt;
+    }
 
 pub next_piece-returns-in-Other : goal.next_piece-returns-in-Other
-next_piece-returns-in-Other t c = record { next = (_, c.run.ensures c.args.limit c.args.around, (refl, λ three. refl)); some = tt }
+next_piece-returns-in-Other t c = record {
+  next =
+      (_, c.run.ensures c.args.limit c.args.around, (refl, λ three. refl));
+  some = tt;
+  invalid =
+      λ lax. tt;
+}

@@ -25,8 +25,10 @@ decreases-members l = 2 * length l.text.now + 1
 abbrev pub invariant-bracket-inner : goal.invariant-bracket-inner
 invariant-bracket-inner l =
     shadow (Utf8 l.rest) × (l.count + length l.rest ≤ length l.inside) × (read : List Tree)
-    × BracketBefore l.version l.limit l.around l.inside l.head l.modifiers l.spaced l.remaining read l.rest
-    × (l.count ≡ length read) × IsBuilt (is_version_three l.version) (built l.initial.builder) (built l.builder) read
+    × BracketBefore l.version l.limit l.around l.inside l.head l.modifiers l.spaced l.remaining read
+    l.rest
+    × (l.count ≡ length read) × IsBuilt (is_version_three l.version) (built l.initial.builder)
+    (built l.builder) read
 
 abbrev pub decreases-bracket-inner : goal.decreases-bracket-inner
 decreases-bracket-inner l = length l.rest
@@ -36,7 +38,8 @@ abbrev pub invariant-members-pieces : goal.invariant-members-pieces
 invariant-members-pieces l =
     shadow (Utf8 l.rest) × (l.count + length l.rest ≤ length l.text) × (done : List Tree)
     × Continues l.version l.limit l.around l.text done l.rest
-    × (l.count ≡ length done) × IsBuilt (is_version_three l.version) (built l.initial.builder) (built l.builder) done
+    × (l.count ≡ length done) × IsBuilt (is_version_three l.version) (built l.initial.builder)
+    (built l.builder) done
 
 abbrev pub decreases-members-pieces : goal.decreases-members-pieces
 decreases-members-pieces l = length l.rest

@@ -10,5 +10,8 @@ returns-in-Three c = λ limit. closing_fault_of _ limit _ _ _ c.in-Three.is c.re
 
 pub returns : goal.returns
 returns c = λ limit.
-    closing_leads _ limit _ _ _ (not_three _ c.in_default.not-Three) (first_is _ _ _ _ c.requires.1 c.split_at.ensures.front) (rest_is _ _ _ _ c.requires.1 c.split_at.ensures.back)
-    (subst IsUtf8 (sym c.split_at.ensures.back) (utf8_behind_first _ _ _ c.requires.1 (lit< tt) c.utf8.text))
+    closing_leads _ limit _ _ _ (not_three _ c.in_default.not-Three)
+    (first_is _ _ _ _ c.requires.1 c.split_at.ensures.front)
+    (rest_is _ _ _ _ c.requires.1 c.split_at.ensures.back)
+    (subst IsUtf8 (sym c.split_at.ensures.back)
+    (utf8_behind_first _ _ _ c.requires.1 (lit< tt) c.utf8.text))

@@ -13,18 +13,28 @@ refusals-init c = λ total ps shows. ap (λ r. combined r ps) (sym c.refusals-re
 
 pub returns-in-Some : goal.returns-in-Some
 returns-in-Some c = λ total ps shows.
-    refused_here total _ ps _ _ _ _ _ (shows c.if-not-strict.false) (sym c.of.ensures ∙ c.in-Some.is) c.spelling.ensures
-    (exactly _ _ ps c.if-not-strict.false ∙ c.refusals.invariant total ps (shows c.if-not-strict.false)
-    ∙ ap (λ l. combined (map refusal_for l) ps) (drop_more c.refusals-refusal-items.result.now c.refusals.refusal-index no_refusal c.refusals-test.true))
+    refused_here total _ ps _ _ _ _ _ (shows c.if-not-strict.false)
+    (sym c.of.ensures ∙ c.in-Some.is) c.spelling.ensures
+    (exactly _ _ ps c.if-not-strict.false ∙
+    c.refusals.invariant total ps (shows c.if-not-strict.false)
+    ∙ ap (λ l. combined (map refusal_for l) ps)
+    (drop_more c.refusals-refusal-items.result.now c.refusals.refusal-index no_refusal
+    c.refusals-test.true))
 
 pub refusals-preserved : goal.refusals-preserved
 refusals-preserved c = λ total ps shows.
-    refused_later total _ ps (get_or c.refusals-refusal-items.result.now c.refusals.refusal-index no_refusal) _ _ shows (sym c.of.ensures ∙ c.in_default.is)
+    refused_later total _ ps (get_or c.refusals-refusal-items.result.now c.refusals.refusal-index
+    no_refusal) _ _ shows (sym c.of.ensures ∙ c.in_default.is)
     (c.refusals.invariant total ps shows
-    ∙ ap (λ l. combined (map refusal_for l) ps) (drop_more c.refusals-refusal-items.result.now c.refusals.refusal-index no_refusal c.refusals-test.true))
+    ∙ ap (λ l. combined (map refusal_for l) ps)
+    (drop_more c.refusals-refusal-items.result.now c.refusals.refusal-index no_refusal
+    c.refusals-test.true))
 
 pub returns : goal.returns
 returns c = λ total ps shows.
     none_refused total _ _ refl
-    (exactly _ _ ps c.if-not-strict.false ∙ c.refusals.invariant total ps (shows c.if-not-strict.false)
-    ∙ ap (λ l. combined (map refusal_for l) ps) (drop_all c.refusals.refusal-index c.refusals-refusal-items.result.now (omega (arith, c.refusals-test.false))))
+    (exactly _ _ ps c.if-not-strict.false ∙
+    c.refusals.invariant total ps (shows c.if-not-strict.false)
+    ∙ ap (λ l. combined (map refusal_for l) ps)
+    (drop_all c.refusals.refusal-index c.refusals-refusal-items.result.now
+    (omega (arith, c.refusals-test.false))))

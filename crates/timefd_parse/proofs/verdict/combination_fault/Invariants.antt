@@ -9,4 +9,6 @@ use Rattle.timefd_parse.proofs.verdict.combination_fault.Given as goal
 -- those that were looked at refuse nothing
 abbrev pub invariant-refusals : goal.invariant-refusals
 invariant-refusals l =
-    (total : ℕ) (ps : List Placed) → ShowsPlaces total l.places ps → combined (refusals l.fn.component) ps ≡ combined (map refusal_for (drop l.refusal-index l.refusal-items)) ps
+    (total : ℕ) (ps : List Placed) → ShowsPlaces total l.places ps
+    → combined (refusals l.fn.component) ps ≡ combined
+    (map refusal_for (drop l.refusal-index l.refusal-items)) ps

@@ -1,6 +1,8 @@
-use Rattle.std.proofs.Common.{arith, refl}
-use Rattle.timefd_strftime.specs.StrftimeReading.{LeadsTo}
-use Rattle.timefd_strftime.proofs.DirectiveLemmas.{all_counted, counts_none, counts_more, leads_from}
+use Rattle.std.proofs.Common.{arith, refl, subst, sym}
+use Rattle.std.proofs.lemmas.Result.{err_from_is_err_and}
+use Rattle.timefd_component.specs.Tree.{Text}
+use Rattle.timefd_strftime.specs.StrftimeReading.{IsStrftimeFaultAt, LeadsTo}
+use Rattle.timefd_strftime.proofs.DirectiveLemmas.{all_counted, counts_none, counts_more, counted_fault, leads_from}
 use Rattle.timefd_strftime.proofs.count.count_of.Goals as goal
 use Rattle.timefd_strftime.proofs.count.count_of.Goals.{in-Directive+in_ok-after-in-Directive, in-Literal}
 
@@ -10,11 +12,24 @@ pieces-init c = (c.utf8.text, omega arith, counts_none c.args.text.now)
 pub returns-in-End : goal.returns-in-End
 returns-in-End c = all_counted _ _ _ c.pieces.invariant.2 c.in-End.ensures
 
+pub returns-in_err-after-in-Directive : goal.returns-in_err-after-in-Directive
+returns-in_err-after-in-Directive c =
+    let p = err_from_is_err_and c.from_residual.result
+    c.from_residual.ensures.1 in
+    rw (p.1, p.2)
+    (counted_fault _ c.pieces.rest.now _ _ c.pieces.invariant.2
+    (subst (λ (t : Text). IsStrftimeFaultAt t c.in_err-after-in-Directive.field-0.0)
+    (sym c.in-Directive.ensures) c.in_err-after-in-Directive.ensures))
+
 pub pieces-preserved : goal.pieces-preserved
 pieces-preserved c =
     let to : LeadsTo c.pieces.rest.now c.match-piece_start_of.after.now =
     elim c.match-piece_start_of.branch [
-      | in-Directive+in_ok-after-in-Directive w ↦ leads_from _ _ _ _ w.in-Directive.ensures w.after-is w.in_ok-after-in-Directive.ensures
+      | in-Directive+in_ok-after-in-Directive w ↦ leads_from _ _ _ _ w.in-Directive.ensures
+          w.after-is w.in_ok-after-in-Directive.ensures
       | in-Literal w ↦ leads_from _ _ _ _ refl w.after-is w.behind_run-after.ensures
-    ] in
-    (to.left.utf8, omega (arith, to.left.shorter, c.pieces.invariant.1), counts_more _ _ _ _ c.pieces.invariant.2 to)
+    ] in (
+      to.left.utf8,
+      omega (arith, to.left.shorter, c.pieces.invariant.1),
+      counts_more _ _ _ _ c.pieces.invariant.2 to,
+    )

@@ -4,7 +4,8 @@ use Rattle.timefd_strftime.proofs.count.count_of.Given as goal
 
 -- the pieces so far
 abbrev pub invariant-pieces : goal.invariant-pieces
-invariant-pieces l = IsUtf8 l.rest × (l.count + length l.rest ≤ length l.text) × CountsTo l.text l.count l.rest
+invariant-pieces l = IsUtf8 l.rest × (l.count + length l.rest ≤ length l.text)
+    × CountsTo l.text l.count l.rest
 
 abbrev pub decreases-pieces : goal.decreases-pieces
 decreases-pieces l = length l.rest

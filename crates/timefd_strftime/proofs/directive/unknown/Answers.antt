@@ -7,4 +7,5 @@ use Rattle.timefd_strftime.proofs.directive.unknown.Goals as goal
 pub split_at-requires : goal.split_at-requires
 split_at-requires c =
     IsCharBoundary-after_ascii c.args.text.now 0 c.utf8.text c.requires
-    (ascii_below _ (ap (λ t. is_ascii (get_or t 0 0)) (sym c.as_bytes.ensures.value) ∙ sym c.is_ascii.ensures ∙ c.if-is_ascii.true))
+    (ascii_below _ (ap (λ t. is_ascii (get_or t 0 0)) (sym c.as_bytes.ensures.value) ∙
+    sym c.is_ascii.ensures ∙ c.if-is_ascii.true))

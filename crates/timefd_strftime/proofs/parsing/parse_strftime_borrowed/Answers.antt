@@ -1,17 +1,15 @@
-use Rattle.timefd_strftime.proofs.DirectiveLemmas.{one, told_strftime, told_strftime_spelled, told_strftime_refused}
+use Rattle.timefd_borrowed_fault.proofs.OwnedLemmas.{owned_fault, owned_memory}
+use Rattle.timefd_strftime.proofs.DirectiveLemmas.{owned_strftime}
 use Rattle.timefd_strftime.proofs.parsing.parse_strftime_borrowed.Goals as goal
 
-pub returns-in-Ok-clause-spelled : goal.returns-in-Ok-clause-spelled
-returns-in-Ok-clause-spelled c = λ list s. (one c.args.s.now).one_list _ list c.in-Ok.ensures.found s
-
-pub returns-in-Ok-clause-refused : goal.returns-in-Ok-clause-refused
-returns-in-Ok-clause-refused c = λ f h. (one c.args.s.now).not_both _ f c.in-Ok.ensures.found h
-
 pub returns-in-Err-clause-fault : goal.returns-in-Err-clause-fault
-returns-in-Err-clause-fault c = told_strftime _ _ _ c.in-Err.ensures.fault c.told.ensures
+returns-in-Err-clause-fault c =
+    owned_strftime c.args.s.now _ _ c.in-Err.ensures.fault c.into_owned.ensures
 
 pub returns-in-Err-clause-spelled : goal.returns-in-Err-clause-spelled
-returns-in-Err-clause-spelled c = λ list s. told_strftime_spelled _ _ _ list c.in-Err.ensures.fault c.told.ensures s
+returns-in-Err-clause-spelled c = λ list s.
+    owned_memory _ _ (c.in-Err.ensures.spelled list s) c.into_owned.ensures
 
 pub returns-in-Err-clause-refused : goal.returns-in-Err-clause-refused
-returns-in-Err-clause-refused c = λ f h. told_strftime_refused _ _ _ f c.in-Err.ensures.fault c.told.ensures h
+returns-in-Err-clause-refused c = λ f h.
+    owned_fault f _ _ (c.in-Err.ensures.refused f h) c.into_owned.ensures

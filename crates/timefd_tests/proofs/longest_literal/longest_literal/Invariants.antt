@@ -7,4 +7,5 @@ use Rattle.timefd_tests.proofs.longest_literal.longest_literal.Given as goal
 
 -- the longest so far, or that of the parts that are left, is the longest of all
 abbrev pub invariant-parts : goal.invariant-parts
-invariant-parts l = max l.bytes (longest (walk_trees l.part-iterator)) ≡ longest (walked (description_tree l.fn.description))
+invariant-parts l = max l.bytes (longest (walk_trees l.part-iterator)) ≡ longest
+    (walked (description_tree l.fn.description))

@@ -18,14 +18,20 @@ loop-at-preserved c =
     let so_far = c.loop-at.invariant in
     let below : c.loop-at.at < length c.args.text.now = search rules in
     let before : c.loop-at.at + 1 ≤ c.args.index = search rules in
-    let is : get_or c.as_bytes-byte-items.result.now c.loop-at.at 0 ≡ get_or c.args.text.now c.loop-at.at 0 =
+    let is : get_or c.as_bytes-byte-items.result.now c.loop-at.at 0 ≡ get_or c.args.text.now
+    c.loop-at.at 0 =
     ap (λ s. get_or s c.loop-at.at 0) c.as_bytes-byte-items.ensures.value in
-    let line : c.behind-place.result.line ≡ c.loop-at.place.line + cond (get_or c.as_bytes-byte-items.result.now c.loop-at.at 0 == 10) 1 0 = search rules in
-    let column : c.behind-place.result.column ≡ cond (get_or c.as_bytes-byte-items.result.now c.loop-at.at 0 == 10) 1 (c.loop-at.place.column + cond (is_char_start (get_or c.as_bytes-byte-items.result.now c.loop-at.at 0)) 1 0) =
+    let line : c.behind-place.result.line ≡ c.loop-at.place.line + cond
+    (get_or c.as_bytes-byte-items.result.now c.loop-at.at 0 == 10) 1 0 = search rules in
+    let column : c.behind-place.result.column ≡ cond
+    (get_or c.as_bytes-byte-items.result.now c.loop-at.at 0 == 10) 1
+    (c.loop-at.place.column + cond
+    (is_char_start (get_or c.as_bytes-byte-items.result.now c.loop-at.at 0)) 1 0) =
     search rules in record {
       before = before;
       line = line-next c.args.text.now c.loop-at.at b _ _ below is so_far.line line;
       column = column-next c.args.text.now c.loop-at.at b _ _ below is so_far.column column;
       line_fits = line-fits (b == 10) _ _ c.loop-at.at line so_far.line_fits;
-      column_fits = column-fits (b == 10) (is_char_start b) _ _ c.loop-at.at column so_far.column_fits;
+      column_fits = column-fits (b == 10) (is_char_start b) _ _ c.loop-at.at column
+          so_far.column_fits;
     }

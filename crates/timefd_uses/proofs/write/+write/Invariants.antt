@@ -6,4 +6,5 @@ use Rattle.timefd_uses.proofs.write.+write.Given as goal
 
 -- what the parts that are left append, all append
 abbrev pub invariant-write_all-parts : goal.invariant-write_all-parts
-invariant-write_all-parts l = Completes (trees (map inner_tree (drop l.at l.parts))) (trees (map inner_tree l.parts)) (string_bytes l.out) (string_bytes l.fn.out)
+invariant-write_all-parts l = Completes (trees (map inner_tree (drop l.at l.parts)))
+    (trees (map inner_tree l.parts)) (string_bytes l.out) (string_bytes l.fn.out)

@@ -6,5 +6,7 @@ use Rattle.timefd_uses.proofs.write_items.+items.Goals as goal
 
 pub write_all-items-preserved : goal.write_all-items-preserved
 write_all-items-preserved t c =
-    completes_step item_tree c.args.items.now c.items.at c.index-items-at.result (trees (map item_tree c.args.items.now))
-    (string_bytes c.args.out.now) (string_bytes c.items.out) (string_bytes c.write.new.out) c.items-test.true c.index-items-at.is c.items.invariant c.in_ok-write.ensures
+    completes_step item_tree c.args.items.now c.items.at c.index-items-at.result
+    (trees (map item_tree c.args.items.now))
+    (string_bytes c.args.out.now) (string_bytes c.items.out) (string_bytes c.write.new.out)
+    c.items-test.true c.index-items-at.is c.items.invariant c.in_ok-write.ensures

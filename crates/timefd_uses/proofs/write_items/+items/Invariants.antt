@@ -6,4 +6,5 @@ use Rattle.timefd_uses.proofs.write_items.+items.Given as goal
 
 -- what the items that are left append, all append
 abbrev pub invariant-write_all-items : goal.invariant-write_all-items
-invariant-write_all-items l = Completes (trees (map item_tree (drop l.at l.items))) (trees (map item_tree l.items)) (string_bytes l.out) (string_bytes l.fn.out)
+invariant-write_all-items l = Completes (trees (map item_tree (drop l.at l.items)))
+    (trees (map item_tree l.items)) (string_bytes l.out) (string_bytes l.fn.out)

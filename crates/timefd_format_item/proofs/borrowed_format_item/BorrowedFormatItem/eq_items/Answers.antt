@@ -5,4 +5,5 @@ use Rattle.timefd_format_item.proofs.EqualityLemmas.{held_trees}
 use Rattle.timefd_format_item.proofs.borrowed_format_item.BorrowedFormatItem.eq_items.Goals as goal
 
 pub returns-in-Ok : goal.returns-in-Ok
-returns-in-Ok c = held_trees _ (trees (item_trees c.in-Ok.items.now)) _ _ (search rules) (search rules)
+returns-in-Ok c = held_trees _ (trees (item_trees c.in-Ok.items.now)) _ _ (search rules)
+    (search rules)

@@ -7,11 +7,20 @@ use Rattle.timefd_items.proofs.format_description_v3.inner_trees.all_trees.Goals
 pub one_tree-requires : goal.one_tree-requires
 one_tree-requires c =
     let there : arity (part c.index-nodes-at.result).role ≤ length c.nodes.trees.items =
-    omega (arith, (fits_at [] c.args.nodes.now c.nodes.at c.index-nodes-at.result c.requires c.nodes-test.true c.index-nodes-at.is).0, ap length c.nodes.invariant, length-inner_trees c.nodes.trees.items) in
+    omega (
+      arith,
+      (fits_at [] c.args.nodes.now c.nodes.at c.index-nodes-at.result c.requires
+          c.nodes-test.true c.index-nodes-at.is).0,
+      ap length c.nodes.invariant,
+      length-inner_trees c.nodes.trees.items,
+    ) in
     there
 
 pub nodes-preserved : goal.nodes-preserved
 nodes-preserved c =
-    tree_pushed c.nodes.trees.items c.one_tree.new.trees.items c.push.new.self.items c.in_ok-tree.tree (part c.index-nodes-at.result) _ c.in_ok-push.ensures.items c.in_ok-tree.ensures.taken c.in_ok-tree.ensures.tree c.nodes.invariant
-    ∙ sym (grown_at [] c.args.nodes.now c.nodes.at c.index-nodes-at.result c.nodes-test.true c.index-nodes-at.is)
+    tree_pushed c.nodes.trees.items c.one_tree.new.trees.items c.push.new.self.items
+    c.in_ok-tree.tree (part c.index-nodes-at.result) _ c.in_ok-push.ensures.items
+    c.in_ok-tree.ensures.taken c.in_ok-tree.ensures.tree c.nodes.invariant
+    ∙ sym (grown_at [] c.args.nodes.now c.nodes.at c.index-nodes-at.result c.nodes-test.true
+    c.index-nodes-at.is)
     ∙ ap (λ k. grown_by [] (map part (take k c.args.nodes.now))) (sym (add-one c.nodes.at))

@@ -5,7 +5,10 @@ use Rattle.timefd_items.proofs.format_description_v3.inner_trees.first.Goals as 
 
 pub returns-clause-tree : goal.returns-clause-tree
 returns-clause-tree c =
-    c.first_of.ensures ∙ ap (λ ts. first (trees ts)) (ending_taken c.args.count c.len.result c.args.trees.now.items _ (omega (arith, c.len.ensures)) c.in_ok-items.ensures.tail)
+    c.first_of.ensures ∙ ap (λ ts. first (trees ts))
+    (ending_taken c.args.count c.len.result c.args.trees.now.items _
+    (omega (arith, c.len.ensures)) c.in_ok-items.ensures.tail)
 
 pub returns-clause-taken : goal.returns-clause-taken
-returns-clause-taken c = before_taken c.args.count c.len.result c.args.trees.now.items _ (omega (arith, c.len.ensures)) c.in_ok-items.ensures.items
+returns-clause-taken c = before_taken c.args.count c.len.result c.args.trees.now.items _
+    (omega (arith, c.len.ensures)) c.in_ok-items.ensures.items

@@ -8,5 +8,6 @@ pub invariant_of-self : goal.invariant_of-self
 invariant_of-self c = record {
   size = length-set c.args.self.now.marks c.args.self.now.len c.args.mark ∙ c.args.self.now.size;
   room = omega (arith, c.if-self-lt-MARKS.true);
-  marked = marks_set (member_trees c.args.self.now.members) c.args.self.now.marks c.args.self.now.len c.args.mark c.requires c.args.self.now.marked;
+  marked = marks_set (member_trees c.args.self.now.members) c.args.self.now.marks
+      c.args.self.now.len c.args.mark c.requires c.args.self.now.marked;
 }

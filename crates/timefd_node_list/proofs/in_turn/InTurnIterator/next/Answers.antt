@@ -7,6 +7,8 @@ invariant_of-self c = record {
   size = c.behind_first-mark.new.self.size;
   room = c.behind_first-mark.new.self.room;
   marked =
-      marks_behind (member_trees c.behind_first-mark.new.self.members) (member_trees c.split_at_mark.result.1) c.behind_first-mark.result.count c.behind_first-mark.new.self.marks c.split_at_mark.ensures.behind
+      marks_behind (member_trees c.behind_first-mark.new.self.members)
+      (member_trees c.split_at_mark.result.1) c.behind_first-mark.result.count
+      c.behind_first-mark.new.self.marks c.split_at_mark.ensures.behind
       c.behind_first-mark.new.self.marked;
 }

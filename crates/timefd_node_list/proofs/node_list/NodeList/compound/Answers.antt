@@ -7,5 +7,8 @@ use Rattle.timefd_node_list.proofs.node_list.NodeList.compound.Goals as goal
 
 pub push-requires-clause-fits : goal.push-requires-clause-fits
 push-requires-clause-fits c =
-    compound_fits (list_trees c.args.self.now) c.args.count c.ending_tally-members.result c.of_all.result c.requires.there
-    (subst (λ xs. IsTally (ending c.args.count (grown_by [] (map part xs))) c.ending_tally-members.result) c.deref.ensures.value c.ending_tally-members.ensures) c.of_all.ensures
+    compound_fits (list_trees c.args.self.now) c.args.count c.ending_tally-members.result
+    c.of_all.result c.requires.there
+    (subst (λ xs. IsTally (ending c.args.count (grown_by [] (map part xs)))
+    c.ending_tally-members.result) c.deref.ensures.value c.ending_tally-members.ensures)
+    c.of_all.ensures

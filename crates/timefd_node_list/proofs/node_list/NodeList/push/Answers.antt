@@ -5,9 +5,11 @@ use Rattle.timefd_node_list.proofs.node_list.NodeList.push.Goals as goal
 
 pub invariant_of-self : goal.invariant_of-self
 invariant_of-self c = record {
-  fit = subst (λ xs. Fit [] (map part xs)) (sym c.push_reserved.ensures.items) (fit_node_more c.args.self.now.nodes.items c.args.node c.args.self.now.fit c.requires.fits);
+  fit = subst (λ xs. Fit [] (map part xs)) (sym c.push_reserved.ensures.items)
+      (fit_node_more c.args.self.now.nodes.items c.args.node c.args.self.now.fit c.requires.fits);
 }
 
 pub returns-clause-trees : goal.returns-clause-trees
 returns-clause-trees c =
-    ap (λ xs. grown_by [] (map part xs)) c.push_reserved.ensures.items ∙ grown_one_more c.args.self.now.nodes.items c.args.node
+    ap (λ xs. grown_by [] (map part xs)) c.push_reserved.ensures.items ∙
+    grown_one_more c.args.self.now.nodes.items c.args.node

@@ -5,19 +5,28 @@ use Rattle.timefd_node_list.specs.NodeTrees.{list_trees}
 use Rattle.timefd_node_list.specs.Tallies.{IsSum}
 use Rattle.timefd_component.specs.Tree as spec
 use Rattle.timefd_component.specs.Tree.{Tree}
-use Rattle.timefd_items.proofs.BuilderLemmas.{few_trees, largest-one_more, length-one_more}
+use Rattle.timefd_items.proofs.BuilderLemmas.{largest-one_more, length-one_more}
 use Rattle.timefd_node_list.proofs.SumLemmas.{sum-one_more}
 use Rattle.timefd_items.proofs.format_description_v3.builder.DescriptionBuilder.component.Goals as goal
-
-pub overflow_add-self : goal.overflow_add-self
-overflow_add-self c = omega (arith, few_trees c.args.self.now.list, c.args.self.now.counted)
 
 pub invariant_of-self-2 : goal.invariant_of-self-2
 invariant_of-self-2 c =
     let t : Tree = spec.component (modern c.args.component) in
-    let is : list_trees c.component-bytes.new.self ≡ built c.args.self.now ++ t ∷ [] = c.component-bytes.ensures.added.behind ∙ ap (λ ts. ts ++ t ∷ []) c.reserve.ensures.kept in
+    let is : list_trees c.component-bytes.new.self ≡ built c.args.self.now ++ t ∷ [] =
+    c.component-bytes.ensures.added.behind ∙ ap (λ ts. ts ++ t ∷ []) c.reserve.ensures.kept in
     record {
-      counted = omega (arith, c.args.self.now.counted, length-one_more (built c.args.self.now) (list_trees c.component-bytes.new.self) t is);
-      each_fits = largest-one_more (built c.args.self.now) (list_trees c.component-bytes.new.self) t _ is c.args.self.now.each_fits (omega (arith, c.component-bytes.ensures.bytes));
-      summed = subst (λ s. IsSum (list_trees c.component-bytes.new.self) s) (sym c.sum_within-self.ensures) (sum-one_more (built c.args.self.now) (list_trees c.component-bytes.new.self) t c.args.self.now.bytes _ is c.component-bytes.ensures.bytes c.args.self.now.summed);
+      counted = omega (
+        arith,
+        c.args.self.now.counted,
+        c.component-bytes.ensures.added.nodes,
+        c.reserve.ensures.nodes,
+        length-one_more (built c.args.self.now) (list_trees c.component-bytes.new.self) t is,
+      );
+      each_fits = largest-one_more (built c.args.self.now) (list_trees c.component-bytes.new.self) t
+          _ is c.args.self.now.each_fits (omega (arith, c.component-bytes.ensures.bytes));
+      summed = subst (λ s. IsSum (list_trees c.component-bytes.new.self) c.args.self.now.known s)
+          (sym c.saturating_add-self.ensures)
+          (sum-one_more (built c.args.self.now) (list_trees c.component-bytes.new.self) t
+          c.args.self.now.known c.args.self.now.bytes _ is c.component-bytes.ensures.bytes
+          c.args.self.now.summed);
     }

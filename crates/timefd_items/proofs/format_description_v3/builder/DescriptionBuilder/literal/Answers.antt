@@ -3,18 +3,29 @@ use Rattle.timefd_items.specs.Builder.{built}
 use Rattle.timefd_node_list.specs.NodeTrees.{list_trees}
 use Rattle.timefd_node_list.specs.Tallies.{IsSum}
 use Rattle.timefd_component.specs.Tree.{literal}
-use Rattle.timefd_items.proofs.BuilderLemmas.{few_trees, largest-one_more, length-one_more}
+use Rattle.timefd_items.proofs.BuilderLemmas.{largest-one_more, length-one_more}
 use Rattle.timefd_node_list.proofs.SumLemmas.{sum-one_more}
 use Rattle.timefd_items.proofs.format_description_v3.builder.DescriptionBuilder.literal.Goals as goal
 
-pub overflow_add-self : goal.overflow_add-self
-overflow_add-self c = omega (arith, few_trees c.args.self.now.list, c.args.self.now.counted)
-
 pub invariant_of-self-2 : goal.invariant_of-self-2
 invariant_of-self-2 c =
-    let is : list_trees c.literal.new.self ≡ built c.args.self.now ++ literal c.args.text.now ∷ [] = c.literal.ensures.behind ∙ ap (λ ts. ts ++ literal c.args.text.now ∷ []) c.reserve.ensures.kept in
+    let is : list_trees c.literal.new.self ≡ built c.args.self.now ++ literal c.args.text.now ∷ [] =
+    c.literal.ensures.behind ∙ ap (λ ts. ts ++ literal c.args.text.now ∷ [])
+    c.reserve.ensures.kept in
     record {
-      counted = omega (arith, c.args.self.now.counted, length-one_more (built c.args.self.now) (list_trees c.literal.new.self) (literal c.args.text.now) is);
-      each_fits = largest-one_more (built c.args.self.now) (list_trees c.literal.new.self) (literal c.args.text.now) _ is c.args.self.now.each_fits (omega arith);
-      summed = subst (λ s. IsSum (list_trees c.literal.new.self) s) (sym c.sum_within-self.ensures) (sum-one_more (built c.args.self.now) (list_trees c.literal.new.self) (literal c.args.text.now) c.args.self.now.bytes _ is refl c.args.self.now.summed);
+      counted = omega (
+        arith,
+        c.args.self.now.counted,
+        c.literal.ensures.nodes,
+        c.reserve.ensures.nodes,
+        length-one_more (built c.args.self.now) (list_trees c.literal.new.self)
+            (literal c.args.text.now) is,
+      );
+      each_fits = largest-one_more (built c.args.self.now) (list_trees c.literal.new.self)
+          (literal c.args.text.now) _ is c.args.self.now.each_fits (omega arith);
+      summed = subst (λ s. IsSum (list_trees c.literal.new.self) c.args.self.now.known s)
+          (sym c.saturating_add-self.ensures)
+          (sum-one_more (built c.args.self.now) (list_trees c.literal.new.self)
+          (literal c.args.text.now) c.args.self.now.known c.args.self.now.bytes _ is refl
+          c.args.self.now.summed);
     }

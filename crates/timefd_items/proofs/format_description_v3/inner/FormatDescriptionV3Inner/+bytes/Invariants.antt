@@ -8,5 +8,6 @@ use Rattle.timefd_items.proofs.format_description_v3.inner.FormatDescriptionV3In
 abbrev pub invariant-sum_within-items : goal.invariant-sum_within-items
 invariant-sum_within-items l = record {
   within : l.total ≤ l.limit;
-  whole : l.total + reserve_all (trees (map inner_tree (drop l.at l.items))) ≡ reserve_all (trees (map inner_tree l.items));
+  whole : l.total + reserve_all (trees (map inner_tree (drop l.at l.items))) ≡ reserve_all
+      (trees (map inner_tree l.items));
 }

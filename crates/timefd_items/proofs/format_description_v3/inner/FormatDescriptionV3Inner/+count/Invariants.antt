@@ -8,5 +8,6 @@ use Rattle.timefd_items.proofs.format_description_v3.inner.FormatDescriptionV3In
 abbrev pub invariant-all_nodes_within-items : goal.invariant-all_nodes_within-items
 invariant-all_nodes_within-items l = record {
   within : l.total ≤ l.limit;
-  whole : l.total + trees_count (trees (map inner_tree (drop l.at l.items))) ≡ trees_count (trees (map inner_tree l.items));
+  whole : l.total + trees_count (trees (map inner_tree (drop l.at l.items))) ≡ trees_count
+      (trees (map inner_tree l.items));
 }

@@ -6,4 +6,5 @@ use Rattle.timefd_items.proofs.format_description_v3.inner.FormatDescriptionV3In
 
 -- the trees that the iterator has left are left to be added
 abbrev pub invariant-flatten_all-items : goal.invariant-flatten_all-items
-invariant-flatten_all-items l = Adding l.initial.list l.list (map inner_tree (into_iter_items l.item-iterator)) (map inner_tree l.fn.items.items)
+invariant-flatten_all-items l = Adding l.initial.list l.list
+    (map inner_tree (into_iter_items l.item-iterator)) (map inner_tree l.fn.items.items)

@@ -1,0 +1,4 @@
+pub mod ExcerptLemmas
+pub mod PartLemmas
+pub mod OwnedLemmas
+pub mod ShortWords

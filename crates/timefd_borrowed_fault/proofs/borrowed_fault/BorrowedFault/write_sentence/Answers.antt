@@ -1,0 +1,14 @@
+use Rattle.std.proofs.Common.{◌∙◌, ap, subst}
+use Rattle.timefd_language.specs.FaultMeaning.{kind_of}
+use Rattle.timefd_borrowed_fault.specs.Excerpts.{IsExcerpt}
+use Rattle.timefd_borrowed_fault.specs.Parts.{sentence_with}
+use Rattle.timefd_borrowed_fault.proofs.PartLemmas.{with_decimal}
+use Rattle.timefd_borrowed_fault.proofs.borrowed_fault.BorrowedFault.write_sentence.Goals as goal
+
+pub returns : goal.returns
+returns c =
+    let kind = kind_of c.args.self.now.kind in
+    subst (λ t. IsExcerpt t c.args.buffer.now c.write_kind.new.buffer c.write_kind.result)
+    (ap (sentence_with kind) c.format-index.ensures.text
+    ∙ with_decimal kind c.args.self.now.index)
+    c.write_kind.ensures

@@ -1,0 +1,19 @@
+-- What a diagnostic says of a text.
+use Rattle.std.specs.Prelude.{◌≡◌}
+use Rattle.timefd_component.specs.Tree.{Text}
+use Rattle.timefd_fault.specs.Faults.{Fault, fault_of, index}
+use Rattle.timefd_parse.specs.declared.language.Language.{Language}
+use Rattle.timefd_diagnosis.specs.declared.diagnostic.Diagnostic.{Diagnostic}
+use Rattle.timefd_diagnosis.specs.Helps.{IsHelpFor}
+use Rattle.timefd_diagnosis.specs.Spans.{end_of}
+
+-- It is of this fault.
+abbrev pub IsOfFault : Fault → Diagnostic → Type 0
+IsOfFault f d = fault_of d.fault ≡ f
+
+-- Its span begins at the fault's index and ends with the word or the character there, and its help
+-- is for that.
+pub record IsDiagnosis (language : Language) (text : Text) (d : Diagnostic) : Type 0 where
+  pub start : d.span.start ≡ index d.fault
+  pub end : d.span.end ≡ end_of language text (fault_of d.fault)
+  pub help : IsHelpFor language text (fault_of d.fault).kind d.span d.help

@@ -1,0 +1,6 @@
+pub mod Spans
+pub mod Words
+pub mod Nearest
+pub mod Places
+pub mod Helps
+pub mod Diagnoses

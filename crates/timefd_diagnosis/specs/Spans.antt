@@ -1,0 +1,51 @@
+-- Where a fault ends.
+use Rattle.std.specs.Prelude.{ℕ, ◌+◌, [], ◌∷◌, length, drop, min, nat_lt, if◌then◌else◌}
+use Rattle.std.specs.List.{prefix_len}
+use Rattle.timefd_component.specs.Tree.{Text}
+use Rattle.timefd_fault.specs.Faults.{Kind, Fault, unclosed_bracket, invalid_name, invalid_modifier, missing_name, missing_modifier, expected, not_supported, duplicate_modifier, invalid_combination}
+use Rattle.timefd_language.specs.Bytes.{is_word_byte, is_key_byte}
+use Rattle.timefd_parse.specs.declared.language.Language.{Language}
+use Rattle.timefd_parse.specs.declared.language.Language.TheVariants.{Version, Strftime}
+use Rattle.timefd_diagnosis.specs.declared.span.Extent.{Extent}
+use Rattle.timefd_diagnosis.specs.declared.span.Extent.TheVariants.{Character, Word, Key, Bytes}
+
+-- a key, a value or a word, or where nothing stands on one side of a colon the colon
+abbrev pub modifier_extent : Text → Extent
+modifier_extent [] = Character
+modifier_extent (b ∷ word) = Bytes (length (b ∷ word))
+
+abbrev pub version_extent : Kind → Extent
+version_extent unclosed_bracket = Character
+version_extent (invalid_name name) = Word
+version_extent (invalid_modifier word) = modifier_extent word
+version_extent missing_name = Character
+version_extent (missing_modifier key) = Word
+version_extent (expected what) = Character
+version_extent (not_supported what context) = Character
+version_extent (duplicate_modifier key) = Key
+version_extent (invalid_combination key context) = Key
+
+-- Strftime's faults are of one character.
+abbrev pub extent_of : Language → Kind → Extent
+extent_of (Version v) kind = version_extent kind
+extent_of Strftime kind = Character
+
+-- how many bytes the first character has, as its first byte says
+abbrev pub character_len : Text → ℕ
+character_len [] = 0
+character_len (b ∷ bytes) =
+    if nat_lt b 0x80 then 1
+    else if nat_lt b 0xe0 then min (length (b ∷ bytes)) 2
+    else if nat_lt b 0xf0 then min (length (b ∷ bytes)) 3
+    else min (length (b ∷ bytes)) 4
+
+-- how many bytes at the front of what stands there
+abbrev pub measured : Extent → Text → ℕ
+measured Character rest = character_len rest
+measured Word rest = prefix_len is_word_byte rest
+measured Key rest = prefix_len is_key_byte rest
+measured (Bytes len) rest = min len (length rest)
+
+-- the index behind the bytes that are at fault
+abbrev pub end_of : Language → Text → Fault → ℕ
+end_of language text f = f.index + measured (extent_of language f.kind) (drop f.index text)

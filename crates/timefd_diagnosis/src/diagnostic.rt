@@ -1,0 +1,59 @@
+//! What is wrong with a text: its fault, which bytes are at fault, and what helps.
+
+ghost use Rattle.std.specs.Prelude.{◌≡◌, ◌↔◌, List, None, IfOk, IfSome};
+ghost use Rattle.timefd_component.specs.Tree.{Tree};
+ghost use Rattle.timefd_fault.specs.Faults.{fault_of};
+ghost use Rattle.timefd_language.specs.Grammar.{nesting_limit};
+ghost use Rattle.timefd_parse.specs.Language.{SpellsIn, FaultIn};
+ghost use Rattle.timefd_diagnosis.specs.Diagnoses.{IsDiagnosis, IsOfFault};
+
+use crate::help::{Help, help_for};
+use crate::span::{Span, span_of};
+use std::alloc::{AllocError, Global};
+use timefd_parse::{InvalidFormatDescription, Language, NESTING_LIMIT, ParseError, amount_within};
+
+/// Why a text is refused, and where.
+#[derive(Drop)]
+pub struct Diagnostic {
+    /// The fault.
+    pub fault: InvalidFormatDescription,
+    /// The bytes that are at fault.
+    pub span: Span,
+    /// What helps against it.
+    pub help: Help,
+}
+
+/// What is wrong with a text of a language: `None` where it is accepted. An `Err` says that memory
+/// ran out, and nothing of the text.
+pub fn diagnose(
+    alloc: Global,
+    language: Language,
+    text: &str,
+) -> Result<Option<Diagnostic>, AllocError>
+    ensures accepted { IfOk result (λ found. found ≡ None
+        → (list : List Tree) × SpellsIn language nesting_limit text.now list) }
+    ensures refused { IfOk result (λ found. IfSome found (λ d.
+        FaultIn language nesting_limit text.now (fault_of d.fault))) }
+    ensures diagnosis { IfOk result (λ found. IfSome found (IsDiagnosis language text.now)) }
+{
+    match amount_within(alloc, language, NESTING_LIMIT, text) {
+        Ok(_) => Ok(None),
+        Err(ParseError::Invalid(fault)) => Ok(Some(described(alloc, language, text, fault)?)),
+        Err(ParseError::Memory(error)) => Err(error),
+    }
+}
+
+// What is said of a fault.
+fn described(
+    alloc: Global,
+    language: Language,
+    text: &str,
+    fault: InvalidFormatDescription,
+) -> Result<Diagnostic, AllocError>
+    ensures fault { IfOk result (IsOfFault (fault_of fault)) }
+    ensures diagnosis { IfOk result (IsDiagnosis language text.now) }
+{
+    let span = span_of(language, text, &fault);
+    let help = help_for(alloc, language, text, &fault, span)?;
+    Ok(Diagnostic { fault, span, help })
+}

@@ -1,0 +1,16 @@
+//! What is wrong with a text that is no format description: its fault, the bytes that are at
+//! fault, a stable name, and what helps.
+#![tactic(auto)]
+
+mod code;
+mod diagnostic;
+mod help;
+mod nearest;
+pub mod place;
+mod span;
+pub mod words;
+
+pub use code::code_of;
+pub use diagnostic::{Diagnostic, diagnose};
+pub use help::Help;
+pub use span::{Extent, Span, span_of};

@@ -1,0 +1,84 @@
+//! What stands where a fault is: a name, a key or a value.
+
+ghost use Rattle.std.specs.Prelude.{◌≡◌, IfSome};
+ghost use Rattle.timefd_language.specs.Bytes as bytes;
+ghost use Rattle.timefd_diagnosis.specs.Places as spec;
+ghost use Rattle.timefd_diagnosis.specs.Places.{IsBehindWhite, IsInside, IsLastWord, IsPlaceIn};
+ghost use Rattle.timefd_diagnosis.specs.Words.{texts};
+
+use crate::words::{keys, names, values};
+use timefd_language::key::{Key, key_of};
+use timefd_language::name::{Name, name_of};
+use timefd_language::text::{Class, cut};
+
+/// What a word at fault was to be.
+#[derive(Clone, Copy)]
+pub enum Place {
+    /// The name of a bracket.
+    Name,
+    /// A key of the bracket with this name.
+    Key(Name),
+    /// What this key is set to.
+    Value(Key),
+}
+
+impl Place {
+    /// The words that are allowed there.
+    pub fn words(self, strict: bool) -> &'static [&'static str]
+        ensures { texts result.now ≡ spec.words_at strict self }
+    {
+        match self {
+            Place::Name => names(strict),
+            Place::Key(name) => keys(name),
+            Place::Value(key) => values(key),
+        }
+    }
+}
+
+/// What stands behind the last `[` of a text, if it has one.
+fn inside(front: &str) -> Option<&str>
+    ensures { IfSome result (λ rest. IsInside front.now rest.now) }
+{
+    let (_, rest) = front.rsplit_once('[')?;
+    Some(rest)
+}
+
+// What stands behind the last white byte of a text.
+fn last_word(text: &str) -> Option<&str>
+    ensures { IfSome result (λ word. IsLastWord text.now word.now) }
+{
+    text.get(behind_white(text.as_bytes())..)
+}
+
+// Where the last word begins.
+fn behind_white(bytes: &[u8]) -> usize
+    ensures { IsBehindWhite bytes.now result }
+{
+    let mut start = 0;
+    for (at, byte) in bytes.iter().enumerate() {
+        if is_white(*byte) {
+            start = at + 1;
+        }
+    }
+    start
+}
+
+fn is_white(byte: u8) -> bool
+    ensures { result ≡ bytes.is_white byte }
+{
+    matches!(byte, b'\t' | b'\n' | 12 | b'\r' | b' ')
+}
+
+/// What a modifier's word was to be that stands behind this text: a key, or the value of one.
+/// `None` where that can't be told, as no name or no key stands there.
+pub fn place_behind(strict: bool, front: &str) -> Option<Place>
+    ensures { IfSome result (IsPlaceIn strict front.now) }
+{
+    let (_, rest) = cut(inside(front)?, Class::White);
+    let (word, between) = cut(rest, Class::Word);
+    let name = name_of(strict, word)?;
+    match between.strip_suffix(':') {
+        None => Some(Place::Key(name)),
+        Some(before) => Some(Place::Value(key_of(name, strict, last_word(before)?)?)),
+    }
+}

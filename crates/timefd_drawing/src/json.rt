@@ -1,0 +1,118 @@
+//! Objects of JSON.
+
+ghost use Rattle.std.specs.Prelude.{◌≡◌, ◌<◌, ◌++◌, decimal, IfOk, OnOk};
+ghost use Rattle.timefd_drawing.specs.Json as spec;
+
+use std::alloc::{AllocError, Global};
+
+/// What an object on a diagnostic holds.
+#[derive(Clone, Copy)]
+pub struct Entry<'a> {
+    /// The stable name of the fault.
+    pub code: &'a str,
+    /// Where it stands: the file, the line and the column, both from 1.
+    pub file: &'a str,
+    pub line: u64,
+    pub column: u64,
+    /// Its sentence.
+    pub message: &'a str,
+}
+
+/// What an object also holds where a text is at fault.
+#[derive(Clone, Copy)]
+pub struct Detail<'a> {
+    /// The byte indices of what is at fault.
+    pub start: u64,
+    pub end: u64,
+    /// What helps.
+    pub help: &'a str,
+}
+
+/// An object on a line, on a fault of a text.
+pub fn object(alloc: Global, entry: Entry<'_>, detail: Detail<'_>) -> Result<Vec<u8>, AllocError>
+    ensures { IfOk result (λ line. line.items ≡ spec.object entry.entry detail.entry) }
+{
+    let mut out = Vec::new(alloc);
+    push_text(&mut out, "{\"code\":", entry.code)?;
+    push_number(alloc, &mut out, ",\"column\":", entry.column)?;
+    push_number(alloc, &mut out, ",\"end\":", detail.end)?;
+    push_text(&mut out, ",\"file\":", entry.file)?;
+    push_text(&mut out, ",\"help\":", detail.help)?;
+    push_number(alloc, &mut out, ",\"line\":", entry.line)?;
+    push_text(&mut out, ",\"message\":", entry.message)?;
+    push_number(alloc, &mut out, ",\"start\":", detail.start)?;
+    out.extend_from_slice(b"}\n")?;
+    Ok(out)
+}
+
+/// An object on a line, where no text was looked at.
+pub fn note_object(alloc: Global, entry: Entry<'_>) -> Result<Vec<u8>, AllocError>
+    ensures { IfOk result (λ line. line.items ≡ spec.note_object entry.entry) }
+{
+    let mut out = Vec::new(alloc);
+    push_text(&mut out, "{\"code\":", entry.code)?;
+    push_number(alloc, &mut out, ",\"column\":", entry.column)?;
+    push_text(&mut out, ",\"file\":", entry.file)?;
+    push_number(alloc, &mut out, ",\"line\":", entry.line)?;
+    push_text(&mut out, ",\"message\":", entry.message)?;
+    out.extend_from_slice(b"}\n")?;
+    Ok(out)
+}
+
+// Appends a text in the quotes of JSON.
+fn push_quoted(out: &mut Vec<u8>, text: &str) -> Result<(), AllocError>
+    ensures { OnOk result (out.new.items ≡ out.old.items ++ spec.quoted text.now) }
+{
+    out.extend_from_slice(b"\"")?;
+    push_all_escaped(out, text.as_bytes())?;
+    out.extend_from_slice(b"\"")
+}
+
+fn push_all_escaped(out: &mut Vec<u8>, bytes: &[u8]) -> Result<(), AllocError>
+    ensures { OnOk result (out.new.items ≡ out.old.items ++ spec.all_escaped bytes.now) }
+{
+    for byte in bytes {
+        push_escaped(out, *byte)?;
+    }
+    Ok(())
+}
+
+// Appends a byte of a text: quotes and backslashes behind a backslash, control characters by their
+// numbers.
+fn push_escaped(out: &mut Vec<u8>, byte: u8) -> Result<(), AllocError>
+    ensures { OnOk result (out.new.items ≡ out.old.items ++ spec.escaped byte) }
+{
+    if byte == b'"' || byte == b'\\' {
+        return out.extend_from_slice(&[b'\\', byte]);
+    }
+    if byte < b' ' {
+        let digits = [hex_digit(byte / 16), hex_digit(byte % 16)];
+        out.extend_from_slice(b"\\u00")?;
+        return out.extend_from_slice(&digits);
+    }
+    out.extend_from_slice(&[byte])
+}
+
+fn hex_digit(n: u8) -> u8
+    requires { n < 16 }
+    ensures { result ≡ spec.hex_digit n }
+{
+    if n < 10 { b'0' + n } else { b'a' + (n - 10) }
+}
+
+// Appends what stands before a field's value, and the value: a text.
+fn push_text(out: &mut Vec<u8>, front: &str, text: &str) -> Result<(), AllocError>
+    ensures { OnOk result (out.new.items ≡ out.old.items ++ (front.now ++ spec.quoted text.now)) }
+{
+    out.extend_from_slice(front.as_bytes())?;
+    push_quoted(out, text)
+}
+
+// Appends what stands before a field's value, and the value: a number.
+fn push_number(alloc: Global, out: &mut Vec<u8>, front: &str, number: u64) -> Result<(), AllocError>
+    ensures { OnOk result (out.new.items ≡ out.old.items ++ (front.now ++ decimal number)) }
+{
+    let digits = format!(in alloc; "{number}")?;
+    out.extend_from_slice(front.as_bytes())?;
+    out.extend_from_slice(digits.as_bytes())
+}

@@ -1,0 +1,44 @@
+//! Descriptions rewritten in the next version of the language.
+
+ghost use Rattle.std.specs.Prelude.{IfOk, string_bytes};
+ghost use Rattle.std.specs.Result.{IfErr};
+ghost use Rattle.timefd_language.specs.Grammar.{nesting_limit};
+ghost use Rattle.timefd_parse.specs.Answers.{IsAssigned};
+ghost use Rattle.timefd_lint.specs.Conversions.{KeepsItems, version_of};
+
+use std::alloc::Global;
+use timefd_lift::{v1_to_v2, v2_to_v3};
+use timefd_parse::{DescriptionVersion, Language, ParseError};
+
+/// From which version to which descriptions are rewritten.
+#[derive(Clone, Copy)]
+pub enum Conversion {
+    OneToTwo,
+    TwoToThree,
+}
+
+/// The conversion from a language to a version, where there is one.
+pub fn conversion_between(from: Language, to: DescriptionVersion) -> Option<Conversion> {
+    match (from, to) {
+        (Language::Version(DescriptionVersion::One), DescriptionVersion::Two) => {
+            Some(Conversion::OneToTwo)
+        }
+        (Language::Version(DescriptionVersion::Two), DescriptionVersion::Three) => {
+            Some(Conversion::TwoToThree)
+        }
+        _ => None,
+    }
+}
+
+/// The text of the next version with the same items, neighbouring literals joined. The error is the
+/// fault that the earlier version finds in the text, or `Memory` where memory ran out.
+pub fn converted(alloc: Global, conversion: Conversion, text: &str) -> Result<String, ParseError>
+    ensures same_items { IfOk result (λ answer.
+        KeepsItems conversion text.now (string_bytes answer)) }
+    ensures refused { IfErr result (IsAssigned (version_of conversion) nesting_limit text.now) }
+{
+    match conversion {
+        Conversion::OneToTwo => v1_to_v2(alloc, text),
+        Conversion::TwoToThree => v2_to_v3(alloc, text),
+    }
+}

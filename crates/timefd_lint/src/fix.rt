@@ -1,0 +1,127 @@
+//! A file whose lines are rewritten in the next version of the language.
+
+use crate::convert::{Conversion, converted};
+use crate::line::{is_passed_over, without_newline};
+use std::alloc::{AllocError, Global};
+use std::fs::{self, File, OpenFile};
+use std::io::{self, BufRead, BufReader, BufWriter, ErrorKind, Write};
+use std::rt::Files;
+use std::str;
+use timefd_parse::ParseError;
+
+// What a new file is called behind the name of the one that it is to replace.
+const BESIDE: &str = ".timefd_lint";
+
+/// Why a file is left as it was.
+#[derive(Clone, Copy)]
+pub enum FixError {
+    /// Memory ran out.
+    Memory,
+    /// The file can't be read, or the new one not be written or not take its place.
+    Failed,
+}
+
+impl From<AllocError> for FixError {
+    fn from(_: AllocError) -> FixError {
+        FixError::Memory
+    }
+}
+
+impl From<io::Error> for FixError {
+    fn from(error: io::Error) -> FixError {
+        if error.kind() == ErrorKind::OutOfMemory {
+            FixError::Memory
+        } else {
+            FixError::Failed
+        }
+    }
+}
+
+/// Rewrites the lines of a file, into a new one beside it that takes its place once it is whole.
+pub fn fix_file<R: Files>(
+    rt: &R,
+    alloc: Global,
+    comment: Option<&str>,
+    conversion: Conversion,
+    name: &str,
+) -> Result<(), FixError> {
+    let beside = format!(in alloc; "{name}{BESIDE}")?;
+    let old = File::open(rt, name)?;
+    let permissions = old.metadata()?.permissions();
+    let new = File::create_new(rt, beside.as_str())?;
+    let written = match new.set_permissions(permissions) {
+        Ok(()) => rewrite(alloc, comment, conversion, old, new),
+        Err(_) => Err(FixError::Failed),
+    };
+    let replaced = match written {
+        Ok(()) => fs::rename(rt, beside.as_str(), name).map_err(FixError::from),
+        Err(error) => Err(error),
+    };
+    if replaced.is_err() {
+        // The first error is told, and this one is not.
+        let _ = fs::remove_file(rt, beside.as_str());
+    }
+    replaced
+}
+
+// Writes all lines of one file into another, which is on the disk then.
+fn rewrite<F: io::Read + io::Write + OpenFile + Drop>(
+    alloc: Global,
+    comment: Option<&str>,
+    conversion: Conversion,
+    old: F,
+    new: F,
+) -> Result<(), FixError> {
+    let mut reader = BufReader::new(alloc, old)?;
+    let mut writer = BufWriter::new(alloc, new)?;
+    rewrite_lines(alloc, comment, conversion, &mut reader, &mut writer)?;
+    writer.flush()?;
+    writer.get_ref().sync_all()?;
+    Ok(())
+}
+
+/// Writes each line of a reader, rewritten where it can be.
+pub fn rewrite_lines<R: BufRead, W: Write>(
+    alloc: Global,
+    comment: Option<&str>,
+    conversion: Conversion,
+    reader: &mut R,
+    writer: &mut W,
+) -> Result<(), FixError> {
+    let mut bytes = Vec::new(alloc);
+    for _ in 0..u64::MAX {
+        bytes.clear();
+        if reader.read_until(b'\n', &mut bytes)? == 0 {
+            return Ok(());
+        }
+        let line = without_newline(&bytes);
+        match rewritten(alloc, comment, conversion, line)? {
+            Some(text) => {
+                writer.write_all(text.as_bytes())?;
+                writer.write_all(&bytes[line.len()..])?;
+            }
+            None => writer.write_all(&bytes)?,
+        }
+    }
+    Err(FixError::Failed)
+}
+
+// A line rewritten: `None` where it is passed over or refused, and stays as it is.
+fn rewritten(
+    alloc: Global,
+    comment: Option<&str>,
+    conversion: Conversion,
+    line: &[u8],
+) -> Result<Option<String>, AllocError> {
+    if is_passed_over(comment, line) {
+        return Ok(None);
+    }
+    let Ok(text) = str::from_utf8(line) else {
+        return Ok(None);
+    };
+    match converted(alloc, conversion, text) {
+        Ok(answer) => Ok(Some(answer)),
+        Err(ParseError::Invalid(_)) => Ok(None),
+        Err(ParseError::Memory(error)) => Err(error),
+    }
+}

@@ -1,0 +1,169 @@
+//! One text of a file.
+
+ghost use Rattle.std.specs.Prelude.{◌≡◌, IfOk, OnOk};
+ghost use Rattle.std.specs.Io.KnownBytes.{Appends};
+ghost use Rattle.std.specs.Io.BufRead.{ends_with_byte, strip_last};
+ghost use Rattle.timefd_lint.specs.Lines.{IsEndOf, IsLineEnd};
+ghost use Rattle.timefd_lint.specs.Lines as spec;
+ghost use Rattle.timefd_lint.specs.Told.{Says};
+ghost use Rattle.timefd_lint.specs.declared.line.TextEnd.TheVariants as ends;
+
+use crate::options::Options;
+use std::alloc::{AllocError, Global};
+use std::io::Write;
+use std::str;
+use timefd_diagnosis::diagnose;
+use timefd_drawing::{Origin, drawn, note};
+use timefd_explain::explained;
+
+/// Why a run ends before its last text.
+#[derive(Clone, Copy)]
+pub enum RunError {
+    /// Memory ran out.
+    Memory,
+    /// A write failed.
+    Write,
+}
+
+impl From<AllocError> for RunError {
+    fn from(_: AllocError) -> RunError {
+        RunError::Memory
+    }
+}
+
+/// What came of a text.
+#[derive(Clone, Copy)]
+pub enum TextEnd {
+    /// A line that is passed over: it is empty, or begins with the mark of comments.
+    PassedOver,
+    /// A description.
+    Accepted,
+    /// None, and a diagnostic is written.
+    Refused,
+    /// No UTF-8, and a note is written.
+    NotText,
+    /// None could be had, as a file can't be read or not be written back, and a note is written.
+    Failed,
+}
+
+/// Whether a line is passed over.
+pub fn is_passed_over(comment: Option<&str>, line: &[u8]) -> bool
+    ensures { result ≡ spec.is_passed_over comment.entry line.now }
+{
+    match comment {
+        Some(mark) => line.is_empty() || line.starts_with(mark.as_bytes()),
+        None => line.is_empty(),
+    }
+}
+
+fn ends_with(line: &[u8], byte: u8) -> bool
+    ensures { result ≡ ends_with_byte byte line.now }
+{
+    match line {
+        [.., last] => *last == byte,
+        [] => false,
+    }
+}
+
+// The line without its last byte, if that is this one.
+fn without_last(line: &[u8], byte: u8) -> &[u8]
+    ensures { result.now ≡ strip_last byte line.now }
+{
+    if ends_with(line, byte) {
+        &line[..line.len() - 1]
+    } else {
+        line
+    }
+}
+
+/// A line without its newline, and without the carriage return in front of that.
+pub fn without_newline(line: &[u8]) -> &[u8]
+    ensures { result.now ≡ spec.without_newline line.now }
+{
+    if ends_with(line, b'\n') {
+        without_last(without_last(line, b'\n'), b'\r')
+    } else {
+        line
+    }
+}
+
+/// Looks at a line, without its newline, and writes what is wrong with it. An `Err` says why that
+/// wasn't done.
+pub fn lint_line<W: Write>(
+    alloc: Global,
+    options: Options<'_>,
+    origin: Origin<'_>,
+    line: &[u8],
+    writer: &mut W,
+) -> Result<TextEnd, RunError>
+    ensures end { IfOk result (IsLineEnd options.entry.language options.entry.comment line.now) }
+    ensures said { IfOk result (λ end.
+        Says options.entry.explains end (W.contents writer.old) (W.contents writer.new)) }
+{
+    if is_passed_over(options.comment, line) {
+        return Ok(TextEnd::PassedOver);
+    }
+    lint_text(alloc, options, origin, line, writer)
+}
+
+/// Looks at a text, and writes what is wrong with it. An `Err` says why that wasn't done.
+pub fn lint_text<W: Write>(
+    alloc: Global,
+    options: Options<'_>,
+    origin: Origin<'_>,
+    bytes: &[u8],
+    writer: &mut W,
+) -> Result<TextEnd, RunError>
+    ensures end { IfOk result (IsEndOf options.entry.language bytes.now) }
+    ensures said { IfOk result (λ end.
+        Says options.entry.explains end (W.contents writer.old) (W.contents writer.new)) }
+{
+    let Ok(text) = str::from_utf8(bytes) else {
+        let message = note(
+            alloc,
+            options.style,
+            origin,
+            "not-text",
+            "the bytes are no UTF-8",
+        )?;
+        write(writer, &message)?;
+        return Ok(TextEnd::NotText);
+    };
+    match diagnose(alloc, options.language, text)? {
+        None => accepted(alloc, options, origin, text, writer),
+        Some(diagnostic) => {
+            let message = drawn(alloc, options.style, origin, text, &diagnostic)?;
+            write(writer, &message)?;
+            Ok(TextEnd::Refused)
+        }
+    }
+}
+
+// Writes the tree of a text that is accepted, if it is asked for.
+fn accepted<W: Write>(
+    alloc: Global,
+    options: Options<'_>,
+    origin: Origin<'_>,
+    text: &str,
+    writer: &mut W,
+) -> Result<TextEnd, RunError>
+    ensures end { IfOk result (λ end. end ≡ ends.Accepted) }
+    ensures said { IfOk result (λ end.
+        Says options.entry.explains end (W.contents writer.old) (W.contents writer.new)) }
+{
+    if options.explains {
+        let tree = explained(alloc, options.language, origin, text)?;
+        write(writer, tree.as_bytes())?;
+    }
+    Ok(TextEnd::Accepted)
+}
+
+/// Writes all of the bytes.
+pub fn write<W: Write>(writer: &mut W, bytes: &[u8]) -> Result<(), RunError>
+    ensures { OnOk result (Appends (W.contents writer.old) (W.contents writer.new) bytes.now) }
+{
+    match writer.write_all(bytes) {
+        Ok(()) => Ok(()),
+        Err(_) => Err(RunError::Write),
+    }
+}

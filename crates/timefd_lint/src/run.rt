@@ -1,0 +1,125 @@
+//! A run over files.
+
+ghost use Rattle.std.specs.Prelude.{IfOk};
+ghost use Rattle.timefd_lint.specs.Told.{IsRun};
+
+use crate::convert::Conversion;
+use crate::fix::{FixError, fix_file};
+use crate::line::RunError;
+use crate::lines::{Failure, failed, lint_lines, lint_whole};
+use crate::options::Options;
+use crate::tally::Tally;
+use std::alloc::Global;
+use std::fs::File;
+use std::io::{BufReader, Read, Write};
+use std::rt::Files;
+
+// How many bytes are read at once.
+const BUFFER: usize = 65_536;
+
+/// Looks at each file, or at the input where there is none, in order, and writes what is wrong. A
+/// file that can't be read is noted, and the others are still looked at.
+#[tactic(auto, using(crate::proofs::ToldLemmas::no_text, crate::proofs::ToldLemmas::run_behind))]
+pub fn run<R: Files, I: Read + Drop, W: Write>(
+    rt: &R,
+    alloc: Global,
+    options: Options<'_>,
+    input: I,
+    writer: &mut W,
+) -> Result<Tally, RunError>
+    ensures { IfOk result (IsRun options.entry.is_whole options.entry.language options.entry.comment
+        options.entry.explains (W.contents writer.old) (W.contents writer.new)) }
+{
+    if options.files.is_empty() {
+        return lint_reader(alloc, options, "<stdin>", input, writer);
+    }
+    let mut tally = Tally::new();
+    'files: for name in options.files {
+        tally = tally.and(lint_and_fix(rt, alloc, options, name, writer)?);
+    }
+    Ok(tally)
+}
+
+// Looks at all texts of a file, and writes it back where that is asked for.
+#[tactic(auto, using(crate::proofs::ToldLemmas::run_behind))]
+fn lint_and_fix<R: Files, W: Write>(
+    rt: &R,
+    alloc: Global,
+    options: Options<'_>,
+    name: &str,
+    writer: &mut W,
+) -> Result<Tally, RunError>
+    ensures { IfOk result (IsRun options.entry.is_whole options.entry.language options.entry.comment
+        options.entry.explains (W.contents writer.old) (W.contents writer.new)) }
+{
+    let tally = lint_file(rt, alloc, options, name, writer)?;
+    match options.conversion() {
+        Some(conversion) if !tally.failed => {
+            Ok(tally.and(fix(rt, alloc, options, conversion, name, writer)?))
+        }
+        _ => Ok(tally),
+    }
+}
+
+// Writes a file back. Where that fails it is noted, and the file is as it was.
+#[tactic(auto, using(crate::proofs::ToldLemmas::no_text, crate::proofs::ToldLemmas::failed_run))]
+fn fix<R: Files, W: Write>(
+    rt: &R,
+    alloc: Global,
+    options: Options<'_>,
+    conversion: Conversion,
+    name: &str,
+    writer: &mut W,
+) -> Result<Tally, RunError>
+    ensures { IfOk result (IsRun options.entry.is_whole options.entry.language options.entry.comment
+        options.entry.explains (W.contents writer.old) (W.contents writer.new)) }
+{
+    match fix_file(rt, alloc, options.comment, conversion, name) {
+        Ok(()) => Ok(Tally::new()),
+        Err(FixError::Memory) => Err(RunError::Memory),
+        Err(FixError::Failed) => {
+            let end = failed(alloc, options, name, Failure::Unwritten, writer)?;
+            Ok(Tally::of(end))
+        }
+    }
+}
+
+// Looks at all texts of a file.
+#[tactic(auto, using(crate::proofs::ToldLemmas::failed_run))]
+fn lint_file<R: Files, W: Write>(
+    rt: &R,
+    alloc: Global,
+    options: Options<'_>,
+    name: &str,
+    writer: &mut W,
+) -> Result<Tally, RunError>
+    ensures { IfOk result (IsRun options.entry.is_whole options.entry.language options.entry.comment
+        options.entry.explains (W.contents writer.old) (W.contents writer.new)) }
+{
+    match File::open(rt, name) {
+        Ok(file) => lint_reader(alloc, options, name, file, writer),
+        Err(_) => Ok(Tally::of(failed(alloc, options, name, Failure::Unread, writer)?)),
+    }
+}
+
+// Looks at all texts of a reader.
+#[tactic(auto, using(crate::proofs::ToldLemmas::whole_run, crate::proofs::ToldLemmas::lines_run))]
+fn lint_reader<R: Read + Drop, W: Write>(
+    alloc: Global,
+    options: Options<'_>,
+    name: &str,
+    reader: R,
+    writer: &mut W,
+) -> Result<Tally, RunError>
+    ensures { IfOk result (IsRun options.entry.is_whole options.entry.language options.entry.comment
+        options.entry.explains (W.contents writer.old) (W.contents writer.new)) }
+{
+    let Ok(mut reader) = BufReader::with_capacity(alloc, BUFFER, reader) else {
+        return Err(RunError::Memory);
+    };
+    if options.is_whole {
+        lint_whole(alloc, options, name, &mut reader, writer)
+    } else {
+        lint_lines(alloc, options, name, &mut reader, writer)
+    }
+}

@@ -1,0 +1,50 @@
+use Rattle.std.proofs.Common.{List, refl, sym, subst}
+use Rattle.timefd_fault.specs.Faults.{Fault}
+use Rattle.timefd_component.specs.Tree.{Tree}
+use Rattle.timefd_borrowed_fault.specs.BorrowedFaults.{IsLentOrMemory, IsMemory}
+use Rattle.timefd_borrowed_fault.proofs.ShortWords.{short_fault, short_lent}
+use Rattle.timefd_language.specs.declared.description_version.DescriptionVersion.TheVariants.{Three}
+use Rattle.timefd_language.specs.Broken.{FaultOf}
+use Rattle.timefd_language.specs.Grammar.{Spells}
+use Rattle.timefd_parse.proofs.ParseLemmas.{items_output}
+use Rattle.timefd_parse.proofs.ReadLemmas.{not_three}
+use Rattle.timefd_parse.proofs.borrowing.parse_all_borrowed.Goals as goal
+
+pub returns-in-Ok-clause-refused : goal.returns-in-Ok-clause-refused
+returns-in-Ok-clause-refused c = subst (λ v. (f : Fault) → FaultOf v c.args.limit c.args.s.now f
+    → ⊥) (sym c.in-Three.is) c.in-Ok.ensures.refused
+
+pub returns-in-Err-clause-spelled : goal.returns-in-Err-clause-spelled
+returns-in-Err-clause-spelled c = subst (λ v. (list : List Tree)
+    → Spells v c.args.limit 0 c.args.s.now list → IsMemory c.in-Err.error) (sym c.in-Three.is)
+    c.in-Err.ensures.spelled
+
+pub returns-in-Err-clause-refused : goal.returns-in-Err-clause-refused
+returns-in-Err-clause-refused c = subst (λ v. (f : Fault) → FaultOf v c.args.limit c.args.s.now f
+    → IsLentOrMemory f c.in-Err.error) (sym c.in-Three.is) c.in-Err.ensures.refused
+
+pub returns-in-Err-clause-words : goal.returns-in-Err-clause-words
+returns-in-Err-clause-words c =
+    short_lent (FaultOf Three c.args.limit c.args.s.now)
+    (short_fault Three c.args.limit c.args.s.now)
+    c.in-Err.error c.in-Err.ensures.fault
+
+pub returns-in-Err-parse_items-clause-words : goal.returns-in-Err-parse_items-clause-words
+returns-in-Err-parse_items-clause-words c =
+    short_lent (FaultOf c.args.version c.args.limit c.args.s.now)
+    (short_fault c.args.version c.args.limit c.args.s.now) _ c.in-Err-parse_items.ensures.fault
+
+pub returns-in-Ok-parse_items : goal.returns-in-Ok-parse_items
+returns-in-Ok-parse_items c =
+    let lax = not_three _ c.in_default.not-Three in
+    let found = c.in-Ok-parse_items.ensures.found in
+    record {
+      found = (found.0, found.1, items_output _ _ _ lax found.2);
+      fault = tt;
+      spelled = λ list s. items_output _ _ list lax (c.in-Ok-parse_items.ensures.spelled list s);
+      refused = c.in-Ok-parse_items.ensures.refused;
+      words = tt;
+      strings = found.2.1;
+      reserved = tt;
+      empty = λ e. refl;
+    }

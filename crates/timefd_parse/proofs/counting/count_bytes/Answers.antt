@@ -1,0 +1,78 @@
+use Rattle.std.proofs.Common.{◌≡◌, ◌∙◌, ◌+◌, ◌≤◌, [], length, refl, ap, arith}
+use Rattle.std.proofs.lemmas.Bool.{true≢false}
+use Rattle.timefd_component.specs.Reserved.{reserve, reserve_all}
+use Rattle.timefd_component.specs.Tree.{pack, trees}
+use Rattle.timefd_items.specs.Builder.{built}
+use Rattle.timefd_language.specs.declared.description_version.DescriptionVersion.TheVariants.{Three}
+use Rattle.timefd_parse.proofs.AmountLemmas.{lent-in-version}
+use Rattle.timefd_parse.proofs.BuildingLemmas.{list_within}
+use Rattle.timefd_parse.proofs.CountingLemmas.{none_built, pack_sum}
+use Rattle.timefd_parse.proofs.ParseLemmas.{items_spelled, same_list, none_read, no_fault_in, lent_assigned, lent_spelled, lent_refused}
+use Rattle.timefd_parse.proofs.counting.count_bytes.Goals as goal
+
+pub finish-requires : goal.finish-requires
+finish-requires c =
+    let m = c.in-Ok.ensures.bytes in
+    let within : reserve_all (trees m.0) ≤ length c.args.text.now =
+    list_within Three c.args.limit 0 c.args.text.now m.0 [] refl m.1 in
+    omega (arith, m.2, within)
+
+pub overflow_add-result : goal.overflow_add-result
+overflow_add-result c =
+    let m = c.in-Ok.ensures.bytes in
+    let within : reserve_all (trees m.0) ≤ length c.args.text.now =
+    list_within Three c.args.limit 0 c.args.text.now m.0 [] refl m.1 in
+    omega (
+      arith,
+      m.2,
+      within,
+      c.max_bytes_needed.ensures.reserved,
+      ap reserve c.in-Ok-finish.ensures.ok,
+      pack_sum (built c.bytes_beside.new.builder),
+    )
+
+pub returns-in-Ok-finish : goal.returns-in-Ok-finish
+returns-in-Ok-finish c =
+    let m = c.in-Ok.ensures.bytes in
+    let total : c.in-Ok.bytes + c.max_bytes_needed.result ≡ reserve (pack m.0) =
+    omega (
+      arith,
+      m.2,
+      c.max_bytes_needed.ensures.reserved,
+      ap reserve c.in-Ok-finish.ensures.ok,
+      pack_sum (built c.bytes_beside.new.builder),
+      pack_sum m.0,
+    ) in
+    record {
+      found = (m.0, items_spelled _ _ _ _ _ m.1, total);
+      fault = tt;
+      spelled = λ list s. total ∙ ap (λ l. reserve (pack l)) (same_list _ _ _ _ _ list m.1 s);
+      refused = λ f h. no_fault_in _ _ _ _ _ f m.1 h;
+      memory = λ lax. tt;
+      empty = λ e. refl;
+    }
+
+pub returns-in-Ok : goal.returns-in-Ok
+returns-in-Ok c =
+    let m = c.in-Ok.ensures.bytes in
+    record {
+      found = tt;
+      fault = tt;
+      spelled = λ list s. tt;
+      refused = λ f h. tt;
+      memory = λ lax. absurd (true≢false lax);
+      empty = λ e. c.in-Err-finish.ensures.empty
+          (none_built _ m.0 m.3 (none_read _ _ _ _ _ m.1 e));
+    }
+
+pub returns : goal.returns
+returns c =
+    let bad = c.in-Err.ensures.bytes in
+    record {
+      found = tt;
+      fault = lent-in-version _ _ _ _ (lent_assigned _ _ _ _ _ bad c.lent.ensures);
+      spelled = λ list s. lent_spelled _ _ _ _ _ list bad c.lent.ensures s;
+      refused = λ f h. lent_refused _ _ _ _ _ f bad c.lent.ensures h;
+      memory = λ lax. absurd (true≢false lax);
+      empty = λ e. absurd (omega (arith, c.in-Err.ensures.some, ap length e));
+    }

@@ -1,0 +1,122 @@
+//! The same calls with a fault that borrows what it quotes.
+
+ghost use Rattle.std.specs.Prelude.{◌≡◌, ◌≤◌, [], List, length, IfOk, IsOk, IsFalse, MatchResult};
+ghost use Rattle.std.specs.Result.{IfErr};
+ghost use Rattle.timefd_component.specs.Tree.{Tree, pack};
+ghost use Rattle.timefd_fault.specs.Faults as spec;
+ghost use Rattle.timefd_items.specs.Description.{description_tree};
+ghost use Rattle.timefd_component.specs.Reserved.{reserve};
+ghost use Rattle.timefd_language.specs.declared.description_version.DescriptionVersion.TheVariants.{Three};
+ghost use Rattle.timefd_language.specs.Bytes.{is_version_three};
+ghost use Rattle.timefd_language.specs.Grammar.{Spells, nesting_limit};
+ghost use Rattle.timefd_language.specs.Broken.{FaultOf};
+ghost use Rattle.timefd_language.specs.Strings.{AreItems};
+ghost use Rattle.timefd_borrowed_fault.specs.BorrowedFaults.{HasShortFault, IsLentOf, IsLentOrMemory, IsMemory};
+ghost use Rattle.timefd_parse.specs.Answers.{IsOutput, ReservesAtMost, HasStrings};
+
+use crate::parsing::BorrowedOutput;
+use crate::read::{items, members, node_room};
+use std::alloc::{AllocError, Global};
+use timefd_borrowed_fault::borrowed_parse_error::{BorrowedParseError, lent};
+use timefd_items::{BorrowedFormatItem, DescriptionBuilder, FormatDescriptionV3};
+use timefd_language::description_version::DescriptionVersion;
+
+/// Reads a text of a version as `parse_borrowed_within` does, with a fault that borrows what it
+/// quotes. This call is this port's own.
+///
+/// The error is `Invalid` with the fault of the text, or `Memory` where memory ran out.
+pub fn parse_all_borrowed<'a>(
+    alloc: Global,
+    version: DescriptionVersion,
+    limit: u8,
+    s: &'a str,
+) -> Result<BorrowedOutput<'a>, BorrowedParseError<'a>>
+    requires { limit ≤ nesting_limit }
+
+    // What is accepted is spelled so, and what is refused is refused for the fault that the rules
+    // assign.
+    ensures found { IfOk result (λ output. (list : List Tree)
+        × Spells version limit 0 s.now list × IsOutput version list output) }
+    ensures fault { IfErr result (IsLentOf (FaultOf version limit s.now)) }
+
+    // What is spelled is accepted, and what has a fault is refused for it, unless memory runs out.
+    ensures spelled { (list : List Tree) → Spells version limit 0 s.now list
+        → MatchResult result (IsOutput version list) IsMemory }
+    ensures refused { (f : spec.Fault) → FaultOf version limit s.now f
+        → MatchResult result (λ _. ⊥) (IsLentOrMemory f) }
+
+    // The words of a fault are short, so that its sentence can be written.
+    ensures words { IfErr result HasShortFault }
+
+    // No literal of an item is one of bytes, and a description reserves no more bytes than the
+    // text has.
+    ensures strings { IfOk result HasStrings }
+    ensures reserved { IfOk result (ReservesAtMost (length s.now)) }
+
+    // The empty text takes no memory.
+    ensures empty { s.now ≡ [] → IsOk result }
+{
+    if let DescriptionVersion::Three = version {
+        return match parse_description(alloc, limit, s) {
+            Ok(description) => Ok(BorrowedOutput::Description(description)),
+            Err(error) => Err(error),
+        };
+    }
+    match parse_items(alloc, version, limit, s) {
+        Ok(items) => Ok(BorrowedOutput::Items(items)),
+        Err(error) => Err(error),
+    }
+}
+
+/// The items of a text of version 1 or 2.
+pub fn parse_items<'a>(
+    alloc: Global,
+    version: DescriptionVersion,
+    limit: u8,
+    s: &'a str,
+) -> Result<Vec<BorrowedFormatItem<'a>>, BorrowedParseError<'a>>
+    requires { IsFalse (is_version_three version) }
+    ensures found { IfOk result (λ items. (list : List Tree)
+        × Spells version limit 0 s.now list × AreItems items.items list) }
+    ensures fault { IfErr result (IsLentOf (FaultOf version limit s.now)) }
+    ensures spelled { (list : List Tree) → Spells version limit 0 s.now list
+        → MatchResult result (λ items. AreItems items.items list) IsMemory }
+    ensures refused { (f : spec.Fault) → FaultOf version limit s.now f
+        → MatchResult result (λ _. ⊥) (IsLentOrMemory f) }
+    ensures empty { s.now ≡ [] → IsOk result }
+{
+    match items(alloc, version, s, limit) {
+        Ok(items) => Ok(items),
+        Err(error) => Err(lent(error, s.len())),
+    }
+}
+
+/// The description that a text of version 3 spells.
+pub fn parse_description<'a>(
+    alloc: Global,
+    limit: u8,
+    s: &'a str,
+) -> Result<FormatDescriptionV3<'a>, BorrowedParseError<'a>>
+    ensures found { IfOk result (λ d. (list : List Tree)
+        × Spells Three limit 0 s.now list × (description_tree d ≡ pack list)) }
+    ensures fault { IfErr result (IsLentOf (FaultOf Three limit s.now)) }
+    ensures spelled { (list : List Tree) → Spells Three limit 0 s.now list
+        → MatchResult result (λ d. description_tree d ≡ pack list) IsMemory }
+    ensures refused { (f : spec.Fault) → FaultOf Three limit s.now f
+        → MatchResult result (λ _. ⊥) (IsLentOrMemory f) }
+    ensures reserved { IfOk result (λ d. reserve (description_tree d) ≤ length s.now) }
+    ensures empty { s.now ≡ [] → IsOk result }
+{
+    let len = s.len();
+    let mut builder = match DescriptionBuilder::with_capacity(alloc, node_room(s)) {
+        Ok(builder) => builder,
+        Err(error) => return Err(BorrowedParseError::Memory(error)),
+    };
+    match members(&mut builder, DescriptionVersion::Three, s, limit, 0) {
+        Ok(_) => match builder.finish() {
+            Ok(description) => Ok(description),
+            Err(error) => Err(BorrowedParseError::Memory(error)),
+        },
+        Err(error) => Err(lent(error, len)),
+    }
+}

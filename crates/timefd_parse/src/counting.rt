@@ -1,0 +1,123 @@
+//! How much a text of a version holds. Its pieces are counted, and what needs no tree has none.
+
+ghost use Rattle.std.specs.Prelude.{ℕ, ◌≡◌, ◌≤◌, ◌<◌, [], List, length, IsFalse, MatchResult};
+ghost use Rattle.std.specs.Result.{IfErr};
+ghost use Rattle.timefd_component.specs.Tree.{Tree};
+ghost use Rattle.timefd_items.specs.Builder.{built};
+ghost use Rattle.timefd_language.specs.Bytes.{is_version_three};
+ghost use Rattle.timefd_language.specs.FaultMeaning.{MemoryOr};
+ghost use Rattle.timefd_language.specs.Grammar.{nesting_limit};
+ghost use Rattle.timefd_language.specs.Invalid.{IsInvalid};
+ghost use Rattle.timefd_language.specs.declared.description_version.DescriptionVersion.TheVariants.{Three};
+ghost use Rattle.timefd_parse.specs.Language.{IsAmount};
+ghost use Rattle.timefd_parse.specs.Pieces as spec;
+ghost use Rattle.timefd_parse.specs.Read.{AreCounted, IsFaultIn, PiecesToEnd};
+
+use crate::piece::Piece;
+use crate::read::next_piece;
+use std::alloc::Global;
+use timefd_borrowed_fault::borrowed_parse_error::{BorrowedParseError, lent};
+use timefd_component::reserved::reserved_bytes;
+use timefd_items::DescriptionBuilder;
+use timefd_language::description_version::DescriptionVersion;
+use timefd_language::fault::ReadError;
+
+/// How many items a text of version 1 or 2 has. It takes no memory.
+#[inline(always)]
+pub fn count_items<'a>(
+    alloc: Global,
+    version: DescriptionVersion,
+    limit: u8,
+    text: &'a str,
+) -> Result<usize, BorrowedParseError<'a>>
+    requires { IsFalse (is_version_three version) }
+    ensures { IsAmount version limit text.now result }
+{
+    let mut builder = DescriptionBuilder::new(alloc);
+    match count_pieces(&mut builder, version, text, limit) {
+        Ok(count) => Ok(count),
+        Err(error) => Err(lent(error, text.len())),
+    }
+}
+
+/// How many bytes a text of version 3 reserves. Of its pieces only those are built that have nested
+/// descriptions.
+pub fn count_bytes<'a>(
+    alloc: Global,
+    limit: u8,
+    text: &'a str,
+) -> Result<usize, BorrowedParseError<'a>>
+    ensures { IsAmount Three limit text.now result }
+{
+    let len = text.len();
+    let mut builder = DescriptionBuilder::new(alloc);
+    match bytes_beside(&mut builder, text, limit) {
+        Ok(bytes) => match builder.finish() {
+            Ok(nested) => Ok(bytes + nested.max_bytes_needed()),
+            Err(error) => Err(BorrowedParseError::Memory(error)),
+        },
+        Err(error) => Err(lent(error, len)),
+    }
+}
+
+/// How many pieces a text of version 1 or 2 has.
+#[inline(always)]
+fn count_pieces<'a>(
+    builder: &mut DescriptionBuilder<'a>,
+    version: DescriptionVersion,
+    text: &'a str,
+    limit: u8,
+) -> Result<usize, ReadError<'a>>
+    requires { IsFalse (is_version_three version) }
+    ensures count { MatchResult result (λ n. (list : List Tree)
+        × PiecesToEnd version limit 0 text.now list [] × (n ≡ length list))
+        (MemoryOr (IsFaultIn version limit 0 text.now)) }
+    ensures invalid { IfErr result IsInvalid }
+    ensures some { IfErr result (λ _. 0 < length text.now) }
+{
+    let mut count = 0;
+    let mut rest = text;
+    'pieces: loop {
+        let Some((_, after)) = next_piece(builder, version, rest, limit, 0)? else {
+            return Ok(count);
+        };
+        count += 1;
+        rest = after;
+    }
+}
+
+/// How many bytes the pieces of a text of version 3 reserve, beside those that are built.
+#[inline(always)]
+fn bytes_beside<'a>(
+    builder: &mut DescriptionBuilder<'a>,
+    text: &'a str,
+    limit: u8,
+) -> Result<usize, ReadError<'a>>
+    requires { built builder.old ≡ [] }
+    ensures bytes { MatchResult result (AreCounted limit text.now (built builder.new))
+        (MemoryOr (IsFaultIn Three limit 0 text.now)) }
+    ensures some { IfErr result (λ _. 0 < length text.now) }
+{
+    let mut bytes = 0;
+    let mut rest = text;
+    'pieces: loop {
+        let Some((piece, after)) = next_piece(builder, DescriptionVersion::Three, rest, limit, 0)?
+        else {
+            return Ok(bytes);
+        };
+        bytes += own_bytes(piece);
+        rest = after;
+    }
+}
+
+/// How many bytes a piece reserves that isn't built.
+#[inline(always)]
+fn own_bytes(piece: Piece) -> usize
+    ensures { result ≡ spec.own_bytes piece.entry }
+{
+    match piece {
+        Piece::Literal(text) => text.len(),
+        Piece::Component(component) => reserved_bytes(component),
+        Piece::Built => 0,
+    }
+}
