@@ -16,15 +16,11 @@ use Rattle.timefd_component.specs.declared.component.Component.{Component}
 use Rattle.timefd_component.specs.declared.component.Component.TheVariants.{Day, MonthShort, MonthLong, MonthNumerical, Ordinal, WeekdayShort, WeekdayLong, WeekdaySunday, WeekdayMonday, WeekNumberIso, WeekNumberSunday, WeekNumberMonday, CalendarYearFullExtendedRange, CalendarYearFullStandardRange, CalendarYearCenturyExtendedRange, CalendarYearCenturyStandardRange, IsoYearFullExtendedRange, IsoYearFullStandardRange, IsoYearCenturyExtendedRange, IsoYearCenturyStandardRange, CalendarYearLastTwo, IsoYearLastTwo, Hour12, Hour24, Minute, Period, Second, Subsecond, OffsetHour, OffsetMinute, OffsetSecond, Ignore, UnixTimestampSecond, UnixTimestampMillisecond, UnixTimestampMicrosecond, UnixTimestampNanosecond, End, Month, Weekday, WeekNumber, Hour, UnixTimestamp, Year}
 use Rattle.timefd_component.specs.Modern.{modern, modern_month, modern_weekday, modern_week_number, modern_hour, modern_timestamp, modern_year}
 use Rattle.timefd_lift.specs.Plain.{IsCounted}
-use Rattle.timefd_lift.specs.Written.{component_text}
-use Rattle.timefd_lift.proofs.Heads.{IsShown}
+use Rattle.timefd_lift.proofs.Heads.{IsShownAs}
 use Rattle.timefd_lift.proofs.DateHeads.{day, month_short, month_long, month_numerical, ordinal, weekday_short, weekday_long, weekday_sunday, weekday_monday, week_iso, week_sunday, week_monday}
 use Rattle.timefd_lift.proofs.YearHeads.{full_extended, full_standard, century_extended, century_standard, last_two, iso_full_extended, iso_full_standard, iso_century_extended, iso_century_standard, iso_last_two}
 use Rattle.timefd_lift.proofs.TimeHeads.{hour_12, hour_24, minute, period, second, subsecond, offset_hour, offset_minute, offset_second, timestamp_second, timestamp_millisecond, timestamp_microsecond, timestamp_nanosecond, end}
 use Rattle.timefd_lift.proofs.CountText.{ignore}
-
-abbrev IsShownAs : Component → Type 0
-IsShownAs c = IsShown (component_text c) c
 
 month : (r : MonthRepr) (m : MonthFields) → IsShownAs (modern_month r m)
 month MonthRepr.Short m = month_short m.case_sensitive

@@ -1,12 +1,13 @@
 -- A text as one bracket that version 3 reads as a component.
-use Rattle.std.proofs.Common.{ℕ, ◌≡◌, ◌&&◌, Bool, true, false, List, [], ◌∷◌, ◌++◌, Ok, codes, refl}
-use Rattle.std.specs.List.{list_all}
+use Rattle.std.proofs.Common.{ℕ, ◌≡◌, ◌-◌, ◌==◌, ◌&&◌, Bool, true, false, List, [], ◌∷◌, ◌++◌, map, length, take, drop, Ok, codes}
+use Rattle.std.specs.List.{list_all, slice_split}
 use Rattle.std.proofs.lemmas.Bool.{and_parts, false≢true}
 use Rattle.timefd_component.specs.Tree.{Text, component}
 use Rattle.timefd_component.specs.declared.component.Component.{Component}
-use Rattle.timefd_language.specs.Bytes.{right, is_white, is_word_byte, is_key_byte, OneOrMore}
+use Rattle.timefd_language.specs.Bytes.{right, colon, is_white, is_word_byte, is_key_byte, OneOrMore}
 use Rattle.timefd_language.specs.Head.{Head, IsHead, Modifier, IsModifier, AreModifiers, head_text}
 use Rattle.timefd_language.specs.Verdict.{verdict}
+use Rattle.timefd_lift.specs.Written.{component_text}
 
 abbrev some : (ℕ → Bool) → Text → Bool
 some test [] = false
@@ -46,14 +47,34 @@ infix 80 ◌set_to◌
 abbrev pub ◌set_to◌ : Text → Text → Modifier
 key set_to value = record { white = codes " "; key = key; value = value }
 
-abbrev pub is_plain_head : Text → List Modifier → Bool
-is_plain_head name ms = some is_word_byte name && list_all is_modifier ms
+-- the modifier of a word, which its colon cuts into key and value
+abbrev modifier_of : List Text → Modifier
+modifier_of (key ∷ value ∷ []) = key set_to value
+modifier_of parts = [] set_to []
 
-head_is : (name : Text) (ms : List Modifier) → is_plain_head name ms ≡ true
-    → IsHead (plain_head name ms)
-head_is name ms e =
-    let p = and_parts (some is_word_byte name) (list_all is_modifier ms) e in
-    record { white = refl; name = some_is is_word_byte name p.0; modifiers = modifiers_are ms p.1 }
+abbrev head_of : List Text → Head
+head_of [] = plain_head [] []
+head_of (name ∷ words) =
+    plain_head name (map (λ word. modifier_of (slice_split (λ b. b == colon) word)) words)
+
+-- the head of a bracket, which spaces cut into words
+abbrev pub head_in : Text → Head
+head_in text = head_of (slice_split (λ b. b == 32) (take (length text - 2) (drop 1 text)))
+
+abbrev pub is_head : Head → Bool
+is_head h = list_all is_white h.white && (some is_word_byte h.name && list_all is_modifier
+    h.modifiers)
+
+head_is : (h : Head) → is_head h ≡ true → IsHead h
+head_is h e =
+    let p = and_parts (list_all is_white h.white) (some is_word_byte h.name && list_all is_modifier
+    h.modifiers) e in
+    let q = and_parts (some is_word_byte h.name) (list_all is_modifier h.modifiers) p.1 in
+    record {
+      white = p.0;
+      name = some_is is_word_byte h.name q.0;
+      modifiers = modifiers_are h.modifiers q.1;
+    }
 
 -- the text is a bracket, which version 3 reads as the component
 pub record IsShown (text : Text) (c : Component) : Type 0 where
@@ -62,10 +83,17 @@ pub record IsShown (text : Text) (c : Component) : Type 0 where
   pub spelled : text ≡ head_text head ++ right ∷ []
   pub read : (close : ℕ) → verdict true head [] close ≡ Ok (component c)
 
-pub shown : (text : Text) (c : Component) (name : Text) (ms : List Modifier)
-    → is_plain_head name ms ≡ true
-    → text ≡ head_text (plain_head name ms) ++ right ∷ []
-    → ((close : ℕ) → verdict true (plain_head name ms) [] close ≡ Ok (component c))
-    → IsShown text c
-shown text c name ms plain spelled read =
-    record { head = plain_head name ms; is = head_is name ms plain; spelled = spelled; read = read }
+abbrev pub IsShownAs : Component → Type 0
+IsShownAs c = IsShown (component_text c) c
+
+-- where the modifiers have values, each of the three is computed
+pub shown : {c : Component} → is_head (head_in (component_text c)) ≡ true
+    → component_text c ≡ head_text (head_in (component_text c)) ++ right ∷ []
+    → ((close : ℕ) → verdict true (head_in (component_text c)) [] close ≡ Ok (component c))
+    → IsShownAs c
+shown {c} is spelled read = record {
+  head = head_in (component_text c);
+  is = head_is (head_in (component_text c)) is;
+  spelled = spelled;
+  read = read;
+}

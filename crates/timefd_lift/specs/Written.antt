@@ -54,75 +54,115 @@ trailed TrailingInput.Prohibit = []
 trailed TrailingInput.Discard = codes " trailing_input:discard"
 
 -- Components: the name with the modifiers that tell the form, then two others at most. A deprecated
--- one has no text.
+-- one isn't written: the one that it stands for is.
+
+-- the name with the modifiers that tell the form, up to the digits of a count
+abbrev pub bracket_name : Component → Text
+bracket_name (Day m) = codes "day"
+bracket_name (MonthShort m) = codes "month repr:short"
+bracket_name (MonthLong m) = codes "month repr:long"
+bracket_name (MonthNumerical m) = codes "month"
+bracket_name (Ordinal m) = codes "ordinal"
+bracket_name (WeekdayShort m) = codes "weekday repr:short"
+bracket_name (WeekdayLong m) = codes "weekday"
+bracket_name (WeekdaySunday m) = codes "weekday repr:sunday"
+bracket_name (WeekdayMonday m) = codes "weekday repr:monday"
+bracket_name (WeekNumberIso m) = codes "week_number"
+bracket_name (WeekNumberSunday m) = codes "week_number repr:sunday"
+bracket_name (WeekNumberMonday m) = codes "week_number repr:monday"
+bracket_name (CalendarYearFullExtendedRange m) = codes "year range:extended"
+bracket_name (CalendarYearFullStandardRange m) = codes "year"
+bracket_name (CalendarYearCenturyExtendedRange m) = codes "year repr:century range:extended"
+bracket_name (CalendarYearCenturyStandardRange m) = codes "year repr:century"
+bracket_name (IsoYearFullExtendedRange m) = codes "year range:extended base:iso_week"
+bracket_name (IsoYearFullStandardRange m) = codes "year base:iso_week"
+bracket_name (IsoYearCenturyExtendedRange m) =
+    codes "year repr:century range:extended base:iso_week"
+bracket_name (IsoYearCenturyStandardRange m) = codes "year repr:century base:iso_week"
+bracket_name (CalendarYearLastTwo m) = codes "year repr:last_two"
+bracket_name (IsoYearLastTwo m) = codes "year repr:last_two base:iso_week"
+bracket_name (Hour12 m) = codes "hour repr:12"
+bracket_name (Hour24 m) = codes "hour"
+bracket_name (Minute m) = codes "minute"
+bracket_name (Period m) = codes "period"
+bracket_name (Second m) = codes "second"
+bracket_name (Subsecond m) = codes "subsecond"
+bracket_name (OffsetHour m) = codes "offset_hour"
+bracket_name (OffsetMinute m) = codes "offset_minute"
+bracket_name (OffsetSecond m) = codes "offset_second"
+bracket_name (Ignore m) = codes "ignore count:"
+bracket_name (UnixTimestampSecond m) = codes "unix_timestamp"
+bracket_name (UnixTimestampMillisecond m) = codes "unix_timestamp precision:millisecond"
+bracket_name (UnixTimestampMicrosecond m) = codes "unix_timestamp precision:microsecond"
+bracket_name (UnixTimestampNanosecond m) = codes "unix_timestamp precision:nanosecond"
+bracket_name (End m) = codes "end"
+bracket_name _ = []
+
+-- the digits of the count, where there is one
+abbrev pub count_digits : Component → Text
+count_digits (Ignore m) = decimal m.count.value
+count_digits _ = []
+
+-- what stands behind the name, where the count has these digits
+abbrev pub first_modifier : Component → Text → Text
+first_modifier (Day m) digits = padded m.padding
+first_modifier (MonthShort m) digits = cased m.case_sensitive
+first_modifier (MonthLong m) digits = cased m.case_sensitive
+first_modifier (MonthNumerical m) digits = padded m.padding
+first_modifier (Ordinal m) digits = padded m.padding
+first_modifier (WeekdayShort m) digits = cased m.case_sensitive
+first_modifier (WeekdayLong m) digits = cased m.case_sensitive
+first_modifier (WeekdaySunday m) digits = indexed m.one_indexed
+first_modifier (WeekdayMonday m) digits = indexed m.one_indexed
+first_modifier (WeekNumberIso m) digits = padded m.padding
+first_modifier (WeekNumberSunday m) digits = padded m.padding
+first_modifier (WeekNumberMonday m) digits = padded m.padding
+first_modifier (CalendarYearFullExtendedRange m) digits = padded m.padding
+first_modifier (CalendarYearFullStandardRange m) digits = padded m.padding
+first_modifier (CalendarYearCenturyExtendedRange m) digits = padded m.padding
+first_modifier (CalendarYearCenturyStandardRange m) digits = padded m.padding
+first_modifier (IsoYearFullExtendedRange m) digits = padded m.padding
+first_modifier (IsoYearFullStandardRange m) digits = padded m.padding
+first_modifier (IsoYearCenturyExtendedRange m) digits = padded m.padding
+first_modifier (IsoYearCenturyStandardRange m) digits = padded m.padding
+first_modifier (CalendarYearLastTwo m) digits = padded m.padding
+first_modifier (IsoYearLastTwo m) digits = padded m.padding
+first_modifier (Hour12 m) digits = padded m.padding
+first_modifier (Hour24 m) digits = padded m.padding
+first_modifier (Minute m) digits = padded m.padding
+first_modifier (Period m) digits = lettered m.is_uppercase
+first_modifier (Second m) digits = padded m.padding
+first_modifier (Subsecond m) digits = numbered m.digits
+first_modifier (OffsetHour m) digits = padded m.padding
+first_modifier (OffsetMinute m) digits = padded m.padding
+first_modifier (OffsetSecond m) digits = padded m.padding
+first_modifier (Ignore m) digits = digits
+first_modifier (UnixTimestampSecond m) digits = signed m.sign_is_mandatory
+first_modifier (UnixTimestampMillisecond m) digits = signed m.sign_is_mandatory
+first_modifier (UnixTimestampMicrosecond m) digits = signed m.sign_is_mandatory
+first_modifier (UnixTimestampNanosecond m) digits = signed m.sign_is_mandatory
+first_modifier (End m) digits = trailed m.trailing_input
+first_modifier _ digits = []
+
+abbrev pub second_modifier : Component → Text
+second_modifier (CalendarYearFullExtendedRange m) = signed m.sign_is_mandatory
+second_modifier (CalendarYearFullStandardRange m) = signed m.sign_is_mandatory
+second_modifier (CalendarYearCenturyExtendedRange m) = signed m.sign_is_mandatory
+second_modifier (CalendarYearCenturyStandardRange m) = signed m.sign_is_mandatory
+second_modifier (IsoYearFullExtendedRange m) = signed m.sign_is_mandatory
+second_modifier (IsoYearFullStandardRange m) = signed m.sign_is_mandatory
+second_modifier (IsoYearCenturyExtendedRange m) = signed m.sign_is_mandatory
+second_modifier (IsoYearCenturyStandardRange m) = signed m.sign_is_mandatory
+second_modifier (Period m) = cased m.case_sensitive
+second_modifier (OffsetHour m) = signed m.sign_is_mandatory
+second_modifier _ = []
 
 abbrev pub in_brackets : Text → Text → Text → Text
 in_brackets name one other = left ∷ name ++ one ++ other ++ right ∷ []
 
 abbrev pub component_text : Component → Text
-component_text (Day m) = in_brackets (codes "day") (padded m.padding) []
-component_text (MonthShort m) = in_brackets (codes "month repr:short") (cased m.case_sensitive) []
-component_text (MonthLong m) = in_brackets (codes "month repr:long") (cased m.case_sensitive) []
-component_text (MonthNumerical m) = in_brackets (codes "month") (padded m.padding) []
-component_text (Ordinal m) = in_brackets (codes "ordinal") (padded m.padding) []
-component_text (WeekdayShort m) = in_brackets (codes "weekday repr:short") (cased m.case_sensitive)
-    []
-component_text (WeekdayLong m) = in_brackets (codes "weekday") (cased m.case_sensitive) []
-component_text (WeekdaySunday m) = in_brackets (codes "weekday repr:sunday") (indexed m.one_indexed)
-    []
-component_text (WeekdayMonday m) = in_brackets (codes "weekday repr:monday") (indexed m.one_indexed)
-    []
-component_text (WeekNumberIso m) = in_brackets (codes "week_number") (padded m.padding) []
-component_text (WeekNumberSunday m) =
-    in_brackets (codes "week_number repr:sunday") (padded m.padding) []
-component_text (WeekNumberMonday m) =
-    in_brackets (codes "week_number repr:monday") (padded m.padding) []
-component_text (CalendarYearFullExtendedRange m) =
-    in_brackets (codes "year range:extended") (padded m.padding) (signed m.sign_is_mandatory)
-component_text (CalendarYearFullStandardRange m) =
-    in_brackets (codes "year") (padded m.padding) (signed m.sign_is_mandatory)
-component_text (CalendarYearCenturyExtendedRange m) =
-    in_brackets (codes "year repr:century range:extended") (padded m.padding)
-    (signed m.sign_is_mandatory)
-component_text (CalendarYearCenturyStandardRange m) =
-    in_brackets (codes "year repr:century") (padded m.padding) (signed m.sign_is_mandatory)
-component_text (IsoYearFullExtendedRange m) =
-    in_brackets (codes "year range:extended base:iso_week") (padded m.padding)
-    (signed m.sign_is_mandatory)
-component_text (IsoYearFullStandardRange m) =
-    in_brackets (codes "year base:iso_week") (padded m.padding) (signed m.sign_is_mandatory)
-component_text (IsoYearCenturyExtendedRange m) =
-    in_brackets (codes "year repr:century range:extended base:iso_week") (padded m.padding)
-    (signed m.sign_is_mandatory)
-component_text (IsoYearCenturyStandardRange m) =
-    in_brackets (codes "year repr:century base:iso_week") (padded m.padding)
-    (signed m.sign_is_mandatory)
-component_text (CalendarYearLastTwo m) =
-    in_brackets (codes "year repr:last_two") (padded m.padding) []
-component_text (IsoYearLastTwo m) =
-    in_brackets (codes "year repr:last_two base:iso_week") (padded m.padding) []
-component_text (Hour12 m) = in_brackets (codes "hour repr:12") (padded m.padding) []
-component_text (Hour24 m) = in_brackets (codes "hour") (padded m.padding) []
-component_text (Minute m) = in_brackets (codes "minute") (padded m.padding) []
-component_text (Period m) = in_brackets (codes "period") (lettered m.is_uppercase)
-    (cased m.case_sensitive)
-component_text (Second m) = in_brackets (codes "second") (padded m.padding) []
-component_text (Subsecond m) = in_brackets (codes "subsecond") (numbered m.digits) []
-component_text (OffsetHour m) = in_brackets (codes "offset_hour") (padded m.padding)
-    (signed m.sign_is_mandatory)
-component_text (OffsetMinute m) = in_brackets (codes "offset_minute") (padded m.padding) []
-component_text (OffsetSecond m) = in_brackets (codes "offset_second") (padded m.padding) []
-component_text (Ignore m) = in_brackets (codes "ignore count:") (decimal m.count.value) []
-component_text (UnixTimestampSecond m) =
-    in_brackets (codes "unix_timestamp") (signed m.sign_is_mandatory) []
-component_text (UnixTimestampMillisecond m) =
-    in_brackets (codes "unix_timestamp precision:millisecond") (signed m.sign_is_mandatory) []
-component_text (UnixTimestampMicrosecond m) =
-    in_brackets (codes "unix_timestamp precision:microsecond") (signed m.sign_is_mandatory) []
-component_text (UnixTimestampNanosecond m) =
-    in_brackets (codes "unix_timestamp precision:nanosecond") (signed m.sign_is_mandatory) []
-component_text (End m) = in_brackets (codes "end") (trailed m.trailing_input) []
-component_text _ = []
+component_text c =
+    in_brackets (bracket_name c) (first_modifier c (count_digits c)) (second_modifier c)
 
 -- Lists.
 

@@ -1,13 +1,33 @@
 //! Writes components in version 3.
 
-ghost use Rattle.std.specs.Prelude.{◌≡◌, ◌++◌, [], codes, decimal, IfOk, OnOk, string_bytes};
+ghost use Rattle.std.specs.Prelude.{◌≡◌, ◌++◌, decimal, IfOk, OnOk, string_bytes};
 ghost use Rattle.timefd_component.specs.Modern.{modern};
 ghost use Rattle.timefd_lift.specs.Written as spec;
 
 use crate::modifier::{cased, indexed, lettered, numbered, padded, signed, trailed};
 use std::alloc::{AllocError, Global};
 use timefd_items::Component;
-use timefd_items::modifier::Padding;
+
+/// Appends the text of a component: that of the one which it stands for, if it is deprecated.
+#[tactic(auto, using(crate::proofs::Appending::bracket_appended))]
+pub fn push_component(
+    alloc: Global,
+    text: &mut String,
+    component: Component,
+) -> Result<(), AllocError>
+    ensures { OnOk result (string_bytes text.new ≡ string_bytes text.old ++ spec.component_text
+        (modern component)) }
+{
+    let component = component.modern();
+    let digits = count_digits(alloc, component)?;
+    let first = first_modifier(component, &digits);
+    push_bracket(
+        text,
+        bracket_name(component),
+        first,
+        second_modifier(component),
+    )
+}
 
 /// Appends a bracket with a name and what stands behind it.
 fn push_bracket(text: &mut String, name: &str, first: &str, second: &str) -> Result<(), AllocError>
@@ -21,6 +41,16 @@ fn push_bracket(text: &mut String, name: &str, first: &str, second: &str) -> Res
     text.push_str("]")
 }
 
+/// The digits of the count, where the component has one.
+fn count_digits(alloc: Global, component: Component) -> Result<String, AllocError>
+    ensures { IfOk result (λ text. string_bytes text ≡ spec.count_digits component) }
+{
+    match component {
+        Component::Ignore(ignore) => decimal_text(alloc, ignore.count.get()),
+        _ => Ok(String::new(alloc)),
+    }
+}
+
 /// The number in decimal.
 fn decimal_text(alloc: Global, n: u16) -> Result<String, AllocError>
     ensures { IfOk result (λ text. string_bytes text ≡ decimal n) }
@@ -28,215 +58,113 @@ fn decimal_text(alloc: Global, n: u16) -> Result<String, AllocError>
     format!(in alloc; "{n}")
 }
 
-/// Appends a bracket that skips so many bytes.
-fn push_ignore(alloc: Global, text: &mut String, count: u16) -> Result<(), AllocError>
-    ensures { OnOk result (string_bytes text.new ≡ string_bytes text.old ++ spec.in_brackets
-        (codes "ignore count:") (decimal count) []) }
+/// The name with the modifiers that tell the form, up to the digits of a count.
+fn bracket_name(component: Component) -> &'static str
+    ensures { result.now ≡ spec.bracket_name component }
 {
-    let digits = decimal_text(alloc, count)?;
-    push_bracket(text, "ignore count:", &digits, "")
-}
-
-/// Appends the text of a component: that of the one which it stands for, if it is deprecated.
-pub fn push_component(
-    alloc: Global,
-    text: &mut String,
-    component: Component,
-) -> Result<(), AllocError>
-    ensures { OnOk result (string_bytes text.new ≡ string_bytes text.old ++ spec.component_text
-        (modern component)) }
-{
-    match component.modern() {
-        Component::Day(day) => push_bracket(text, "day", padded(day.padding), ""),
-        Component::MonthShort(month) => push_bracket(
-            text,
-            "month repr:short",
-            cased(month.case_sensitive),
-            "",
-        ),
-        Component::MonthLong(month) => push_bracket(
-            text,
-            "month repr:long",
-            cased(month.case_sensitive),
-            "",
-        ),
-        Component::MonthNumerical(month) => push_bracket(text, "month", padded(month.padding), ""),
-        Component::Ordinal(day) => push_bracket(text, "ordinal", padded(day.padding), ""),
-        Component::WeekdayShort(day) => push_bracket(
-            text,
-            "weekday repr:short",
-            cased(day.case_sensitive),
-            "",
-        ),
-        Component::WeekdayLong(day) => push_bracket(text, "weekday", cased(day.case_sensitive), ""),
-        Component::WeekdaySunday(day) => push_bracket(
-            text,
-            "weekday repr:sunday",
-            indexed(day.one_indexed),
-            "",
-        ),
-        Component::WeekdayMonday(day) => push_bracket(
-            text,
-            "weekday repr:monday",
-            indexed(day.one_indexed),
-            "",
-        ),
-        Component::WeekNumberIso(week) => push_bracket(
-            text,
-            "week_number",
-            padded(week.padding),
-            "",
-        ),
-        Component::WeekNumberSunday(week) => push_bracket(
-            text,
-            "week_number repr:sunday",
-            padded(week.padding),
-            "",
-        ),
-        Component::WeekNumberMonday(week) => push_bracket(
-            text,
-            "week_number repr:monday",
-            padded(week.padding),
-            "",
-        ),
-        Component::CalendarYearFullExtendedRange(year) => push_signed(
-            text,
-            "year range:extended",
-            year.padding,
-            year.sign_is_mandatory,
-        ),
-        Component::CalendarYearFullStandardRange(year) => push_signed(
-            text,
-            "year",
-            year.padding,
-            year.sign_is_mandatory,
-        ),
-        Component::CalendarYearCenturyExtendedRange(year) => push_signed(
-            text,
-            "year repr:century range:extended",
-            year.padding,
-            year.sign_is_mandatory,
-        ),
-        Component::CalendarYearCenturyStandardRange(year) => push_signed(
-            text,
-            "year repr:century",
-            year.padding,
-            year.sign_is_mandatory,
-        ),
-        Component::IsoYearFullExtendedRange(year) => push_signed(
-            text,
-            "year range:extended base:iso_week",
-            year.padding,
-            year.sign_is_mandatory,
-        ),
-        Component::IsoYearFullStandardRange(year) => push_signed(
-            text,
-            "year base:iso_week",
-            year.padding,
-            year.sign_is_mandatory,
-        ),
-        Component::IsoYearCenturyExtendedRange(year) => push_signed(
-            text,
+    match component {
+        Component::Day(_) => "day",
+        Component::MonthShort(_) => "month repr:short",
+        Component::MonthLong(_) => "month repr:long",
+        Component::MonthNumerical(_) => "month",
+        Component::Ordinal(_) => "ordinal",
+        Component::WeekdayShort(_) => "weekday repr:short",
+        Component::WeekdayLong(_) => "weekday",
+        Component::WeekdaySunday(_) => "weekday repr:sunday",
+        Component::WeekdayMonday(_) => "weekday repr:monday",
+        Component::WeekNumberIso(_) => "week_number",
+        Component::WeekNumberSunday(_) => "week_number repr:sunday",
+        Component::WeekNumberMonday(_) => "week_number repr:monday",
+        Component::CalendarYearFullExtendedRange(_) => "year range:extended",
+        Component::CalendarYearFullStandardRange(_) => "year",
+        Component::CalendarYearCenturyExtendedRange(_) => "year repr:century range:extended",
+        Component::CalendarYearCenturyStandardRange(_) => "year repr:century",
+        Component::IsoYearFullExtendedRange(_) => "year range:extended base:iso_week",
+        Component::IsoYearFullStandardRange(_) => "year base:iso_week",
+        Component::IsoYearCenturyExtendedRange(_) =>
             "year repr:century range:extended base:iso_week",
-            year.padding,
-            year.sign_is_mandatory,
-        ),
-        Component::IsoYearCenturyStandardRange(year) => push_signed(
-            text,
-            "year repr:century base:iso_week",
-            year.padding,
-            year.sign_is_mandatory,
-        ),
-        Component::CalendarYearLastTwo(year) => push_bracket(
-            text,
-            "year repr:last_two",
-            padded(year.padding),
-            "",
-        ),
-        Component::IsoYearLastTwo(year) => push_bracket(
-            text,
-            "year repr:last_two base:iso_week",
-            padded(year.padding),
-            "",
-        ),
-        Component::Hour12(hour) => push_bracket(text, "hour repr:12", padded(hour.padding), ""),
-        Component::Hour24(hour) => push_bracket(text, "hour", padded(hour.padding), ""),
-        Component::Minute(minute) => push_bracket(text, "minute", padded(minute.padding), ""),
-        Component::Period(period) => push_bracket(
-            text,
-            "period",
-            lettered(period.is_uppercase),
-            cased(period.case_sensitive),
-        ),
-        Component::Second(second) => push_bracket(text, "second", padded(second.padding), ""),
-        Component::Subsecond(subsecond) => push_bracket(
-            text,
-            "subsecond",
-            numbered(subsecond.digits),
-            "",
-        ),
-        Component::OffsetHour(hour) => push_signed(
-            text,
-            "offset_hour",
-            hour.padding,
-            hour.sign_is_mandatory,
-        ),
-        Component::OffsetMinute(minute) => push_bracket(
-            text,
-            "offset_minute",
-            padded(minute.padding),
-            "",
-        ),
-        Component::OffsetSecond(second) => push_bracket(
-            text,
-            "offset_second",
-            padded(second.padding),
-            "",
-        ),
-        Component::Ignore(ignore) => push_ignore(alloc, text, ignore.count.get()),
-        Component::UnixTimestampSecond(timestamp) => push_bracket(
-            text,
-            "unix_timestamp",
-            signed(timestamp.sign_is_mandatory),
-            "",
-        ),
-        Component::UnixTimestampMillisecond(timestamp) => push_bracket(
-            text,
-            "unix_timestamp precision:millisecond",
-            signed(timestamp.sign_is_mandatory),
-            "",
-        ),
-        Component::UnixTimestampMicrosecond(timestamp) => push_bracket(
-            text,
-            "unix_timestamp precision:microsecond",
-            signed(timestamp.sign_is_mandatory),
-            "",
-        ),
-        Component::UnixTimestampNanosecond(timestamp) => push_bracket(
-            text,
-            "unix_timestamp precision:nanosecond",
-            signed(timestamp.sign_is_mandatory),
-            "",
-        ),
-        Component::End(end) => push_bracket(text, "end", trailed(end.trailing_input), ""),
-        Component::Month(_)
-        | Component::Weekday(_)
-        | Component::WeekNumber(_)
-        | Component::Hour(_)
-        | Component::UnixTimestamp(_)
-        | Component::Year(_) => unreachable!(),
+        Component::IsoYearCenturyStandardRange(_) => "year repr:century base:iso_week",
+        Component::CalendarYearLastTwo(_) => "year repr:last_two",
+        Component::IsoYearLastTwo(_) => "year repr:last_two base:iso_week",
+        Component::Hour12(_) => "hour repr:12",
+        Component::Hour24(_) => "hour",
+        Component::Minute(_) => "minute",
+        Component::Period(_) => "period",
+        Component::Second(_) => "second",
+        Component::Subsecond(_) => "subsecond",
+        Component::OffsetHour(_) => "offset_hour",
+        Component::OffsetMinute(_) => "offset_minute",
+        Component::OffsetSecond(_) => "offset_second",
+        Component::Ignore(_) => "ignore count:",
+        Component::UnixTimestampSecond(_) => "unix_timestamp",
+        Component::UnixTimestampMillisecond(_) => "unix_timestamp precision:millisecond",
+        Component::UnixTimestampMicrosecond(_) => "unix_timestamp precision:microsecond",
+        Component::UnixTimestampNanosecond(_) => "unix_timestamp precision:nanosecond",
+        Component::End(_) => "end",
+        _ => "",
     }
 }
 
-/// Appends a bracket of a number that has a padding and a sign.
-fn push_signed(
-    text: &mut String,
-    name: &str,
-    padding: Padding,
-    sign_is_mandatory: bool,
-) -> Result<(), AllocError>
-    ensures { OnOk result (string_bytes text.new ≡ string_bytes text.old ++ spec.in_brackets
-        name.now (spec.padded padding) (spec.signed sign_is_mandatory)) }
+/// What stands behind the name, where the count has these digits.
+fn first_modifier<'a>(component: Component, digits: &'a str) -> &'a str
+    ensures { result.now ≡ spec.first_modifier component digits.now }
 {
-    push_bracket(text, name, padded(padding), signed(sign_is_mandatory))
+    match component {
+        Component::Day(day) => padded(day.padding),
+        Component::MonthShort(month) => cased(month.case_sensitive),
+        Component::MonthLong(month) => cased(month.case_sensitive),
+        Component::MonthNumerical(month) => padded(month.padding),
+        Component::Ordinal(day) => padded(day.padding),
+        Component::WeekdayShort(day) => cased(day.case_sensitive),
+        Component::WeekdayLong(day) => cased(day.case_sensitive),
+        Component::WeekdaySunday(day) => indexed(day.one_indexed),
+        Component::WeekdayMonday(day) => indexed(day.one_indexed),
+        Component::WeekNumberIso(week) => padded(week.padding),
+        Component::WeekNumberSunday(week) => padded(week.padding),
+        Component::WeekNumberMonday(week) => padded(week.padding),
+        Component::CalendarYearFullExtendedRange(year) => padded(year.padding),
+        Component::CalendarYearFullStandardRange(year) => padded(year.padding),
+        Component::CalendarYearCenturyExtendedRange(year) => padded(year.padding),
+        Component::CalendarYearCenturyStandardRange(year) => padded(year.padding),
+        Component::IsoYearFullExtendedRange(year) => padded(year.padding),
+        Component::IsoYearFullStandardRange(year) => padded(year.padding),
+        Component::IsoYearCenturyExtendedRange(year) => padded(year.padding),
+        Component::IsoYearCenturyStandardRange(year) => padded(year.padding),
+        Component::CalendarYearLastTwo(year) => padded(year.padding),
+        Component::IsoYearLastTwo(year) => padded(year.padding),
+        Component::Hour12(hour) => padded(hour.padding),
+        Component::Hour24(hour) => padded(hour.padding),
+        Component::Minute(minute) => padded(minute.padding),
+        Component::Period(period) => lettered(period.is_uppercase),
+        Component::Second(second) => padded(second.padding),
+        Component::Subsecond(subsecond) => numbered(subsecond.digits),
+        Component::OffsetHour(hour) => padded(hour.padding),
+        Component::OffsetMinute(minute) => padded(minute.padding),
+        Component::OffsetSecond(second) => padded(second.padding),
+        Component::Ignore(_) => digits,
+        Component::UnixTimestampSecond(timestamp) => signed(timestamp.sign_is_mandatory),
+        Component::UnixTimestampMillisecond(timestamp) => signed(timestamp.sign_is_mandatory),
+        Component::UnixTimestampMicrosecond(timestamp) => signed(timestamp.sign_is_mandatory),
+        Component::UnixTimestampNanosecond(timestamp) => signed(timestamp.sign_is_mandatory),
+        Component::End(end) => trailed(end.trailing_input),
+        _ => "",
+    }
+}
+
+fn second_modifier(component: Component) -> &'static str
+    ensures { result.now ≡ spec.second_modifier component }
+{
+    match component {
+        Component::CalendarYearFullExtendedRange(year) => signed(year.sign_is_mandatory),
+        Component::CalendarYearFullStandardRange(year) => signed(year.sign_is_mandatory),
+        Component::CalendarYearCenturyExtendedRange(year) => signed(year.sign_is_mandatory),
+        Component::CalendarYearCenturyStandardRange(year) => signed(year.sign_is_mandatory),
+        Component::IsoYearFullExtendedRange(year) => signed(year.sign_is_mandatory),
+        Component::IsoYearFullStandardRange(year) => signed(year.sign_is_mandatory),
+        Component::IsoYearCenturyExtendedRange(year) => signed(year.sign_is_mandatory),
+        Component::IsoYearCenturyStandardRange(year) => signed(year.sign_is_mandatory),
+        Component::Period(period) => cased(period.case_sensitive),
+        Component::OffsetHour(hour) => signed(hour.sign_is_mandatory),
+        _ => "",
+    }
 }
