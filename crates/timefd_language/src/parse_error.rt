@@ -26,14 +26,18 @@ pub fn told(alloc: Global, error: ReadError, len: usize) -> ParseError
     let ReadError::Invalid(fault) = error else {
         return ParseError::Memory(AllocError);
     };
-    match placed(alloc, fault, len) {
+    match invalid_description(alloc, fault, len) {
         Ok(fault) => ParseError::Invalid(fault),
         Err(error) => ParseError::Memory(error),
     }
 }
 
 /// The fault of a text with so many bytes.
-fn placed(alloc: Global, fault: Fault, len: usize) -> Result<InvalidFormatDescription, AllocError>
+fn invalid_description(
+    alloc: Global,
+    fault: Fault,
+    len: usize,
+) -> Result<InvalidFormatDescription, AllocError>
     requires { fault.remaining ≤ len }
     ensures { IfOk result (λ e. (g : spec.Fault) → IsFault len fault.entry g → spec.fault_of e ≡ g) }
 {
