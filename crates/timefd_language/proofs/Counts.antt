@@ -16,8 +16,8 @@ use Rattle.timefd_language.specs.Values.{digits_value, digits_of, counted, count
 digit_value-is : (b : ℕ) → 48 ≤ b → b ≤ 57 → digit_value b ≡ b - 48
 digit_value-is b low high = grind (arith, nat_tests)
 
-is_digit : (b : ℕ) → 48 ≤ b → b ≤ 57 → (nat_le 48 b && nat_le b 57) ≡ true
-is_digit b low high = grind (arith, nat_tests)
+digit_bounds : (b : ℕ) → 48 ≤ b → b ≤ 57 → (nat_le 48 b && nat_le b 57) ≡ true
+digit_bounds b low high = grind (arith, nat_tests)
 
 -- what is read is digits, and their value
 read-digits : (digits : Text) (k n : ℕ) → digits_value k digits ≡ Some n → AllDigits 10 digits
@@ -50,7 +50,7 @@ digits-read [] k all = refl
 digits-read (b ∷ digits) k all =
     let range = digit_from_value b all.0 in
     ap (λ t. elim t [ true ↦ digits_value (k * 10 + (b - 48)) digits | false ↦ None ])
-    (is_digit b range.0 range.1)
+    (digit_bounds b range.0 range.1)
     ∙ digits-read digits (k * 10 + (b - 48)) all.1
     ∙ ap (λ d. Some (digits_value_after 10 (k * 10 + d) digits))
     (sym (digit_value-is b range.0 range.1))

@@ -9,10 +9,11 @@ use Rattle.timefd_fault.specs.Faults.{Fault, fault}
 use Rattle.timefd_language.specs.Fault.{optional_item, first_item}
 use Rattle.timefd_language.specs.Head.{Head, placed, head_text}
 use Rattle.timefd_language.specs.Values.{format}
-use Rattle.timefd_language.specs.Verdict.{PlacedDescription, ◌or◌, unless, behind, bad_modifiers, touching, too_many, any_modifier, optional_verdict, first_verdict, verdict}
-use Rattle.timefd_language.specs.Grammar.{Pieces, no_pieces, run, escape, closing, bracket, no_nested, nested, spelling, nested_text, items, ArePieces, is_empty, parts_from}
+use Rattle.timefd_language.specs.Verdict.{PlacedDescription, ◌or◌, unless, bad_modifiers, touching, too_many, any_modifier, optional_verdict, first_verdict, verdict}
+use Rattle.timefd_language.specs.Grammar.{Pieces, Nested, no_pieces, run, escape, closing, bracket, no_nested, nested, spelling, nested_text, items, ArePieces, is_empty, parts_from}
 use Rattle.timefd_language.specs.Rewritten.{doubled, rewritten}
 use Rattle.timefd_language.specs.Laws.{Lifting}
+use Rattle.timefd_language.proofs.Roomy.{behind_ok}
 use Rattle.timefd_language.proofs.Join.{with_run, with_run-spelling, with_run-pieces, with_run-joined, literals_joined}
 
 -- Versions 1 and 2 accept no bracket with a nested description.
@@ -28,15 +29,11 @@ unless_fault-last None (Some x) c f t u e = cc
 unless_fault-last None None (Some x) f t u e = cc
 unless_fault-last None None None f t u e = cc
 
-behind_ok : (o : Option Fault) (r : Result Tree Fault) (t : Tree) → behind o r ≡ Ok t → r ≡ Ok t
-behind_ok (Some f) r t e = absurd cc
-behind_ok None r t e = e
-
 chosen : (b : Bool) (x y z : Result Tree Fault) → cond b x y ≡ z → (x ≡ z → ⊥) → (y ≡ z → ⊥) → ⊥
 chosen true x y z e no_x no_y = no_x e
 chosen false x y z e no_x no_y = no_y e
 
-pub nested_refuses : (h : Head) (p : PlacedDescription) (ps : List PlacedDescription) (close : ℕ)
+nested_refuses : (h : Head) (p : PlacedDescription) (ps : List PlacedDescription) (close : ℕ)
     (t : Tree) → verdict false h (p ∷ ps) close ≡ Ok t → ⊥
 nested_refuses h p ps close t e =
     chosen (same false (codes "optional") h.name) (optional_verdict false h (p ∷ ps) close) _ (Ok t)
@@ -47,6 +44,18 @@ nested_refuses h p ps close t e =
     r
     (λ f. unless_fault (any_modifier (placed h)) (fault first_item 0) _ t f)
     (λ c. cc))
+
+pub bracket_refuses : (h : Head) (w : Text) (ps : Pieces) (ns : Nested) (white : Text) (tree : Tree)
+    → verdict false h (parts_from (length (head_text h)) (nested w ps ns))
+    (length (head_text h ++ nested_text (nested w ps ns) ++ white)) ≡ Ok tree → ⊥
+bracket_refuses h w ps ns white tree =
+    nested_refuses h (record {
+      spaced = not (is_empty w);
+      index = length (head_text h) + length w;
+      trees = items ps;
+    })
+    (parts_from (length (head_text h) + length w + 1 + length (spelling ps) + 1) ns)
+    (length (head_text h ++ nested_text (nested w ps ns) ++ white)) tree
 
 -- Runs.
 
@@ -163,14 +172,8 @@ lifted-are limit (escape a b rest) are = ((refl, refl), lifted-are limit rest ar
 lifted-are limit (closing rest) are = ((refl, refl), lifted-are limit rest are.2)
 lifted-are limit (bracket h no_nested white tree rest) are =
     (are.0, tt, are.2, are.3, lifted-are limit rest are.4)
-lifted-are limit (bracket h (nested w ps ns) white tree rest) are = absurd
-    (nested_refuses h (record {
-      spaced = not (is_empty w);
-      index = length (head_text h) + length w;
-      trees = items ps;
-    })
-    (parts_from (length (head_text h) + length w + 1 + length (spelling ps) + 1) ns)
-    (length (head_text h ++ nested_text (nested w ps ns) ++ white)) tree are.3)
+lifted-are limit (bracket h (nested w ps ns) white tree rest) are =
+    absurd (bracket_refuses h w ps ns white tree are.3)
 
 lifted-joined : (limit : ℕ) (ps : Pieces) → ArePieces One limit 0 ps
     → joined (items (lifted ps)) ≡ joined (items ps)

@@ -3,7 +3,7 @@ use Rattle.std.proofs.Common.{ℕ, suc, ◌+◌, ◌≡◌, sym, ◌⊎◌, inl,
 use Rattle.std.specs.declared.num.NonZeroU16.{NonZeroU16}
 use Rattle.timefd_component.specs.declared.component.Component.{Component}
 use Rattle.timefd_component.specs.Tree.{Text, Tree, optional, first, trees, pack}
-use Rattle.timefd_fault.specs.Faults.{Kind, Fault}
+use Rattle.timefd_fault.specs.Faults.{Kind}
 use Rattle.timefd_component.specs.Modern.{modern, IsModern, AreModern}
 use Rattle.timefd_component.proofs.ModernLemmas.{modern_twice_law}
 use Rattle.timefd_language.specs.declared.description_version.DescriptionVersion.{DescriptionVersion}
@@ -18,7 +18,7 @@ use Rattle.timefd_language.specs.Letters.{Flag, Letter, letters, is_one_of, item
 use Rattle.timefd_language.specs.Strftime.{Directives, no_directives, plain, directive, directive_items, AreDirectives}
 use Rattle.timefd_language.specs.Laws.{Modernity, StrftimeModernity}
 use Rattle.timefd_language.proofs.Lookup.{Each, each-map}
-use Rattle.timefd_language.proofs.Roomy.{unless_ok, behind_ok, made_ok}
+use Rattle.timefd_language.proofs.Roomy.{unless_ok, behind_ok, either, made_ok}
 
 -- Rows.
 
@@ -84,16 +84,16 @@ name_modern ComponentName.Year = λ s c e. made_modern _ c e
 rows_modern : Each IsModernRow rows
 rows_modern = each-map row_for IsModernRow component_names name_modern
 
-row_modern : (strict : Bool) (name : Text) (rs : List Row) (r : Row) → Each IsModernRow rs
-    → named (λ x. x.name) strict name rs ≡ Some r → IsModernRow r
-row_modern strict name [] r all e = absurd cc
-row_modern strict name (x ∷ rs) r all e =
-    by (λ h. row_modern strict name rs r all.1 h) (same strict x.name name) e
+-- what holds of each row holds of the one that is found
+pub row_has : (P : Row → Type 0) (strict : Bool) (name : Text) (rs : List Row) (r : Row)
+    → Each P rs → named (λ x. x.name) strict name rs ≡ Some r → P r
+row_has P strict name [] r all e = absurd cc
+row_has P strict name (x ∷ rs) r all e =
+    by (λ h. row_has P strict name rs r all.1 h) (same strict x.name name) e
   where
-    by : (named (λ y. y.name) strict name rs ≡ Some r → IsModernRow r) → (t : Bool)
-        → elim t [ true ↦ Some x | false ↦ named (λ y. y.name) strict name rs ] ≡ Some r
-        → IsModernRow r
-    by more true h = let is : x ≡ r = cc in subst IsModernRow is all.0
+    by : (named (λ y. y.name) strict name rs ≡ Some r → P r) → (t : Bool)
+        → elim t [ true ↦ Some x | false ↦ named (λ y. y.name) strict name rs ] ≡ Some r → P r
+    by more true h = let is : x ≡ r = cc in subst P is all.0
     by more false h = more h
 
 -- Brackets.
@@ -105,7 +105,7 @@ component_modern strict h tree (Some r) known e =
     let leaf = made_ok strict h (r.component (settings strict r.keys (placed h))) tree
     (behind_ok (bad_modifiers strict r.keys [] (placed h))
     (made strict h (r.component (settings strict r.keys (placed h)))) tree e) in
-    subst IsModern leaf.1 (row_modern strict h.name rows r rows_modern known
+    subst IsModern leaf.1 (row_has IsModernRow strict h.name rows r rows_modern known
     (settings strict r.keys (placed h)) leaf.0 leaf.2)
 
 pack_modern : (ts : List Tree) → AreModern (trees ts) → IsModern (pack ts)
@@ -124,10 +124,6 @@ packs_modern (p ∷ ps) h = (pack_modern p.trees h.0, packs_modern ps h.1)
 only_modern : (ps : List PlacedDescription) → PartsModern ps → IsModern (only ps)
 only_modern [] h = tt
 only_modern (p ∷ ps) h = pack_modern p.trees h.0
-
-either : (b : Bool) (x y z : Result Tree Fault) → cond b x y ≡ z → (x ≡ z) ⊎ (y ≡ z)
-either true x y z e = inl e
-either false x y z e = inr e
 
 verdict_modern : (strict : Bool) (h : Head) (parts : List PlacedDescription) (close : ℕ)
     (tree : Tree) → PartsModern parts → verdict strict h parts close ≡ Ok tree → IsModern tree

@@ -15,11 +15,11 @@ use Rattle.timefd_language.specs.Values.{Values, words, numbers, Key, sets_of, k
 use Rattle.timefd_language.specs.Names.{Row, rows, row_of}
 use Rattle.timefd_component.specs.declared.component.Component.{Component}
 use Rattle.timefd_language.specs.Verdict.{PlacedDescription, ◌or◌, unless, behind, refuse, bad_modifier, bad_modifiers, setting_of, with_option, settings_from, settings, made, any_modifier, is_formatted, only, optional_verdict, first_verdict, component_verdict, verdict}
-use Rattle.timefd_language.specs.Grammar.{Pieces, no_pieces, run, escape, closing, bracket, Nested, no_nested, nested, items, spelling, nested_text, BeginsNoRun, ArePieces, bracket_verdict, is_empty, parts_from}
+use Rattle.timefd_language.specs.Grammar.{Pieces, no_pieces, run, escape, closing, bracket, Nested, no_nested, nested, items, nested_text, BeginsNoRun, ArePieces, bracket_verdict, parts_from}
 use Rattle.timefd_language.specs.Laws.{Recasing}
 use Rattle.timefd_language.proofs.Roomy.{behind_ok}
 use Rattle.timefd_language.proofs.Lookup.{named-recased}
-use Rattle.timefd_language.proofs.Lift.{nested_refuses}
+use Rattle.timefd_language.proofs.Lift.{bracket_refuses}
 use Rattle.timefd_language.specs.Recased.{SameButCase, RecasedModifiers, RecasedHead, Recased}
 
 -- Bytes.
@@ -38,32 +38,26 @@ fixed b c e low = by (nat_le 65 c && nat_le c 90) refl
         absurd (omega (arith, b_is))
     by false h = let c_is : lowered c ≡ c = rw h refl in sym c_is ∙ sym e ∙ b_is
 
+key_byte : (b : ℕ) → 65 ≤ b → (b ≡ 91 → ⊥) → (b ≡ 92 → ⊥) → (b ≡ 93 → ⊥) → is_key_byte b ≡ true
+key_byte b low not_91 not_92 not_93 =
+    rw (
+      ne_eqb b 58 (λ e. omega arith),
+      ne_eqb b 91 not_91,
+      ne_eqb b 93 not_93,
+      ne_eqb b 92 not_92,
+      ne_eqb b 9 (λ e. omega arith),
+      ne_eqb b 10 (λ e. omega arith),
+      ne_eqb b 12 (λ e. omega arith),
+      ne_eqb b 13 (λ e. omega arith),
+      ne_eqb b 32 (λ e. omega arith),
+    ) refl
+
 -- a letter, of either case, is a word byte and a key byte
 letter-key : (b : ℕ) → 65 ≤ b → b ≤ 122 → (b < 91) ⊎ (93 < b) → is_key_byte b ≡ true
-letter-key b low high (inl h) =
-    rw (
-      ne_eqb b 58 (λ e. omega arith),
-      ne_eqb b 91 (λ e. omega arith),
-      ne_eqb b 93 (λ e. omega arith),
-      ne_eqb b 92 (λ e. omega arith),
-      ne_eqb b 9 (λ e. omega arith),
-      ne_eqb b 10 (λ e. omega arith),
-      ne_eqb b 12 (λ e. omega arith),
-      ne_eqb b 13 (λ e. omega arith),
-      ne_eqb b 32 (λ e. omega arith),
-    ) refl
-letter-key b low high (inr h) =
-    rw (
-      ne_eqb b 58 (λ e. omega arith),
-      ne_eqb b 91 (λ e. omega arith),
-      ne_eqb b 93 (λ e. omega arith),
-      ne_eqb b 92 (λ e. omega arith),
-      ne_eqb b 9 (λ e. omega arith),
-      ne_eqb b 10 (λ e. omega arith),
-      ne_eqb b 12 (λ e. omega arith),
-      ne_eqb b 13 (λ e. omega arith),
-      ne_eqb b 32 (λ e. omega arith),
-    ) refl
+letter-key b low high (inl h) = key_byte b low (λ e. omega arith) (λ e. omega arith)
+    (λ e. omega arith)
+letter-key b low high (inr h) = key_byte b low (λ e. omega arith) (λ e. omega arith)
+    (λ e. omega arith)
 
 -- a test that lower case keeps
 Keeps : (ℕ → Bool) → Type 0
@@ -347,13 +341,7 @@ recased_verdict : (v : DescriptionVersion) (h g : Head) (ns : Nested) (white : T
 recased_verdict v h g no_nested white tree s r e =
     not_strict v s g [] _ ∙ verdict-recased h g _ _ tree r (sym (not_strict v s h [] _) ∙ e)
 recased_verdict v h g (nested w ps ns) white tree s r e = absurd
-    (nested_refuses h (record {
-      spaced = not (is_empty w);
-      index = length (head_text h) + length w;
-      trees = items ps;
-    })
-    (parts_from (length (head_text h) + length w + 1 + length (spelling ps) + 1) ns)
-    (length (head_text h ++ nested_text (nested w ps ns) ++ white)) tree
+    (bracket_refuses h w ps ns white tree
     (sym (not_strict v s h (parts_from (length (head_text h)) (nested w ps ns))
     (length (head_text h ++ nested_text (nested w ps ns) ++ white))) ∙ e))
 

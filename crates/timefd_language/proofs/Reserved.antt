@@ -1,11 +1,8 @@
 -- What a text of version 3 reserves.
-use Rattle.std.proofs.lemmas.Bool.{true≢false}
-use Rattle.std.proofs.Common.{IsTrue, sym, ℕ, suc, ◌≡◌, ◌+◌, ◌≤◌, ◌⊎◌, inl, inr, cond, Bool, true, false, List, [], ◌∷◌, ◌++◌, map, Result, Ok, length, length-append, refl, ap, subst, arith, codes}
-use Rattle.timefd_language.specs.declared.description_version.DescriptionVersion.{DescriptionVersion}
-use Rattle.timefd_language.specs.declared.description_version.DescriptionVersion.TheVariants.{One, Two, Three}
+use Rattle.std.proofs.Common.{ℕ, suc, ◌≡◌, ◌+◌, ◌≤◌, ◌⊎◌, inl, inr, cond, Bool, true, false, List, [], ◌∷◌, ◌++◌, map, Ok, length, length-append, refl, ap, subst, arith, codes}
+use Rattle.timefd_language.specs.declared.description_version.DescriptionVersion.TheVariants.{Three}
 use Rattle.timefd_component.specs.Tree.{Text, Tree, component, optional, first, trees, pack}
-use Rattle.timefd_language.specs.Bytes.{same, right, left, is_run_byte, is_version_three}
-use Rattle.timefd_fault.specs.Faults.{Fault}
+use Rattle.timefd_language.specs.Bytes.{same, right, left, is_run_byte}
 use Rattle.timefd_language.specs.Fault.{optional_item, expected_nested, expected_alternative}
 use Rattle.timefd_language.specs.Head.{Head, IsHead, head_text, placed}
 use Rattle.timefd_language.specs.Values.{format}
@@ -15,7 +12,7 @@ use Rattle.timefd_language.specs.Grammar.{Pieces, no_pieces, run, escape, closin
 use Rattle.timefd_component.specs.Reserved.{reserved, reserve, reserve_all, reserve_first, tree_count, trees_count}
 use Rattle.timefd_language.specs.Laws.{ReservesWithin}
 use Rattle.timefd_language.proofs.Sizes.{length_one}
-use Rattle.timefd_language.proofs.Roomy.{unless_ok, behind_ok, component-room}
+use Rattle.timefd_language.proofs.Roomy.{unless_ok, behind_ok, either, component-room}
 
 -- of a list of trees, and of the lists of several nested descriptions
 abbrev total : List Tree → ℕ
@@ -64,10 +61,6 @@ first-total [] = omega arith
 first-total (p ∷ ps) = omega (arith, pack-total p.trees)
 
 -- A bracket.
-
-either : (b : Bool) (x y z : Result Tree Fault) → cond b x y ≡ z → (x ≡ z) ⊎ (y ≡ z)
-either true x y z e = inl e
-either false x y z e = inr e
 
 -- the tree of a bracket with this head and these nested descriptions
 record IsWithin (h : Head) (parts : List PlacedDescription) (tree : Tree) : Type 0 where

@@ -1,5 +1,5 @@
 -- The text of a component has room for what the component reserves.
-use Rattle.std.proofs.Common.{ℕ, ◌≡◌, ◌+◌, ◌≤◌, Bool, true, false, List, [], ◌∷◌, ◌++◌, Result, Ok, Err, Option, Some, None, length, length-append, refl, ap, subst, arith, leb-true}
+use Rattle.std.proofs.Common.{ℕ, ◌≡◌, ◌+◌, ◌≤◌, ◌⊎◌, inl, inr, cond, Bool, true, false, List, [], ◌∷◌, ◌++◌, Result, Ok, Err, Option, Some, None, length, length-append, refl, ap, subst, arith, leb-true}
 use Rattle.std.proofs.Math.Dec.{leb}
 use Rattle.std.specs.List.{list_all}
 use Rattle.std.specs.declared.num.NonZeroU16.{NonZeroU16}
@@ -300,6 +300,10 @@ unless_ok None t u e = cc
 pub behind_ok : (o : Option Fault) (r : Result Tree Fault) (t : Tree) → behind o r ≡ Ok t → r ≡ Ok t
 behind_ok (Some f) r t e = absurd cc
 behind_ok None r t e = e
+
+pub either : (b : Bool) (x y z : Result Tree Fault) → cond b x y ≡ z → (x ≡ z) ⊎ (y ≡ z)
+either true x y z e = inl e
+either false x y z e = inr e
 
 -- the tree is a component that reserves at most so many bytes
 abbrev pub IsLeafWithin : Tree → ℕ → Type 0

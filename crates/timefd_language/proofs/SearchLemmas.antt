@@ -27,10 +27,10 @@ top_lane : (b : Bool) → top 7 (lane b) ≡ b
 top_lane true = refl
 top_lane false = refl
 
-either : (f g : ℕ → Bool) (bytes : List ℕ)
+lanes_or : (f g : ℕ → Bool) (bytes : List ℕ)
     → zip2 bit_or (map (λ x. lane (f x)) bytes) (map (λ x. lane (g x)) bytes) ≡ map
     (λ x. lane (f x || g x)) bytes
-either f g bytes = zip2-map bit_or (λ x. lane (f x)) (λ x. lane (g x)) bytes ∙
+lanes_or f g bytes = zip2-map bit_or (λ x. lane (f x)) (λ x. lane (g x)) bytes ∙
     (λ i. map (λ x. either_lane (f x) (g x) i) bytes)
 
 pub marks_are : (bytes : List ℕ) (n a b c : ℕ) → length bytes ≡ n → n ≤ 64
@@ -40,8 +40,8 @@ marks_are bytes n a b c long small =
     ap (λ ms. mask_l (map (top 7) ms) % 2 ^ 64) (
     (λ i. zip2 bit_or (zip2 bit_or (compared a i) (compared b i)) (compared c i))
     ∙ ap (λ ms. zip2 bit_or ms (map (λ x. lane (eqb x c)) bytes))
-    (either (λ x. eqb x a) (λ x. eqb x b) bytes)
-    ∙ either (λ x. eqb x a || eqb x b) (λ x. eqb x c) bytes)
+    (lanes_or (λ x. eqb x a) (λ x. eqb x b) bytes)
+    ∙ lanes_or (λ x. eqb x a || eqb x b) (λ x. eqb x c) bytes)
     ∙ ap (λ ms. mask_l ms % 2 ^ 64) (map-map (top 7) (λ x. lane (is_one_of a b c x)) bytes ∙
     (λ i. map (λ x. top_lane (is_one_of a b c x) i) bytes))
     ∙ mask_l-mod (map (is_one_of a b c) bytes) 64

@@ -1,5 +1,5 @@
 -- What version 2 spells, written anew, version 3 spells.
-use Rattle.std.proofs.Common.{ℕ, ◌≡◌, ◌+◌, cond, not, true, false, [], ◌∷◌, ◌++◌, Ok, length, refl, sym, ◌∙◌, ap, append_assoc, append-nil, arith}
+use Rattle.std.proofs.Common.{ℕ, ◌≡◌, ◌+◌, cond, true, false, [], ◌∷◌, ◌++◌, Ok, refl, sym, ◌∙◌, ap, append_assoc, append-nil, arith}
 use Rattle.std.proofs.lemmas.Bool.{and_parts}
 use Rattle.std.proofs.lemmas.Bool.Decides.{nat_tests}
 use Rattle.timefd_component.specs.Modern.{modern}
@@ -7,10 +7,10 @@ use Rattle.timefd_component.specs.Tree.{Text, Tree, component, literal}
 use Rattle.timefd_language.specs.declared.description_version.DescriptionVersion.TheVariants.{Two, Three}
 use Rattle.timefd_language.specs.Bytes.{right, backslash, is_special, is_run_byte, OneOrMore}
 use Rattle.timefd_language.specs.Head.{Head, head_text}
-use Rattle.timefd_language.specs.Grammar.{Pieces, no_pieces, run, escape, closing, bracket, no_nested, nested, spelling, nested_text, items, ArePieces, BeginsNoRun, is_empty, parts_from}
+use Rattle.timefd_language.specs.Grammar.{Pieces, no_pieces, run, escape, closing, bracket, no_nested, nested, spelling, items, ArePieces, BeginsNoRun}
 use Rattle.timefd_lift.specs.Laws.{ComponentsRead, Writing}
 use Rattle.timefd_lift.specs.Written.{component_text, escape_before, tree_text, written}
-use Rattle.timefd_language.proofs.Lift.{nested_refuses}
+use Rattle.timefd_language.proofs.Lift.{bracket_refuses}
 use Rattle.timefd_lift.proofs.Heads.{IsShown}
 use Rattle.timefd_lift.proofs.ComponentHeads.{component-shown}
 use Rattle.timefd_lift.proofs.Leaves.{IsLeaf, bracket-leaf}
@@ -115,14 +115,8 @@ anew limit (bracket h no_nested white tree rest) are =
     let more = anew limit rest are.4 in
     let l = bracket-leaf h _ tree are.3 in
     leaf_anew limit h white tree rest more.0 l (component-shown l.leaf l.counted) more.1
-anew limit (bracket h (nested w ps ns) white tree rest) are = absurd
-    (nested_refuses h (record {
-      spaced = not (is_empty w);
-      index = length (head_text h) + length w;
-      trees = items ps;
-    })
-    (parts_from (length (head_text h) + length w + 1 + length (spelling ps) + 1) ns)
-    (length (head_text h ++ nested_text (nested w ps ns) ++ white)) tree are.3)
+anew limit (bracket h (nested w ps ns) white tree rest) are =
+    absurd (bracket_refuses h w ps ns white tree are.3)
 
 pub writing_law : Writing
 writing_law limit text list s =

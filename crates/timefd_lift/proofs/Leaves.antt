@@ -18,7 +18,7 @@ use Rattle.timefd_component.specs.declared.component.Component.{Component}
 use Rattle.timefd_component.specs.Tree.{Text, Tree, component}
 use Rattle.timefd_fault.specs.Faults.{Kind, Fault, fault}
 use Rattle.timefd_component.specs.Modern.{modern, modern_month, modern_weekday, modern_week_number, modern_hour, modern_timestamp, modern_year}
-use Rattle.timefd_language.specs.Bytes.{named, same}
+use Rattle.timefd_language.specs.Bytes.{same}
 use Rattle.timefd_language.specs.Fault.{expected_nested, optional_item, first_item}
 use Rattle.timefd_language.specs.Head.{Head, Placed, placed}
 use Rattle.timefd_language.specs.declared.setting.Setting.{Setting}
@@ -30,7 +30,7 @@ use Rattle.timefd_language.specs.Names.{Row, rows, row_for, row_of, component_na
 use Rattle.timefd_language.specs.Verdict.{◌or◌, unless, bad_modifiers, any_modifier, setting_of, with_option, settings_from, settings, made, optional_verdict, first_verdict, component_verdict, verdict}
 use Rattle.timefd_language.proofs.Lookup.{Each, each-map}
 use Rattle.timefd_language.proofs.Roomy.{behind_ok, made_ok}
-use Rattle.timefd_language.proofs.ModernPieces.{name_modern}
+use Rattle.timefd_language.proofs.ModernPieces.{name_modern, row_has}
 use Rattle.timefd_lift.specs.Plain.{IsCounted}
 
 -- Counts.
@@ -182,18 +182,6 @@ name_good n strict ms c e = (
 rows_good : Each IsGoodRow rows
 rows_good = each-map row_for IsGoodRow component_names name_good
 
-row_good : (strict : Bool) (name : Text) (rs : List Row) (r : Row) → Each IsGoodRow rs
-    → named (λ x. x.name) strict name rs ≡ Some r → IsGoodRow r
-row_good strict name [] r all e = absurd cc
-row_good strict name (x ∷ rs) r all e =
-    by (λ h. row_good strict name rs r all.1 h) (same strict x.name name) e
-  where
-    by : (named (λ y. y.name) strict name rs ≡ Some r → IsGoodRow r) → (t : Bool)
-        → elim t [ true ↦ Some x | false ↦ named (λ y. y.name) strict name rs ] ≡ Some r
-        → IsGoodRow r
-    by more true h = let is : x ≡ r = cc in subst IsGoodRow is all.0
-    by more false h = more h
-
 -- the tree is a modern component with a count of 16 bits
 pub record IsLeaf (tree : Tree) : Type 0 where
   pub leaf : Component
@@ -208,7 +196,8 @@ component_leaf strict h tree (Some r) known e =
     let leaf = made_ok strict h (r.component (settings strict r.keys (placed h))) tree
     (behind_ok (bad_modifiers strict r.keys [] (placed h))
     (made strict h (r.component (settings strict r.keys (placed h)))) tree e) in
-    let good = row_good strict h.name rows r rows_good known strict (placed h) leaf.0 leaf.2 in
+    let good =
+    row_has IsGoodRow strict h.name rows r rows_good known strict (placed h) leaf.0 leaf.2 in
     record { leaf = leaf.0; is = leaf.1; modern = good.0; counted = good.1 }
 
 third : (t : Tree) (a b : Bool) (x y z : Result Tree Fault) → (x ≡ Ok t → ⊥) → (y ≡ Ok t → ⊥)

@@ -1,17 +1,16 @@
 -- The items of version 2 are literals and components.
-use Rattle.std.proofs.Common.{ℕ, ◌≡◌, ◌+◌, ◌<◌, ◌∙◌, not, List, [], ◌∷◌, ◌++◌, length, get_or, drop, refl, sym, ap, subst, append_assoc, add-one, drop-cons, IsTrue}
+use Rattle.std.proofs.Common.{ℕ, ◌≡◌, ◌+◌, ◌<◌, ◌∙◌, List, [], ◌∷◌, ◌++◌, length, get_or, drop, refl, sym, ap, subst, append_assoc, add-one, drop-cons, IsTrue}
 use Rattle.std.proofs.lemmas.Bool.{and_parts}
 use Rattle.std.specs.Prelude.{⊤}
 use Rattle.timefd_format_item.specs.declared.borrowed_format_item.BorrowedFormatItem.{BorrowedFormatItem}
 use Rattle.timefd_format_item.specs.Meaning.{item_tree, item_trees}
 use Rattle.timefd_component.specs.Tree.{Text, Tree}
 use Rattle.timefd_language.specs.declared.description_version.DescriptionVersion.TheVariants.{Two}
-use Rattle.timefd_language.specs.Grammar.{Pieces, no_pieces, run, escape, closing, bracket, no_nested, nested, spelling, nested_text, items, ArePieces, Spells, is_empty, parts_from}
-use Rattle.timefd_language.specs.Head.{head_text}
+use Rattle.timefd_language.specs.Grammar.{Pieces, no_pieces, run, escape, closing, bracket, no_nested, nested, items, ArePieces, Spells}
 use Rattle.timefd_language.specs.Strings.{is_of_strings, are_of_strings}
 use Rattle.timefd_lift.specs.Plain.{IsPlain, IsPlainItem, ArePlainItems}
 use Rattle.timefd_lift.specs.Written.{tree_text, written}
-use Rattle.timefd_language.proofs.Lift.{nested_refuses}
+use Rattle.timefd_language.proofs.Lift.{bracket_refuses}
 use Rattle.timefd_lift.proofs.Leaves.{bracket-leaf}
 
 abbrev ArePlain : List Tree → Type 0
@@ -25,14 +24,8 @@ pieces_plain limit (escape a b rest) are = (tt, pieces_plain limit rest are.1)
 pieces_plain limit (closing rest) are = (tt, pieces_plain limit rest are.2)
 pieces_plain limit (bracket h no_nested white tree rest) are =
     (subst IsPlain (bracket-leaf h _ tree are.3).is tt, pieces_plain limit rest are.4)
-pieces_plain limit (bracket h (nested w ps ns) white tree rest) are = absurd
-    (nested_refuses h (record {
-      spaced = not (is_empty w);
-      index = length (head_text h) + length w;
-      trees = items ps;
-    })
-    (parts_from (length (head_text h) + length w + 1 + length (spelling ps) + 1) ns)
-    (length (head_text h ++ nested_text (nested w ps ns) ++ white)) tree are.3)
+pieces_plain limit (bracket h (nested w ps ns) white tree rest) are =
+    absurd (bracket_refuses h w ps ns white tree are.3)
 
 items_plain : (items : List BorrowedFormatItem) → ArePlain (item_trees items)
     → IsTrue (are_of_strings items) → ArePlainItems items

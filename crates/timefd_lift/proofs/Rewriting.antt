@@ -1,16 +1,16 @@
 -- What is written byte after byte of a text that version 1 spells is the text rewritten.
-use Rattle.std.proofs.Common.{ℕ, ◌≡◌, ◌+◌, ◌==◌, inl, inr, not, Bool, true, false, List, [], ◌∷◌, ◌++◌, length, refl, ◌∙◌, ap, eqb-true, arith}
+use Rattle.std.proofs.Common.{ℕ, ◌≡◌, ◌+◌, ◌==◌, inl, inr, not, Bool, true, false, List, [], ◌∷◌, ◌++◌, refl, ◌∙◌, ap, eqb-true, arith}
 use Rattle.std.specs.List.{list_all}
 use Rattle.std.proofs.lemmas.Bool.{and_parts, and_from, cases_Bool}
 use Rattle.std.proofs.lemmas.Bool.Decides.{nat_tests}
 use Rattle.timefd_language.specs.declared.description_version.DescriptionVersion.TheVariants.{One}
 use Rattle.timefd_component.specs.Tree.{Text}
 use Rattle.timefd_language.specs.Bytes.{left, right, backslash, colon, is_special, is_run_byte, is_white, is_word_byte, is_key_byte, ZeroOrMore, OneOrMore}
-use Rattle.timefd_language.specs.Head.{Head, IsHead, Modifier, AreModifiers, IsModifier, head_text, modifier_text, modifiers_text}
-use Rattle.timefd_language.specs.Grammar.{Pieces, no_pieces, run, escape, closing, bracket, no_nested, nested, spelling, nested_text, items, ArePieces, is_empty, parts_from}
+use Rattle.timefd_language.specs.Head.{Head, IsHead, Modifier, AreModifiers, IsModifier, modifier_text, modifiers_text}
+use Rattle.timefd_language.specs.Grammar.{Pieces, no_pieces, run, escape, closing, bracket, no_nested, nested, spelling, ArePieces}
 use Rattle.timefd_language.specs.Rewritten.{doubled, rewritten}
 use Rattle.timefd_lift.specs.Bytewise.{outside, inside}
-use Rattle.timefd_language.proofs.Lift.{nested_refuses}
+use Rattle.timefd_language.proofs.Lift.{bracket_refuses}
 
 -- Runs.
 
@@ -131,11 +131,5 @@ outside-spelling limit n (closing rest) are =
 outside-spelling limit n (bracket h no_nested white tree rest) are =
     outside_component (between h white) (spelling rest) (between_inner h white are.0 are.2)
     ∙ ap (λ x. left ∷ between h white ++ right ∷ x) (outside-spelling limit n rest are.4)
-outside-spelling limit n (bracket h (nested w ps ns) white tree rest) are = absurd
-    (nested_refuses h (record {
-      spaced = not (is_empty w);
-      index = length (head_text h) + length w;
-      trees = items ps;
-    })
-    (parts_from (length (head_text h) + length w + 1 + length (spelling ps) + 1) ns)
-    (length (head_text h ++ nested_text (nested w ps ns) ++ white)) tree are.3)
+outside-spelling limit n (bracket h (nested w ps ns) white tree rest) are =
+    absurd (bracket_refuses h w ps ns white tree are.3)
