@@ -1,6 +1,5 @@
 -- Reading a text: its pieces, and what stands behind them. Each step has one more than the steps in
--- it, so that
--- reading ends; the text's length is enough.
+-- it, so that reading ends; the text's length is enough.
 use Rattle.std.proofs.Common.{ℕ, zero, suc, ◌==◌, nat_lt, Bool, true, false, List, [], ◌∷◌, Result, Ok, Err, length}
 use Rattle.timefd_language.specs.declared.description_version.DescriptionVersion.{DescriptionVersion}
 use Rattle.timefd_language.specs.declared.description_version.DescriptionVersion.TheVariants.{One, Two, Three}

@@ -9,8 +9,7 @@ use Rattle.timefd_language.specs.Head.{Head, IsHead, head_text}
 use Rattle.timefd_language.specs.Verdict.{PlacedDescription, verdict}
 
 -- A text in pieces: a run of bytes, an escape of two bytes, a `]`, or a bracket. A bracket has a
--- head, nested
--- descriptions, white bytes and `]`, and is one tree.
+-- head, nested descriptions, white bytes and `]`, and is one tree.
 mutual
   pub data Pieces : Type 0 where
     no_pieces : Pieces

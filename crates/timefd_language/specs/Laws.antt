@@ -38,8 +38,7 @@ OneCut = (v : DescriptionVersion) (limit n : ℕ) (ps qs : Pieces) → ArePieces
     → spelling ps ≡ spelling qs → ps ≡ qs
 
 -- With any number of nested descriptions around it that the limit allows, each text is pieces, and
--- behind them the
--- end, a `]` or a broken text, in one way.
+-- behind them the end, a `]` or a broken text, in one way.
 abbrev pub OneReading : Type 0
 OneReading = (v : DescriptionVersion) (limit n : ℕ) (text : Text) → n ≤ limit
     → (r : Reading) × Reads v limit n text r × ((s : Reading) → Reads v limit n text s → r ≡ s)
@@ -85,8 +84,7 @@ StrftimeShift = (s t : Text) (a : List Tree) (f : Fault) → SpellsStrftime s a 
 -- Limits.
 
 -- What is spelled with a limit is spelled with every greater limit, with the same list, and a fault
--- other than the
--- highly-nested one is the same fault with every greater limit.
+-- other than the highly-nested one is the same fault with every greater limit.
 abbrev pub GreaterLimit : Type 0
 GreaterLimit = (v : DescriptionVersion) (low high : ℕ) (text : Text) → low ≤ high
     → ((list : List Tree) → Spells v low 0 text list → Spells v high 0 text list)
