@@ -44,8 +44,8 @@ impl Excerpt {
     }
 }
 
-// Writes as many characters of the text as the buffer has room for from this place on, and says
-// how many bytes they take.
+// Writes as many characters of the text as the buffer has room for from this place on, and says how
+// many bytes they take.
 fn write_at(text: &str, buffer: &mut [u8], at: usize) -> usize
     requires { at ≤ length buffer.old }
     ensures front { buffer.new ≡ take at

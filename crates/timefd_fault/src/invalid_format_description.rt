@@ -6,8 +6,8 @@ ghost use Rattle.timefd_fault.specs.Faults as spec;
 use std::alloc::{AllocError, Global};
 use std::fmt;
 
-/// Why a text is no format description, and where. Every index counts bytes from the text's
-/// start. It is the enum of that name of `time`.
+/// Why a text is no format description, and where. Every index counts bytes from the text's start.
+/// It is the enum of that name of `time`.
 #[derive(Debug, PartialEq, Eq, Drop)]
 pub enum InvalidFormatDescription {
     /// A bracket was opened and not closed.
@@ -93,8 +93,8 @@ impl InvalidFormatDescription {
         }
     }
 
-    /// A copy, which holds the same name or value in memory of its own. An `Err` comes where
-    /// there is none left for it.
+    /// A copy, which holds the same name or value in memory of its own. An `Err` comes where there
+    /// is none left for it.
     pub fn clone(&self, alloc: Global) -> Result<Self, AllocError>
         ensures { IfOk result (λ copy. spec.fault_of copy ≡ spec.fault_of self.now) }
     {

@@ -64,8 +64,7 @@ impl<'a> FormatDescriptionV3<'a> {
         View::new(self.list.nodes())
     }
 
-    /// A tree of the same meaning, to look at. An `Err` comes where there is no memory left for
-    /// it.
+    /// A tree of the same meaning, to look at. An `Err` comes where there is no memory left for it.
     pub fn to_inner(&self, alloc: Global) -> Result<FormatDescriptionV3Inner<'a>, AllocError>
         ensures { IfOk result (λ tree. inner_tree tree ≡ description_tree self.now) }
     {
@@ -75,8 +74,8 @@ impl<'a> FormatDescriptionV3<'a> {
         }
     }
 
-    /// A description of the same meaning that borrows nothing, so it may outlive the text. An
-    /// `Err` comes where there is no memory left for it.
+    /// A description of the same meaning that borrows nothing, so it may outlive the text. An `Err`
+    /// comes where there is no memory left for it.
     pub fn to_owned(&self, alloc: Global) -> Result<FormatDescriptionV3<'static>, AllocError>
         ensures { IfOk result (λ copy. description_tree copy ≡ description_tree self.now) }
     {

@@ -1,5 +1,5 @@
--- How a list of nodes reads as a list of trees: each node stands behind its members, takes them
--- off the end of the trees so far, and puts its own tree there.
+-- How a list of nodes reads as a list of trees: each node stands behind its members, takes them off
+-- the end of the trees so far, and puts its own tree there.
 use Rattle.std.specs.Prelude.{ℕ, ◌≡◌, ◌-◌, ◌^◌, ◌≤◌, Bool, List, [], ◌∷◌, ◌++◌, length, take, drop, max, min, string_bytes, ⊤}
 use Rattle.std.specs.Coded.{Unit-prop, ×_prop}
 use Rattle.std.proofs.Props.{props}

@@ -9,9 +9,9 @@ use crate::view::View;
 /// How many marks are kept: each halves what is left, and a `usize` counts the members.
 const MARKS: usize = 64;
 
-/// Members in turn, the first one first. They are found from the last one back, so the places
-/// that were come by are kept, each half as far away as the one before it: all of n members take
-/// n log n steps. It takes no memory but its own.
+/// Members in turn, the first one first. They are found from the last one back, so the places that
+/// were come by are kept, each half as far away as the one before it: all of n members take n log n
+/// steps. It takes no memory but its own.
 #[derive(Clone, Copy)]
 pub struct InTurn<'v, 'a> {
     // Those that are left.

@@ -6,8 +6,8 @@ use std::alloc::{AllocError, Global};
 use timefd_component::Component;
 
 /// What a description is made of. Of its members a node keeps how many they are, and in how many
-/// nodes they stand: those right before it, so each member is found by going back over the nodes
-/// of the one behind it. It has 32 bytes.
+/// nodes they stand: those right before it, so each member is found by going back over the nodes of
+/// the one behind it. It has 32 bytes.
 #[derive(Drop)]
 pub enum Node<'a> {
     /// Text that is lent.

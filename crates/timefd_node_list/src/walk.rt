@@ -7,8 +7,8 @@ ghost use Rattle.timefd_node_list.specs.Views.{made_each, view_tree, view_trees,
 use crate::node::Node;
 use crate::view::View;
 
-/// The parts of a description, each behind its members and the whole one last. Each takes the
-/// same time, and all of them no memory.
+/// The parts of a description, each behind its members and the whole one last. Each takes the same
+/// time, and all of them no memory.
 #[derive(Clone, Copy)]
 pub struct Walk<'v, 'a> {
     nodes: &'v [Node<'a>],

@@ -54,8 +54,8 @@ impl TryFrom<BorrowedFormatItem<'_>> for Component {
 }
 
 impl<'a> BorrowedFormatItem<'a> {
-    /// The items of a compound. An `Err` comes for every other variant. It stands for
-    /// `TryFrom` onto a slice.
+    /// The items of a compound. An `Err` comes for every other variant. It stands for `TryFrom`
+    /// onto a slice.
     pub fn into_items(self) -> Result<&'a [BorrowedFormatItem<'a>], DifferentVariant>
         ensures content { IfOk result (λ items. self.entry ≡ BorrowedFormatItem.Compound items) }
         ensures ok { IfOk result (λ items. trees_in (item_tree self.entry) ≡ Some
