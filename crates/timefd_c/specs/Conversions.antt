@@ -20,9 +20,8 @@ abbrev pub HasFaultIn : DescriptionVersion → Text → Fault → Type 0
 HasFaultIn version bytes f = HasFault (Some (Version version)) bytes f
 
 -- The answer says what the bytes, a text of the version, are rewritten to, or why they are not, and
--- of the buffer, which
--- held `before` and holds `after`, how much of it that is. `IsOne` says which text it is, and
--- `HasItems` that it means the same.
+-- of the buffer, which held `before` and holds `after`, how much of it that is. `IsOne` says which
+-- text it is, and `HasItems` that it means the same.
 pub record ConvertsBy (version : DescriptionVersion) (IsOne HasItems : Text → Text
     → Type 0) (bytes before after : Text) (answer : Answer) : Type 0 where
   -- What is answered is so, and the next version spells it with the items that this one spells the

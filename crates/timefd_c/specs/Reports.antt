@@ -11,8 +11,7 @@ use Rattle.timefd_c_nodes.specs.Encoding.{nodes_from, literals_of}
 use Rattle.timefd_c.specs.declared.read.Report.{Report}
 
 -- All parts of a description, each behind its members: those of the items in turn, and in version 3
--- of the one tree that
--- they are packed to.
+-- of the one tree that they are packed to.
 abbrev pub parts : Language → List Tree → List Tree
 parts (Version One) list = walked_all (trees list)
 parts (Version Two) list = walked_all (trees list)

@@ -1,5 +1,5 @@
-//! What is wrong with a text that is no format description: its fault, the bytes that are at
-//! fault, a stable name, and what helps.
+//! What is wrong with a text that is no format description: its fault, the bytes that are at fault,
+//! a stable name, and what helps.
 #![tactic(auto)]
 
 mod code;

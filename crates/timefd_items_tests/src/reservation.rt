@@ -102,8 +102,8 @@ fn a_part_not_formatted_reserves_nothing(rt: HostRuntime) {
     assert_eq!(rt; tree.bytes_within(0), Some(0));
 }
 
-/// A compound of one literal of six bytes, then so many times a compound of two of it. Its
-/// blocks are never freed.
+/// A compound of one literal of six bytes, then so many times a compound of two of it. Its blocks
+/// are never freed.
 fn doubled(rt: &impl Abort, alloc: Global, times: u8) -> FormatDescriptionV3Inner<'static> {
     let literal = FormatDescriptionV3Inner::BorrowedLiteral("abcdef");
     let literals = vec![in alloc; literal].expect(rt, AMPLE);

@@ -12,8 +12,7 @@ use Rattle.timefd_lint.specs.declared.tally.Tally.{Tally}
 use Rattle.timefd_lint.specs.Lines.{IsEndOf, IsLineEnd, without_newline}
 
 -- A message is written of a text that is refused, of one that is no UTF-8, and of a file that can't
--- be read; of any
--- other none is, but where accepted ones are explained.
+-- be read; of any other none is, but where accepted ones are explained.
 abbrev pub IsMessageOn : Bool → TextEnd → Text → Type 0
 IsMessageOn explains PassedOver message = message ≡ []
 IsMessageOn explains Accepted message = IsFalse explains → message ≡ []

@@ -1,6 +1,6 @@
 //! `timefd_lint [OPTION].. [FILE]..`: reads format descriptions, one a line, and shows which are
-//! none, where, why, and what to write in their place. `docs/LINT.md` has the options and the
-//! names of the faults.
+//! none, where, why, and what to write in their place. `docs/LINT.md` has the options and the names
+//! of the faults.
 #![tactic(auto)]
 
 mod convert;

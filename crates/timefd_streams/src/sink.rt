@@ -43,8 +43,8 @@ enum State {
     Failed,
 }
 
-/// A writer of the standard library as a sink. Any error is a failure, and so is a write that
-/// takes no byte.
+/// A writer of the standard library as a sink. Any error is a failure, and so is a write that takes
+/// no byte.
 #[derive(Drop)]
 pub struct ToWriter<W> {
     inner: W,

@@ -91,8 +91,8 @@ fn openings_alone(rt: HostRuntime) {
     expect_both(&rt, alloc, deeper.as_str(), TOO_DEEP, TOO_DEEP);
 }
 
-/// Expects what so many nested descriptions are read as, where they are not too many: the
-/// innermost bracket, which closes first, stands at the index.
+/// Expects what so many nested descriptions are read as, where they are not too many: the innermost
+/// bracket, which closes first, stands at the index.
 fn expect_nested(rt: &impl Abort, alloc: Global, depth: usize, innermost: usize) {
     let text = around(rt, alloc, depth, "[optional [", "x", "]]");
     let refused = format!(in alloc;
