@@ -21,13 +21,16 @@ macro_rules! modern {
     };
 }
 
-const DAYS_WEEKS_AND_MONTHS: [(Component, &str, &str); 12] = modern!(
+const DAYS: [(Component, &str, &str); 6] = modern!(
     Day { padding: Padding::Space } => "Day" "{ padding: Space }",
     Ordinal { padding: Padding::None } => "Ordinal" "{ padding: None }",
     WeekdayShort { case_sensitive: false } => "WeekdayShort" "{ case_sensitive: false }",
     WeekdayLong { case_sensitive: false } => "WeekdayLong" "{ case_sensitive: false }",
     WeekdaySunday { one_indexed: false } => "WeekdaySunday" "{ one_indexed: false }",
     WeekdayMonday { one_indexed: false } => "WeekdayMonday" "{ one_indexed: false }",
+);
+
+const WEEKS_AND_MONTHS: [(Component, &str, &str); 6] = modern!(
     WeekNumberIso { padding: Padding::Space } => "WeekNumberIso" "{ padding: Space }",
     WeekNumberSunday { padding: Padding::None } => "WeekNumberSunday" "{ padding: None }",
     WeekNumberMonday { padding: Padding::Zero } => "WeekNumberMonday" "{ padding: Zero }",
@@ -36,7 +39,7 @@ const DAYS_WEEKS_AND_MONTHS: [(Component, &str, &str); 12] = modern!(
     MonthNumerical { padding: Padding::Space } => "MonthNumerical" "{ padding: Space }",
 );
 
-const YEARS: [(Component, &str, &str); 10] = modern!(
+const CALENDAR_YEARS: [(Component, &str, &str); 5] = modern!(
     CalendarYearFullExtendedRange { padding: Padding::Space, sign_is_mandatory: true } =>
         "CalendarYearFullExtendedRange" "{ padding: Space, sign_is_mandatory: true }",
     CalendarYearFullStandardRange { padding: Padding::None, sign_is_mandatory: true } =>
@@ -46,6 +49,9 @@ const YEARS: [(Component, &str, &str); 10] = modern!(
     CalendarYearCenturyStandardRange { padding: Padding::Space, sign_is_mandatory: false } =>
         "CalendarYearCenturyStandardRange" "{ padding: Space, sign_is_mandatory: false }",
     CalendarYearLastTwo { padding: Padding::None } => "CalendarYearLastTwo" "{ padding: None }",
+);
+
+const ISO_YEARS: [(Component, &str, &str); 5] = modern!(
     IsoYearFullExtendedRange { padding: Padding::Space, sign_is_mandatory: true } =>
         "IsoYearFullExtendedRange" "{ padding: Space, sign_is_mandatory: true }",
     IsoYearFullStandardRange { padding: Padding::None, sign_is_mandatory: true } =>
@@ -57,7 +63,7 @@ const YEARS: [(Component, &str, &str); 10] = modern!(
     IsoYearLastTwo { padding: Padding::None } => "IsoYearLastTwo" "{ padding: None }",
 );
 
-const TIMES: [(Component, &str, &str); 14] = modern!(
+const TIMES_OF_DAY: [(Component, &str, &str); 6] = modern!(
     Hour12 { padding: Padding::Space } => "Hour12" "{ padding: Space }",
     Hour24 { padding: Padding::None } => "Hour24" "{ padding: None }",
     Minute { padding: Padding::Space } => "Minute" "{ padding: Space }",
@@ -65,6 +71,9 @@ const TIMES: [(Component, &str, &str); 14] = modern!(
     Period { is_uppercase: false, case_sensitive: false } =>
         "Period" "{ is_uppercase: false, case_sensitive: false }",
     Subsecond { digits: SubsecondDigits::Three } => "Subsecond" "{ digits: Three }",
+);
+
+const OFFSETS_TIMESTAMPS_AND_END: [(Component, &str, &str); 8] = modern!(
     OffsetHour { sign_is_mandatory: true, padding: Padding::Space } =>
         "OffsetHour" "{ sign_is_mandatory: true, padding: Space }",
     OffsetMinute { padding: Padding::None } => "OffsetMinute" "{ padding: None }",
@@ -164,11 +173,39 @@ fn expect_components(
 }
 
 #[test]
-fn modern_components(rt: HostRuntime) {
-    let (days, years, times) = (DAYS_WEEKS_AND_MONTHS, YEARS, TIMES);
-    expect_components(&rt, rt.alloc(), &days);
-    expect_components(&rt, rt.alloc(), &years);
-    expect_components(&rt, rt.alloc(), &times);
+fn days(rt: HostRuntime) {
+    let rows = DAYS;
+    expect_components(&rt, rt.alloc(), &rows);
+}
+
+#[test]
+fn weeks_and_months(rt: HostRuntime) {
+    let rows = WEEKS_AND_MONTHS;
+    expect_components(&rt, rt.alloc(), &rows);
+}
+
+#[test]
+fn calendar_years(rt: HostRuntime) {
+    let rows = CALENDAR_YEARS;
+    expect_components(&rt, rt.alloc(), &rows);
+}
+
+#[test]
+fn iso_years(rt: HostRuntime) {
+    let rows = ISO_YEARS;
+    expect_components(&rt, rt.alloc(), &rows);
+}
+
+#[test]
+fn times_of_day(rt: HostRuntime) {
+    let rows = TIMES_OF_DAY;
+    expect_components(&rt, rt.alloc(), &rows);
+}
+
+#[test]
+fn offsets_timestamps_and_end(rt: HostRuntime) {
+    let rows = OFFSETS_TIMESTAMPS_AND_END;
+    expect_components(&rt, rt.alloc(), &rows);
 }
 
 #[test]

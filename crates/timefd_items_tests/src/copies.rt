@@ -2,12 +2,16 @@
 
 use super::printed::{AMPLE, expect_printed};
 use super::trees::{
-    WEEKDAY, expect_description, lend, lend_two, literal, opaque, optional, two_literals,
+    WEEKDAY, expect_description, lend, lend_two, literal, opaque, optional, two, two_literals,
 };
 use std::alloc::Global;
 use std::process::Abort;
 use timefd_items::{FormatDescriptionV3, FormatDescriptionV3Inner};
 use timefd_modifier::{Day, Padding};
+
+const DAY: FormatDescriptionV3Inner<'static> = FormatDescriptionV3Inner::Day(Day {
+    padding: Padding::Zero,
+});
 
 #[test]
 fn copies_of_a_lent_compound(rt: HostRuntime) {
@@ -26,11 +30,8 @@ fn copies_of_a_lent_compound(rt: HostRuntime) {
 /// return.
 fn outlives_its_text(rt: &impl Abort, alloc: Global) -> FormatDescriptionV3<'static> {
     let text = String::from_str(alloc, "x").expect(rt, AMPLE);
-    let members = vec![in alloc;
-        FormatDescriptionV3Inner::BorrowedLiteral(text.as_str()),
-        optional(rt, alloc, false, WEEKDAY),
-    ]
-    .expect(rt, AMPLE);
+    let literal = FormatDescriptionV3Inner::BorrowedLiteral(text.as_str());
+    let members = two(rt, alloc, literal, optional(rt, alloc, false, WEEKDAY));
     let description = opaque(rt, alloc, FormatDescriptionV3Inner::OwnedCompound(members));
     description.to_owned(alloc).expect(rt, AMPLE)
 }
@@ -52,13 +53,7 @@ fn an_owned_copy_outlives_its_text(rt: HostRuntime) {
 #[test]
 fn copies_of_owned_parts(rt: HostRuntime) {
     let alloc = rt.alloc();
-    let alternatives = vec![in alloc;
-        literal(&rt, alloc, "a"),
-        FormatDescriptionV3Inner::Day(Day {
-            padding: Padding::Zero
-        }),
-    ]
-    .expect(&rt, AMPLE);
+    let alternatives = two(&rt, alloc, literal(&rt, alloc, "a"), DAY);
     let first = FormatDescriptionV3Inner::OwnedFirst(alternatives);
     let tree = optional(&rt, alloc, true, first);
     let description = opaque(&rt, alloc, tree.clone(alloc).expect(&rt, AMPLE));
@@ -85,10 +80,6 @@ fn expect_copies(
     let owned = description.to_owned(alloc).expect(rt, AMPLE);
     expect_description(rt, alloc, &owned, expected);
 }
-
-const DAY: FormatDescriptionV3Inner<'static> = FormatDescriptionV3Inner::Day(Day {
-    padding: Padding::Zero,
-});
 
 #[test]
 fn copies_of_lent_parts(rt: HostRuntime) {

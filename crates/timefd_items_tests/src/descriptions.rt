@@ -1,7 +1,7 @@
 //! How descriptions print, and what they reserve.
 
-use super::printed::{AMPLE, expect_printed};
-use super::trees::{WEEKDAY, lend, lend_two, literal, opaque, optional};
+use super::printed::expect_printed;
+use super::trees::{WEEKDAY, lend, lend_two, literal, opaque, optional, three, two};
 use std::alloc::Global;
 use std::process::Abort;
 use timefd_items::{Component, FormatDescriptionV3Inner, NotOpaque, OpaqueCause};
@@ -9,17 +9,11 @@ use timefd_modifier::Day;
 
 /// `x[optional format:false [[weekday]]][first [a] [bcd]]`, its parts owned but for `bcd`.
 fn owned(rt: &impl Abort, alloc: Global) -> FormatDescriptionV3Inner<'static> {
-    let alternatives = vec![in alloc;
-        literal(rt, alloc, "a"),
-        FormatDescriptionV3Inner::BorrowedLiteral("bcd"),
-    ]
-    .expect(rt, AMPLE);
-    let members = vec![in alloc;
-        literal(rt, alloc, "x"),
-        optional(rt, alloc, false, WEEKDAY),
-        FormatDescriptionV3Inner::OwnedFirst(alternatives),
-    ]
-    .expect(rt, AMPLE);
+    let second = FormatDescriptionV3Inner::BorrowedLiteral("bcd");
+    let alternatives = two(rt, alloc, literal(rt, alloc, "a"), second);
+    let first = FormatDescriptionV3Inner::OwnedFirst(alternatives);
+    let skipped = optional(rt, alloc, false, WEEKDAY);
+    let members = three(rt, alloc, literal(rt, alloc, "x"), skipped, first);
     FormatDescriptionV3Inner::OwnedCompound(members)
 }
 
@@ -27,15 +21,13 @@ fn owned(rt: &impl Abort, alloc: Global) -> FormatDescriptionV3Inner<'static> {
 fn lent(rt: &impl Abort, alloc: Global) -> FormatDescriptionV3Inner<'static> {
     let first = FormatDescriptionV3Inner::BorrowedLiteral("a");
     let second = FormatDescriptionV3Inner::BorrowedLiteral("bcd");
-    let members = vec![in alloc;
-        FormatDescriptionV3Inner::BorrowedLiteral("x"),
-        FormatDescriptionV3Inner::BorrowedOptional {
-            format: false,
-            item: lend(rt, alloc, WEEKDAY),
-        },
-        FormatDescriptionV3Inner::BorrowedFirst(lend_two(rt, alloc, first, second)),
-    ]
-    .expect(rt, AMPLE);
+    let first = FormatDescriptionV3Inner::BorrowedFirst(lend_two(rt, alloc, first, second));
+    let literal = FormatDescriptionV3Inner::BorrowedLiteral("x");
+    let skipped = FormatDescriptionV3Inner::BorrowedOptional {
+        format: false,
+        item: lend(rt, alloc, WEEKDAY),
+    };
+    let members = three(rt, alloc, literal, skipped, first);
     FormatDescriptionV3Inner::BorrowedCompound(members.leak())
 }
 
@@ -67,19 +59,13 @@ fn printed_refusal(rt: HostRuntime) {
 
 /// `x[optional [y]][first [a] [b] [c]]`, its parts owned but for `y`, `b` and `c`.
 fn optional_and_three(rt: &impl Abort, alloc: Global) -> FormatDescriptionV3Inner<'static> {
-    let alternatives = vec![in alloc;
-        literal(rt, alloc, "a"),
-        FormatDescriptionV3Inner::BorrowedLiteral("b"),
-        FormatDescriptionV3Inner::BorrowedLiteral("c"),
-    ]
-    .expect(rt, AMPLE);
+    let second = FormatDescriptionV3Inner::BorrowedLiteral("b");
+    let third = FormatDescriptionV3Inner::BorrowedLiteral("c");
+    let alternatives = three(rt, alloc, literal(rt, alloc, "a"), second, third);
+    let first = FormatDescriptionV3Inner::OwnedFirst(alternatives);
     let skipped = FormatDescriptionV3Inner::BorrowedLiteral("y");
-    let members = vec![in alloc;
-        literal(rt, alloc, "x"),
-        optional(rt, alloc, true, skipped),
-        FormatDescriptionV3Inner::OwnedFirst(alternatives),
-    ]
-    .expect(rt, AMPLE);
+    let skipped = optional(rt, alloc, true, skipped);
+    let members = three(rt, alloc, literal(rt, alloc, "x"), skipped, first);
     FormatDescriptionV3Inner::OwnedCompound(members)
 }
 

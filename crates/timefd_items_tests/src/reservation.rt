@@ -1,7 +1,7 @@
 //! What descriptions reserve.
 
 use super::printed::{AMPLE, expect_printed};
-use super::trees::{WEEKDAY, lend, lend_two, optional, two_literals};
+use super::trees::{WEEKDAY, lend, lend_two, optional, two, two_literals};
 use std::alloc::Global;
 use std::process::Abort;
 use timefd_items::{Component, FormatDescriptionV3Inner};
@@ -29,11 +29,8 @@ fn expect_within(
     limit: usize,
     bytes: Option<usize>,
 ) {
-    assert_eq!(rt;
-        tree.bytes_within(limit),
-        bytes,
-        "of {tree:?} within {limit}"
-    );
+    let within = tree.bytes_within(limit);
+    assert!(rt; within == bytes, "of {tree:?} within {limit}");
 }
 
 /// Expects that the tree reserves so many bytes.
@@ -66,11 +63,9 @@ fn worked_lists(rt: HostRuntime) {
     let alloc = rt.alloc();
     let year = modifier::CalendarYearFullStandardRange::default();
     let month = modifier::MonthNumerical::default();
-    let alternatives = vec![in alloc;
-        FormatDescriptionV3Inner::BorrowedLiteral("a"),
-        FormatDescriptionV3Inner::BorrowedLiteral("bcd"),
-    ]
-    .expect(&rt, AMPLE);
+    let first = FormatDescriptionV3Inner::BorrowedLiteral("a");
+    let second = FormatDescriptionV3Inner::BorrowedLiteral("bcd");
+    let alternatives = two(&rt, alloc, first, second);
     let date = vec![in alloc;
         FormatDescriptionV3Inner::CalendarYearFullStandardRange(year),
         FormatDescriptionV3Inner::BorrowedLiteral("-"),
@@ -99,7 +94,7 @@ fn a_part_not_formatted_reserves_nothing(rt: HostRuntime) {
         format: false,
         item: lend(&rt, rt.alloc(), literal),
     };
-    assert_eq!(rt; tree.bytes_within(0), Some(0));
+    expect_within(&rt, &tree, 0, Some(0));
 }
 
 /// A compound of one literal of six bytes, then so many times a compound of two of it. Its blocks
@@ -130,7 +125,8 @@ const WITHIN_A_LIMIT: &[(u8, usize, Option<usize>)] = &[
 fn lent_parts_count_each_time_they_stand(rt: HostRuntime) {
     for (times, limit, bytes) in WITHIN_A_LIMIT {
         let tree = doubled(&rt, rt.alloc(), *times);
-        assert_eq!(rt; tree.bytes_within(*limit), *bytes, "doubled {times} times");
+        let within = tree.bytes_within(*limit);
+        assert!(rt; within == *bytes, "doubled {times} times");
     }
 }
 
@@ -143,5 +139,5 @@ fn leaf_of_a_deprecated_component(rt: HostRuntime) {
     let tree = FormatDescriptionV3Inner::from(Component::UnixTimestamp(timestamp));
     let expected = "UnixTimestampMillisecond { sign_is_mandatory: true }";
     expect_printed(&rt, rt.alloc(), &tree, expected);
-    assert_eq!(rt; tree.bytes_within(usize::MAX), Some(18));
+    expect_within(&rt, &tree, usize::MAX, Some(18));
 }

@@ -39,6 +39,27 @@ pub fn lend(
     Box::leak(Box::new(alloc, tree).expect(rt, AMPLE))
 }
 
+/// Two trees in turn.
+pub fn two<'a>(
+    rt: &impl Abort,
+    alloc: Global,
+    first: FormatDescriptionV3Inner<'a>,
+    second: FormatDescriptionV3Inner<'a>,
+) -> Vec<FormatDescriptionV3Inner<'a>> {
+    vec![in alloc; first, second].expect(rt, AMPLE)
+}
+
+/// Three trees in turn.
+pub fn three<'a>(
+    rt: &impl Abort,
+    alloc: Global,
+    first: FormatDescriptionV3Inner<'a>,
+    second: FormatDescriptionV3Inner<'a>,
+    third: FormatDescriptionV3Inner<'a>,
+) -> Vec<FormatDescriptionV3Inner<'a>> {
+    vec![in alloc; first, second, third].expect(rt, AMPLE)
+}
+
 /// Two trees, lent by a block that is never freed.
 pub fn lend_two(
     rt: &impl Abort,
@@ -46,8 +67,7 @@ pub fn lend_two(
     first: FormatDescriptionV3Inner<'static>,
     second: FormatDescriptionV3Inner<'static>,
 ) -> &'static [FormatDescriptionV3Inner<'static>] {
-    let trees = vec![in alloc; first, second].expect(rt, AMPLE);
-    trees.leak()
+    two(rt, alloc, first, second).leak()
 }
 
 /// Two lent literals of six bytes each.

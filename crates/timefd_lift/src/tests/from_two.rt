@@ -1,5 +1,6 @@
 //! Texts of version 2 with what they are rewritten to, and the items of both.
 
+use super::AMPLE;
 use crate::v2_to_v3;
 use std::alloc::Global;
 use std::process::Abort;
@@ -8,14 +9,12 @@ use timefd_parse::{
     BorrowedFormatItem, BorrowedOutput, DescriptionVersion, ParseError, parse_borrowed,
 };
 
-const AMPLE: &str = "memory suffices";
-
 /// What a text is rewritten to, or the sentence of its fault.
 fn answer(rt: &impl Abort, alloc: Global, text: &str) -> String {
     match v2_to_v3(alloc, text) {
         Ok(text) => text,
         Err(ParseError::Invalid(fault)) => format!(in alloc; "{fault}").expect(rt, AMPLE),
-        Err(ParseError::Memory(_)) => rt.panic("memory suffices"),
+        Err(ParseError::Memory(_)) => rt.panic(AMPLE),
     }
 }
 

@@ -1,12 +1,11 @@
 //! Texts rewritten twice, where one allocation may be refused. `gate/memory` runs this test once
 //! for each allocation, and refuses that one.
 
+use super::AMPLE;
 use crate::{v1_to_v2, v2_to_v3};
 use std::alloc::Global;
 use std::process::Abort;
 use timefd_parse::{DescriptionVersion, ParseError};
-
-const AMPLE: &str = "memory suffices";
 
 const REFUSED: &str = "memory ran out";
 
@@ -25,8 +24,21 @@ fn answer(rt: &impl Abort, alloc: Global, version: DescriptionVersion, text: &st
     .expect(rt, AMPLE)
 }
 
+/// Expects that one call answered so, and that the other did too or was refused memory.
+fn expect_one_at_least(rt: &impl Abort, text: &str, first: &str, second: &str, expected: &str) {
+    if first == REFUSED {
+        assert_eq!(rt; second, expected, "{text} behind a refusal");
+        return;
+    }
+    assert_eq!(rt; first, expected, "{text}");
+    if second == REFUSED {
+        return;
+    }
+    assert_eq!(rt; second, expected, "{text} a second time");
+}
+
 /// Expects that one of two calls answers so, and that the other does too or is refused memory.
-fn expect_one_at_least(
+fn expect_rewritten(
     rt: &impl Abort,
     alloc: Global,
     version: DescriptionVersion,
@@ -35,14 +47,7 @@ fn expect_one_at_least(
 ) {
     let first = answer(rt, alloc, version, text);
     let second = answer(rt, alloc, version, text);
-    if first.as_str() == REFUSED {
-        assert_eq!(rt; second.as_str(), expected, "{text} behind a refusal");
-        return;
-    }
-    assert_eq!(rt; first.as_str(), expected, "{text}");
-    if second.as_str() != REFUSED {
-        assert_eq!(rt; second.as_str(), expected, "{text} a second time");
-    }
+    expect_one_at_least(rt, text, first.as_str(), second.as_str(), expected);
 }
 
 /// Texts of version 1, and what they are rewritten to or the sentence of their fault.
@@ -71,9 +76,9 @@ const OF_TWO: &[(&str, &str)] = &[
 #[test]
 fn rewriting(rt: HostRuntime) {
     for (text, expected) in OF_ONE {
-        expect_one_at_least(&rt, rt.alloc(), DescriptionVersion::One, text, expected);
+        expect_rewritten(&rt, rt.alloc(), DescriptionVersion::One, text, expected);
     }
     for (text, expected) in OF_TWO {
-        expect_one_at_least(&rt, rt.alloc(), DescriptionVersion::Two, text, expected);
+        expect_rewritten(&rt, rt.alloc(), DescriptionVersion::Two, text, expected);
     }
 }

@@ -2,7 +2,7 @@
 
 use super::expect_items;
 use super::lists::{
-    DATE_AND_TIME, HOUR_AND_MINUTE, ISO_DATE, OFFSET, SHORT_DATE, TIME_OF_12, TIME_OF_24,
+    date_and_time, hour_and_minute, iso_date, offset, short_date, time_of_12, time_of_24,
 };
 use crate::lent::lend;
 use crate::printed::AMPLE;
@@ -23,65 +23,59 @@ macro_rules! letters {
     };
 }
 
-/// The letters whose component no flag changes.
-const PLAIN: [(&str, Component); 12] = letters!(
+/// Dates whose component no flag changes.
+const PLAIN_DATES: [(&str, Component); 7] = letters!(
     "a" => WeekdayShort { case_sensitive: true },
     "A" => WeekdayLong { case_sensitive: true },
     "b" => MonthShort { case_sensitive: true },
     "h" => MonthShort { case_sensitive: true },
     "B" => MonthLong { case_sensitive: true },
+    "u" => WeekdayMonday { one_indexed: true },
+    "w" => WeekdaySunday { one_indexed: true },
+);
+
+/// Years and times whose component no flag changes.
+const PLAIN_YEARS_AND_TIMES: [(&str, Component); 5] = letters!(
     "G" => IsoYearFullExtendedRange { padding: Padding::Zero, sign_is_mandatory: false },
     "Y" => CalendarYearFullExtendedRange { padding: Padding::Zero, sign_is_mandatory: false },
     "p" => Period { is_uppercase: true, case_sensitive: true },
     "P" => Period { is_uppercase: false, case_sensitive: true },
     "s" => UnixTimestampSecond { sign_is_mandatory: false },
-    "u" => WeekdayMonday { one_indexed: true },
-    "w" => WeekdaySunday { one_indexed: true },
 );
 
-/// The letters whose component takes the padding of the flag, with this one.
-macro_rules! padded {
-    ($padding:expr) => {
-        letters!(
-            "C" => CalendarYearCenturyExtendedRange { padding: $padding, sign_is_mandatory: false },
-            "d" => Day { padding: $padding },
-            "g" => IsoYearLastTwo { padding: $padding },
-            "H" => Hour24 { padding: $padding },
-            "I" => Hour12 { padding: $padding },
-            "j" => Ordinal { padding: $padding },
-            "m" => MonthNumerical { padding: $padding },
-            "M" => Minute { padding: $padding },
-            "S" => Second { padding: $padding },
-            "U" => WeekNumberSunday { padding: $padding },
-            "V" => WeekNumberIso { padding: $padding },
-            "W" => WeekNumberMonday { padding: $padding },
-            "y" => CalendarYearLastTwo { padding: $padding },
-        )
-    };
+/// Dates whose component takes the padding of the flag.
+fn padded_dates(padding: Padding) -> [(&'static str, Component); 6] {
+    letters!(
+        "C" => CalendarYearCenturyExtendedRange { padding: padding, sign_is_mandatory: false },
+        "d" => Day { padding: padding },
+        "g" => IsoYearLastTwo { padding: padding },
+        "j" => Ordinal { padding: padding },
+        "m" => MonthNumerical { padding: padding },
+        "y" => CalendarYearLastTwo { padding: padding },
+    )
+}
+
+/// Weeks and times whose component takes the padding of the flag.
+fn padded_weeks_and_times(padding: Padding) -> [(&'static str, Component); 7] {
+    letters!(
+        "H" => Hour24 { padding: padding },
+        "I" => Hour12 { padding: padding },
+        "M" => Minute { padding: padding },
+        "S" => Second { padding: padding },
+        "U" => WeekNumberSunday { padding: padding },
+        "V" => WeekNumberIso { padding: padding },
+        "W" => WeekNumberMonday { padding: padding },
+    )
 }
 
 /// The letters whose component is padded with spaces where no flag says otherwise.
-macro_rules! spaced {
-    ($padding:expr) => {
-        letters!(
-            "e" => Day { padding: $padding },
-            "k" => Hour24 { padding: $padding },
-            "l" => Hour12 { padding: $padding },
-        )
-    };
+fn spaced(padding: Padding) -> [(&'static str, Component); 3] {
+    letters!(
+        "e" => Day { padding: padding },
+        "k" => Hour24 { padding: padding },
+        "l" => Hour12 { padding: padding },
+    )
 }
-
-const PADDED_BY_ZEROS: [(&str, Component); 13] = padded!(Padding::Zero);
-
-const PADDED_BY_SPACES: [(&str, Component); 13] = padded!(Padding::Space);
-
-const NOT_PADDED: [(&str, Component); 13] = padded!(Padding::None);
-
-const SPACED_BY_ZEROS: [(&str, Component); 3] = spaced!(Padding::Zero);
-
-const SPACED_BY_SPACES: [(&str, Component); 3] = spaced!(Padding::Space);
-
-const NOT_SPACED: [(&str, Component); 3] = spaced!(Padding::None);
 
 const FLAGS: &[&str] = &["", "_", "-", "0"];
 
@@ -108,10 +102,18 @@ fn expect_list(rt: &impl Abort, alloc: Global, letter: &str, list: Vec<FormatIte
 }
 
 #[test]
-fn letters_that_no_flag_changes(rt: HostRuntime) {
-    let plain = PLAIN;
+fn dates_that_no_flag_changes(rt: HostRuntime) {
+    let letters = PLAIN_DATES;
     for flag in FLAGS {
-        expect_each(&rt, rt.alloc(), flag, &plain);
+        expect_each(&rt, rt.alloc(), flag, &letters);
+    }
+}
+
+#[test]
+fn years_and_times_that_no_flag_changes(rt: HostRuntime) {
+    let letters = PLAIN_YEARS_AND_TIMES;
+    for flag in FLAGS {
+        expect_each(&rt, rt.alloc(), flag, &letters);
     }
 }
 
@@ -123,48 +125,43 @@ fn letters_of_literals(rt: HostRuntime) {
     expect_always(&rt, alloc, "t", BorrowedFormatItem::StringLiteral("\t"));
 }
 
+/// Expects that each letter that a flag pads has this padding behind the flag.
+fn expect_padded(rt: &impl Abort, alloc: Global, flag: &str, padding: Padding) {
+    expect_each(rt, alloc, flag, &padded_dates(padding));
+    expect_each(rt, alloc, flag, &padded_weeks_and_times(padding));
+}
+
 #[test]
 fn letters_that_a_flag_pads(rt: HostRuntime) {
-    let (zeros, spaces, none) = (PADDED_BY_ZEROS, PADDED_BY_SPACES, NOT_PADDED);
-    expect_each(&rt, rt.alloc(), "", &zeros);
-    expect_each(&rt, rt.alloc(), "_", &spaces);
-    expect_each(&rt, rt.alloc(), "-", &none);
-    expect_each(&rt, rt.alloc(), "0", &zeros);
+    expect_padded(&rt, rt.alloc(), "", Padding::Zero);
+    expect_padded(&rt, rt.alloc(), "_", Padding::Space);
+    expect_padded(&rt, rt.alloc(), "-", Padding::None);
+    expect_padded(&rt, rt.alloc(), "0", Padding::Zero);
 }
 
 #[test]
 fn letters_that_are_padded_with_spaces(rt: HostRuntime) {
-    let (zeros, spaces, none) = (SPACED_BY_ZEROS, SPACED_BY_SPACES, NOT_SPACED);
-    expect_each(&rt, rt.alloc(), "", &spaces);
-    expect_each(&rt, rt.alloc(), "_", &spaces);
-    expect_each(&rt, rt.alloc(), "-", &none);
-    expect_each(&rt, rt.alloc(), "0", &zeros);
+    expect_each(&rt, rt.alloc(), "", &spaced(Padding::Space));
+    expect_each(&rt, rt.alloc(), "_", &spaced(Padding::Space));
+    expect_each(&rt, rt.alloc(), "-", &spaced(Padding::None));
+    expect_each(&rt, rt.alloc(), "0", &spaced(Padding::Zero));
 }
 
 #[test]
 fn letters_of_dates(rt: HostRuntime) {
     let alloc = rt.alloc();
-    let list = Vec::from_array(alloc, DATE_AND_TIME).expect(&rt, AMPLE);
-    expect_list(&rt, alloc, "c", list);
-    let list = Vec::from_array(alloc, SHORT_DATE).expect(&rt, AMPLE);
-    expect_list(&rt, alloc, "D", list);
-    let list = Vec::from_array(alloc, SHORT_DATE).expect(&rt, AMPLE);
-    expect_list(&rt, alloc, "x", list);
-    let list = Vec::from_array(alloc, ISO_DATE).expect(&rt, AMPLE);
-    expect_list(&rt, alloc, "F", list);
+    expect_list(&rt, alloc, "c", date_and_time(&rt, alloc));
+    expect_list(&rt, alloc, "D", short_date(&rt, alloc));
+    expect_list(&rt, alloc, "x", short_date(&rt, alloc));
+    expect_list(&rt, alloc, "F", iso_date(&rt, alloc));
 }
 
 #[test]
 fn letters_of_times(rt: HostRuntime) {
     let alloc = rt.alloc();
-    let list = Vec::from_array(alloc, TIME_OF_12).expect(&rt, AMPLE);
-    expect_list(&rt, alloc, "r", list);
-    let list = Vec::from_array(alloc, HOUR_AND_MINUTE).expect(&rt, AMPLE);
-    expect_list(&rt, alloc, "R", list);
-    let list = Vec::from_array(alloc, TIME_OF_24).expect(&rt, AMPLE);
-    expect_list(&rt, alloc, "T", list);
-    let list = Vec::from_array(alloc, TIME_OF_24).expect(&rt, AMPLE);
-    expect_list(&rt, alloc, "X", list);
-    let list = Vec::from_array(alloc, OFFSET).expect(&rt, AMPLE);
-    expect_list(&rt, alloc, "z", list);
+    expect_list(&rt, alloc, "r", time_of_12(&rt, alloc));
+    expect_list(&rt, alloc, "R", hour_and_minute(&rt, alloc));
+    expect_list(&rt, alloc, "T", time_of_24(&rt, alloc));
+    expect_list(&rt, alloc, "X", time_of_24(&rt, alloc));
+    expect_list(&rt, alloc, "z", offset(&rt, alloc));
 }

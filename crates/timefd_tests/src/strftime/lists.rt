@@ -1,5 +1,8 @@
 //! The lists of the composite letters, and what they are made of.
 
+use crate::printed::AMPLE;
+use std::alloc::Global;
+use std::process::Abort;
 use timefd_items::{BorrowedFormatItem, Component, FormatItem};
 use timefd_modifier::{
     CalendarYearFullExtendedRange, CalendarYearLastTwo, Day, Hour12, Hour24, Minute,
@@ -39,7 +42,7 @@ const MINUTE: FormatItem<'static> = item!(Minute, padding: Padding::Zero);
 
 const SECOND: FormatItem<'static> = item!(Second, padding: Padding::Zero);
 
-pub const DATE_AND_TIME: [FormatItem<'static>; 13] = [
+const DATE_AND_TIME: [FormatItem<'static>; 13] = [
     item!(WeekdayShort, case_sensitive: true),
     SPACE,
     item!(MonthShort, case_sensitive: true),
@@ -55,11 +58,11 @@ pub const DATE_AND_TIME: [FormatItem<'static>; 13] = [
     YEAR,
 ];
 
-pub const SHORT_DATE: [FormatItem<'static>; 5] = [MONTH, SLASH, DAY, SLASH, SHORT_YEAR];
+const SHORT_DATE: [FormatItem<'static>; 5] = [MONTH, SLASH, DAY, SLASH, SHORT_YEAR];
 
 pub const ISO_DATE: [FormatItem<'static>; 5] = [YEAR, DASH, MONTH, DASH, DAY];
 
-pub const TIME_OF_12: [FormatItem<'static>; 7] = [
+const TIME_OF_12: [FormatItem<'static>; 7] = [
     item!(Hour12, padding: Padding::Zero),
     COLON,
     MINUTE,
@@ -69,11 +72,39 @@ pub const TIME_OF_12: [FormatItem<'static>; 7] = [
     item!(Period, is_uppercase: true, case_sensitive: true),
 ];
 
-pub const HOUR_AND_MINUTE: [FormatItem<'static>; 3] = [HOUR, COLON, MINUTE];
+const HOUR_AND_MINUTE: [FormatItem<'static>; 3] = [HOUR, COLON, MINUTE];
 
-pub const TIME_OF_24: [FormatItem<'static>; 5] = [HOUR, COLON, MINUTE, COLON, SECOND];
+const TIME_OF_24: [FormatItem<'static>; 5] = [HOUR, COLON, MINUTE, COLON, SECOND];
 
-pub const OFFSET: [FormatItem<'static>; 2] = [
+const OFFSET: [FormatItem<'static>; 2] = [
     item!(OffsetHour, sign_is_mandatory: true, padding: Padding::Zero),
     item!(OffsetMinute, padding: Padding::Zero),
 ];
+
+pub fn date_and_time(rt: &impl Abort, alloc: Global) -> Vec<FormatItem<'static>> {
+    Vec::from_array(alloc, DATE_AND_TIME).expect(rt, AMPLE)
+}
+
+pub fn short_date(rt: &impl Abort, alloc: Global) -> Vec<FormatItem<'static>> {
+    Vec::from_array(alloc, SHORT_DATE).expect(rt, AMPLE)
+}
+
+pub fn iso_date(rt: &impl Abort, alloc: Global) -> Vec<FormatItem<'static>> {
+    Vec::from_array(alloc, ISO_DATE).expect(rt, AMPLE)
+}
+
+pub fn time_of_12(rt: &impl Abort, alloc: Global) -> Vec<FormatItem<'static>> {
+    Vec::from_array(alloc, TIME_OF_12).expect(rt, AMPLE)
+}
+
+pub fn hour_and_minute(rt: &impl Abort, alloc: Global) -> Vec<FormatItem<'static>> {
+    Vec::from_array(alloc, HOUR_AND_MINUTE).expect(rt, AMPLE)
+}
+
+pub fn time_of_24(rt: &impl Abort, alloc: Global) -> Vec<FormatItem<'static>> {
+    Vec::from_array(alloc, TIME_OF_24).expect(rt, AMPLE)
+}
+
+pub fn offset(rt: &impl Abort, alloc: Global) -> Vec<FormatItem<'static>> {
+    Vec::from_array(alloc, OFFSET).expect(rt, AMPLE)
+}
