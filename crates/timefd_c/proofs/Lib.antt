@@ -1,4 +1,5 @@
 pub mod VerdictLemmas
 pub mod ConversionLemmas
+pub mod RoomLemmas
 pub mod ReadingLemmas
 pub mod ReportLemmas

@@ -19,6 +19,7 @@ use Rattle.timefd_language.specs.declared.description_version.DescriptionVersion
 use Rattle.timefd_parse.specs.declared.language.Language.TheVariants.{Version, Strftime}
 use Rattle.timefd_language.proofs.Reserved.{reserves_within_law}
 use Rattle.timefd_c_nodes.proofs.TreeLemmas.{walked_length}
+use Rattle.timefd_c.proofs.RoomLemmas.{nodes_within, literals_within}
 use Rattle.std.proofs.lemmas.Str.{IsUtf8-nil}
 use Rattle.timefd_c.specs.Answers.{HasFault}
 use Rattle.timefd_c.specs.Reports.{IsReport, parts, tops}
@@ -131,6 +132,8 @@ reported language bytes ns ms a b r utf8 found spelled no_fault = record {
   read = λ e written list d. read_back_of language bytes list ns ms a b r d.1 (spelled list d.1)
       written;
   within = λ e three. three_within language bytes found.0 r.nodes found.1 three found.2.nodes;
+  nodes_within = nodes_within language bytes found.0 r.nodes found.1 found.2.nodes;
+  literals_within = literals_within language bytes found.0 r.literals found.1 found.2.literals;
   nodes_kept = λ accepted. absurd (accepted refl);
   literals_kept = λ accepted. absurd (accepted refl);
   none_counted = λ accepted. absurd (accepted refl);
@@ -158,6 +161,8 @@ faulted language bytes ns a f utf8 has not_spelled one not_empty = record {
   no_value = λ accepted refused. absurd (refused refl);
   read = λ e. absurd (omega (arith, e));
   within = λ e. absurd (omega (arith, e));
+  nodes_within = omega arith;
+  literals_within = omega arith;
   nodes_kept = λ accepted. refl;
   literals_kept = λ accepted. refl;
   none_counted = λ accepted. (refl, refl, refl);
@@ -184,6 +189,8 @@ unread language bytes ns a some utf8 not_empty no_fault = record {
   no_value = λ accepted refused. refl;
   read = λ e. absurd (omega (arith, e));
   within = λ e. absurd (omega (arith, e));
+  nodes_within = omega arith;
+  literals_within = omega arith;
   nodes_kept = λ accepted. refl;
   literals_kept = λ accepted. refl;
   none_counted = λ accepted. (refl, refl, refl);
@@ -208,6 +215,8 @@ no_text language bytes ns a invalid = record {
   no_value = λ accepted refused. refl;
   read = λ e. absurd (omega (arith, e));
   within = λ e. absurd (omega (arith, e));
+  nodes_within = omega arith;
+  literals_within = omega arith;
   nodes_kept = λ accepted. refl;
   literals_kept = λ accepted. refl;
   none_counted = λ accepted. (refl, refl, refl);
@@ -228,6 +237,8 @@ no_language bytes ns a = record {
   no_value = λ accepted refused. refl;
   read = λ e. absurd (omega (arith, e));
   within = λ e. absurd (omega (arith, e));
+  nodes_within = omega arith;
+  literals_within = omega arith;
   nodes_kept = λ accepted. refl;
   literals_kept = λ accepted. refl;
   none_counted = λ accepted. (refl, refl, refl);

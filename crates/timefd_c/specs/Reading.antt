@@ -1,8 +1,8 @@
 -- What is answered to C of a text that is read as nodes.
-use Rattle.std.specs.Prelude.{◌≡◌, ◌≢◌, ◌+◌, ◌≤◌, ◌↔◌, IsFalse, IsTrue, [], List, Option, Some, None, IsSome, IsUtf8, length, take}
+use Rattle.std.specs.Prelude.{ℕ, ◌≡◌, ◌≢◌, ◌+◌, ◌*◌, ◌≤◌, ◌↔◌, IsFalse, IsTrue, [], List, Option, Some, None, IsSome, IsUtf8, length, take}
 use Rattle.timefd_component.specs.Tree.{Text, Tree}
 use Rattle.timefd_fault.specs.Faults.{Fault}
-use Rattle.timefd_language.specs.declared.description_version.DescriptionVersion.TheVariants.{Three}
+use Rattle.timefd_language.specs.declared.description_version.DescriptionVersion.TheVariants.{One, Two, Three}
 use Rattle.timefd_parse.specs.declared.language.Language.{Language}
 use Rattle.timefd_parse.specs.declared.language.Language.TheVariants.{Version, Strftime}
 use Rattle.timefd_c_nodes.specs.declared.node.Node.{Node}
@@ -37,6 +37,21 @@ ReadAs (Some language) list nodes literals answer =
     read_nodes (take answer.literals literals) (take answer.nodes nodes) ≡ Some (tops language list)
 ReadAs None list nodes literals answer = ⊥
 
+-- A text with so many bytes has at most so many nodes. Strftime's `%c` has fourteen.
+abbrev pub most_nodes : Option Language → ℕ → ℕ
+most_nodes None len = 0
+most_nodes (Some (Version One)) len = len
+most_nodes (Some (Version Two)) len = len
+most_nodes (Some (Version Three)) len = len + 1
+most_nodes (Some Strftime) len = 7 * len
+
+-- Its literals have at most so many bytes. Those of versions 1, 2 and 3 stand in the text, and `%c`
+-- of strftime has six.
+abbrev pub most_literals : Option Language → ℕ → ℕ
+most_literals None len = 0
+most_literals (Some (Version v)) len = len
+most_literals (Some Strftime) len = 3 * len
+
 -- The answer says what the bytes are in the language, where there is one, and of the buffers, which
 -- held `nodes_before` and `before` and hold `nodes_after` and `after`, what was written.
 pub record Reads (language : Option Language) (bytes : Text) (nodes_before nodes_after : List Node)
@@ -69,6 +84,9 @@ pub record Reads (language : Option Language) (bytes : Text) (nodes_before nodes
   -- A text of version 3 has at most one node more than bytes.
   pub within : answer.status ≡ ACCEPTED → language ≡ Some (Version Three)
       → answer.nodes ≤ length bytes + 1
+  -- So much room is always enough.
+  pub nodes_within : answer.nodes ≤ most_nodes language (length bytes)
+  pub literals_within : answer.literals ≤ most_literals language (length bytes)
   -- Where nothing is accepted, nothing is written.
   pub nodes_kept : answer.status ≢ ACCEPTED → nodes_after ≡ nodes_before
   pub literals_kept : answer.status ≢ ACCEPTED → after ≡ before

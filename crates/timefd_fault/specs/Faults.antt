@@ -1,5 +1,5 @@
 -- The faults of a text, each with its place.
-use Rattle.std.specs.Prelude.{ℕ, List, string_bytes}
+use Rattle.std.specs.Prelude.{ℕ, Bool, true, false, List, string_bytes}
 use Rattle.timefd_fault.specs.declared.invalid_format_description.InvalidFormatDescription.{InvalidFormatDescription}
 use Rattle.timefd_fault.specs.declared.invalid_format_description.InvalidFormatDescription.TheVariants.{UnclosedOpeningBracket, InvalidComponentName, InvalidModifier, MissingComponentName, MissingRequiredModifier, Expected, NotSupported, DuplicateModifier, InvalidModifierCombination}
 
@@ -40,3 +40,9 @@ fault_of (InvalidModifierCombination modifier context index) =
 
 abbrev pub index : InvalidFormatDescription → ℕ
 index error = (fault_of error).index
+
+-- whether it quotes the text, in a string of its own
+abbrev pub owns : InvalidFormatDescription → Bool
+owns (InvalidComponentName name index) = true
+owns (InvalidModifier value index) = true
+owns other = false

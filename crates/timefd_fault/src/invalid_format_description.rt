@@ -1,6 +1,6 @@
 //! The faults of a format description.
 
-ghost use Rattle.std.specs.Prelude.{◌≡◌, IfOk};
+ghost use Rattle.std.specs.Prelude.{◌≡◌, IfOk, IsFalse, IsOk};
 ghost use Rattle.timefd_fault.specs.Faults as spec;
 
 use std::alloc::{AllocError, Global};
@@ -94,9 +94,10 @@ impl InvalidFormatDescription {
     }
 
     /// A copy, which holds the same name or value in memory of its own. An `Err` comes where there
-    /// is none left for it.
+    /// is none left for it; a fault without either takes none.
     pub fn clone(&self, alloc: Global) -> Result<Self, AllocError>
-        ensures { IfOk result (λ copy. spec.fault_of copy ≡ spec.fault_of self.now) }
+        ensures same { IfOk result (λ copy. spec.fault_of copy ≡ spec.fault_of self.now) }
+        ensures no_memory { IsFalse (spec.owns self.now) → IsOk result }
     {
         match self {
             InvalidFormatDescription::InvalidComponentName { name, index } => Ok(

@@ -1,6 +1,6 @@
 //! Takes all that a source has left, and gives a sink all of a text.
 
-ghost use Rattle.std.specs.Prelude.{◌≡◌, ◌+◌, ◌↔◌, ◌++◌, length, vec_len, IfOk, IfErr, OnOk, IsErr, IsTrue, IsFalse};
+ghost use Rattle.std.specs.Prelude.{◌≡◌, ◌+◌, ◌↔◌, ◌++◌, [], Some, length, vec_len, IfOk, IfErr, OnOk, IsErr, IsTrue, IsFalse};
 ghost use Rattle.std.specs.Io.KnownBytes.{Appends};
 ghost use Rattle.timefd_streams.specs.Transfers.{ReadsAll};
 
@@ -47,6 +47,9 @@ pub fn read_all<R: Source>(alloc: Global, source: &mut R) -> Result<Vec<u8>, Rea
         all.items) }
     ensures works { OnOk result (IsFalse (R.has_failed source.new)) }
     ensures fails { IfErr result (λ e. e ≡ ReadError.Failed → IsTrue (R.has_failed source.new)) }
+
+    // A source that is known to have nothing left takes no memory.
+    ensures empty { R.remaining source.old ≡ Some [] → IfErr result (λ e. e ≡ ReadError.Failed) }
 {
     let mut all = Vec::new(alloc);
     let mut piece = [0; PIECE];

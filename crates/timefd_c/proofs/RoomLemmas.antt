@@ -1,0 +1,347 @@
+-- How many nodes, and how many bytes of literals, a text has.
+use Rattle.std.proofs.Common.{ℕ, suc, ◌≡◌, ◌+◌, ◌*◌, ◌≤◌, ◌⊎◌, inl, inr, cond, Bool, true, false, List, [], ◌∷◌, ◌++◌, map, Result, Ok, Option, Some, None, length, length-append, nat_le, refl, ap, subst, arith, codes, ◌&&◌}
+use Rattle.timefd_component.specs.Tree.{Text, Tree, component, literal, compound, optional, first, Trees, no_trees, more_trees, trees, pack}
+use Rattle.timefd_component.specs.Reserved.{tree_count, trees_count}
+use Rattle.timefd_node_list.specs.Views.{walked, walked_all}
+use Rattle.timefd_fault.specs.Faults.{Fault}
+use Rattle.timefd_language.specs.declared.description_version.DescriptionVersion.{DescriptionVersion}
+use Rattle.timefd_language.specs.declared.description_version.DescriptionVersion.TheVariants.{One, Two, Three}
+use Rattle.timefd_language.specs.Bytes.{right, left, same, is_run_byte, is_version_three}
+use Rattle.timefd_language.specs.Head.{Head, head_text, placed}
+use Rattle.timefd_language.specs.Names.{Row, row_of}
+use Rattle.timefd_language.specs.Verdict.{PlacedDescription, behind, bad_modifiers, settings, made, touching, nested_refused, is_formatted, only, optional_verdict, first_verdict, component_verdict, verdict}
+use Rattle.timefd_language.specs.Grammar.{Pieces, no_pieces, run, escape, closing, bracket, Nested, no_nested, nested, spelling, nested_text, items, ArePieces, AreNested, parts_from, nesting_limit}
+use Rattle.timefd_language.specs.Letters.{Flag, Letter, letters, is_one_of, item_in, item_of}
+use Rattle.timefd_language.specs.Strftime.{Directives, no_directives, plain, directive, is_plain, flag_text, directives_text, directive_items, AreDirectives}
+use Rattle.timefd_language.proofs.Lookup.{Each, each-passes}
+use Rattle.timefd_language.proofs.Roomy.{unless_ok, behind_ok, made_ok}
+use Rattle.timefd_language.proofs.Sizes.{length_one}
+use Rattle.timefd_parse.specs.declared.language.Language.{Language}
+use Rattle.timefd_parse.specs.declared.language.Language.TheVariants.{Version, Strftime}
+use Rattle.timefd_parse.specs.Language.{SpellsIn}
+use Rattle.timefd_c_nodes.specs.Encoding.{literals_of, own_text}
+use Rattle.timefd_c_nodes.proofs.TreeLemmas.{walked_length, walked_all_length}
+use Rattle.timefd_c.specs.Reports.{parts}
+use Rattle.timefd_c.specs.Reading.{most_nodes, most_literals}
+
+-- how many bytes the literals of a tree have
+abbrev mutual
+  bytes_in : Tree → ℕ
+  bytes_in (component c) = 0
+  bytes_in (literal bytes) = length bytes
+  bytes_in (compound ts) = bytes_in_all ts
+  bytes_in (optional format t) = bytes_in t
+  bytes_in (first ts) = bytes_in_all ts
+
+  bytes_in_all : Trees → ℕ
+  bytes_in_all no_trees = 0
+  bytes_in_all (more_trees t ts) = bytes_in t + bytes_in_all ts
+
+literals_append : (a b : List Tree)
+    → length (literals_of (a ++ b)) ≡ length (literals_of a) + length (literals_of b)
+literals_append [] b = omega arith
+literals_append (t ∷ ts) b = omega (
+  arith,
+  length-append (own_text t) (literals_of (ts ++ b)),
+  length-append (own_text t) (literals_of ts),
+  literals_append ts b,
+)
+
+mutual
+  walked_bytes : (t : Tree) → length (literals_of (walked t)) ≡ bytes_in t
+  walked_bytes (component c) = refl
+  walked_bytes (literal bytes) = omega (arith, length-append bytes [])
+  walked_bytes (compound ts) =
+      omega (arith, literals_append (walked_all ts) (compound ts ∷ []), all_walked_bytes ts)
+  walked_bytes (optional format t) =
+      omega (arith, literals_append (walked t) (optional format t ∷ []), walked_bytes t)
+  walked_bytes (first ts) =
+      omega (arith, literals_append (walked_all ts) (first ts ∷ []), all_walked_bytes ts)
+
+  all_walked_bytes : (ts : Trees) → length (literals_of (walked_all ts)) ≡ bytes_in_all ts
+  all_walked_bytes no_trees = refl
+  all_walked_bytes (more_trees t ts) = omega (
+    arith,
+    literals_append (walked t) (walked_all ts),
+    walked_bytes t,
+    all_walked_bytes ts,
+  )
+
+pack_bytes : (ts : List Tree) → bytes_in (pack ts) ≡ bytes_in_all (trees ts)
+pack_bytes [] = refl
+pack_bytes (t ∷ []) = omega arith
+pack_bytes (t ∷ u ∷ ts) = refl
+
+pack_count : (ts : List Tree) → tree_count (pack ts) ≤ 1 + trees_count (trees ts)
+pack_count [] = omega arith
+pack_count (t ∷ []) = omega arith
+pack_count (t ∷ u ∷ ts) = omega arith
+
+-- Brackets.
+
+-- each nested description has its two brackets
+abbrev counted : List PlacedDescription → ℕ
+counted [] = 0
+counted (p ∷ ps) = 2 + trees_count (trees p.trees) + counted ps
+
+abbrev literal_bytes : List PlacedDescription → ℕ
+literal_bytes [] = 0
+literal_bytes (p ∷ ps) = bytes_in_all (trees p.trees) + literal_bytes ps
+
+-- the tree of a bracket with these nested descriptions
+record IsWithin (parts : List PlacedDescription) (tree : Tree) : Type 0 where
+  nodes : tree_count tree ≤ 2 + counted parts
+  literals : bytes_in tree ≤ literal_bytes parts
+
+packs_count : (ps : List PlacedDescription)
+    → trees_count (trees (map (λ p. pack p.trees) ps)) ≤ counted ps
+packs_count [] = omega arith
+packs_count (p ∷ ps) = omega (arith, pack_count p.trees, packs_count ps)
+
+packs_bytes : (ps : List PlacedDescription)
+    → bytes_in_all (trees (map (λ p. pack p.trees) ps)) ≤ literal_bytes ps
+packs_bytes [] = omega arith
+packs_bytes (p ∷ ps) = omega (arith, pack_bytes p.trees, packs_bytes ps)
+
+first_within : (ps : List PlacedDescription)
+    → IsWithin ps (first (trees (map (λ p. pack p.trees) ps)))
+first_within ps = record {
+  nodes = omega (arith, packs_count ps);
+  literals = packs_bytes ps;
+}
+
+optional_within : (ps : List PlacedDescription) (format : Bool)
+    → IsWithin ps (optional format (only ps))
+optional_within [] format = record { nodes = omega arith; literals = omega arith }
+optional_within (p ∷ ps) format = record {
+  nodes = omega (arith, pack_count p.trees);
+  literals = omega (arith, pack_bytes p.trees);
+}
+
+component_within : (strict : Bool) (h : Head) (ps : List PlacedDescription) (tree : Tree)
+    (o : Option Row) → component_verdict strict h o ≡ Ok tree → IsWithin ps tree
+component_within strict h ps tree None e = absurd cc
+component_within strict h ps tree (Some r) e =
+    let leaf = made_ok strict h (r.component (settings strict r.keys (placed h))) tree
+    (behind_ok (bad_modifiers strict r.keys [] (placed h))
+    (made strict h (r.component (settings strict r.keys (placed h)))) tree e) in
+    subst (IsWithin ps) leaf.1 (record { nodes = omega arith; literals = omega arith })
+
+either : (b : Bool) (x y z : Result Tree Fault) → cond b x y ≡ z → (x ≡ z) ⊎ (y ≡ z)
+either true x y z e = inl e
+either false x y z e = inr e
+
+verdict_within : (strict : Bool) (h : Head) (ps : List PlacedDescription) (close : ℕ) (tree : Tree)
+    → verdict strict h ps close ≡ Ok tree → IsWithin ps tree
+verdict_within strict h ps close tree e =
+    outer (either (same strict (codes "optional") h.name) (optional_verdict strict h ps close) _
+    (Ok tree) (behind_ok (touching ps) _ tree e))
+  where
+    inner : (first_verdict strict h ps close ≡ Ok tree)
+        ⊎ (behind (nested_refused ps) (component_verdict strict h (row_of strict h.name)) ≡ Ok tree)
+        → IsWithin ps tree
+    inner (inl f) = subst (IsWithin ps)
+        (unless_ok _ (first (trees (map (λ p. pack p.trees) ps))) tree f) (first_within ps)
+    inner (inr c) = component_within strict h ps tree (row_of strict h.name)
+        (behind_ok (nested_refused ps) (component_verdict strict h (row_of strict h.name)) tree c)
+
+    outer : (optional_verdict strict h ps close ≡ Ok tree)
+        ⊎ (cond (same strict (codes "first") h.name) (first_verdict strict h ps close)
+        (behind (nested_refused ps) (component_verdict strict h (row_of strict h.name))) ≡ Ok tree)
+        → IsWithin ps tree
+    outer (inl o) = subst (IsWithin ps)
+        (unless_ok _ (optional (is_formatted strict (placed h)) (only ps)) tree o)
+        (optional_within ps (is_formatted strict (placed h)))
+    outer (inr r) =
+        inner (either (same strict (codes "first") h.name) (first_verdict strict h ps close)
+        (behind (nested_refused ps) (component_verdict strict h (row_of strict h.name)))
+        (Ok tree) r)
+
+-- All pieces.
+
+record AreWithin (list : List Tree) (text : Text) : Type 0 where
+  nodes : trees_count (trees list) ≤ length text
+  literals : bytes_in_all (trees list) ≤ length text
+
+record PartsWithin (ps : List PlacedDescription) (text : Text) : Type 0 where
+  nodes : counted ps ≤ length text
+  literals : literal_bytes ps ≤ length text
+
+bracket_within : (h : Head) (ns : Nested) (white : Text) (tree : Tree) (rest : Pieces) (k : ℕ)
+    → IsWithin (parts_from k ns) tree → PartsWithin (parts_from k ns) (nested_text ns)
+    → AreWithin (items rest) (spelling rest)
+    → AreWithin (items (bracket h ns white tree rest)) (spelling (bracket h ns white tree rest))
+bracket_within h ns white tree rest k one parts more = record {
+  nodes = omega (arith, whole, one.nodes, parts.nodes, more.nodes, head_one);
+  literals = omega (arith, whole, one.literals, parts.literals, more.literals);
+}
+  where
+    whole : length (head_text h ++ nested_text ns ++ white ++ right ∷ spelling rest) ≡ length
+        (head_text h) + length (nested_text ns) + length white + 1 + length (spelling rest)
+    whole = omega (
+      arith,
+      length-append (head_text h ++ nested_text ns ++ white) (right ∷ spelling rest),
+      length-append (head_text h ++ nested_text ns) white,
+      length-append (head_text h) (nested_text ns),
+    )
+
+    head_one : 1 ≤ length (head_text h)
+    head_one = omega (arith, length-append h.white h.name)
+
+mutual
+  pieces_within : (ps : Pieces) (v : DescriptionVersion) (limit n : ℕ) → ArePieces v limit n ps
+      → AreWithin (items ps) (spelling ps)
+  pieces_within no_pieces v limit n are =
+      record { nodes = omega arith; literals = omega arith }
+  pieces_within (run bytes rest) v limit n are =
+      let more = pieces_within rest v limit n are.2 in
+      record {
+        nodes = omega (
+          arith,
+          length_one (is_run_byte v) bytes (spelling rest) are.0,
+          more.nodes,
+        );
+        literals = omega (arith, length-append bytes (spelling rest), more.literals);
+      }
+  pieces_within (escape a b rest) v limit n are =
+      let more = pieces_within rest v limit n are.1 in
+      record { nodes = omega (arith, more.nodes); literals = omega (arith, more.literals) }
+  pieces_within (closing rest) v limit n are =
+      let more = pieces_within rest v limit n are.2 in
+      record { nodes = omega (arith, more.nodes); literals = omega (arith, more.literals) }
+  pieces_within (bracket h ns white tree rest) v limit n are =
+      bracket_within h ns white tree rest (length (head_text h))
+      (verdict_within (is_version_three v) h (parts_from (length (head_text h)) ns)
+      (length (head_text h ++ nested_text ns ++ white)) tree are.3)
+      (nested_within ns (length (head_text h)) v limit n are.1) (pieces_within rest v limit n are.4)
+
+  nested_within : (ns : Nested) (k : ℕ) (v : DescriptionVersion) (limit n : ℕ)
+      → AreNested v limit n ns → PartsWithin (parts_from k ns) (nested_text ns)
+  nested_within no_nested k v limit n are =
+      record { nodes = omega arith; literals = omega arith }
+  nested_within (nested white ps ns) k v limit n are =
+      let inner = pieces_within ps v limit (suc n) are.2 in
+      let more =
+      nested_within ns (k + length white + 1 + length (spelling ps) + 1) v limit n are.3 in
+      let whole = length-append (white ++ left ∷ spelling ps) (right ∷ nested_text ns) in
+      let front = length-append white (left ∷ spelling ps) in
+      record {
+        nodes = omega (arith, whole, front, inner.nodes, more.nodes);
+        literals = omega (arith, whole, front, inner.literals, more.literals);
+      }
+
+spelled_within : (v : DescriptionVersion) (bytes : Text) (list : List Tree)
+    → SpellsIn (Version v) nesting_limit bytes list → AreWithin list bytes
+spelled_within v bytes list h =
+    let within = pieces_within h.0 v nesting_limit 0 h.1 in
+    record {
+      nodes = omega (arith, within.nodes, ap length h.2, ap (λ l. trees_count (trees l)) h.3);
+      literals = omega (
+        arith,
+        within.literals,
+        ap length h.2,
+        ap (λ l. bytes_in_all (trees l)) h.3,
+      );
+    }
+
+-- Strftime.
+
+-- the item of a letter has at most fourteen nodes, and six bytes of literals
+record IsSmall (t : Tree) : Type 0 where
+  nodes : tree_count t ≤ 14
+  literals : bytes_in t ≤ 6
+
+small : (t : Tree) → (nat_le (tree_count t) 14 && nat_le (bytes_in t) 6) ≡ true → IsSmall t
+small t e = record { nodes = grind (arith, e); literals = grind (arith, e) }
+
+letters_small : (f : Flag) → Each (λ l. IsSmall (l.item f)) letters
+letters_small f =
+    each-passes (λ l. nat_le (tree_count (l.item f)) 14 && nat_le (bytes_in (l.item f)) 6)
+    (λ l. IsSmall (l.item f)) (λ l e. small (l.item f) e) letters refl
+
+item_small : (ls : List Letter) (f : Flag) (b : ℕ) (tree : Tree) → Each (λ l. IsSmall (l.item f)) ls
+    → item_in ls f b ≡ Some tree → IsSmall tree
+item_small [] f b tree all e = absurd cc
+item_small (l ∷ ls) f b tree all e =
+    by (λ h. item_small ls f b tree all.1 h) (is_one_of b l.letters) e
+  where
+    by : (item_in ls f b ≡ Some tree → IsSmall tree) → (t : Bool)
+        → elim t [ true ↦ Some (l.item f) | false ↦ item_in ls f b ] ≡ Some tree → IsSmall tree
+    by more true h = let is : l.item f ≡ tree = cc in subst IsSmall is all.0
+    by more false h = more h
+
+record DirectivesWithin (list : List Tree) (text : Text) : Type 0 where
+  nodes : trees_count (trees list) ≤ 7 * length text
+  literals : bytes_in_all (trees list) ≤ 3 * length text
+
+directives_within : (ds : Directives) → AreDirectives ds
+    → DirectivesWithin (directive_items ds) (directives_text ds)
+unfolding item_of
+directives_within no_directives are = record { nodes = omega arith; literals = omega arith }
+directives_within (plain bytes rest) are =
+    let more = directives_within rest are.2 in
+    record {
+      nodes = omega (arith, length_one is_plain bytes (directives_text rest) are.0, more.nodes);
+      literals = omega (arith, length-append bytes (directives_text rest), more.literals);
+    }
+directives_within (directive f b tree rest) are =
+    let item = item_small letters f b tree (letters_small f) are.2 in
+    let more = directives_within rest are.3 in
+    let whole = length-append (flag_text f) (b ∷ directives_text rest) in
+    record {
+      nodes = omega (arith, whole, item.nodes, more.nodes);
+      literals = omega (arith, whole, item.literals, more.literals);
+    }
+
+strftime_within : (bytes : Text) (list : List Tree) → SpellsIn Strftime nesting_limit bytes list
+    → DirectivesWithin list bytes
+strftime_within bytes list h =
+    let within = directives_within h.0 h.1 in
+    record {
+      nodes = omega (arith, within.nodes, ap length h.2, ap (λ l. trees_count (trees l)) h.3);
+      literals = omega (
+        arith,
+        within.literals,
+        ap length h.2,
+        ap (λ l. bytes_in_all (trees l)) h.3,
+      );
+    }
+
+-- What is told of a text that spells the list.
+
+pub nodes_within : (language : Language) (bytes : Text) (list : List Tree) (nodes : ℕ)
+    → SpellsIn language nesting_limit bytes list → nodes ≡ length (parts language list)
+    → nodes ≤ most_nodes (Some language) (length bytes)
+nodes_within (Version One) bytes list nodes spelled is =
+    omega (arith, is, walked_all_length (trees list), (spelled_within One bytes list spelled).nodes)
+nodes_within (Version Two) bytes list nodes spelled is =
+    omega (arith, is, walked_all_length (trees list), (spelled_within Two bytes list spelled).nodes)
+nodes_within (Version Three) bytes list nodes spelled is = omega (
+  arith,
+  is,
+  walked_length (pack list),
+  pack_count list,
+  (spelled_within Three bytes list spelled).nodes,
+)
+nodes_within Strftime bytes list nodes spelled is =
+    omega (arith, is, walked_all_length (trees list), (strftime_within bytes list spelled).nodes)
+
+pub literals_within : (language : Language) (bytes : Text) (list : List Tree) (literals : ℕ)
+    → SpellsIn language nesting_limit bytes list
+    → literals ≡ length (literals_of (parts language list))
+    → literals ≤ most_literals (Some language) (length bytes)
+literals_within (Version One) bytes list literals spelled is =
+    let within = spelled_within One bytes list spelled in
+    omega (arith, is, all_walked_bytes (trees list), within.literals)
+literals_within (Version Two) bytes list literals spelled is =
+    let within = spelled_within Two bytes list spelled in
+    omega (arith, is, all_walked_bytes (trees list), within.literals)
+literals_within (Version Three) bytes list literals spelled is = omega (
+  arith,
+  is,
+  walked_bytes (pack list),
+  pack_bytes list,
+  (spelled_within Three bytes list spelled).literals,
+)
+literals_within Strftime bytes list literals spelled is =
+    omega (arith, is, all_walked_bytes (trees list), (strftime_within bytes list spelled).literals)
