@@ -2,6 +2,7 @@ pub mod ModifierLemmas
 pub mod CheckLemmas
 pub mod HeadLemmas
 pub mod VerdictLemmas
+pub mod HeadVerdictLemmas
 pub mod BareLemmas
 pub mod BuildingLemmas
 pub mod ReadLemmas

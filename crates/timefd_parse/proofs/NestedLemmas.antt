@@ -11,8 +11,7 @@ use Rattle.timefd_language.specs.declared.description_version.DescriptionVersion
 use Rattle.timefd_language.specs.declared.fault.Fault as code_fault
 use Rattle.timefd_language.specs.declared.fault.ReadError.{ReadError}
 use Rattle.timefd_language.specs.declared.fault.ReadError.TheVariants as errors
-use Rattle.timefd_parse.specs.declared.head.Head as code_head
-use Rattle.timefd_parse.specs.declared.modifiers.Modifiers as code_modifiers
+use Rattle.timefd_parse.specs.declared.head_verdict.JudgedHead.{JudgedHead}
 use Rattle.timefd_parse.specs.declared.piece.Piece.{Piece}
 use Rattle.timefd_parse.specs.declared.verdict.Nested as code_nested
 use Rattle.timefd_component.specs.Tree.{Text, Tree, pack}
@@ -25,7 +24,7 @@ use Rattle.timefd_language.specs.Grammar.{Pieces, bracket, Nested, no_nested, ne
 use Rattle.timefd_language.specs.Broken.{Broken, too_deep, broken_inside, cut_off, unclosed, refused, IsBroken, broken_text, broken_fault, before_inner, IsWholeBefore, is_bracket_byte}
 use Rattle.timefd_language.specs.Cut.{IsCut, BeginsWith}
 use Rattle.timefd_language.specs.FaultMeaning.{IsFault, IsFaultAt, MemoryOr}
-use Rattle.timefd_parse.specs.Heads.{ShowsHead, BeginsWithHead}
+use Rattle.timefd_parse.specs.HeadVerdicts.{IsVerdict, BeginsWithJudged}
 use Rattle.timefd_parse.specs.Pieces.{IsBuilt, IsPiece}
 use Rattle.timefd_parse.specs.Judged.{ShowsDescriptions, ShowsNested, JudgedFault, packed}
 use Rattle.timefd_parse.specs.Read.{Leads, IsFaultIn, IsEnd, PiecesToEnd, IsEnclosed, IsNested, IsNestedFault}
@@ -105,20 +104,23 @@ pub record NestedBefore (v : DescriptionVersion) (limit n : ℕ) (start : Text) 
   pub shows : (k total : ℕ) → k + length start ≡ total
       → ShowsDescriptions total spaced remaining read (parts_from k list)
 
-pub nothing_nested : (v : DescriptionVersion) (limit n : ℕ) (text : Text) (head : code_head.Head)
-    (modifiers : code_modifiers.Modifiers) (rest : Text) (h : Head) (spaced : Bool) (remaining : ℕ)
-    → BeginsWithHead (is_version_three v) text head modifiers rest h
-    → not (is_empty head.white.now) ≡ spaced → remaining ≡ length rest
-    → NestedBefore v limit n (head.white.now ++ rest) spaced remaining [] rest
-nothing_nested v limit n text head modifiers rest h spaced remaining begins s r = record {
+empty_length : (text : Text) → is_empty text ≡ (length text == 0)
+empty_length [] = refl
+empty_length (b ∷ text) = grind (arith, nat_tests)
+
+pub nothing_nested : (v : DescriptionVersion) (limit n : ℕ) (text : Text) (judged : JudgedHead)
+    (rest : Text) (h : Head) (remaining : ℕ)
+    (begins : BeginsWithJudged (is_version_three v) text judged rest h) → remaining ≡ length rest
+    → NestedBefore v limit n (begins.white ++ rest) judged.spaced remaining [] rest
+nothing_nested v limit n text judged rest h remaining begins r = record {
   list = no_nested;
-  white = head.white.now;
+  white = begins.white;
   are = tt;
   all_white = begins.all_white;
   stops = begins.stops_white;
   whole = refl;
   wholly = begins.stops_word;
-  first = (s, r);
+  first = (ap not (empty_length begins.white) ∙ sym begins.spaced, r);
   shows = λ k total e. refl;
 }
 
@@ -245,21 +247,21 @@ module _ {v : DescriptionVersion} {limit n : ℕ} {text : Text} where
 -- Brackets.
 
 -- what a verdict says of a bracket that it accepts, and of one that it refuses
-abbrev pub Accepts : Bool → ℕ → code_head.Head → code_modifiers.Modifiers → code_nested.Nested → ℕ
-    → List Tree → List Tree → Piece → Type 0
-Accepts strict total head modifiers inners end old new piece =
+abbrev pub Accepts : Bool → ℕ → JudgedHead → code_nested.Nested → ℕ → List Tree → List Tree → Piece
+    → Type 0
+Accepts strict total judged inners end old new piece =
     (place : ℕ) (h : Head) (parts : List PlacedDescription) (base : List Tree)
-    → ShowsHead strict total head modifiers h → ShowsNested total inners parts
+    → IsVerdict strict total h judged.nests judged.verdict → ShowsNested total inners parts
     → place + end ≡ total
     → IsBuilt strict base old (packed parts)
     → (tree : Tree) × (verdict strict h parts place ≡ Ok tree)
     × IsPiece strict base new piece tree
 
-abbrev pub Refuses : Bool → ℕ → code_head.Head → code_modifiers.Modifiers → code_nested.Nested → ℕ
-    → List Tree → ReadError → Type 0
-Refuses strict total head modifiers inners end old e =
+abbrev pub Refuses : Bool → ℕ → JudgedHead → code_nested.Nested → ℕ → List Tree → ReadError
+    → Type 0
+Refuses strict total judged inners end old e =
     (place : ℕ) (h : Head) (parts : List PlacedDescription) (base : List Tree)
-    → ShowsHead strict total head modifiers h → ShowsNested total inners parts
+    → IsVerdict strict total h judged.nests judged.verdict → ShowsNested total inners parts
     → place + end ≡ total
     → IsBuilt strict base old (packed parts)
     → MemoryOr (JudgedFault total (verdict strict h parts place)) e
@@ -284,39 +286,31 @@ read_packed total spaced remaining read (p ∷ ps) shows = shows.2
 
 -- the head of a bracket and nested descriptions were read, and this is the rest
 pub record BracketBefore (v : DescriptionVersion) (limit n : ℕ) (inside : Text)
-    (head : code_head.Head) (modifiers : code_modifiers.Modifiers) (spaced : Bool) (remaining : ℕ)
-    (read : List Tree) (rest : Text) : Type 0 where
+    (judged : JudgedHead) (remaining : ℕ) (read : List Tree) (rest : Text) : Type 0 where
   pub h : Head
   pub behind : Text
-  pub begins : BeginsWithHead (is_version_three v) (left ∷ inside) head modifiers behind h
-  pub before : NestedBefore v limit n (head.white.now ++ behind) spaced remaining read rest
+  pub begins : BeginsWithJudged (is_version_three v) (left ∷ inside) judged behind h
+  pub before : NestedBefore v limit n (begins.white ++ behind) judged.spaced remaining read rest
 
-empty_length : (text : Text) → is_empty text ≡ (length text == 0)
-empty_length [] = refl
-empty_length (b ∷ text) = grind (arith, nat_tests)
-
-pub bracket_begins : {v : DescriptionVersion} {limit n : ℕ} {inside : Text} {head : code_head.Head}
-    {modifiers : code_modifiers.Modifiers} {behind : Text} {empty : Bool} {h : Head}
-    → BeginsWithHead (is_version_three v) (left ∷ inside) head modifiers behind h
-    → empty ≡ (length head.white.now == 0)
-    → BracketBefore v limit n inside head modifiers (not empty) (length behind) [] behind
-bracket_begins {v} {limit} {n} {inside} {head} {modifiers} {behind} {empty} {h} begins e = record {
+pub bracket_begins : {v : DescriptionVersion} {limit n : ℕ} {inside : Text} {judged : JudgedHead}
+    {behind : Text} {h : Head}
+    → BeginsWithJudged (is_version_three v) (left ∷ inside) judged behind h
+    → BracketBefore v limit n inside judged (length behind) [] behind
+bracket_begins {v} {limit} {n} {inside} {judged} {behind} {h} begins = record {
   h = h;
   behind = behind;
   begins = begins;
-  before = nothing_nested v limit n (left ∷ inside) head modifiers behind h (not empty)
-      (length behind) begins (ap not (empty_length head.white.now ∙ sym e)) refl;
+  before = nothing_nested v limit n (left ∷ inside) judged behind h (length behind) begins refl;
 }
 
-pub behind_within : {strict : Bool} {inside : Text} {head : code_head.Head}
-    {modifiers : code_modifiers.Modifiers} {behind : Text} {h : Head}
-    → BeginsWithHead strict (left ∷ inside) head modifiers behind h → length behind ≤ length inside
-behind_within {strict} {inside} {head} {modifiers} {behind} {h} begins =
+pub behind_within : {strict : Bool} {inside : Text} {judged : JudgedHead} {behind : Text} {h : Head}
+    → BeginsWithJudged strict (left ∷ inside) judged behind h → length behind ≤ length inside
+behind_within {strict} {inside} {judged} {behind} {h} begins =
     omega (
       arith,
       ap length begins.whole,
-      length-append (head_text h ++ head.white.now) behind,
-      length-append (head_text h) head.white.now,
+      length-append (head_text h ++ begins.white) behind,
+      length-append (head_text h) begins.white,
       length-append (left ∷ h.white ++ h.name) (modifiers_text h.modifiers),
       length-append (left ∷ h.white) h.name,
     )
@@ -360,207 +354,207 @@ no_closing n starts.Other (b ∷ rest) is end closing =
       run_byte_is_no_closing is.0 is.3,
     ))
 
-module _ {v : DescriptionVersion} {limit n : ℕ} {inside : Text} {head : code_head.Head}
-    {modifiers : code_modifiers.Modifiers} {spaced : Bool} {remaining : ℕ} {read : List Tree}
-    {rest : Text} (b : BracketBefore v limit n inside head modifiers spaced remaining read rest)
-  where
-    whole : left ∷ inside ≡ head_text b.h ++ nested_text b.before.list ++ b.before.white ++ rest
-    whole =
-        b.begins.whole ∙ append_assoc (head_text b.h) head.white.now b.behind ∙
-        ap (λ t. head_text b.h ++ t) b.before.whole
-        ∙ sym (append_assoc (head_text b.h) (nested_text b.before.list ++ b.before.white) rest) ∙
-        ap (λ t. t ++ rest) (sym (append_assoc (head_text b.h) (nested_text b.before.list)
-        b.before.white))
+module _ {v : DescriptionVersion} {limit n : ℕ} {inside : Text} {judged : JudgedHead}
+    {remaining : ℕ} {read : List Tree} {rest : Text}
+    (b : BracketBefore v limit n inside judged remaining read rest) where
+  whole : left ∷ inside ≡ head_text b.h ++ nested_text b.before.list ++ b.before.white ++ rest
+  whole =
+      b.begins.whole ∙ append_assoc (head_text b.h) b.begins.white b.behind ∙
+      ap (λ t. head_text b.h ++ t) b.before.whole
+      ∙ sym (append_assoc (head_text b.h) (nested_text b.before.list ++ b.before.white) rest) ∙
+      ap (λ t. t ++ rest) (sym (append_assoc (head_text b.h) (nested_text b.before.list)
+      b.before.white))
 
-    pub place : ℕ
-    place = length (head_text b.h ++ nested_text b.before.list ++ b.before.white)
+  pub place : ℕ
+  place = length (head_text b.h ++ nested_text b.before.list ++ b.before.white)
 
-    pub parts : List PlacedDescription
-    parts = parts_from (length (head_text b.h)) b.before.list
+  pub parts : List PlacedDescription
+  parts = parts_from (length (head_text b.h)) b.before.list
 
-    pub place_of_rest : place + length rest ≡ length inside + 1
-    unfolding place
-    place_of_rest = omega (
-      arith,
-      ap length whole,
-      length-append (head_text b.h ++ nested_text b.before.list ++ b.before.white) rest,
-    )
+  pub place_of_rest : place + length rest ≡ length inside + 1
+  unfolding place
+  place_of_rest = omega (
+    arith,
+    ap length whole,
+    length-append (head_text b.h ++ nested_text b.before.list ++ b.before.white) rest,
+  )
 
-    pub parts_shown : ShowsDescriptions (length inside + 1) spaced remaining read parts
-    unfolding parts
-    parts_shown = b.before.shows (length (head_text b.h)) (length inside + 1)
-        (omega (
-          arith,
-          ap length b.begins.whole,
-          length-append (head_text b.h ++ head.white.now)
-              b.behind,
-          length-append (head_text b.h) head.white.now,
-          length-append head.white.now b.behind,
-        ))
+  pub parts_shown : ShowsDescriptions (length inside + 1) judged.spaced remaining read parts
+  unfolding parts
+  parts_shown = b.before.shows (length (head_text b.h)) (length inside + 1)
+      (omega (
+        arith,
+        ap length b.begins.whole,
+        length-append (head_text b.h ++ b.begins.white)
+            b.behind,
+        length-append (head_text b.h) b.begins.white,
+        length-append b.begins.white b.behind,
+      ))
 
-    pub bracket_leads : (after : Text) (tree : Tree) → rest ≡ right ∷ after
-        → verdict (is_version_three v) b.h parts place ≡ Ok tree
-        → Leads v limit n (left ∷ inside) tree after
-    unfolding place parts
-    bracket_leads after tree closing ok = λ front tail are e. (
-      bracket b.h b.before.list b.before.white tree front,
-      (b.begins.is, b.before.are, b.before.all_white, ok, are),
+  pub bracket_leads : (after : Text) (tree : Tree) → rest ≡ right ∷ after
+      → verdict (is_version_three v) b.h parts place ≡ Ok tree
+      → Leads v limit n (left ∷ inside) tree after
+  unfolding place parts
+  bracket_leads after tree closing ok = λ front tail are e. (
+    bracket b.h b.before.list b.before.white tree front,
+    (b.begins.is, b.before.are, b.before.all_white, ok, are),
+    whole ∙ ap (λ t. head_text b.h ++ nested_text b.before.list ++ b.before.white ++ t)
+        (closing ∙ ap (λ t. right ∷ t) e) ∙ simp append_assoc,
+    refl,
+  )
+
+  pub bracket_refused : (after : Text) (f : code_fault.Fault) (g : Fault) → rest ≡ right ∷ after
+      → verdict (is_version_three v) b.h parts place ≡ Err g → IsFault (length inside + 1) f g
+      → IsFaultAt v limit n (left ∷ inside) f
+  unfolding place parts
+  bracket_refused after f g closing refuses is = (
+    refused b.h b.before.list b.before.white g after,
+    (b.begins.is, b.before.are, b.before.all_white, refuses),
+    whole ∙ ap (λ t. head_text b.h ++ nested_text b.before.list ++ b.before.white ++ t) closing,
+    record { kind = is.kind; place = omega (arith, is.place) },
+  )
+
+  pub bracket_unclosed : (f : code_fault.Fault) → StopsBefore is_bracket_byte rest
+      → IsFault (length inside + 1) f (fault unclosed_bracket 0)
+      → IsFaultAt v limit n (left ∷ inside) f
+  bracket_unclosed f stops is = (
+    unclosed b.h b.before.list b.before.white rest,
+    (b.begins.is, b.before.are, b.before.all_white, b.before.stops, stops, b.before.wholly),
+    whole,
+    record { kind = is.kind; place = omega (arith, is.place) },
+  )
+
+  pub bracket_too_deep : (f : code_fault.Fault) (text : Text) → rest ≡ left ∷ text → n ≡ limit
+      → IsFault (length rest) f (fault too_highly_nested 0) → IsFaultAt v limit n (left ∷ inside) f
+  bracket_too_deep f text opening at_limit is = (
+    too_deep b.h b.before.list b.before.white text,
+    (b.begins.is, b.before.are, b.before.all_white, at_limit),
+    whole ∙ ap (λ t. head_text b.h ++ nested_text b.before.list ++ b.before.white ++ t) opening ∙
+        simp append_assoc,
+    record {
+      kind = is.kind;
+      place =
+          omega (
+            arith,
+            is.place,
+            ap length whole,
+            length-append (head_text b.h ++ nested_text b.before.list ++ b.before.white) rest,
+          );
+    },
+  )
+
+  pub bracket_cut_off : (f : code_fault.Fault) (text : Text) (front : Pieces) → rest ≡ left ∷ text
+      → n < limit → ArePieces v limit (suc n) front → text ≡ spelling front
+      → IsFault (length inside + 1) f (fault unclosed_bracket 0)
+      → IsFaultAt v limit n (left ∷ inside) f
+  bracket_cut_off f text front opening lt are e is = (
+    cut_off b.h b.before.list b.before.white front,
+    (b.begins.is, b.before.are, b.before.all_white, lt, are),
+    whole ∙ ap (λ t. head_text b.h ++ nested_text b.before.list ++ b.before.white ++ t)
+        (opening ∙ ap (λ t. left ∷ t) e) ∙ simp append_assoc,
+    record { kind = is.kind; place = omega (arith, is.place) },
+  )
+
+  pub bracket_broken : (f : code_fault.Fault) (text : Text) (front : Pieces) (c : Broken)
+      → rest ≡ left ∷ text → n < limit → ArePieces v limit (suc n) front
+      → IsBroken v limit (suc n) c
+      → text ≡ spelling front ++ broken_text c
+      → IsFault (length inside + 1) f
+      (enclosed (broken_fault c).kind (broken_fault c).index
+      (length (before_inner b.h b.before.list b.before.white ++ spelling front)))
+      → IsFaultAt v limit n (left ∷ inside) f
+  bracket_broken f text front c opening lt are broken e is = (
+    broken_inside b.h b.before.list b.before.white front c,
+    (b.begins.is, b.before.are, b.before.all_white, lt, are, broken),
+    whole ∙ ap (λ t. head_text b.h ++ nested_text b.before.list ++ b.before.white ++ t)
+        (opening ∙ ap (λ t. left ∷ t) e) ∙ simp append_assoc,
+    record { kind = is.kind; place = omega (arith, is.place) },
+  )
+
+  pub inner_place : (text : Text) (front : Pieces) (c : Broken) → rest ≡ left ∷ text
+      → text ≡ spelling front ++ broken_text c
+      → length (before_inner b.h b.before.list b.before.white ++ spelling front) + length
+      (broken_text c) ≡ length inside + 1
+  inner_place text front c opening e =
+      let whole_is : left ∷ inside ≡ before_inner b.h b.before.list b.before.white ++ spelling
+      front ++ broken_text c =
       whole ∙ ap (λ t. head_text b.h ++ nested_text b.before.list ++ b.before.white ++ t)
-          (closing ∙ ap (λ t. right ∷ t) e) ∙ simp append_assoc,
-      refl,
-    )
+      (opening ∙ ap (λ t. left ∷ t) e) ∙ simp append_assoc in
+      omega (
+        arith,
+        ap length whole_is,
+        length-append (before_inner b.h b.before.list b.before.white ++ spelling front)
+            (broken_text c),
+      )
 
-    pub bracket_refused : (after : Text) (f : code_fault.Fault) (g : Fault) → rest ≡ right ∷ after
-        → verdict (is_version_three v) b.h parts place ≡ Err g → IsFault (length inside + 1) f g
-        → IsFaultAt v limit n (left ∷ inside) f
-    unfolding place parts
-    bracket_refused after f g closing refuses is = (
-      refused b.h b.before.list b.before.white g after,
-      (b.begins.is, b.before.are, b.before.all_white, refuses),
-      whole ∙ ap (λ t. head_text b.h ++ nested_text b.before.list ++ b.before.white ++ t) closing,
-      record { kind = is.kind; place = omega (arith, is.place) },
-    )
+  -- The same from what the calls ensure.
 
-    pub bracket_unclosed : (f : code_fault.Fault) → StopsBefore is_bracket_byte rest
-        → IsFault (length inside + 1) f (fault unclosed_bracket 0)
-        → IsFaultAt v limit n (left ∷ inside) f
-    bracket_unclosed f stops is = (
-      unclosed b.h b.before.list b.before.white rest,
-      (b.begins.is, b.before.are, b.before.all_white, b.before.stops, stops, b.before.wholly),
-      whole,
-      record { kind = is.kind; place = omega (arith, is.place) },
-    )
+  shown : IsVerdict (is_version_three v) (length inside + 1) b.h judged.nests judged.verdict
+  shown = let same : length (left ∷ inside) ≡ length inside + 1 = omega arith in
+      subst (λ k. IsVerdict (is_version_three v) k b.h judged.nests judged.verdict) same
+      b.begins.verdict
 
-    pub bracket_too_deep : (f : code_fault.Fault) (text : Text) → rest ≡ left ∷ text → n ≡ limit
-        → IsFault (length rest) f (fault too_highly_nested 0) → IsFaultAt v limit n (left ∷ inside) f
-    bracket_too_deep f text opening at_limit is = (
-      too_deep b.h b.before.list b.before.white text,
-      (b.begins.is, b.before.are, b.before.all_white, at_limit),
-      whole ∙ ap (λ t. head_text b.h ++ nested_text b.before.list ++ b.before.white ++ t) opening ∙
-          simp append_assoc,
-      record {
-        kind = is.kind;
-        place =
-            omega (
-              arith,
-              is.place,
-              ap length whole,
-              length-append (head_text b.h ++ nested_text b.before.list ++ b.before.white) rest,
-            );
-      },
-    )
+  module _ (count : ℕ) (base old : List Tree) (counted : count ≡ length read)
+      (are : IsBuilt (is_version_three v) base old read) where
+    built_parts : IsBuilt (is_version_three v) base old (packed parts)
+    built_parts = λ three. are three ∙
+        ap (λ ts. base ++ ts) (read_packed _ _ _ read parts parts_shown)
 
-    pub bracket_cut_off : (f : code_fault.Fault) (text : Text) (front : Pieces) → rest ≡ left ∷ text
-        → n < limit → ArePieces v limit (suc n) front → text ≡ spelling front
-        → IsFault (length inside + 1) f (fault unclosed_bracket 0)
-        → IsFaultAt v limit n (left ∷ inside) f
-    bracket_cut_off f text front opening lt are e is = (
-      cut_off b.h b.before.list b.before.white front,
-      (b.begins.is, b.before.are, b.before.all_white, lt, are),
-      whole ∙ ap (λ t. head_text b.h ++ nested_text b.before.list ++ b.before.white ++ t)
-          (opening ∙ ap (λ t. left ∷ t) e) ∙ simp append_assoc,
-      record { kind = is.kind; place = omega (arith, is.place) },
-    )
+    nested_shown : ShowsNested (length inside + 1)
+        (record { spaced = judged.spaced; remaining = remaining; count = count }) parts
+    nested_shown = shows_nested (length inside + 1)
+        (record { spaced = judged.spaced; remaining = remaining; count = count }) read parts parts_shown
+        counted
 
-    pub bracket_broken : (f : code_fault.Fault) (text : Text) (front : Pieces) (c : Broken)
-        → rest ≡ left ∷ text → n < limit → ArePieces v limit (suc n) front
-        → IsBroken v limit (suc n) c
-        → text ≡ spelling front ++ broken_text c
-        → IsFault (length inside + 1) f
-        (enclosed (broken_fault c).kind (broken_fault c).index
-        (length (before_inner b.h b.before.list b.before.white ++ spelling front)))
-        → IsFaultAt v limit n (left ∷ inside) f
-    bracket_broken f text front c opening lt are broken e is = (
-      broken_inside b.h b.before.list b.before.white front c,
-      (b.begins.is, b.before.are, b.before.all_white, lt, are, broken),
-      whole ∙ ap (λ t. head_text b.h ++ nested_text b.before.list ++ b.before.white ++ t)
-          (opening ∙ ap (λ t. left ∷ t) e) ∙ simp append_assoc,
-      record { kind = is.kind; place = omega (arith, is.place) },
-    )
+    pub accepted : (after : Text) (new : List Tree) (piece : Piece) → rest ≡ right ∷ after
+        → Accepts (is_version_three v) (length inside + 1) judged
+        (record { spaced = judged.spaced; remaining = remaining; count = count }) (length rest) old new
+        piece
+        → (tree : Tree) × Leads v limit n (left ∷ inside) tree after
+        × IsPiece (is_version_three v) base new piece tree
+    accepted after new piece closing tree =
+        let j = tree place b.h parts base shown nested_shown place_of_rest built_parts in
+        (j.0, bracket_leads after j.0 closing j.1, j.2)
 
-    pub inner_place : (text : Text) (front : Pieces) (c : Broken) → rest ≡ left ∷ text
-        → text ≡ spelling front ++ broken_text c
-        → length (before_inner b.h b.before.list b.before.white ++ spelling front) + length
-        (broken_text c) ≡ length inside + 1
-    inner_place text front c opening e =
-        let whole_is : left ∷ inside ≡ before_inner b.h b.before.list b.before.white ++ spelling
-        front ++ broken_text c =
-        whole ∙ ap (λ t. head_text b.h ++ nested_text b.before.list ++ b.before.white ++ t)
-        (opening ∙ ap (λ t. left ∷ t) e) ∙ simp append_assoc in
-        omega (
-          arith,
-          ap length whole_is,
-          length-append (before_inner b.h b.before.list b.before.white ++ spelling front)
-              (broken_text c),
-        )
-
-    -- The same from what the calls ensure.
-
-    shown : ShowsHead (is_version_three v) (length inside + 1) head modifiers b.h
-    shown = let same : length (left ∷ inside) ≡ length inside + 1 = omega arith in
-        subst (λ k. ShowsHead (is_version_three v) k head modifiers b.h) same b.begins.shows
-
-    module _ (count : ℕ) (base old : List Tree) (counted : count ≡ length read)
-        (are : IsBuilt (is_version_three v) base old read) where
-      built_parts : IsBuilt (is_version_three v) base old (packed parts)
-      built_parts = λ three. are three ∙
-          ap (λ ts. base ++ ts) (read_packed _ _ _ read parts parts_shown)
-
-      nested_shown : ShowsNested (length inside + 1)
-          (record { spaced = spaced; remaining = remaining; count = count }) parts
-      nested_shown = shows_nested (length inside + 1)
-          (record { spaced = spaced; remaining = remaining; count = count }) read parts parts_shown
-          counted
-
-      pub accepted : (after : Text) (new : List Tree) (piece : Piece) → rest ≡ right ∷ after
-          → Accepts (is_version_three v) (length inside + 1) head modifiers
-          (record { spaced = spaced; remaining = remaining; count = count }) (length rest) old new
-          piece
-          → (tree : Tree) × Leads v limit n (left ∷ inside) tree after
-          × IsPiece (is_version_three v) base new piece tree
-      accepted after new piece closing judged =
-          let j = judged place b.h parts base shown nested_shown place_of_rest built_parts in
-          (j.0, bracket_leads after j.0 closing j.1, j.2)
-
-      pub refuses : (after : Text) (e : ReadError) → rest ≡ right ∷ after
-          → Refuses (is_version_three v) (length inside + 1) head modifiers
-          (record { spaced = spaced; remaining = remaining; count = count }) (length rest) old e
-          → MemoryOr (IsFaultAt v limit n (left ∷ inside)) e
-      refuses after e closing judged =
-          memory_or _ (IsFaultAt v limit n (left ∷ inside))
-          (λ f is. bracket_refused after f is.0 closing is.1 is.2) e
-          (judged place b.h parts base shown nested_shown place_of_rest built_parts)
-
-    pub never_closed : (e : ReadError) → StopsBefore is_bracket_byte rest
-        → MemoryOr (λ f. IsFault (length inside + 1) f (fault unclosed_bracket 0)) e
+    pub refuses : (after : Text) (e : ReadError) → rest ≡ right ∷ after
+        → Refuses (is_version_three v) (length inside + 1) judged
+        (record { spaced = judged.spaced; remaining = remaining; count = count }) (length rest) old e
         → MemoryOr (IsFaultAt v limit n (left ∷ inside)) e
-    never_closed e stops = memory_or _ (IsFaultAt v limit n (left ∷ inside))
-        (λ f is. bracket_unclosed f stops is) e
+    refuses after e closing fails =
+        memory_or _ (IsFaultAt v limit n (left ∷ inside))
+        (λ f is. bracket_refused after f is.0 closing is.1 is.2) e
+        (fails place b.h parts base shown nested_shown place_of_rest built_parts)
 
-    pub nested_fault : (text : Text) (e : ReadError) → rest ≡ left ∷ text
-        → MemoryOr (IsNestedFault v limit n (length inside + 1) text) e
-        → MemoryOr (IsFaultAt v limit n (left ∷ inside)) e
-    nested_fault text e opening is = memory_or _ (IsFaultAt v limit n (left ∷ inside)) by e is
-      where
-        by : (f : code_fault.Fault) → IsNestedFault v limit n (length inside + 1) text f
-            → IsFaultAt v limit n (left ∷ inside) f
-        by f (inl d) =
-            let whole_rest : length text + 1 ≡ length rest = omega (arith, ap length opening) in
-            bracket_too_deep f text opening d.0
-            (subst (λ k. IsFault k f (fault too_highly_nested 0)) whole_rest d.1)
-        by f (inr (inl c)) = bracket_cut_off f text c.0 opening c.1 c.2 c.3 c.4
-        by f (inr (inr k)) =
-            bracket_broken f text k.0 k.1 opening k.2 k.3 k.4 k.5
-            (k.6 (length (before_inner b.h b.before.list b.before.white ++ spelling k.0))
-            (inner_place text k.0 k.1 opening k.5))
+  pub never_closed : (e : ReadError) → StopsBefore is_bracket_byte rest
+      → MemoryOr (λ f. IsFault (length inside + 1) f (fault unclosed_bracket 0)) e
+      → MemoryOr (IsFaultAt v limit n (left ∷ inside)) e
+  never_closed e stops = memory_or _ (IsFaultAt v limit n (left ∷ inside))
+      (λ f is. bracket_unclosed f stops is) e
 
-    pub one_more : {text after white' rest' : Text} {tree : Tree} → rest ≡ left ∷ text
-        → IsNested v limit n text tree after → IsCut is_white after white' rest'
-        → BracketBefore v limit n inside head modifiers spaced remaining (read ++ tree ∷ []) rest'
-    one_more {text} {after} {white'} {rest'} {tree} opening is cut = record {
-      h = b.h;
-      behind = b.behind;
-      begins = b.begins;
-      before = nested_step v limit n (head.white.now ++ b.behind) spaced remaining read rest text
-          after white' rest' is.0 tree b.before opening is.1 is.2 is.3 cut is.4;
-    }
+  pub nested_fault : (text : Text) (e : ReadError) → rest ≡ left ∷ text
+      → MemoryOr (IsNestedFault v limit n (length inside + 1) text) e
+      → MemoryOr (IsFaultAt v limit n (left ∷ inside)) e
+  nested_fault text e opening is = memory_or _ (IsFaultAt v limit n (left ∷ inside)) by e is
+    where
+      by : (f : code_fault.Fault) → IsNestedFault v limit n (length inside + 1) text f
+          → IsFaultAt v limit n (left ∷ inside) f
+      by f (inl d) =
+          let whole_rest : length text + 1 ≡ length rest = omega (arith, ap length opening) in
+          bracket_too_deep f text opening d.0
+          (subst (λ k. IsFault k f (fault too_highly_nested 0)) whole_rest d.1)
+      by f (inr (inl c)) = bracket_cut_off f text c.0 opening c.1 c.2 c.3 c.4
+      by f (inr (inr k)) =
+          bracket_broken f text k.0 k.1 opening k.2 k.3 k.4 k.5
+          (k.6 (length (before_inner b.h b.before.list b.before.white ++ spelling k.0))
+          (inner_place text k.0 k.1 opening k.5))
+
+  pub one_more : {text after white' rest' : Text} {tree : Tree} → rest ≡ left ∷ text
+      → IsNested v limit n text tree after → IsCut is_white after white' rest'
+      → BracketBefore v limit n inside judged remaining (read ++ tree ∷ []) rest'
+  one_more {text} {after} {white'} {rest'} {tree} opening is cut = record {
+    h = b.h;
+    behind = b.behind;
+    begins = b.begins;
+    before = nested_step v limit n (b.begins.white ++ b.behind) judged.spaced remaining read rest text
+        after white' rest' is.0 tree b.before opening is.1 is.2 is.3 cut is.4;
+  }

@@ -1,5 +1,5 @@
 -- How what the code makes of a closed bracket stands to the verdict of the rules.
-use Rattle.std.specs.Prelude.{ℕ, ◌≡◌, ◌+◌, Bool, List, [], ◌∷◌, length, map, Option, Some, None, Result, Ok, Err, MatchResult}
+use Rattle.std.specs.Prelude.{ℕ, ◌≡◌, ◌+◌, Bool, List, [], ◌∷◌, length, map, Result, Ok, Err, MatchResult}
 use Rattle.timefd_component.specs.declared.component.Component.{Component}
 use Rattle.timefd_fault.specs.Faults.{Fault}
 use Rattle.timefd_component.specs.Tree.{Tree, component, pack}
@@ -10,9 +10,7 @@ use Rattle.timefd_parse.specs.declared.piece.Piece.{Piece}
 use Rattle.timefd_parse.specs.declared.places.Places.{Places}
 use Rattle.timefd_parse.specs.declared.verdict.Nested as code_nested
 use Rattle.timefd_language.specs.Head.{Placed}
-use Rattle.timefd_language.specs.declared.name.Name.{Name}
-use Rattle.timefd_language.specs.declared.name.Name.TheVariants as names
-use Rattle.timefd_language.specs.Verdict.{PlacedDescription, ◌or◌, touching, nested_refused}
+use Rattle.timefd_language.specs.Verdict.{PlacedDescription}
 use Rattle.timefd_language.specs.Lookup.{key_for}
 use Rattle.timefd_parse.specs.Places.{place}
 use Rattle.timefd_parse.specs.Pieces.{IsPiece}
@@ -54,14 +52,3 @@ Judged total strict old new r rule =
 -- the same of a component, which takes no memory
 abbrev pub JudgedComponent : ℕ → Result Component code_fault.Fault → Result Tree Fault → Type 0
 JudgedComponent total r rule = MatchResult r (λ c. rule ≡ Ok (component c)) (JudgedFault total rule)
-
--- whether nested descriptions may stand in a bracket of this name
-abbrev pub refused_in : Option Name → List PlacedDescription → Option Fault
-refused_in (Some names.Optional) parts = None
-refused_in (Some names.First) parts = None
-refused_in (Some (names.Component n)) parts = nested_refused parts
-refused_in None parts = nested_refused parts
-
--- the fault of nested descriptions that stand where they may not
-abbrev pub placing : Option Name → List PlacedDescription → Option Fault
-placing name parts = touching parts or refused_in name parts

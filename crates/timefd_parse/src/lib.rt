@@ -8,6 +8,7 @@ mod borrowing;
 mod building;
 mod counting;
 mod head;
+mod head_verdict;
 mod language;
 mod modifier;
 mod modifiers;

@@ -16,8 +16,7 @@ ghost use Rattle.timefd_component.specs.Tree.{literal};
 
 use crate::bare::bare;
 use crate::building::{add, pack};
-use crate::head::read_head;
-use crate::modifiers::Modifiers;
+use crate::head_verdict::judged_head;
 use crate::piece::Piece;
 use crate::verdict::{Nested, Span, verdict};
 use std::alloc::Global;
@@ -240,9 +239,7 @@ fn bracket<'a>(
 {
     let start = inside.len() + 1;
     let strict = version.is_strict();
-    let mut modifiers = Modifiers::new(strict);
-    let (head, behind) = read_head(strict, inside, &mut modifiers)?;
-    let spaced = !head.white.is_empty();
+    let (head, behind) = judged_head(strict, inside)?;
     let remaining = behind.len();
     let mut count = 0;
     let mut rest = behind;
@@ -257,11 +254,11 @@ fn bracket<'a>(
                 let end = rest.len();
                 let span = Span { start, end };
                 let nested = Nested {
-                    spaced,
+                    spaced: head.spaced,
                     remaining,
                     count,
                 };
-                let piece = verdict(builder, strict, &head, &modifiers, nested, span)?;
+                let piece = verdict(builder, strict, &head, nested, span)?;
                 return Ok((piece, after));
             }
             _ => return Err(unclosed(start)),

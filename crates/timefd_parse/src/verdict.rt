@@ -1,30 +1,23 @@
 //! What a closed bracket is, or the fault of the first rule that it breaks.
 
-ghost use Rattle.std.specs.Prelude.{ℕ, ◌≡◌, ◌+◌, ◌≤◌, List, Option, Some, None, length, IfErr, IfOk, IsFalse, IsTrue};
+ghost use Rattle.std.specs.Prelude.{ℕ, ◌≡◌, ◌+◌, ◌≤◌, ◌∷◌, [], List, None, length, IfErr, IsFalse, IsTrue};
 ghost use Rattle.timefd_items.specs.Builder.{built};
-ghost use Rattle.timefd_component.specs.Modern.{modern};
 ghost use Rattle.timefd_component.specs.Tree.{Tree};
 ghost use Rattle.timefd_language.specs.Head as spec;
-ghost use Rattle.timefd_language.specs.Head.{Placed, placed};
-ghost use Rattle.timefd_language.specs.Names.{row_for};
+ghost use Rattle.timefd_language.specs.Head.{placed};
+ghost use Rattle.timefd_language.specs.Values.{format};
 ghost use Rattle.timefd_language.specs.Verdict as rules;
 ghost use Rattle.timefd_language.specs.Verdict.{PlacedDescription};
-ghost use Rattle.timefd_language.specs.declared.name.Name as spec_name;
-ghost use Rattle.timefd_parse.specs.Checked.{Checks, ShowsFault};
-ghost use Rattle.timefd_parse.specs.Heads.{ShowsHead};
+ghost use Rattle.timefd_parse.specs.Checked.{ShowsFault};
+ghost use Rattle.timefd_parse.specs.HeadVerdicts.{IsVerdict, placing};
 ghost use Rattle.timefd_language.specs.Invalid.{IsInvalid};
 ghost use Rattle.timefd_parse.specs.Pieces.{IsBuilt};
-ghost use Rattle.timefd_parse.specs.Judged.{ShowsNested, Judged, JudgedComponent, ShowsPlaces, packed, placing};
+ghost use Rattle.timefd_parse.specs.Judged.{ShowsNested, Judged, packed};
 
-use crate::head::Head;
-use crate::modifiers::Modifiers;
+use crate::head_verdict::{HeadVerdict, JudgedHead};
 use crate::piece::Piece;
-use crate::places::Places;
-use timefd_items::{Component, DescriptionBuilder};
-use timefd_language::combination::refusals;
-use timefd_language::component::component_of;
+use timefd_items::DescriptionBuilder;
 use timefd_language::fault::{Fault, FaultKind, ReadError};
-use timefd_language::name::{ComponentName, Name};
 
 /// The nested descriptions of a bracket.
 #[derive(Clone, Copy)]
@@ -47,22 +40,20 @@ pub struct Span {
 fn optional<'a>(
     builder: &mut DescriptionBuilder<'a>,
     strict: bool,
-    modifiers: &Modifiers<'a>,
+    formatted: bool,
     nested: Nested,
     span: Span,
 ) -> Result<Piece<'a>, ReadError<'a>>
     requires { IsTrue strict → nested.count ≤ length (built builder.old) }
     ensures tree { (place : ℕ) (h : spec.Head) (parts : List PlacedDescription) (base : List Tree)
-        → Checks strict (Some spec_name.Name.Optional) span.start modifiers.now (placed h)
+        → rules.bad_modifiers strict (format ∷ []) [] (placed h) ≡ None
+        → formatted ≡ rules.is_formatted strict (placed h)
         → ShowsNested span.start nested parts → place + span.end ≡ span.start
         → IsBuilt strict base (built builder.old) (packed parts)
         → Judged span.start strict base (built builder.new) result
         (rules.optional_verdict strict h parts place) }
     ensures invalid { IsFalse strict → IfErr result IsInvalid }
 {
-    if let Some(fault) = modifiers.fault {
-        return Err(ReadError::Invalid(fault));
-    }
     if nested.count == 0 {
         let kind = FaultKind::Expected("nested format description");
         return Err(ReadError::Invalid(Fault {
@@ -87,7 +78,7 @@ fn optional<'a>(
             remaining: span.start,
         }));
     }
-    builder.optional(modifiers.settings.format)?;
+    builder.optional(formatted)?;
     Ok(Piece::Built)
 }
 
@@ -95,22 +86,18 @@ fn optional<'a>(
 fn first<'a>(
     builder: &mut DescriptionBuilder<'a>,
     strict: bool,
-    modifiers: &Modifiers<'a>,
     nested: Nested,
     span: Span,
 ) -> Result<Piece<'a>, ReadError<'a>>
     requires { IsTrue strict → nested.count ≤ length (built builder.old) }
     ensures tree { (place : ℕ) (h : spec.Head) (parts : List PlacedDescription) (base : List Tree)
-        → Checks strict (Some spec_name.Name.First) span.start modifiers.now (placed h)
+        → rules.bad_modifiers strict [] [] (placed h) ≡ None
         → ShowsNested span.start nested parts → place + span.end ≡ span.start
         → IsBuilt strict base (built builder.old) (packed parts)
         → Judged span.start strict base (built builder.new) result
         (rules.first_verdict strict h parts place) }
     ensures invalid { IsFalse strict → IfErr result IsInvalid }
 {
-    if let Some(fault) = modifiers.fault {
-        return Err(ReadError::Invalid(fault));
-    }
     if !strict {
         let kind = FaultKind::NotSupported("'first' item", "runtime-parsed format descriptions");
         return Err(ReadError::Invalid(Fault {
@@ -129,54 +116,10 @@ fn first<'a>(
     Ok(Piece::Built)
 }
 
-/// The first key that version 3 refuses with the component.
-fn combination_fault(strict: bool, component: Component, places: &Places) -> Option<Fault<'static>>
-    ensures { (total : ℕ) (ps : List Placed) → (IsTrue strict → ShowsPlaces total places.now ps)
-        → ShowsFault total result (rules.combination strict component ps) }
-{
-    if !strict {
-        return None;
-    }
-    'refusals: for refusal in refusals(component) {
-        if let Some(remaining) = places.of(refusal.key) {
-            let kind = FaultKind::InvalidCombination(refusal.key.spelling(), refusal.context);
-            return Some(Fault { kind, remaining });
-        }
-    }
-    None
-}
-
-/// The component of a bracket named for one.
-fn component<'a>(
-    strict: bool,
-    head: &Head<'a>,
-    modifiers: &Modifiers<'a>,
-    name: ComponentName,
-) -> Result<Component, Fault<'a>>
-    ensures tree { (total : ℕ) (h : spec.Head) → ShowsHead strict total head.now modifiers.now h
-        → head.now.name ≡ Some (spec_name.Name.Component name)
-        → JudgedComponent total result (rules.component_verdict strict h (Some (row_for name))) }
-    ensures modern { IfOk result (λ c. modern c ≡ c) }
-{
-    if let Some(fault) = modifiers.fault {
-        return Err(fault);
-    }
-    let Some(component) = component_of(name, modifiers.settings) else {
-        return Err(Fault {
-            kind: FaultKind::MissingModifier("count"),
-            remaining: head.remaining,
-        });
-    };
-    match combination_fault(strict, component, &modifiers.places) {
-        Some(fault) => Err(fault),
-        None => Ok(component),
-    }
-}
-
 /// The fault of nested descriptions that stand where they may not.
-fn placing_fault<'a>(head: &Head<'a>, nested: Nested, span: Span) -> Option<Fault<'a>>
+fn placing_fault(nests: bool, nested: Nested, span: Span) -> Option<Fault<'static>>
     ensures { (parts : List PlacedDescription) → ShowsNested span.start nested parts
-        → ShowsFault span.start result (placing head.now.name parts) }
+        → ShowsFault span.start result (placing nests parts) }
 {
     if nested.count == 0 {
         return None;
@@ -187,44 +130,39 @@ fn placing_fault<'a>(head: &Head<'a>, nested: Nested, span: Span) -> Option<Faul
             remaining: nested.remaining,
         });
     }
-    match head.name {
-        Some(Name::Optional | Name::First) => None,
-        Some(Name::Component(_)) | None => Some(Fault {
-            kind: FaultKind::NotSupported("nested format descriptions", "on this component"),
-            remaining: span.start,
-        }),
+    if nests {
+        return None;
     }
+    Some(Fault {
+        kind: FaultKind::NotSupported("nested format descriptions", "on this component"),
+        remaining: span.start,
+    })
 }
 
 /// What a bracket is. In version 3 its nested descriptions become one tree.
 pub fn verdict<'a>(
     builder: &mut DescriptionBuilder<'a>,
     strict: bool,
-    head: &Head<'a>,
-    modifiers: &Modifiers<'a>,
+    head: &JudgedHead<'a>,
     nested: Nested,
     span: Span,
 ) -> Result<Piece<'a>, ReadError<'a>>
     requires { IsTrue strict → nested.count ≤ length (built builder.old) }
     ensures tree { (place : ℕ) (h : spec.Head) (parts : List PlacedDescription) (base : List Tree)
-        → ShowsHead strict span.start head.now modifiers.now h → ShowsNested span.start nested parts
+        → IsVerdict strict span.start h head.now.nests head.now.verdict
+        → ShowsNested span.start nested parts
         → place + span.end ≡ span.start → IsBuilt strict base (built builder.old) (packed parts)
         → Judged span.start strict base (built builder.new) result
         (rules.verdict strict h parts place) }
     ensures invalid { IsFalse strict → IfErr result IsInvalid }
 {
-    if let Some(fault) = placing_fault(head, nested, span) {
+    if let Some(fault) = placing_fault(head.nests, nested, span) {
         return Err(ReadError::Invalid(fault));
     }
-    match head.name {
-        Some(Name::Optional) => optional(builder, strict, modifiers, nested, span),
-        Some(Name::First) => first(builder, strict, modifiers, nested, span),
-        Some(Name::Component(name)) => Ok(Piece::Component(component(
-            strict, head, modifiers, name,
-        )?)),
-        None => Err(ReadError::Invalid(Fault {
-            kind: FaultKind::InvalidName(head.word),
-            remaining: head.remaining,
-        })),
+    match head.verdict {
+        HeadVerdict::Component(component) => Ok(Piece::Component(component)),
+        HeadVerdict::Optional(formatted) => optional(builder, strict, formatted, nested, span),
+        HeadVerdict::First => first(builder, strict, nested, span),
+        HeadVerdict::Refused(fault) => Err(ReadError::Invalid(fault)),
     }
 }

@@ -1,9 +1,9 @@
-use Rattle.std.proofs.Common.{◌∙◌, ◌+◌, not, length, sym, ap, subst, arith, lit<, [], ◌∷◌, ◌++◌, length-append, refl}
+use Rattle.std.proofs.Common.{◌∙◌, ◌+◌, length, sym, ap, subst, arith, lit<, [], ◌∷◌, ◌++◌, length-append, refl}
 use Rattle.std.proofs.lemmas.Result.{err_from_is_err_and}
 use Rattle.timefd_items.specs.Builder.{built}
 use Rattle.timefd_component.specs.Tree.{pack}
 use Rattle.timefd_language.specs.Bytes.{left}
-use Rattle.timefd_parse.specs.Heads.{BeginsWithHead}
+use Rattle.timefd_parse.specs.HeadVerdicts.{BeginsWithJudged}
 use Rattle.timefd_parse.specs.Read.{IsFaultIn, IsNext}
 use Rattle.timefd_parse.proofs.BuildingLemmas.{built_none, built_more, built_there, built_within}
 use Rattle.timefd_parse.proofs.ReadLemmas.{continues_more, members_end, items_fault, memory_or, closing_outside, fault_outside, doubled_leads, opening_leads, utf8_after, cut_shorter}
@@ -13,12 +13,12 @@ use Rattle.timefd_parse.proofs.read.+read.Goals as goal
 pub bracket-inner-init : goal.bracket-inner-init
 bracket-inner-init t c =
     let e = c.in_ok-head.ensures in
-    let begins = subst (λ s. BeginsWithHead s (left ∷ c.args.inside.now) c.in_ok-head.head
-    c.read_head.new.modifiers c.in_ok-head.behind.now e.0.0) c.is_strict-strict.ensures e.0.1 in (
+    let begins = subst (λ s. BeginsWithJudged s (left ∷ c.args.inside.now) c.in_ok-head.head
+    c.in_ok-head.behind.now e.0.0) c.is_strict-strict.ensures e.0.1 in (
       e.1,
       omega (arith, behind_within begins),
       [],
-      bracket_begins begins c.is_empty-spaced.ensures,
+      bracket_begins begins,
       refl,
       built_none _ _,
     )
@@ -99,9 +99,9 @@ bracket-returns-in_err-piece-in-Closing-clause-piece t c =
     let p = err_from_is_err_and c.from_residual-in_err-piece-in-Closing.result
     c.from_residual-in_err-piece-in-Closing.ensures.1 in
     let judged = subst
-    (λ s. Refuses s (length c.args.inside.now + 1) c.in_ok-head.head c.read_head.new.modifiers
+    (λ s. Refuses s (length c.args.inside.now + 1) c.in_ok-head.head
     (record {
-      spaced = not c.is_empty-spaced.result;
+      spaced = c.in_ok-head.head.spaced;
       remaining = length c.in_ok-head.behind.now;
       count = c.inner.count;
     })
@@ -113,9 +113,9 @@ bracket-returns-in_err-piece-in-Closing-clause-piece t c =
 pub bracket-returns-in-Closing-clause-piece : goal.bracket-returns-in-Closing-clause-piece
 bracket-returns-in-Closing-clause-piece t c =
     let judged = subst
-    (λ s. Accepts s (length c.args.inside.now + 1) c.in_ok-head.head c.read_head.new.modifiers
+    (λ s. Accepts s (length c.args.inside.now + 1) c.in_ok-head.head
     (record {
-      spaced = not c.is_empty-spaced.result;
+      spaced = c.in_ok-head.head.spaced;
       remaining = length c.in_ok-head.behind.now;
       count = c.inner.count;
     })

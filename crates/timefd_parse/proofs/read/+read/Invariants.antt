@@ -25,8 +25,7 @@ decreases-members l = 2 * length l.text.now + 1
 abbrev pub invariant-bracket-inner : goal.invariant-bracket-inner
 invariant-bracket-inner l =
     shadow (Utf8 l.rest) × (l.count + length l.rest ≤ length l.inside) × (read : List Tree)
-    × BracketBefore l.version l.limit l.around l.inside l.head l.modifiers l.spaced l.remaining read
-    l.rest
+    × BracketBefore l.version l.limit l.around l.inside l.head l.remaining read l.rest
     × (l.count ≡ length read) × IsBuilt (is_version_three l.version) (built l.initial.builder)
     (built l.builder) read
 

@@ -2,35 +2,34 @@ use Rattle.std.proofs.Common.{refl, arith}
 use Rattle.timefd_items.specs.Builder.{built}
 use Rattle.timefd_fault.specs.Faults.{fault}
 use Rattle.timefd_language.specs.Fault.{expected_nested, optional_item}
-use Rattle.timefd_parse.proofs.CheckLemmas.{none_shown}
 use Rattle.timefd_parse.proofs.VerdictLemmas.{parts_none, parts_one, parts_many, optional_none, optional_many, optional_lax, optional_made}
 use Rattle.timefd_parse.proofs.verdict.optional.Goals as goal
 
 pub returns-then-nested-eq0-clause-tree : goal.returns-then-nested-eq0-clause-tree
-returns-then-nested-eq0-clause-tree c = λ place h parts base checks shows e are. (
+returns-then-nested-eq0-clause-tree c = λ place h parts base good same shows e are. (
   fault expected_nested place,
-  optional_none _ place h parts (none_shown _ _ _ checks.fault c.in_default.is)
+  optional_none _ place h parts good
       (parts_none c.args.span.start c.args.nested parts shows c.if-nested-eq0.true),
   record { kind = refl; place = e },
 )
 
 pub returns-then-nested-gt1-clause-tree : goal.returns-then-nested-gt1-clause-tree
-returns-then-nested-gt1-clause-tree c = λ place h parts base checks shows e are.
+returns-then-nested-gt1-clause-tree c = λ place h parts base good same shows e are.
     let many = parts_many c.args.span.start c.args.nested parts shows
     (omega (arith, c.if-nested-gt1.true)) in (
       many.0,
-      optional_many _ place h parts many.0 (none_shown _ _ _ checks.fault c.in_default.is)
+      optional_many _ place h parts many.0 good
           many.1,
       record { kind = many.2; place = many.3 },
     )
 
 pub returns-then-not-strict-clause-tree : goal.returns-then-not-strict-clause-tree
-returns-then-not-strict-clause-tree c = λ place h parts base checks shows e are.
+returns-then-not-strict-clause-tree c = λ place h parts base good same shows e are.
     let one = parts_one c.args.span.start c.args.nested parts shows
     (omega (arith, c.if-nested-eq0.false, c.if-nested-gt1.false)) in (
       fault optional_item 0,
       optional_lax _ place h one.0 parts
-          (none_shown _ _ _ checks.fault c.in_default.is) c.if-not-strict.true one.1,
+          good c.if-not-strict.true one.1,
       record { kind = refl; place = omega arith },
     )
 
@@ -38,8 +37,8 @@ pub optional-requires : goal.optional-requires
 optional-requires c = omega (arith, c.if-nested-eq0.false, c.requires c.if-not-strict.false)
 
 pub returns-clause-tree : goal.returns-clause-tree
-returns-clause-tree c = λ place h parts base checks shows e are.
-    optional_made c.args.strict c.args.span.start place c.args.nested c.args.modifiers.now h parts
-    base (built c.args.builder.now) (built c.optional.new.self) checks c.in_default.is shows
+returns-clause-tree c = λ place h parts base good same shows e are.
+    optional_made c.args.strict c.args.span.start place c.args.nested c.args.formatted h parts
+    base (built c.args.builder.now) (built c.optional.new.self) good same shows
     (omega (arith, c.if-nested-eq0.false, c.if-nested-gt1.false)) c.if-not-strict.false are
     c.in_ok-optional.ensures.made

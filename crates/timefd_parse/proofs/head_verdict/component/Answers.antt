@@ -1,7 +1,7 @@
 use Rattle.timefd_language.specs.Head.{placed}
-use Rattle.timefd_parse.proofs.VerdictLemmas.{component_bad, component_missing, component_refused, component_found, places_shown}
+use Rattle.timefd_parse.proofs.HeadVerdictLemmas.{component_bad, component_missing, component_refused, component_found, places_shown}
 use Rattle.timefd_language.proofs.ModernPieces.{name_modern}
-use Rattle.timefd_parse.proofs.verdict.component.Goals as goal
+use Rattle.timefd_parse.proofs.head_verdict.component.Goals as goal
 
 pub returns-in-Some-clause-tree : goal.returns-in-Some-clause-tree
 returns-in-Some-clause-tree c = λ total h shows named. component_bad _ total _ _ h _ shows named _

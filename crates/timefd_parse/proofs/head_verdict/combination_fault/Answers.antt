@@ -2,8 +2,8 @@ use Rattle.std.proofs.Common.{◌∙◌, ap, get_or, map, refl, sym, arith}
 use Rattle.std.proofs.lemmas.List.{drop_all, drop_more}
 use Rattle.timefd_language.specs.Lookup.{refusal_for}
 use Rattle.timefd_language.specs.Verdict.{combined}
-use Rattle.timefd_parse.proofs.VerdictLemmas.{lax_refused, exactly, refused_here, refused_later, none_refused, no_refusal}
-use Rattle.timefd_parse.proofs.verdict.combination_fault.Goals as goal
+use Rattle.timefd_parse.proofs.HeadVerdictLemmas.{lax_refused, exactly, refused_here, refused_later, none_refused, no_refusal}
+use Rattle.timefd_parse.proofs.head_verdict.combination_fault.Goals as goal
 
 pub returns-then-not-strict : goal.returns-then-not-strict
 returns-then-not-strict c = λ total ps shows. lax_refused total _ _ ps c.if-not-strict.true

@@ -4,7 +4,7 @@ use Rattle.timefd_language.specs.Head.{Placed}
 use Rattle.timefd_language.specs.Lookup.{refusal_for}
 use Rattle.timefd_parse.specs.Judged.{ShowsPlaces}
 use Rattle.timefd_language.specs.Verdict.{combined}
-use Rattle.timefd_parse.proofs.verdict.combination_fault.Given as goal
+use Rattle.timefd_parse.proofs.head_verdict.combination_fault.Given as goal
 
 -- those that were looked at refuse nothing
 abbrev pub invariant-refusals : goal.invariant-refusals

@@ -1,0 +1,26 @@
+use Rattle.std.proofs.Common.{◌∷◌, length, not, ap, sym, subst}
+use Rattle.timefd_language.specs.Bytes.{left}
+use Rattle.timefd_parse.specs.HeadVerdicts.{IsVerdict}
+use Rattle.timefd_parse.proofs.head_verdict.judged_head.Goals as goal
+
+pub returns : goal.returns
+returns c =
+    let e = c.in_ok-head.ensures in
+    let text = left ∷ c.args.inside.now in (
+      (
+        e.0.0,
+        record {
+          white = c.in_ok-head.head.white.now;
+          is = e.0.1.is;
+          verdict = subst
+              (λ n. IsVerdict c.args.strict (length text) e.0.0 n c.head_verdict.result)
+              (sym c.nests.ensures) (c.head_verdict.ensures (length text) e.0.0 e.0.1.shows);
+          whole = e.0.1.whole;
+          all_white = e.0.1.all_white;
+          stops_white = e.0.1.stops_white;
+          stops_word = e.0.1.stops_word;
+          spaced = ap not c.is_empty.ensures;
+        },
+      ),
+      e.1,
+    )

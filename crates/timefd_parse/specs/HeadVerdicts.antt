@@ -1,0 +1,76 @@
+-- How what the code makes of a head by itself stands to the rules.
+use Rattle.std.specs.Prelude.{ℕ, ◌≡◌, ◌==◌, Bool, true, false, not, List, [], ◌∷◌, ◌++◌, length, Option, Some, None, Result, Ok, Err, MatchResult}
+use Rattle.std.specs.Borrow.{Bor}
+use Rattle.std.specs.Str.{IsUtf8}
+use Rattle.timefd_component.specs.Modern.{modern}
+use Rattle.timefd_component.specs.Tree.{Text, Tree, component}
+use Rattle.timefd_fault.specs.Faults.{Fault}
+use Rattle.timefd_language.specs.declared.description_version.DescriptionVersion.{DescriptionVersion}
+use Rattle.timefd_language.specs.declared.fault.Fault as code_fault
+use Rattle.timefd_language.specs.declared.name.Name.{Name}
+use Rattle.timefd_language.specs.declared.name.Name.TheVariants as names
+use Rattle.timefd_parse.specs.declared.head_verdict.HeadVerdict.{HeadVerdict}
+use Rattle.timefd_parse.specs.declared.head_verdict.HeadVerdict.TheVariants as verdicts
+use Rattle.timefd_parse.specs.declared.head_verdict.JudgedHead.{JudgedHead}
+use Rattle.timefd_language.specs.Broken.{BeginsNoEscape}
+use Rattle.timefd_language.specs.Bytes.{left, is_white, is_word_byte, ZeroOrMore, StopsBefore}
+use Rattle.timefd_language.specs.FaultMeaning.{IsFault, IsFaultAt}
+use Rattle.timefd_language.specs.Head.{Head, IsHead, head_text, placed}
+use Rattle.timefd_language.specs.Values.{format}
+use Rattle.timefd_language.specs.Verdict.{PlacedDescription, ◌or◌, touching, nested_refused, behind, bad_modifiers, is_formatted, optional_verdict, first_verdict, verdict}
+
+-- whether nested descriptions may stand behind a name
+abbrev pub nests : Option Name → Bool
+nests (Some names.Optional) = true
+nests (Some names.First) = true
+nests (Some (names.Component n)) = false
+nests None = false
+
+abbrev pub refused_unless : Bool → List PlacedDescription → Option Fault
+refused_unless true parts = None
+refused_unless false parts = nested_refused parts
+
+-- the fault of nested descriptions that stand where they may not
+abbrev pub placing : Bool → List PlacedDescription → Option Fault
+placing nests parts = touching parts or refused_unless nests parts
+
+-- once its nested descriptions may stand where they do, a bracket with this head is that
+abbrev pub Decides : Bool → Head → Bool → (List PlacedDescription → ℕ → Result Tree Fault) → Type 0
+Decides strict h nests by =
+    (parts : List PlacedDescription) (place : ℕ)
+    → verdict strict h parts place ≡ behind (placing nests parts) (by parts place)
+
+-- The verdict is that of a head in a text with so many bytes, behind which nested descriptions may
+-- stand or not.
+abbrev pub IsVerdict : Bool → ℕ → Head → Bool → HeadVerdict → Type 0
+IsVerdict strict total h nests (verdicts.Component c) =
+    (nests ≡ false) × (modern c ≡ c) × Decides strict h nests (λ parts place. Ok (component c))
+IsVerdict strict total h nests (verdicts.Optional formatted) =
+    (bad_modifiers strict (format ∷ []) [] (placed h) ≡ None)
+    × (formatted ≡ is_formatted strict (placed h))
+    × Decides strict h nests (optional_verdict strict h)
+IsVerdict strict total h nests verdicts.First = (bad_modifiers strict [] [] (placed h) ≡ None)
+    × Decides strict h nests (first_verdict strict h)
+IsVerdict strict total h nests (verdicts.Refused f) =
+    (g : Fault) × IsFault total f g × Decides strict h nests (λ parts place. Err g)
+
+-- the text begins with this head, which was judged, and white bytes
+pub record BeginsWithJudged (strict : Bool) (text : Text) (judged : JudgedHead) (rest : Text)
+    (h : Head) : Type 0 where
+  pub white : Text
+  pub is : IsHead h
+  pub verdict : IsVerdict strict (length text) h judged.nests judged.verdict
+  pub whole : text ≡ head_text h ++ white ++ rest
+  pub all_white : ZeroOrMore is_white white
+  pub stops_white : StopsBefore is_white rest
+  pub stops_word : StopsBefore is_word_byte rest
+  pub spaced : judged.spaced ≡ not (length white == 0)
+
+-- a judged head, or the fault of a bracket that has none
+abbrev pub ReadsJudgedHead : Bool → Text → Result (JudgedHead × Bor (List ℕ)) code_fault.Fault
+    → Type 0
+ReadsJudgedHead strict inside r =
+    MatchResult r
+    (λ x. ((h : Head) × BeginsWithJudged strict (left ∷ inside) x.0 x.1.now h) × IsUtf8 x.1.now)
+    (λ f. (v : DescriptionVersion) (limit n : ℕ) → BeginsNoEscape v inside
+    → IsFaultAt v limit n (left ∷ inside) f)

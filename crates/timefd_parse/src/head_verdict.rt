@@ -1,0 +1,144 @@
+//! What the head of a bracket is by itself, whatever is nested behind it.
+
+ghost use Rattle.std.specs.Prelude.{ℕ, ◌≡◌, Some, IfOk, IsTrue, List};
+ghost use Rattle.timefd_component.specs.Modern.{modern};
+ghost use Rattle.timefd_language.specs.Head as spec;
+ghost use Rattle.timefd_language.specs.Head.{Placed};
+ghost use Rattle.timefd_language.specs.Names.{row_for};
+ghost use Rattle.timefd_language.specs.Verdict as rules;
+ghost use Rattle.timefd_language.specs.declared.name.Name as spec_name;
+ghost use Rattle.timefd_parse.specs.Checked.{ShowsFault};
+ghost use Rattle.timefd_parse.specs.Heads.{ShowsHead};
+ghost use Rattle.timefd_parse.specs.HeadVerdicts as judging;
+ghost use Rattle.timefd_parse.specs.HeadVerdicts.{IsVerdict, ReadsJudgedHead};
+ghost use Rattle.timefd_parse.specs.Judged.{JudgedComponent, ShowsPlaces};
+
+use crate::head::{Head, read_head};
+use crate::modifiers::Modifiers;
+use crate::places::Places;
+use timefd_items::Component;
+use timefd_language::combination::refusals;
+use timefd_language::component::component_of;
+use timefd_language::fault::{Fault, FaultKind};
+use timefd_language::name::{ComponentName, Name};
+
+/// What a head is by itself.
+#[derive(Clone, Copy)]
+pub enum HeadVerdict<'a> {
+    Component(Component),
+    /// An optional item, and whether it is formatted.
+    Optional(bool),
+    /// The first of several descriptions that fits.
+    First,
+    /// The fault of the first rule that its name or its modifiers break.
+    Refused(Fault<'a>),
+}
+
+/// A head that was read, with no more than what is wanted once its bracket is closed: this stays on
+/// the stack while what is nested is read.
+#[derive(Clone, Copy)]
+pub struct JudgedHead<'a> {
+    pub verdict: HeadVerdict<'a>,
+    /// Whether nested descriptions may stand behind it, and whether white bytes do.
+    pub nests: bool,
+    pub spaced: bool,
+}
+
+/// The head of the bracket that has this inside, and the rest.
+#[inline(never)]
+pub fn judged_head<'a>(
+    strict: bool,
+    inside: &'a str,
+) -> Result<(JudgedHead<'a>, &'a str), Fault<'a>>
+    ensures { ReadsJudgedHead strict inside.now result }
+{
+    let mut modifiers = Modifiers::new(strict);
+    let (head, rest) = read_head(strict, inside, &mut modifiers)?;
+    let judged = JudgedHead {
+        verdict: head_verdict(strict, &head, &modifiers),
+        nests: nests(head.name),
+        spaced: !head.white.is_empty(),
+    };
+    Ok((judged, rest))
+}
+
+/// Whether nested descriptions may stand behind this name.
+fn nests(name: Option<Name>) -> bool
+    ensures { result ≡ judging.nests name }
+{
+    match name {
+        Some(Name::Optional | Name::First) => true,
+        Some(Name::Component(_)) | None => false,
+    }
+}
+
+/// What a head is.
+fn head_verdict<'a>(strict: bool, head: &Head<'a>, modifiers: &Modifiers<'a>) -> HeadVerdict<'a>
+    ensures { (total : ℕ) (h : spec.Head) → ShowsHead strict total head.now modifiers.now h
+        → IsVerdict strict total h (judging.nests head.now.name) result }
+{
+    let Some(name) = head.name else {
+        return HeadVerdict::Refused(Fault {
+            kind: FaultKind::InvalidName(head.word),
+            remaining: head.remaining,
+        });
+    };
+    match name {
+        Name::Component(name) => match component(strict, head, modifiers, name) {
+            Ok(component) => HeadVerdict::Component(component),
+            Err(fault) => HeadVerdict::Refused(fault),
+        },
+        Name::Optional => match modifiers.fault {
+            Some(fault) => HeadVerdict::Refused(fault),
+            None => HeadVerdict::Optional(modifiers.settings.format),
+        },
+        Name::First => match modifiers.fault {
+            Some(fault) => HeadVerdict::Refused(fault),
+            None => HeadVerdict::First,
+        },
+    }
+}
+
+/// The first key that version 3 refuses with the component.
+fn combination_fault(strict: bool, component: Component, places: &Places) -> Option<Fault<'static>>
+    ensures { (total : ℕ) (ps : List Placed) → (IsTrue strict → ShowsPlaces total places.now ps)
+        → ShowsFault total result (rules.combination strict component ps) }
+{
+    if !strict {
+        return None;
+    }
+    'refusals: for refusal in refusals(component) {
+        if let Some(remaining) = places.of(refusal.key) {
+            let kind = FaultKind::InvalidCombination(refusal.key.spelling(), refusal.context);
+            return Some(Fault { kind, remaining });
+        }
+    }
+    None
+}
+
+/// The component of a bracket named for one.
+fn component<'a>(
+    strict: bool,
+    head: &Head<'a>,
+    modifiers: &Modifiers<'a>,
+    name: ComponentName,
+) -> Result<Component, Fault<'a>>
+    ensures tree { (total : ℕ) (h : spec.Head) → ShowsHead strict total head.now modifiers.now h
+        → head.now.name ≡ Some (spec_name.Name.Component name)
+        → JudgedComponent total result (rules.component_verdict strict h (Some (row_for name))) }
+    ensures modern { IfOk result (λ c. modern c ≡ c) }
+{
+    if let Some(fault) = modifiers.fault {
+        return Err(fault);
+    }
+    let Some(component) = component_of(name, modifiers.settings) else {
+        return Err(Fault {
+            kind: FaultKind::MissingModifier("count"),
+            remaining: head.remaining,
+        });
+    };
+    match combination_fault(strict, component, &modifiers.places) {
+        Some(fault) => Err(fault),
+        None => Ok(component),
+    }
+}
