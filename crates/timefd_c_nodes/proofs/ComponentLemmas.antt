@@ -1,5 +1,5 @@
 -- The component of a node is the one that it was made of.
-use Rattle.std.proofs.Common.{◌≡◌, ◌∙◌, ℕ, zero, suc, ◌<◌, Bool, true, false, Option, Some, refl, ap, subst, arith}
+use Rattle.std.proofs.Common.{◌≡◌, ℕ, zero, suc, ◌<◌, Bool, true, false, Option, Some, refl, ap, ap₂, subst, arith}
 use Rattle.std.specs.Prelude.{⊤}
 use Rattle.std.proofs.Math.Bridge.{le_prop}
 use native.Mathlib.Nat.{zero-lt-suc}
@@ -110,131 +110,103 @@ year_old false YearRepr.Century YearRange.Standard y x e = subst IsNotDeprecated
 year_old true YearRepr.LastTwo r y x e = subst IsNotDeprecated e tt
 year_old false YearRepr.LastTwo r y x e = subst IsNotDeprecated e tt
 
+-- Components, by one modifier or by two.
+
+by_one : {A : Type 0} {read : Option A} {a : A} (make : A → Component) → read ≡ Some a
+    → with_one make read ≡ Some (make a)
+by_one make e = ap (with_one make) e
+
+by_two : {A B : Type 0} {one : Option A} {other : Option B} {a : A} {b : B}
+    (make : A → B → Component) → one ≡ Some a → other ≡ Some b
+    → with_two make one other ≡ Some (make a b)
+by_two make e f = ap₂ (with_two make) e f
+
 pub component_back : (c : Component) (at : ℕ) → modern c ≡ c
     → component_of (component_node c at) ≡ Some c
-component_back (Day m) at h = ap (with_one (λ p. Day (record { padding = p })))
+component_back (Day m) at h = by_one (λ p. Day (record { padding = p })) (padding_back m.padding)
+component_back (MonthShort m) at h = by_one (λ s. MonthShort (record { case_sensitive = s }))
+    (flag_back m.case_sensitive)
+component_back (MonthLong m) at h = by_one (λ s. MonthLong (record { case_sensitive = s }))
+    (flag_back m.case_sensitive)
+component_back (MonthNumerical m) at h = by_one (λ p. MonthNumerical (record { padding = p }))
     (padding_back m.padding)
-component_back (MonthShort m) at h =
-    ap (with_one (λ s. MonthShort (record { case_sensitive = s }))) (flag_back m.case_sensitive)
-component_back (MonthLong m) at h =
-    ap (with_one (λ s. MonthLong (record { case_sensitive = s }))) (flag_back m.case_sensitive)
-component_back (MonthNumerical m) at h =
-    ap (with_one (λ p. MonthNumerical (record { padding = p }))) (padding_back m.padding)
-component_back (Ordinal m) at h = ap (with_one (λ p. Ordinal (record { padding = p })))
+component_back (Ordinal m) at h = by_one (λ p. Ordinal (record { padding = p }))
     (padding_back m.padding)
-component_back (WeekdayShort m) at h =
-    ap (with_one (λ s. WeekdayShort (record { case_sensitive = s }))) (flag_back m.case_sensitive)
-component_back (WeekdayLong m) at h =
-    ap (with_one (λ s. WeekdayLong (record { case_sensitive = s }))) (flag_back m.case_sensitive)
-component_back (WeekdaySunday m) at h =
-    ap (with_one (λ o. WeekdaySunday (record { one_indexed = o }))) (flag_back m.one_indexed)
-component_back (WeekdayMonday m) at h =
-    ap (with_one (λ o. WeekdayMonday (record { one_indexed = o }))) (flag_back m.one_indexed)
-component_back (WeekNumberIso m) at h =
-    ap (with_one (λ p. WeekNumberIso (record { padding = p }))) (padding_back m.padding)
-component_back (WeekNumberSunday m) at h =
-    ap (with_one (λ p. WeekNumberSunday (record { padding = p }))) (padding_back m.padding)
-component_back (WeekNumberMonday m) at h =
-    ap (with_one (λ p. WeekNumberMonday (record { padding = p }))) (padding_back m.padding)
-component_back (CalendarYearFullExtendedRange m) at h =
-    ap (λ x. with_two (λ p s. CalendarYearFullExtendedRange
-    (record { padding = p; sign_is_mandatory = s })) x (flag_of (flag_number m.sign_is_mandatory)))
-    (padding_back m.padding) ∙
-    ap (λ y. with_two (λ p s. CalendarYearFullExtendedRange
-    (record { padding = p; sign_is_mandatory = s })) (Some m.padding) y)
-    (flag_back m.sign_is_mandatory)
-component_back (CalendarYearFullStandardRange m) at h =
-    ap (λ x. with_two (λ p s. CalendarYearFullStandardRange
-    (record { padding = p; sign_is_mandatory = s })) x (flag_of (flag_number m.sign_is_mandatory)))
-    (padding_back m.padding) ∙
-    ap (λ y. with_two (λ p s. CalendarYearFullStandardRange
-    (record { padding = p; sign_is_mandatory = s })) (Some m.padding) y)
-    (flag_back m.sign_is_mandatory)
-component_back (CalendarYearCenturyExtendedRange m) at h =
-    ap (λ x. with_two (λ p s. CalendarYearCenturyExtendedRange
-    (record { padding = p; sign_is_mandatory = s })) x (flag_of (flag_number m.sign_is_mandatory)))
-    (padding_back m.padding) ∙
-    ap (λ y. with_two (λ p s. CalendarYearCenturyExtendedRange
-    (record { padding = p; sign_is_mandatory = s })) (Some m.padding) y)
-    (flag_back m.sign_is_mandatory)
-component_back (CalendarYearCenturyStandardRange m) at h =
-    ap (λ x. with_two (λ p s. CalendarYearCenturyStandardRange
-    (record { padding = p; sign_is_mandatory = s })) x (flag_of (flag_number m.sign_is_mandatory)))
-    (padding_back m.padding) ∙
-    ap (λ y. with_two (λ p s. CalendarYearCenturyStandardRange
-    (record { padding = p; sign_is_mandatory = s })) (Some m.padding) y)
-    (flag_back m.sign_is_mandatory)
-component_back (IsoYearFullExtendedRange m) at h =
-    ap (λ x. with_two (λ p s. IsoYearFullExtendedRange
-    (record { padding = p; sign_is_mandatory = s })) x (flag_of (flag_number m.sign_is_mandatory)))
-    (padding_back m.padding) ∙
-    ap (λ y. with_two (λ p s. IsoYearFullExtendedRange
-    (record { padding = p; sign_is_mandatory = s })) (Some m.padding) y)
-    (flag_back m.sign_is_mandatory)
-component_back (IsoYearFullStandardRange m) at h =
-    ap (λ x. with_two (λ p s. IsoYearFullStandardRange
-    (record { padding = p; sign_is_mandatory = s })) x (flag_of (flag_number m.sign_is_mandatory)))
-    (padding_back m.padding) ∙
-    ap (λ y. with_two (λ p s. IsoYearFullStandardRange
-    (record { padding = p; sign_is_mandatory = s })) (Some m.padding) y)
-    (flag_back m.sign_is_mandatory)
-component_back (IsoYearCenturyExtendedRange m) at h =
-    ap (λ x. with_two (λ p s. IsoYearCenturyExtendedRange
-    (record { padding = p; sign_is_mandatory = s })) x (flag_of (flag_number m.sign_is_mandatory)))
-    (padding_back m.padding) ∙
-    ap (λ y. with_two (λ p s. IsoYearCenturyExtendedRange
-    (record { padding = p; sign_is_mandatory = s })) (Some m.padding) y)
-    (flag_back m.sign_is_mandatory)
-component_back (IsoYearCenturyStandardRange m) at h =
-    ap (λ x. with_two (λ p s. IsoYearCenturyStandardRange
-    (record { padding = p; sign_is_mandatory = s })) x (flag_of (flag_number m.sign_is_mandatory)))
-    (padding_back m.padding) ∙
-    ap (λ y. with_two (λ p s. IsoYearCenturyStandardRange
-    (record { padding = p; sign_is_mandatory = s })) (Some m.padding) y)
-    (flag_back m.sign_is_mandatory)
-component_back (CalendarYearLastTwo m) at h =
-    ap (with_one (λ p. CalendarYearLastTwo (record { padding = p }))) (padding_back m.padding)
-component_back (IsoYearLastTwo m) at h =
-    ap (with_one (λ p. IsoYearLastTwo (record { padding = p }))) (padding_back m.padding)
-component_back (Hour12 m) at h = ap (with_one (λ p. Hour12 (record { padding = p })))
+component_back (WeekdayShort m) at h = by_one (λ s. WeekdayShort (record { case_sensitive = s }))
+    (flag_back m.case_sensitive)
+component_back (WeekdayLong m) at h = by_one (λ s. WeekdayLong (record { case_sensitive = s }))
+    (flag_back m.case_sensitive)
+component_back (WeekdaySunday m) at h = by_one (λ o. WeekdaySunday (record { one_indexed = o }))
+    (flag_back m.one_indexed)
+component_back (WeekdayMonday m) at h = by_one (λ o. WeekdayMonday (record { one_indexed = o }))
+    (flag_back m.one_indexed)
+component_back (WeekNumberIso m) at h = by_one (λ p. WeekNumberIso (record { padding = p }))
     (padding_back m.padding)
-component_back (Hour24 m) at h = ap (with_one (λ p. Hour24 (record { padding = p })))
+component_back (WeekNumberSunday m) at h = by_one (λ p. WeekNumberSunday (record { padding = p }))
     (padding_back m.padding)
-component_back (Minute m) at h = ap (with_one (λ p. Minute (record { padding = p })))
+component_back (WeekNumberMonday m) at h = by_one (λ p. WeekNumberMonday (record { padding = p }))
     (padding_back m.padding)
-component_back (Period m) at h = ap
-    (λ x. with_two (λ u s. Period (record { is_uppercase = u; case_sensitive = s })) x
-    (flag_of (flag_number m.case_sensitive))) (flag_back m.is_uppercase) ∙
-    ap (λ y. with_two (λ u s. Period (record { is_uppercase = u; case_sensitive = s }))
-    (Some m.is_uppercase) y) (flag_back m.case_sensitive)
-component_back (Second m) at h = ap (with_one (λ p. Second (record { padding = p })))
+component_back (CalendarYearFullExtendedRange m) at h = by_two
+    (λ p s. CalendarYearFullExtendedRange (record { padding = p; sign_is_mandatory = s }))
+    (padding_back m.padding) (flag_back m.sign_is_mandatory)
+component_back (CalendarYearFullStandardRange m) at h = by_two
+    (λ p s. CalendarYearFullStandardRange (record { padding = p; sign_is_mandatory = s }))
+    (padding_back m.padding) (flag_back m.sign_is_mandatory)
+component_back (CalendarYearCenturyExtendedRange m) at h = by_two
+    (λ p s. CalendarYearCenturyExtendedRange (record { padding = p; sign_is_mandatory = s }))
+    (padding_back m.padding) (flag_back m.sign_is_mandatory)
+component_back (CalendarYearCenturyStandardRange m) at h = by_two
+    (λ p s. CalendarYearCenturyStandardRange (record { padding = p; sign_is_mandatory = s }))
+    (padding_back m.padding) (flag_back m.sign_is_mandatory)
+component_back (IsoYearFullExtendedRange m) at h = by_two
+    (λ p s. IsoYearFullExtendedRange (record { padding = p; sign_is_mandatory = s }))
+    (padding_back m.padding) (flag_back m.sign_is_mandatory)
+component_back (IsoYearFullStandardRange m) at h = by_two
+    (λ p s. IsoYearFullStandardRange (record { padding = p; sign_is_mandatory = s }))
+    (padding_back m.padding) (flag_back m.sign_is_mandatory)
+component_back (IsoYearCenturyExtendedRange m) at h = by_two
+    (λ p s. IsoYearCenturyExtendedRange (record { padding = p; sign_is_mandatory = s }))
+    (padding_back m.padding) (flag_back m.sign_is_mandatory)
+component_back (IsoYearCenturyStandardRange m) at h = by_two
+    (λ p s. IsoYearCenturyStandardRange (record { padding = p; sign_is_mandatory = s }))
+    (padding_back m.padding) (flag_back m.sign_is_mandatory)
+component_back (CalendarYearLastTwo m) at h = by_one
+    (λ p. CalendarYearLastTwo (record { padding = p })) (padding_back m.padding)
+component_back (IsoYearLastTwo m) at h = by_one (λ p. IsoYearLastTwo (record { padding = p }))
     (padding_back m.padding)
-component_back (Subsecond m) at h =
-    ap (with_one (λ d. Subsecond (record { digits = d }))) (digits_back m.digits)
-component_back (OffsetHour m) at h =
-    ap (λ x. with_two (λ p s. OffsetHour (record { padding = p; sign_is_mandatory = s })) x
-    (flag_of (flag_number m.sign_is_mandatory))) (padding_back m.padding) ∙
-    ap (λ y. with_two (λ p s. OffsetHour (record { padding = p; sign_is_mandatory = s }))
-    (Some m.padding) y) (flag_back m.sign_is_mandatory)
-component_back (OffsetMinute m) at h =
-    ap (with_one (λ p. OffsetMinute (record { padding = p }))) (padding_back m.padding)
-component_back (OffsetSecond m) at h =
-    ap (with_one (λ p. OffsetSecond (record { padding = p }))) (padding_back m.padding)
-component_back (Ignore m) at h = ap (with_one (λ c. Ignore (record { count = c })))
-    (count_back m.count)
-component_back (UnixTimestampSecond m) at h =
-    ap (with_one (λ s. UnixTimestampSecond (record { sign_is_mandatory = s })))
+component_back (Hour12 m) at h = by_one (λ p. Hour12 (record { padding = p }))
+    (padding_back m.padding)
+component_back (Hour24 m) at h = by_one (λ p. Hour24 (record { padding = p }))
+    (padding_back m.padding)
+component_back (Minute m) at h = by_one (λ p. Minute (record { padding = p }))
+    (padding_back m.padding)
+component_back (Period m) at h = by_two
+    (λ u s. Period (record { is_uppercase = u; case_sensitive = s })) (flag_back m.is_uppercase)
+    (flag_back m.case_sensitive)
+component_back (Second m) at h = by_one (λ p. Second (record { padding = p }))
+    (padding_back m.padding)
+component_back (Subsecond m) at h = by_one (λ d. Subsecond (record { digits = d }))
+    (digits_back m.digits)
+component_back (OffsetHour m) at h = by_two
+    (λ p s. OffsetHour (record { padding = p; sign_is_mandatory = s })) (padding_back m.padding)
     (flag_back m.sign_is_mandatory)
-component_back (UnixTimestampMillisecond m) at h =
-    ap (with_one (λ s. UnixTimestampMillisecond (record { sign_is_mandatory = s })))
+component_back (OffsetMinute m) at h = by_one (λ p. OffsetMinute (record { padding = p }))
+    (padding_back m.padding)
+component_back (OffsetSecond m) at h = by_one (λ p. OffsetSecond (record { padding = p }))
+    (padding_back m.padding)
+component_back (Ignore m) at h = by_one (λ c. Ignore (record { count = c })) (count_back m.count)
+component_back (UnixTimestampSecond m) at h = by_one
+    (λ s. UnixTimestampSecond (record { sign_is_mandatory = s })) (flag_back m.sign_is_mandatory)
+component_back (UnixTimestampMillisecond m) at h = by_one
+    (λ s. UnixTimestampMillisecond (record { sign_is_mandatory = s }))
     (flag_back m.sign_is_mandatory)
-component_back (UnixTimestampMicrosecond m) at h =
-    ap (with_one (λ s. UnixTimestampMicrosecond (record { sign_is_mandatory = s })))
+component_back (UnixTimestampMicrosecond m) at h = by_one
+    (λ s. UnixTimestampMicrosecond (record { sign_is_mandatory = s }))
     (flag_back m.sign_is_mandatory)
-component_back (UnixTimestampNanosecond m) at h =
-    ap (with_one (λ s. UnixTimestampNanosecond (record { sign_is_mandatory = s })))
+component_back (UnixTimestampNanosecond m) at h = by_one
+    (λ s. UnixTimestampNanosecond (record { sign_is_mandatory = s }))
     (flag_back m.sign_is_mandatory)
-component_back (End m) at h = ap (with_one (λ t. End (record { trailing_input = t })))
+component_back (End m) at h = by_one (λ t. End (record { trailing_input = t }))
     (trailing_input_back m.trailing_input)
 component_back (Month m) at h = absurd (month_old m.repr m m h)
 component_back (Weekday w) at h = absurd (weekday_old w.repr w w h)

@@ -178,8 +178,7 @@ trees_len no_trees = 0
 trees_len (more_trees t ts) = 1 + trees_len ts
 
 -- The node of a tree, which has this index, and before which the literals have so many bytes. The
--- nodes of its members
--- stand right before it.
+-- nodes of its members stand right before it.
 abbrev pub node_for : ℕ → ℕ → Tree → Node
 node_for at used (component c) = component_node c at
 node_for at used (literal bytes) = literal_node used (length bytes)

@@ -1,5 +1,5 @@
 -- What version 2 spells, written anew, version 3 spells.
-use Rattle.std.proofs.Common.{ℕ, ◌≡◌, ◌+◌, cond, true, false, [], ◌∷◌, ◌++◌, Ok, refl, sym, ◌∙◌, ap, append_assoc, append-nil, arith}
+use Rattle.std.proofs.Common.{ℕ, ◌≡◌, cond, true, false, [], ◌∷◌, ◌++◌, Ok, refl, sym, ◌∙◌, ap, append_assoc, append-nil, arith}
 use Rattle.std.proofs.lemmas.Bool.{and_parts}
 use Rattle.std.proofs.lemmas.Bool.Decides.{nat_tests}
 use Rattle.timefd_component.specs.Modern.{modern}

@@ -52,14 +52,14 @@ abbrev modifier_of : List Text → Modifier
 modifier_of (key ∷ value ∷ []) = key set_to value
 modifier_of parts = [] set_to []
 
-abbrev head_of : List Text → Head
-head_of [] = plain_head [] []
-head_of (name ∷ words) =
+abbrev head_of_words : List Text → Head
+head_of_words [] = plain_head [] []
+head_of_words (name ∷ words) =
     plain_head name (map (λ word. modifier_of (slice_split (λ b. b == colon) word)) words)
 
 -- the head of a bracket, which spaces cut into words
 abbrev pub head_in : Text → Head
-head_in text = head_of (slice_split (λ b. b == 32) (take (length text - 2) (drop 1 text)))
+head_in text = head_of_words (slice_split (λ b. b == 32) (take (length text - 2) (drop 1 text)))
 
 abbrev pub is_head : Head → Bool
 is_head h = list_all is_white h.white && (some is_word_byte h.name && list_all is_modifier

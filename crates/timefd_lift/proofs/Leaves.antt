@@ -27,9 +27,10 @@ use Rattle.timefd_language.specs.declared.name.ComponentName.{ComponentName}
 use Rattle.timefd_language.specs.Settings.{defaults}
 use Rattle.timefd_language.specs.Values.{count, format, digits_of, counted, count_of, not_zero, key_in}
 use Rattle.timefd_language.specs.Names.{Row, rows, row_for, row_of, component_names, ignored}
-use Rattle.timefd_language.specs.Verdict.{◌or◌, unless, bad_modifiers, any_modifier, setting_of, with_option, settings_from, settings, made, optional_verdict, first_verdict, component_verdict, verdict}
+use Rattle.timefd_language.specs.Verdict.{bad_modifiers, any_modifier, setting_of, with_option, settings_from, settings, made, optional_verdict, first_verdict, component_verdict, verdict}
 use Rattle.timefd_language.proofs.Lookup.{Each, each-map}
 use Rattle.timefd_language.proofs.Roomy.{behind_ok, made_ok}
+use Rattle.timefd_language.proofs.Recase.{unless_two}
 use Rattle.timefd_language.proofs.ModernPieces.{name_modern, row_has}
 use Rattle.timefd_lift.specs.Plain.{IsCounted}
 
@@ -206,12 +207,6 @@ third t true b x y z no_x no_y e = absurd (no_x e)
 third t false true x y z no_x no_y e = absurd (no_y e)
 third t false false x y z no_x no_y e = e
 
-unless_some : (a : Option Fault) (b : Option Fault) (f : Fault) (t u : Tree)
-    → unless (a or b or Some f) t ≡ Ok u → ⊥
-unless_some (Some x) b f t u e = cc
-unless_some None (Some x) f t u e = cc
-unless_some None None f t u e = cc
-
 -- without nested descriptions
 pub bracket-leaf : (h : Head) (close : ℕ) (tree : Tree) → verdict false h [] close ≡ Ok tree
     → IsLeaf tree
@@ -220,7 +215,7 @@ bracket-leaf h close tree e =
     (third tree (same false (codes "optional") h.name) (same false (codes "first") h.name)
     (optional_verdict false h [] close) (first_verdict false h [] close)
     (component_verdict false h (row_of false h.name))
-    (λ o. unless_some (bad_modifiers false (format ∷ []) [] (placed h))
+    (λ o. unless_two (bad_modifiers false (format ∷ []) [] (placed h))
     (Some (fault expected_nested close)) (fault optional_item 0) _ tree o)
-    (λ f. unless_some (any_modifier (placed h)) None (fault first_item 0) _ tree f)
+    (λ f. unless_two (any_modifier (placed h)) None (fault first_item 0) _ tree f)
     e)
