@@ -1,5 +1,5 @@
 -- A longest front whose bytes pass, by its length, and where it ends.
-use Rattle.std.proofs.Common.{◌≡◌, ℕ, zero, suc, ◌+◌, ◌<◌, ◌≤◌, Bool, true, false, List, [], ◌∷◌, length, take, drop, ap, ◌∙◌, IsUtf8, refl, sym, subst, inl, inr, arith, add-one, take-append-drop}
+use Rattle.std.proofs.Common.{◌≡◌, ℕ, zero, suc, ◌+◌, ◌-◌, length-drop, take_all, ◌<◌, ◌≤◌, Bool, true, false, List, [], ◌∷◌, length, take, drop, cond, ap, ◌∙◌, IsUtf8, refl, sym, subst, inl, inr, arith, add-one, take-append-drop}
 use Rattle.std.proofs.lemmas.Bool.{cases_lt, cases_Bool, and_from}
 use Rattle.std.proofs.lemmas.Bool.Decides.{nat_tests}
 use Rattle.std.proofs.lemmas.List.Sums.{prefix_len-le-length, prefix_len_passes, prefix_len_stops}
@@ -89,3 +89,41 @@ pub front_len : (p q : ℕ → Bool) (bytes : Text) (n : ℕ) → ((b : ℕ) →
 front_len p q bytes n same e =
     let len : n ≡ prefix_len p bytes = e ∙ ap (λ test. prefix_len test bytes) (λ i b. same b i) in
     (len, omega (arith, len, prefix_len-le-length p bytes))
+
+-- Where all bytes of one test pass another, a front by the first is within that by the second.
+pub longer_front : (q p : ℕ → Bool) (bytes : Text) (n : ℕ) → ((b : ℕ) → q b ≡ true → p b ≡ true)
+    → n ≤ prefix_len q bytes → n ≤ prefix_len p bytes
+longer_front q p [] n passes le = le
+longer_front q p (b ∷ bytes) zero passes le = omega arith
+longer_front q p (b ∷ bytes) (suc n) passes le = elim (cases_Bool (q b)) [
+  | inl pass ↦
+      let le' : suc n ≤ 1 + prefix_len q bytes = subst (λ t. suc n ≤ cond t
+      (1 + prefix_len q bytes) 0) pass le in
+      let more = longer_front q p bytes n passes (omega (arith, le')) in
+      rw (passes b pass) (omega (arith, more))
+  | inr fail ↦ absurd (omega (arith, subst (λ t. suc n ≤ cond t
+      (1 + prefix_len q bytes) 0) fail le))
+]
+
+-- the front from a place within it on
+pub front_from : (p : ℕ → Bool) (bytes : Text) (n : ℕ) → n ≤ prefix_len p bytes
+    → n + prefix_len p (drop n bytes) ≡ prefix_len p bytes
+front_from p bytes zero le = omega arith
+front_from p [] (suc n) le = absurd (omega (arith, le))
+front_from p (b ∷ bytes) (suc n) le = elim (cases_Bool (p b)) [
+  | inl pass ↦
+      let le' : suc n ≤ 1 + prefix_len p bytes = subst (λ t. suc n ≤ cond t
+      (1 + prefix_len p bytes) 0) pass le in
+      rw pass (omega (arith, front_from p bytes n (omega (arith, le'))))
+  | inr fail ↦ absurd (omega (arith, subst (λ t. suc n ≤ cond t
+      (1 + prefix_len p bytes) 0) fail le))
+]
+
+-- the same, as a part of the bytes is read
+pub front_from_part : (p : ℕ → Bool) (bytes : Text) (n : ℕ) → n ≤ prefix_len p bytes
+    → n + prefix_len p (take (length bytes - n) (drop n bytes)) ≡ prefix_len p bytes
+front_from_part p bytes n le =
+    let len : length (drop n bytes) ≡ length bytes - n = length-drop n bytes in
+    ap (λ t. n + prefix_len p t)
+    (take_all (length bytes - n) (drop n bytes) (omega (arith, len)))
+    ∙ front_from p bytes n le

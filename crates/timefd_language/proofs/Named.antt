@@ -8,7 +8,7 @@ use Rattle.timefd_language.specs.Bytes.{lowered, same, named}
 use Rattle.timefd_language.specs.Names.{row_for, rows, row_of}
 use Rattle.timefd_language.proofs.Lookup.{Each, equal-true}
 
-same-length : (strict : Bool) (a b : Text) → same strict a b ≡ true → length a ≡ length b
+pub same-length : (strict : Bool) (a b : Text) → same strict a b ≡ true → length a ≡ length b
 same-length true a b e = ap length (equal-true a b e)
 same-length false a b e =
     sym (length-map a lowered) ∙ ap length (equal-true (map lowered a) (map lowered b) e) ∙

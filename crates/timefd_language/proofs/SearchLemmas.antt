@@ -1,11 +1,13 @@
 -- Lanes that are compared with three bytes, and the front before one of those.
-use Rattle.std.proofs.Common.{◌≡◌, ℕ, ◌+◌, ◌-◌, ◌%◌, ◌^◌, ◌≤◌, ◌<◌, Bool, true, false, ◌||◌, eqb, cond, List, length, get_or, map, replicate, refl, sym, ap, ◌∙◌, subst, arith, bit_or, min, inl, inr}
+use Rattle.std.proofs.Common.{◌≡◌, ℕ, ◌+◌, ◌-◌, ◌%◌, ◌^◌, ◌≤◌, ◌<◌, Bool, true, false, ◌||◌, eqb, cond, List, length, get_or, map, replicate, nat_le, w8, refl, sym, ap, ◌∙◌, subst, arith, bit_or, min, inl, inr}
 use Rattle.std.proofs.lemmas.Bool.{cases_lt, true≢false}
 use Rattle.std.proofs.lemmas.List.{length-map}
 use Rattle.std.proofs.lemmas.List.Sums.{prefix_len-le-length, prefix_len_passes, prefix_len_stops, prefix_len_is}
-use Rattle.std.proofs.lemmas.Simd.{zip2_splat, zip2-map, map-map, mask_l-mod, length-chunk, get_or-chunk}
+use Rattle.std.proofs.lemmas.Simd.{zip2_splat, zip2-map, map-map, mask_l-mod, length-chunk, get_or-chunk, bitmask_splat, trailing_mask_l}
 use Rattle.std.specs.List.{prefix_len}
 use Rattle.std.specs.Simd.Lanes.{zip2, mask_l, top, chunk}
+use lib.Count.{count_trailing_zeros}
+use Rattle.timefd_language.specs.Cut.{is_high}
 
 abbrev pub is_one_of : ℕ → ℕ → ℕ → ℕ → Bool
 is_one_of first second third b = (eqb b first || eqb b second) || eqb b third
@@ -96,3 +98,18 @@ module _ (p : ℕ → Bool) (bytes : List ℕ) (at n : ℕ) (from : at ≤ prefi
               )
             ]
       ]
+
+-- The first lane that is marked stands where the bytes that are higher end, or before.
+pub high_front : (bytes : List ℕ) → 16 ≤ length bytes
+    → 0 < mask_l (map (top 7) (zip2 (λ x y. lane (nat_le x y)) (chunk 0 16 bytes) (replicate 16 93)))
+    % 2 ^ 64
+    → count_trailing_zeros 64 (mask_l (map (top 7) (zip2 (λ x y. lane (nat_le x y))
+    (chunk 0 16 bytes) (replicate 16 93))) % 2 ^ 64) ≤ prefix_len is_high bytes
+high_front bytes long some =
+    let lanes : length (chunk 0 16 bytes) ≡ 16 = length-chunk 0 16 bytes long in
+    let marks = bitmask_splat w8 (λ x y. nat_le x y) (chunk 0 16 bytes) 16 93 lanes (omega arith) in
+    let place = ap (count_trailing_zeros 64) marks ∙
+    trailing_mask_l (λ x. nat_le x 93) 64 (chunk 0 16 bytes) (omega (arith, lanes))
+    (subst (λ n. 0 < n) marks some) in
+    let front = front_in_chunk is_high bytes 0 16 (omega arith) long in
+    subst (λ n. n ≤ prefix_len is_high bytes) (sym place) (omega (arith, front))

@@ -1,12 +1,12 @@
 -- Words that are compared.
-use Rattle.std.proofs.Common.{ℕ, ◌≡◌, ◌==◌, Bool, true, false, [], ◌∷◌, map, IsTrue, ◌&&◌, ◌↔◌, refl, sym, ap, ap₂, ◌∙◌, arith, eq-eqb}
+use Rattle.std.proofs.Common.{ℕ, ◌≡◌, length, ◌==◌, Bool, true, false, [], ◌∷◌, map, IsTrue, ◌&&◌, ◌↔◌, refl, sym, ap, ap₂, ◌∙◌, arith, eq-eqb}
 use Rattle.std.specs.Char.{to_ascii_lowercase}
-use Rattle.std.specs.Cmp.Lexicographic.{pointwise}
 use Rattle.std.proofs.lemmas.Bool.{and_from}
 use Rattle.std.proofs.lemmas.Bool.Decides.{nat_tests, same_from_decides}
 use Rattle.timefd_component.specs.Tree.{Text}
 use Rattle.timefd_language.specs.Bytes.{lowered, equal, same}
 use Rattle.timefd_language.proofs.Lookup.{equal-true}
+use Rattle.timefd_language.proofs.Named.{same-length}
 
 lowered-is : (b : ℕ) → lowered b ≡ to_ascii_lowercase b
 lowered-is b = grind (arith, nat_tests)
@@ -32,12 +32,17 @@ same_lowered r a b test =
           sym (all_lowered-is b)),
     )
 
--- what `==` says
-pub same_bytes : (a b : Text) → pointwise ◌==◌ a b ≡ equal a b
-same_bytes [] [] = refl
-same_bytes [] (b ∷ y) = refl
-same_bytes (a ∷ x) [] = refl
-same_bytes (a ∷ x) (b ∷ y) = ap (λ t. (a == b) && t) (same_bytes x y)
+-- what was compared as bytes
+pub compared : (r : Bool) (a b x y : Text) → r ≡ equal x y → x ≡ a → y ≡ b → equal a b ≡ r
+compared r a b x y e p q = sym (e ∙ ap₂ equal p q)
+
+-- words of two lengths
+pub not_same : (strict : Bool) (a b : Text) → (length a ≡ length b → ⊥) → false ≡ same strict a b
+not_same strict a b other = by (same strict a b) refl
+  where
+    by : (t : Bool) → same strict a b ≡ t → false ≡ t
+    by true e = absurd (other (same-length strict a b e))
+    by false e = refl
 
 -- a word that is found byte for byte is found without case too
 pub same_at_once : (strict : Bool) (a b : Text) → equal a b ≡ true → same strict a b ≡ true

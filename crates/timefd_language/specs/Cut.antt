@@ -1,5 +1,5 @@
 -- Steps over a text.
-use Rattle.std.specs.Prelude.{ℕ, ◌≡◌, Bool, not, ◌==◌, ◌||◌, [], ◌∷◌, ◌++◌, IsTrue}
+use Rattle.std.specs.Prelude.{ℕ, ◌≡◌, Bool, not, nat_le, ◌==◌, ◌||◌, [], ◌∷◌, ◌++◌, IsTrue}
 use Rattle.timefd_language.specs.declared.description_version.DescriptionVersion.TheVariants.{One, Three}
 use Rattle.timefd_language.specs.declared.text.Class.{Class}
 use Rattle.timefd_language.specs.declared.text.Class.TheVariants.{White, Word, Key, Run, RunWithBackslash, Plain}
@@ -20,6 +20,10 @@ class_test Plain = is_plain
 -- the byte is none of these three
 abbrev pub is_none_of : ℕ → ℕ → ℕ → ℕ → Bool
 is_none_of first second third b = not (((b == first) || (b == second)) || (b == third))
+
+-- the byte stands behind all that end a word
+abbrev pub is_high : ℕ → Bool
+is_high b = not (nat_le b right)
 
 -- the text is cut behind its longest front whose bytes pass
 pub record IsCut (test : ℕ → Bool) (text front rest : Text) : Type 0 where

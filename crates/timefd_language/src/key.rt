@@ -119,6 +119,7 @@ fn component_keys(name: ComponentName) -> &'static [Key]
 }
 
 /// The key that a word is, in a bracket of this name.
+#[inline(always)]
 pub fn key_of(name: Name, strict: bool, word: &str) -> Option<Key>
     ensures { option_map key_for result ≡ key_in strict word.now (keys_for name) }
 {

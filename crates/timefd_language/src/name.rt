@@ -1,6 +1,7 @@
 //! The names that stand at the head of a bracket.
 
 ghost use Rattle.std.specs.Prelude.{◌≡◌, option_map};
+ghost use Rattle.timefd_language.specs.Bytes as spec;
 ghost use Rattle.timefd_language.specs.Names.{row_for, row_of};
 ghost use Rattle.timefd_language.specs.Lookup.{IsNameOf};
 
@@ -28,6 +29,34 @@ pub enum ComponentName {
     Year,
 }
 
+impl ComponentName {
+    /// The name as it is written.
+    #[inline(always)]
+    pub fn spelling(self) -> &'static str
+        ensures { result.now ≡ (row_for self).name }
+    {
+        match self {
+            ComponentName::Day => "day",
+            ComponentName::End => "end",
+            ComponentName::Hour => "hour",
+            ComponentName::Ignore => "ignore",
+            ComponentName::Minute => "minute",
+            ComponentName::Month => "month",
+            ComponentName::OffsetHour => "offset_hour",
+            ComponentName::OffsetMinute => "offset_minute",
+            ComponentName::OffsetSecond => "offset_second",
+            ComponentName::Ordinal => "ordinal",
+            ComponentName::Period => "period",
+            ComponentName::Second => "second",
+            ComponentName::Subsecond => "subsecond",
+            ComponentName::UnixTimestamp => "unix_timestamp",
+            ComponentName::Weekday => "weekday",
+            ComponentName::WeekNumber => "week_number",
+            ComponentName::Year => "year",
+        }
+    }
+}
+
 /// What a bracket is, by its name.
 #[derive(Clone, Copy)]
 pub enum Name {
@@ -52,27 +81,38 @@ pub fn name_of(strict: bool, word: &str) -> Option<Name>
     }
 }
 
+/// Of the names only those of the word's length are compared.
 fn component_name_of(strict: bool, word: &str) -> Option<ComponentName>
     ensures { option_map row_for result ≡ row_of strict word.now }
 {
     match word.len() {
-        3 if same(strict, "day", word) => Some(ComponentName::Day),
-        3 if same(strict, "end", word) => Some(ComponentName::End),
-        4 if same(strict, "hour", word) => Some(ComponentName::Hour),
-        4 if same(strict, "year", word) => Some(ComponentName::Year),
-        5 if same(strict, "month", word) => Some(ComponentName::Month),
-        6 if same(strict, "ignore", word) => Some(ComponentName::Ignore),
-        6 if same(strict, "minute", word) => Some(ComponentName::Minute),
-        6 if same(strict, "period", word) => Some(ComponentName::Period),
-        6 if same(strict, "second", word) => Some(ComponentName::Second),
-        7 if same(strict, "ordinal", word) => Some(ComponentName::Ordinal),
-        7 if same(strict, "weekday", word) => Some(ComponentName::Weekday),
-        9 if same(strict, "subsecond", word) => Some(ComponentName::Subsecond),
-        11 if same(strict, "offset_hour", word) => Some(ComponentName::OffsetHour),
-        11 if same(strict, "week_number", word) => Some(ComponentName::WeekNumber),
-        13 if same(strict, "offset_minute", word) => Some(ComponentName::OffsetMinute),
-        13 if same(strict, "offset_second", word) => Some(ComponentName::OffsetSecond),
-        14 if same(strict, "unix_timestamp", word) => Some(ComponentName::UnixTimestamp),
+        3 if names(ComponentName::Day, strict, word) => Some(ComponentName::Day),
+        3 if names(ComponentName::End, strict, word) => Some(ComponentName::End),
+        4 if names(ComponentName::Hour, strict, word) => Some(ComponentName::Hour),
+        4 if names(ComponentName::Year, strict, word) => Some(ComponentName::Year),
+        5 if names(ComponentName::Month, strict, word) => Some(ComponentName::Month),
+        6 if names(ComponentName::Ignore, strict, word) => Some(ComponentName::Ignore),
+        6 if names(ComponentName::Minute, strict, word) => Some(ComponentName::Minute),
+        6 if names(ComponentName::Period, strict, word) => Some(ComponentName::Period),
+        6 if names(ComponentName::Second, strict, word) => Some(ComponentName::Second),
+        7 if names(ComponentName::Ordinal, strict, word) => Some(ComponentName::Ordinal),
+        7 if names(ComponentName::Weekday, strict, word) => Some(ComponentName::Weekday),
+        9 if names(ComponentName::Subsecond, strict, word) => Some(ComponentName::Subsecond),
+        11 if names(ComponentName::OffsetHour, strict, word) => Some(ComponentName::OffsetHour),
+        11 if names(ComponentName::WeekNumber, strict, word) => Some(ComponentName::WeekNumber),
+        13 if names(ComponentName::OffsetMinute, strict, word) => Some(ComponentName::OffsetMinute),
+        13 if names(ComponentName::OffsetSecond, strict, word) => Some(ComponentName::OffsetSecond),
+        14 if names(ComponentName::UnixTimestamp, strict, word) => Some(
+            ComponentName::UnixTimestamp,
+        ),
         _ => None,
     }
+}
+
+/// Whether a word names this component.
+#[inline]
+fn names(name: ComponentName, strict: bool, word: &str) -> bool
+    ensures { result ≡ spec.same strict (row_for name).name word.now }
+{
+    same(strict, name.spelling(), word)
 }

@@ -2,7 +2,7 @@
 
 ghost use Rattle.std.specs.Prelude.{◌≡◌, ◌≤◌, ◌+◌, ℕ, Bool, length, min};
 ghost use Rattle.std.specs.List.{prefix_len};
-ghost use Rattle.timefd_language.specs.Cut.{is_none_of};
+ghost use Rattle.timefd_language.specs.Cut.{is_high, is_none_of};
 
 use std::simd::prelude::*;
 
@@ -70,4 +70,22 @@ fn len_of_few(bytes: &[u8], first: u8, second: u8, third: u8) -> usize
         }
     }
     bytes.len()
+}
+
+/// How many of the first sixteen bytes stand before one that is `]` or less; none of fewer bytes.
+#[inline(always)]
+pub fn high_len(bytes: &[u8]) -> usize
+    ensures front { result ≤ prefix_len is_high bytes.now }
+    ensures within { result ≤ length bytes.now }
+{
+    if bytes.len() < 16 {
+        return 0;
+    }
+    let low = Simd::<u8, 16>::from_slice(bytes).simd_le(Simd::splat(b']'));
+    let marks = low.to_bitmask();
+    if marks == 0 {
+        16
+    } else {
+        marks.trailing_zeros() as usize
+    }
 }

@@ -84,7 +84,7 @@ impl Settings {
     }
 
     /// Sets one more, which replaces an earlier one.
-    #[inline]
+    #[inline(always)]
     pub fn set(&mut self, setting: Setting)
         ensures { self.new ≡ spec.with self.old setting }
     {
@@ -110,7 +110,7 @@ impl Settings {
     }
 }
 
-#[inline]
+#[inline(always)]
 fn default_range(strict: bool) -> YearRange
     ensures { result ≡ spec.default_range strict }
 {

@@ -1,14 +1,14 @@
 //! Steps over a text: the longest stretch of a class of bytes, and what a text begins with.
 
-ghost use Rattle.std.specs.Prelude.{◌≡◌, ◌≤◌, ◌<◌, length, ◌==◌, ◌∷◌, MatchOption, slice_index, ℕ, IsTrue, [], ⊤};
+ghost use Rattle.std.specs.Prelude.{◌≡◌, ◌≤◌, ◌<◌, length, ◌==◌, ◌∷◌, MatchOption, slice_index, ℕ, IsTrue, [], true, ⊤};
 ghost use Rattle.std.specs.List.{prefix_len};
 ghost use Rattle.std.specs.Str.{IsUtf8};
 ghost use Rattle.timefd_language.specs.Bytes as spec;
 ghost use Rattle.timefd_language.specs.Bytes.{is_run_byte, StopsBefore};
-ghost use Rattle.timefd_language.specs.Cut.{class_test, IsCut, BeginsWith};
+ghost use Rattle.timefd_language.specs.Cut.{class_test, is_high, IsCut, BeginsWith};
 
 use crate::description_version::DescriptionVersion;
-use crate::search::len_before;
+use crate::search::{high_len, len_before};
 
 /// A set of bytes. Where a stretch of its bytes ends, a character ends.
 #[derive(Clone, Copy)]
@@ -102,13 +102,37 @@ fn run_len(bytes: &[u8], class: Class) -> usize
     bytes.len()
 }
 
+/// The same of a class of words. The bytes behind all that end a word are passed over at once.
+#[inline(always)]
+fn word_len(bytes: &[u8], class: Class) -> usize
+    requires { (b : ℕ) → is_high b ≡ true → class_test class b ≡ true }
+    ensures len { result ≡ prefix_len (class_test class) bytes.now }
+    ensures within { result ≤ length bytes.now }
+{
+    let high = high_len(bytes);
+    high + run_len(&bytes[high..], class)
+}
+
+/// The same of any class.
+#[inline(always)]
+fn class_len(bytes: &[u8], class: Class) -> usize
+    ensures len { result ≡ prefix_len (class_test class) bytes.now }
+    ensures within { result ≤ length bytes.now }
+{
+    match class {
+        Class::Word => word_len(bytes, Class::Word),
+        Class::Key => word_len(bytes, Class::Key),
+        _ => run_len(bytes, class),
+    }
+}
+
 /// The longest front of bytes of the class, and the rest.
 #[inline(always)]
 pub fn cut(text: &str, class: Class) -> (&str, &str)
     ensures parts { IsCut (class_test class) text.now result.0.now result.1.now }
     ensures utf8 { IsUtf8 result.1.now }
 {
-    text.split_at(run_len(text.as_bytes(), class))
+    text.split_at(class_len(text.as_bytes(), class))
 }
 
 /// The longest front that is one literal of the version, and the rest.

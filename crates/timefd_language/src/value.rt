@@ -17,6 +17,7 @@ use timefd_modifier::{
 };
 
 /// What a word sets a key to.
+#[inline(always)]
 pub fn setting_of(key: Key, strict: bool, word: &str) -> Option<Setting>
     ensures { result ≡ setting_in strict (key_for key).values word.now }
 {

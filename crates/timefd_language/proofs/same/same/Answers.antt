@@ -1,16 +1,21 @@
-use Rattle.std.proofs.Common.{Bool, ap, sym, ◌∙◌}
+use Rattle.std.proofs.Common.{Bool, ap, sym, arith, ◌∙◌}
 use Rattle.timefd_language.specs.Bytes as spec
-use Rattle.timefd_language.proofs.Words.{same_lowered, same_bytes, same_at_once}
+use Rattle.timefd_language.proofs.Words.{compared, not_same, same_lowered, same_at_once}
 use Rattle.timefd_language.proofs.same.same.Goals as goal
 
-pub returns-then-eq : goal.returns-then-eq
-returns-then-eq c = sym (same_at_once c.args.strict c.args.word.now c.args.text.now
-    (sym (same_bytes c.args.word.now c.args.text.now) ∙ sym c.eq.ensures ∙ c.if-eq.true))
+pub returns-then-word-text : goal.returns-then-word-text
+returns-then-word-text c = not_same c.args.strict c.args.word.now c.args.text.now (λ e. omega arith)
+
+pub returns-then-equal : goal.returns-then-equal
+returns-then-equal c = sym (same_at_once c.args.strict c.args.word.now c.args.text.now
+    (compared _ _ _ _ _ c.equal.ensures c.as_bytes.ensures.value c.as_bytes-2.ensures.value ∙
+    c.if-equal.true))
 
 pub returns-then-strict : goal.returns-then-strict
 returns-then-strict c =
     sym (ap (λ (s : Bool). spec.same s c.args.word.now c.args.text.now) c.if-strict.true ∙
-    sym (same_bytes c.args.word.now c.args.text.now) ∙ sym c.eq.ensures ∙ c.if-eq.false)
+    compared _ _ _ _ _ c.equal.ensures c.as_bytes.ensures.value c.as_bytes-2.ensures.value ∙
+    c.if-equal.false)
 
 pub returns : goal.returns
 returns c =
