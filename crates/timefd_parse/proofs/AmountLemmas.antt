@@ -1,33 +1,21 @@
 -- What the outputs of the readers count, and what their errors say, in terms of the language.
-use Rattle.std.proofs.Common.{◌≡◌, ℕ, Result, Ok, Err, IfOk, IfErr, MatchResult, IsFalse, List, length, refl, ap, sym, ◌∙◌, subst}
+use Rattle.std.proofs.Common.{◌≡◌, ℕ, Result, Ok, Err, IfErr, IsFalse, List, length, refl}
 use Rattle.std.proofs.lemmas.Bool.{true≢false}
 use Rattle.timefd_language.specs.Bytes.{is_version_three}
-use Rattle.timefd_language.specs.Grammar.{Spells}
-use Rattle.std.proofs.lemmas.List.{length-map}
-use Rattle.std.specs.declared.vec.Vec.{Vec}
-use Rattle.std.specs.declared.alloc.Global.{Global}
-use Rattle.timefd_format_item.specs.declared.borrowed_format_item.BorrowedFormatItem.{BorrowedFormatItem}
-use Rattle.timefd_items.specs.declared.format_description_v3.FormatDescriptionV3.{FormatDescriptionV3}
-use Rattle.timefd_items.specs.Description.{description_tree}
-use Rattle.timefd_format_item.specs.Meaning.{item_tree, item_trees}
-use Rattle.timefd_component.specs.Reserved.{reserve}
 use Rattle.timefd_component.specs.Tree.{Text, Tree}
 use Rattle.timefd_language.specs.declared.description_version.DescriptionVersion.{DescriptionVersion}
 use Rattle.timefd_language.specs.declared.description_version.DescriptionVersion.TheVariants.{One, Two, Three}
 use Rattle.timefd_parse.specs.declared.language.Language.TheVariants.{Version, Strftime}
-use Rattle.timefd_parse.specs.declared.parsing.BorrowedOutput.{BorrowedOutput}
-use Rattle.timefd_parse.specs.declared.parsing.BorrowedOutput.TheVariants.{Items, Description}
 use Rattle.timefd_language.specs.declared.parse_error.ParseError.{ParseError}
 use Rattle.timefd_language.specs.declared.parse_error.ParseError.TheVariants as told
 use Rattle.timefd_language.specs.Broken.{FaultOf}
 use Rattle.timefd_language.specs.Strftime.{StrftimeFaultOf}
 use Rattle.timefd_borrowed_fault.specs.declared.borrowed_parse_error.BorrowedParseError.{BorrowedParseError}
 use Rattle.timefd_borrowed_fault.specs.declared.borrowed_parse_error.BorrowedParseError.TheVariants.{Invalid, Memory}
-use Rattle.timefd_borrowed_fault.specs.BorrowedFaults.{HasShortWords, IsLentOf, IsMemory, IsOwned}
+use Rattle.timefd_borrowed_fault.specs.BorrowedFaults.{HasShortWords, IsLentOf, IsOwned}
 use Rattle.timefd_borrowed_fault.proofs.ShortWords.{short_fault, short_strftime_fault}
 use Rattle.timefd_fault.specs.Faults.{Fault}
 use Rattle.timefd_borrowed_fault.proofs.OwnedLemmas.{owned_of}
-use Rattle.timefd_parse.specs.Answers.{IsOutput}
 use Rattle.timefd_parse.specs.declared.language.Language.{Language}
 use Rattle.timefd_parse.specs.Language.{amount, takes_memory, FaultIn, IsAssignedIn}
 

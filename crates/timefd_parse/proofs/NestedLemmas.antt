@@ -245,23 +245,23 @@ module _ {v : DescriptionVersion} {limit n : ℕ} {text : Text} where
 -- Brackets.
 
 -- what a verdict says of a bracket that it accepts, and of one that it refuses
-abbrev pub Accepts : Bool → ℕ → code_head.Head → code_modifiers.Modifiers → code_nested.Nested → ℕ
-    → List Tree → List Tree → Piece → Type 0
-Accepts strict total head modifiers inners end old new piece =
+abbrev pub Accepts : Bool → Bool → ℕ → code_head.Head → code_modifiers.Modifiers
+    → code_nested.Nested → ℕ → List Tree → List Tree → Piece → Type 0
+Accepts strict builds total head modifiers inners end old new piece =
     (place : ℕ) (h : Head) (parts : List PlacedDescription) (base : List Tree)
     → ShowsHead strict total head modifiers h → ShowsNested total inners parts
     → place + end ≡ total
-    → IsBuilt strict base old (packed parts)
+    → IsBuilt builds base old (packed parts)
     → (tree : Tree) × (verdict strict h parts place ≡ Ok tree)
-    × IsPiece strict base new piece tree
+    × IsPiece strict builds base new piece tree
 
-abbrev pub Refuses : Bool → ℕ → code_head.Head → code_modifiers.Modifiers → code_nested.Nested → ℕ
-    → List Tree → ReadError → Type 0
-Refuses strict total head modifiers inners end old e =
+abbrev pub Refuses : Bool → Bool → ℕ → code_head.Head → code_modifiers.Modifiers
+    → code_nested.Nested → ℕ → List Tree → ReadError → Type 0
+Refuses strict builds total head modifiers inners end old e =
     (place : ℕ) (h : Head) (parts : List PlacedDescription) (base : List Tree)
     → ShowsHead strict total head modifiers h → ShowsNested total inners parts
     → place + end ≡ total
-    → IsBuilt strict base old (packed parts)
+    → IsBuilt builds base old (packed parts)
     → MemoryOr (JudgedFault total (verdict strict h parts place)) e
 
 shows_nested : (total : ℕ) (inners : code_nested.Nested) (read : List Tree)
@@ -500,10 +500,10 @@ module _ {v : DescriptionVersion} {limit n : ℕ} {inside : Text} {head : code_h
     shown = let same : length (left ∷ inside) ≡ length inside + 1 = omega arith in
         subst (λ k. ShowsHead (is_version_three v) k head modifiers b.h) same b.begins.shows
 
-    module _ (count : ℕ) (base old : List Tree) (counted : count ≡ length read)
-        (are : IsBuilt (is_version_three v) base old read) where
-      built_parts : IsBuilt (is_version_three v) base old (packed parts)
-      built_parts = λ three. are three ∙
+    module _ (builds : Bool) (count : ℕ) (base old : List Tree) (counted : count ≡ length read)
+        (are : IsBuilt builds base old read) where
+      built_parts : IsBuilt builds base old (packed parts)
+      built_parts = λ on. are on ∙
           ap (λ ts. base ++ ts) (read_packed _ _ _ read parts parts_shown)
 
       nested_shown : ShowsNested (length inside + 1)
@@ -513,17 +513,17 @@ module _ {v : DescriptionVersion} {limit n : ℕ} {inside : Text} {head : code_h
           counted
 
       pub accepted : (after : Text) (new : List Tree) (piece : Piece) → rest ≡ right ∷ after
-          → Accepts (is_version_three v) (length inside + 1) head modifiers
+          → Accepts (is_version_three v) builds (length inside + 1) head modifiers
           (record { spaced = spaced; remaining = remaining; count = count }) (length rest) old new
           piece
           → (tree : Tree) × Leads v limit n (left ∷ inside) tree after
-          × IsPiece (is_version_three v) base new piece tree
+          × IsPiece (is_version_three v) builds base new piece tree
       accepted after new piece closing judged =
           let j = judged place b.h parts base shown nested_shown place_of_rest built_parts in
           (j.0, bracket_leads after j.0 closing j.1, j.2)
 
       pub refuses : (after : Text) (e : ReadError) → rest ≡ right ∷ after
-          → Refuses (is_version_three v) (length inside + 1) head modifiers
+          → Refuses (is_version_three v) builds (length inside + 1) head modifiers
           (record { spaced = spaced; remaining = remaining; count = count }) (length rest) old e
           → MemoryOr (IsFaultAt v limit n (left ∷ inside)) e
       refuses after e closing judged =

@@ -1,5 +1,5 @@
 -- The verdict, rule by rule.
-use Rattle.std.proofs.Common.{◌++◌, ◌<◌, ◌≡◌, ℕ, ◌+◌, Bool, true, false, not, if◌then◌else◌, codes, List, [], ◌∷◌, length, map, Option, Some, None, option_map, Result, Ok, Err, refl, sym, ap, ◌∙◌, subst, arith}
+use Rattle.std.proofs.Common.{◌++◌, ◌<◌, ◌≡◌, ℕ, ◌+◌, Bool, true, false, not, if◌then◌else◌, codes, List, [], ◌∷◌, length, map, Option, Some, None, option_map, Result, Ok, Err, IsTrue, refl, sym, ap, ◌∙◌, subst, arith}
 use Rattle.std.proofs.lemmas.List.{length-map}
 use Rattle.std.specs.Borrow.{Bor}
 use Rattle.timefd_component.specs.declared.component.Component.{Component}
@@ -14,7 +14,7 @@ use Rattle.timefd_parse.specs.declared.modifiers.Modifiers as code_modifiers
 use Rattle.timefd_language.specs.declared.name.ComponentName.{ComponentName}
 use Rattle.timefd_language.specs.declared.name.Name.{Name}
 use Rattle.timefd_language.specs.declared.name.Name.TheVariants as names
-use Rattle.timefd_parse.specs.declared.piece.Piece.TheVariants.{Built}
+use Rattle.timefd_parse.specs.declared.piece.Piece.TheVariants.{Compound}
 use Rattle.timefd_parse.specs.declared.places.Places.{Places}
 use Rattle.timefd_parse.specs.declared.verdict.Nested as code_nested
 use Rattle.timefd_language.specs.declared.combination.Refusal as code_refusal
@@ -132,24 +132,25 @@ made_optional base old new tree format shown o made same =
     ∙ ap (λ ts. base ++ optional format (pack ts) ∷ []) (ending-append base (tree ∷ []) 1 refl)
     ∙ ap (λ f. base ++ optional f tree ∷ []) same
 
-pub optional_made : (strict : Bool) (total place : ℕ) (n : code_nested.Nested)
+pub optional_made : (strict builds : Bool) (total place : ℕ) (n : code_nested.Nested)
     (modifiers : code_modifiers.Modifiers) (h : Head) (parts : List PlacedDescription)
     (base old new : List Tree)
     → Checks strict (Some names.Optional) total modifiers (placed h) → modifiers.fault ≡ None
     → ShowsNested total n parts → n.count ≡ 1 → strict ≡ true
-    → IsBuilt strict base old (packed parts)
-    → new ≡ before 1 old ++ optional modifiers.settings.format (pack (ending 1 old)) ∷ []
+    → IsBuilt builds base old (packed parts)
+    → (IsTrue builds
+    → new ≡ before 1 old ++ optional modifiers.settings.format (pack (ending 1 old)) ∷ [])
     → (tree : Tree) × (optional_verdict strict h parts place ≡ Ok tree)
-    × IsPiece strict base new Built tree
-optional_made strict total place n modifiers h parts base old new checks good shows one exact are
-    made =
+    × IsPiece strict builds base new Compound tree
+optional_made strict builds total place n modifiers h parts base old new checks good shows one
+    exact are made =
     let p = parts_one total n parts shows one in (
       optional (is_formatted strict (placed h)) (pack p.0.trees),
       optional_found strict place h p.0 parts (none_shown total _ _ checks.fault good) exact p.1,
       (
         exact,
-        made_optional base old new (pack p.0.trees) _ _
-            (are exact ∙ ap (λ ps. base ++ packed ps) p.1) made
+        λ on. made_optional base old new (pack p.0.trees) _ _
+            (are on ∙ ap (λ ps. base ++ packed ps) p.1) (made on)
             (ap (λ s. s.format) (checks.settings good)),
       ),
     )
@@ -208,24 +209,24 @@ made_first base old new list count o counted made =
     (before-append base list count counted)
     ∙ ap (λ ts. base ++ first (trees ts) ∷ []) (ending-append base list count counted)
 
-pub first_made : (strict : Bool) (total place : ℕ) (n : code_nested.Nested)
+pub first_made : (strict builds : Bool) (total place : ℕ) (n : code_nested.Nested)
     (modifiers : code_modifiers.Modifiers) (h : Head) (parts : List PlacedDescription)
     (base old new : List Tree)
     → Checks strict (Some names.First) total modifiers (placed h) → modifiers.fault ≡ None
     → ShowsNested total n parts → (n.count ≡ 0 → ⊥) → strict ≡ true
-    → IsBuilt strict base old (packed parts)
-    → new ≡ before n.count old ++ first (trees (ending n.count old)) ∷ []
+    → IsBuilt builds base old (packed parts)
+    → (IsTrue builds → new ≡ before n.count old ++ first (trees (ending n.count old)) ∷ [])
     → (tree : Tree) × (first_verdict strict h parts place ≡ Ok tree)
-    × IsPiece strict base new Built tree
-first_made strict total place n modifiers h parts base old new checks good shows some exact are
-    made = (
+    × IsPiece strict builds base new Compound tree
+first_made strict builds total place n modifiers h parts base old new checks good shows some exact
+    are made = (
       first (trees (packed parts)),
       first_found strict place h parts (none_shown total _ _ checks.fault good) exact
           (λ e. some (parts_count total n parts shows ∙ ap (λ ps. length (packed ps)) e)),
       (
         exact,
-        made_first base old new (packed parts) n.count (are exact)
-            (parts_count total n parts shows) made,
+        λ on. made_first base old new (packed parts) n.count (are on)
+            (parts_count total n parts shows) (made on),
       ),
     )
 

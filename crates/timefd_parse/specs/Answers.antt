@@ -3,7 +3,7 @@ use Rattle.std.specs.Prelude.{ℕ, ◌≡◌, ◌≤◌, List, map, IsTrue, ⊤}
 use Rattle.timefd_component.specs.Tree.{Text, Tree, pack}
 use Rattle.timefd_format_item.specs.Meaning.{item_tree}
 use Rattle.timefd_items.specs.Description.{description_tree}
-use Rattle.timefd_fault.specs.Faults.{Fault, fault_of}
+use Rattle.timefd_fault.specs.Faults.{fault_of}
 use Rattle.timefd_component.specs.Reserved.{reserve}
 use Rattle.timefd_language.specs.declared.description_version.DescriptionVersion.{DescriptionVersion}
 use Rattle.timefd_language.specs.declared.description_version.DescriptionVersion.TheVariants.{One, Two, Three}
@@ -12,9 +12,6 @@ use Rattle.timefd_parse.specs.declared.parsing.BorrowedOutput.TheVariants.{Items
 use Rattle.timefd_language.specs.declared.parse_error.ParseError.{ParseError}
 use Rattle.timefd_language.specs.declared.parse_error.ParseError.TheVariants.{Invalid, Memory}
 use Rattle.timefd_language.specs.Broken.{FaultOf}
-use Rattle.timefd_language.specs.declared.fault.ReadError.{ReadError}
-use Rattle.timefd_language.specs.declared.fault.ReadError.TheVariants as errors
-use Rattle.timefd_language.specs.FaultMeaning.{IsFault}
 use Rattle.timefd_language.specs.Strings.{are_of_strings}
 
 -- The items of the list in versions 1 and 2, and in version 3 the description that they are packed

@@ -32,7 +32,7 @@ pub struct Nested {
     /// Whether white bytes stand before the first, and how much of the text remains from its `[` on.
     pub spaced: bool,
     pub remaining: usize,
-    /// How many there are. In version 3 each is a tree, and they are the last that were built.
+    /// How many there are. A reader that builds has made a tree of each, and these are the last.
     pub count: usize,
 }
 
@@ -44,21 +44,21 @@ pub struct Span {
 }
 
 /// The optional description of a bracket named `optional`.
-fn optional<'a>(
+fn optional<'a, const BUILDS: bool>(
     builder: &mut DescriptionBuilder<'a>,
     strict: bool,
     modifiers: &Modifiers<'a>,
     nested: Nested,
     span: Span,
 ) -> Result<Piece<'a>, ReadError<'a>>
-    requires { IsTrue strict → nested.count ≤ length (built builder.old) }
+    requires { IsTrue BUILDS → nested.count ≤ length (built builder.old) }
     ensures tree { (place : ℕ) (h : spec.Head) (parts : List PlacedDescription) (base : List Tree)
         → Checks strict (Some spec_name.Name.Optional) span.start modifiers.now (placed h)
         → ShowsNested span.start nested parts → place + span.end ≡ span.start
-        → IsBuilt strict base (built builder.old) (packed parts)
-        → Judged span.start strict base (built builder.new) result
+        → IsBuilt BUILDS base (built builder.old) (packed parts)
+        → Judged span.start strict BUILDS base (built builder.new) result
         (rules.optional_verdict strict h parts place) }
-    ensures invalid { IsFalse strict → IfErr result IsInvalid }
+    ensures invalid { IsFalse BUILDS → IfErr result IsInvalid }
 {
     if let Some(fault) = modifiers.fault {
         return Err(ReadError::Invalid(fault));
@@ -87,26 +87,29 @@ fn optional<'a>(
             remaining: span.start,
         }));
     }
+    if !BUILDS {
+        return Ok(Piece::Compound);
+    }
     builder.optional(modifiers.settings.format)?;
-    Ok(Piece::Built)
+    Ok(Piece::Compound)
 }
 
 /// The alternatives of a bracket named `first`.
-fn first<'a>(
+fn first<'a, const BUILDS: bool>(
     builder: &mut DescriptionBuilder<'a>,
     strict: bool,
     modifiers: &Modifiers<'a>,
     nested: Nested,
     span: Span,
 ) -> Result<Piece<'a>, ReadError<'a>>
-    requires { IsTrue strict → nested.count ≤ length (built builder.old) }
+    requires { IsTrue BUILDS → nested.count ≤ length (built builder.old) }
     ensures tree { (place : ℕ) (h : spec.Head) (parts : List PlacedDescription) (base : List Tree)
         → Checks strict (Some spec_name.Name.First) span.start modifiers.now (placed h)
         → ShowsNested span.start nested parts → place + span.end ≡ span.start
-        → IsBuilt strict base (built builder.old) (packed parts)
-        → Judged span.start strict base (built builder.new) result
+        → IsBuilt BUILDS base (built builder.old) (packed parts)
+        → Judged span.start strict BUILDS base (built builder.new) result
         (rules.first_verdict strict h parts place) }
-    ensures invalid { IsFalse strict → IfErr result IsInvalid }
+    ensures invalid { IsFalse BUILDS → IfErr result IsInvalid }
 {
     if let Some(fault) = modifiers.fault {
         return Err(ReadError::Invalid(fault));
@@ -125,8 +128,11 @@ fn first<'a>(
             remaining: span.end,
         }));
     }
+    if !BUILDS {
+        return Ok(Piece::Compound);
+    }
     builder.first(nested.count)?;
-    Ok(Piece::Built)
+    Ok(Piece::Compound)
 }
 
 /// The first key that version 3 refuses with the component.
@@ -196,8 +202,8 @@ fn placing_fault<'a>(head: &Head<'a>, nested: Nested, span: Span) -> Option<Faul
     }
 }
 
-/// What a bracket is. In version 3 its nested descriptions become one tree.
-pub fn verdict<'a>(
+/// What a bracket is. A reader that builds makes one tree of its nested descriptions.
+pub fn verdict<'a, const BUILDS: bool>(
     builder: &mut DescriptionBuilder<'a>,
     strict: bool,
     head: &Head<'a>,
@@ -205,20 +211,20 @@ pub fn verdict<'a>(
     nested: Nested,
     span: Span,
 ) -> Result<Piece<'a>, ReadError<'a>>
-    requires { IsTrue strict → nested.count ≤ length (built builder.old) }
+    requires { IsTrue BUILDS → nested.count ≤ length (built builder.old) }
     ensures tree { (place : ℕ) (h : spec.Head) (parts : List PlacedDescription) (base : List Tree)
         → ShowsHead strict span.start head.now modifiers.now h → ShowsNested span.start nested parts
-        → place + span.end ≡ span.start → IsBuilt strict base (built builder.old) (packed parts)
-        → Judged span.start strict base (built builder.new) result
+        → place + span.end ≡ span.start → IsBuilt BUILDS base (built builder.old) (packed parts)
+        → Judged span.start strict BUILDS base (built builder.new) result
         (rules.verdict strict h parts place) }
-    ensures invalid { IsFalse strict → IfErr result IsInvalid }
+    ensures invalid { IsFalse BUILDS → IfErr result IsInvalid }
 {
     if let Some(fault) = placing_fault(head, nested, span) {
         return Err(ReadError::Invalid(fault));
     }
     match head.name {
-        Some(Name::Optional) => optional(builder, strict, modifiers, nested, span),
-        Some(Name::First) => first(builder, strict, modifiers, nested, span),
+        Some(Name::Optional) => optional::<BUILDS>(builder, strict, modifiers, nested, span),
+        Some(Name::First) => first::<BUILDS>(builder, strict, modifiers, nested, span),
         Some(Name::Component(name)) => Ok(Piece::Component(component(
             strict, head, modifiers, name,
         )?)),
