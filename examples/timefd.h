@@ -35,9 +35,9 @@ uint32_t timefd_version(void);
 /* The bytes are no UTF-8. The value is 0. */
 #define TIMEFD_NOT_UTF8 2u
 
-/* malloc or realloc gave no memory. That says nothing of the text. The value is 0. In timefd_judge, timefd_check and
-   timefd_read the fault of a refused text and its sentence take no memory, so this comes only where there was none to read
-   the text; for strftime the first two take none at all. */
+/* malloc or realloc gave no memory. The value is 0. From timefd_judge, timefd_check and timefd_read it comes only of a text
+   without a fault: these find a fault without memory, and write its sentence without it. The first two answer it of texts
+   of version 3 alone. From timefd_v1_to_v2 and timefd_v2_to_v3 it says nothing of the text. */
 #define TIMEFD_NO_MEMORY 3u
 
 /* The kind is none of the four numbers above, whatever the bytes are. The value is 0. */

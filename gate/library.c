@@ -78,6 +78,11 @@ static const struct sample SAMPLES[] = {
     {TIMEFD_VERSION_3, "[hour repr:12 repr:24]"},
     {TIMEFD_STRFTIME, "%c and %Y-%m-%d"},
     {TIMEFD_VERSION_3, "[first [a] [[mnth of a name that is longer than others]]]"},
+    {TIMEFD_VERSION_1, "[day][year] a [hour] b [minute]: [mnth]"},
+    {TIMEFD_VERSION_2, "[day][year] a [hour] \\b"},
+    {TIMEFD_VERSION_3, "[first [a] [b]]x[foo]"},
+    {TIMEFD_VERSION_3, "[optional [[day]]] [hour repr:99]"},
+    {TIMEFD_VERSION_3, "[optional [[first [a] [[day]]"},
     {TIMEFD_STRFTIME, "%O"},
     {TIMEFD_STRFTIME, "%Y-%m-%d %Q"},
     {TIMEFD_STRFTIME, "%\xc3\xa9"},
@@ -134,10 +139,13 @@ static bool takes_little(const struct sample *sample) {
     return !is_text || asked <= (sample->kind == TIMEFD_VERSION_3 ? 1 : 0);
 }
 
-/* Whether each outcome is the ample one, or that memory ran out and nothing else; and how many were refused. */
+/* Whether each outcome is the ample one, or, where the text is no refused one of a language, that memory ran out and
+   nothing else; and how many were refused. */
 static bool holds(enum call call, const struct sample *sample, size_t *count) {
     struct outcome ample = outcome_of(call, sample, 0);
     struct outcome out = out_of_memory(call);
+    uint32_t status = call == READ ? ample.read.status : ample.answer.status;
+    bool may_run_out = sample->kind >= LIFT || status != TIMEFD_REFUSED;
     if (is_same(&ample, &out) || held != 0) {
         return false;
     }
@@ -145,7 +153,7 @@ static bool holds(enum call call, const struct sample *sample, size_t *count) {
         struct outcome one = outcome_of(call, sample, number);
         bool none_refused = asked < number;
         struct outcome next = outcome_of(call, sample, 0);
-        bool fits = is_same(&one, &ample) || (!none_refused && is_same(&one, &out));
+        bool fits = is_same(&one, &ample) || (may_run_out && !none_refused && is_same(&one, &out));
         if (!fits || !is_same(&next, &ample) || held != 0) {
             return false;
         }

@@ -26,7 +26,8 @@ pub enum ParseError {
         /// fault that the rules assign to the text.
         sentence: Box<str>,
     },
-    /// Memory ran out. That says nothing of the text.
+    /// Memory ran out: for what a description holds, or for the sentence of a fault, which is
+    /// copied. The library itself finds a fault without memory.
     OutOfMemory,
 }
 
@@ -50,7 +51,7 @@ impl ParseError {
         }
     }
 
-    /// The fault of a text that is refused. `None` where memory ran out.
+    /// The fault of a text that is refused. `None` where there is no memory for its sentence.
     fn fault(kind: u32, text: &str) -> Option<Self> {
         let mut sentence = buffer::filled(SENTENCE_ROOM, 0)?;
         let mut answer = sys::check(kind, text, &mut sentence);
@@ -59,7 +60,7 @@ impl ParseError {
             answer = sys::check(kind, text, &mut sentence);
         }
         if answer.status != sys::REFUSED {
-            return None; // It is refused, so memory ran out.
+            return None; // It was refused before, so it is again: this is not reached.
         }
         sentence.truncate(answer.written);
         let sentence = String::from_utf8(sentence).expect("a sentence is text");

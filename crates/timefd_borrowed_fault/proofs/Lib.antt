@@ -1,4 +1,5 @@
 pub mod ExcerptLemmas
 pub mod PartLemmas
 pub mod OwnedLemmas
+pub mod LentLemmas
 pub mod ShortWords

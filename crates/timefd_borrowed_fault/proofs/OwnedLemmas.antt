@@ -7,19 +7,18 @@ use Rattle.timefd_language.specs.declared.parse_error.ParseError.TheVariants as 
 use Rattle.timefd_language.specs.Told.{IsFaultOrMemory, MemoryAlone}
 use Rattle.timefd_borrowed_fault.specs.declared.borrowed_parse_error.BorrowedParseError.{BorrowedParseError}
 use Rattle.timefd_borrowed_fault.specs.declared.borrowed_parse_error.BorrowedParseError.TheVariants.{Invalid, Memory}
-use Rattle.timefd_borrowed_fault.specs.BorrowedFaults.{IsLentOf, IsLentOrMemory, IsMemory, IsOwned}
+use Rattle.timefd_borrowed_fault.specs.BorrowedFaults.{IsLent, IsLentOf, IsMemory, IsOwned}
 
 pub owned_memory : (e : BorrowedParseError) (r : ParseError) → IsMemory e → IsOwned e r
     → MemoryAlone r
 owned_memory (Invalid f) r is owned = absurd is
 owned_memory (Memory m) r is owned = owned
 
-pub owned_fault : (f : Fault) (e : BorrowedParseError) (r : ParseError) → IsLentOrMemory f e
+pub owned_fault : (f : Fault) (e : BorrowedParseError) (r : ParseError) → IsLent f e
     → IsOwned e r → IsFaultOrMemory f r
 owned_fault f (Invalid g) (told.Invalid x) is owned = owned ∙ is
 owned_fault f (Invalid g) (told.Memory n) is owned = tt
-owned_fault f (Memory m) (told.Invalid x) is owned = absurd owned
-owned_fault f (Memory m) (told.Memory n) is owned = tt
+owned_fault f (Memory m) r is owned = absurd is
 
 pub owned_of : (P : Fault → Type 0) (e : BorrowedParseError) (x : InvalidFormatDescription)
     → IsLentOf P e → IsOwned e (told.Invalid x) → P (fault_of x)

@@ -47,11 +47,6 @@ abbrev pub IsLent : Fault → BorrowedParseError → Type 0
 IsLent f (Invalid g) = lent_fault g ≡ f
 IsLent f (Memory e) = ⊥
 
--- this fault, or out of memory
-abbrev pub IsLentOrMemory : Fault → BorrowedParseError → Type 0
-IsLentOrMemory f (Invalid g) = lent_fault g ≡ f
-IsLentOrMemory f (Memory e) = ⊤
-
 -- out of memory, or a fault of which this holds
 abbrev pub IsLentOf : (Fault → Type 0) → BorrowedParseError → Type 0
 IsLentOf P (Invalid f) = P (lent_fault f)

@@ -14,7 +14,7 @@ use timefd_language::parse_error::{ParseError, told};
 pub enum BorrowedParseError<'a> {
     /// The text is no description, for this fault.
     Invalid(BorrowedFault<'a>),
-    /// Memory ran out, which says nothing of the text.
+    /// Memory ran out. No call answers this of a text that has a fault.
     Memory(AllocError),
 }
 

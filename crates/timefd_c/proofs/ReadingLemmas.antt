@@ -118,7 +118,7 @@ reported language bytes ns ms a b r utf8 found spelled no_fault = record {
   accepted = λ e. (found.0, (utf8, found.1), found.2);
   refused = λ e. absurd (omega (arith, e));
   spelled = λ list d more. (refl, spelled list d.1);
-  faulty = λ f h more. absurd (no_fault f h.1);
+  faulty = λ f h. absurd (no_fault f h.1);
   unknown_kind = (
     λ e. absurd (omega (arith, e)),
     λ none. let is : Some language ≡ None = none in
@@ -126,7 +126,6 @@ reported language bytes ns ms a b r utf8 found spelled no_fault = record {
   );
   not_utf8 = (λ e. absurd (omega (arith, e)), λ x. absurd (x.1 utf8));
   empty = λ some nil. refl;
-  strftime_faulty = λ is f h status. omega (arith, status);
   status = omega arith;
   no_value = λ accepted refused. absurd (accepted refl);
   read = λ e written list d. read_back_of language bytes list ns ms a b r d.1 (spelled list d.1)
@@ -148,7 +147,7 @@ faulted language bytes ns a f utf8 has not_spelled one not_empty = record {
   accepted = λ e. absurd (omega (arith, e));
   refused = λ e. (f, (utf8, has), refl);
   spelled = λ list d more. absurd (not_spelled list d.1);
-  faulty = λ g h more. (refl, ap (λ x. x.index) (one g h.1));
+  faulty = λ g h. (refl, ap (λ x. x.index) (one g h.1));
   unknown_kind = (
     λ e. absurd (omega (arith, e)),
     λ none. let is : Some language ≡ None = none in
@@ -156,7 +155,6 @@ faulted language bytes ns a f utf8 has not_spelled one not_empty = record {
   );
   not_utf8 = (λ e. absurd (omega (arith, e)), λ x. absurd (x.1 utf8));
   empty = λ some nil. absurd (not_empty nil);
-  strftime_faulty = λ is f h status. omega (arith, status);
   status = omega arith;
   no_value = λ accepted refused. absurd (refused refl);
   read = λ e. absurd (omega (arith, e));
@@ -170,13 +168,13 @@ faulted language bytes ns a f utf8 has not_spelled one not_empty = record {
 
 pub unread : (language : Option Language) (bytes : Text) (ns : List Node) (a : Text)
     → IsSome language → IsUtf8 bytes → (bytes ≡ [] → ⊥)
-    → (language ≡ Some Strftime → (f : Fault) → HasFault language bytes f → ⊥)
+    → ((f : Fault) → HasFault language bytes f → ⊥)
     → Reads language bytes ns ns a a (silent NO_MEMORY 0)
 unread language bytes ns a some utf8 not_empty no_fault = record {
   accepted = λ e. absurd (omega (arith, e));
   refused = λ e. absurd (omega (arith, e));
   spelled = λ list d more. absurd (more refl);
-  faulty = λ f h more. absurd (more refl);
+  faulty = λ f h. absurd (no_fault f h);
   unknown_kind = (
     λ e. absurd (omega (arith, e)),
     λ none. let no : false ≡ true =
@@ -184,7 +182,6 @@ unread language bytes ns a some utf8 not_empty no_fault = record {
   );
   not_utf8 = (λ e. absurd (omega (arith, e)), λ x. absurd (x.1 utf8));
   empty = λ some nil. absurd (not_empty nil);
-  strftime_faulty = λ is f h status. no_fault is f h;
   status = omega arith;
   no_value = λ accepted refused. refl;
   read = λ e. absurd (omega (arith, e));
@@ -202,7 +199,7 @@ no_text language bytes ns a invalid = record {
   accepted = λ e. absurd (omega (arith, e));
   refused = λ e. absurd (omega (arith, e));
   spelled = λ list d more. absurd (invalid d.0);
-  faulty = λ f h more. absurd (invalid h.0);
+  faulty = λ f h. absurd (invalid h.0);
   unknown_kind = (
     λ e. absurd (omega (arith, e)),
     λ none. let is : Some language ≡ None = none in
@@ -210,7 +207,6 @@ no_text language bytes ns a invalid = record {
   );
   not_utf8 = (λ e. (refl, invalid), λ x. refl);
   empty = λ some nil. absurd (invalid (subst IsUtf8 (sym nil) IsUtf8-nil));
-  strftime_faulty = λ is f h status. omega (arith, status);
   status = omega arith;
   no_value = λ accepted refused. refl;
   read = λ e. absurd (omega (arith, e));
@@ -228,11 +224,10 @@ no_language bytes ns a = record {
   accepted = λ e. absurd (omega (arith, e));
   refused = λ e. absurd (omega (arith, e));
   spelled = λ list d more. absurd d.1;
-  faulty = λ f h more. absurd h.1;
+  faulty = λ f h. absurd h.1;
   unknown_kind = (λ e. refl, λ none. refl);
   not_utf8 = (λ e. absurd (omega (arith, e)), λ x. let no : false ≡ true = x.0 in absurd cc);
   empty = λ some nil. let no : false ≡ true = some in absurd cc;
-  strftime_faulty = λ is f h. absurd h.1;
   status = omega arith;
   no_value = λ accepted refused. refl;
   read = λ e. absurd (omega (arith, e));

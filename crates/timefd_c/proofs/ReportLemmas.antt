@@ -7,8 +7,7 @@ use Rattle.std.specs.declared.vec.Vec.{Vec}
 use Rattle.timefd_items.specs.Description.{description_tree}
 use Rattle.timefd_items.specs.declared.format_description_v3.FormatDescriptionV3.{FormatDescriptionV3}
 use Rattle.timefd_borrowed_fault.specs.declared.borrowed_parse_error.BorrowedParseError.{BorrowedParseError}
-use Rattle.timefd_borrowed_fault.specs.BorrowedFaults.{IsLent, IsLentOrMemory, IsMemory}
-use Rattle.timefd_borrowed_fault.specs.declared.borrowed_parse_error.BorrowedParseError.TheVariants.{Invalid, Memory}
+use Rattle.timefd_borrowed_fault.specs.BorrowedFaults.{IsMemory}
 use Rattle.timefd_format_item.specs.declared.borrowed_format_item.BorrowedFormatItem.{BorrowedFormatItem}
 use Rattle.timefd_format_item.specs.Meaning.{item_tree, item_trees}
 use Rattle.timefd_component.specs.Reserved.{reserve}
@@ -137,13 +136,6 @@ pub strftime_spelled : (list : List Tree) (items lent : List BorrowedFormatItem)
 strftime_spelled list items lent ns ms a b (Ok x) e is reports memory =
     items_report lent list ns ms a b x (ap (λ xs. map item_tree xs) e ∙ is) reports
 strftime_spelled list items lent ns ms a b (Err x) e is reports memory = memory
-
--- this fault alone
-pub lent_or_memory : {T : Type 0} (f : Fault) (r : Result T BorrowedParseError)
-    → MatchResult r (λ _. ⊥) (IsLent f) → MatchResult r (λ _. ⊥) (IsLentOrMemory f)
-lent_or_memory f (Ok x) is = is
-lent_or_memory f (Err (Invalid g)) is = is
-lent_or_memory f (Err (Memory m)) is = tt
 
 -- The empty text is reported.
 

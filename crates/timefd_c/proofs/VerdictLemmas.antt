@@ -28,7 +28,7 @@ judged language bytes (Accepted value) says spelled faulty no_text no_language e
       accepted = λ e. (says.1.0, (says.0, says.1.1), says.1.2);
       refused = λ e. absurd (omega (arith, e));
       spelled = λ list d more. (refl, spelled list d.0 d.1);
-      faulty = λ f h more. absurd (faulty f h.0 h.1);
+      faulty = λ f h. absurd (faulty f h.0 h.1);
       unknown_kind = (
         λ e. absurd (omega (arith, e)),
         λ none. let is : Accepted value ≡ UnknownKind =
@@ -44,7 +44,7 @@ judged language bytes (Refused f) says spelled faulty no_text no_language empty 
   accepted = λ e. absurd (omega (arith, e));
   refused = λ e. (lent_fault f, (says.0, says.1), refl);
   spelled = λ list d more. absurd (spelled list d.0 d.1);
-  faulty = λ g h more. (refl, ap (λ x. x.index) (faulty g h.0 h.1));
+  faulty = λ g h. (refl, ap (λ x. x.index) (faulty g h.0 h.1));
   unknown_kind = (
     λ e. absurd (omega (arith, e)),
     λ none. let is : Refused f ≡ UnknownKind =
@@ -60,7 +60,7 @@ judged language bytes NotUtf8 says spelled faulty no_text no_language empty memo
   accepted = λ e. absurd (omega (arith, e));
   refused = λ e. absurd (omega (arith, e));
   spelled = λ list d more. absurd (spelled list d.0 d.1);
-  faulty = λ f h more. absurd (faulty f h.0 h.1);
+  faulty = λ f h. absurd (faulty f h.0 h.1);
   unknown_kind = (
     λ e. absurd (omega (arith, e)),
     λ none. let is : NotUtf8 ≡ UnknownKind =
@@ -76,7 +76,7 @@ judged language bytes NoMemory says spelled faulty no_text no_language empty mem
   accepted = λ e. absurd (omega (arith, e));
   refused = λ e. absurd (omega (arith, e));
   spelled = λ list d more. absurd (more refl);
-  faulty = λ f h more. absurd (more refl);
+  faulty = λ f h. absurd (faulty f h.0 h.1);
   unknown_kind = (
     λ e. absurd (omega (arith, e)),
     λ none. let is : NoMemory ≡ UnknownKind =
@@ -96,7 +96,7 @@ judged language bytes UnknownKind says spelled faulty no_text no_language empty 
   accepted = λ e. absurd (omega (arith, e));
   refused = λ e. absurd (omega (arith, e));
   spelled = λ list d more. absurd (spelled list d.0 d.1);
-  faulty = λ f h more. absurd (faulty f h.0 h.1);
+  faulty = λ f h. absurd (faulty f h.0 h.1);
   unknown_kind = (λ e. says, λ none. refl);
   not_utf8 = (
     λ e. absurd (omega (arith, e)),

@@ -26,10 +26,10 @@ pub record Judges (language : Option Language) (bytes : Text) (answer : Answer) 
       → (list : List Tree) × Describes language bytes list × (answer.value ≡ amount language list)
   pub refused : answer.status ≡ REFUSED
       → (f : Fault) × HasFault language bytes f × (answer.value ≡ f.index)
-  -- What is so is answered, unless memory runs out.
+  -- What is so is answered: a description unless memory runs out, and a fault always.
   pub spelled : (list : List Tree) → Describes language bytes list → answer.status ≢ NO_MEMORY
       → (answer.status ≡ ACCEPTED) × (answer.value ≡ amount language list)
-  pub faulty : (f : Fault) → HasFault language bytes f → answer.status ≢ NO_MEMORY
+  pub faulty : (f : Fault) → HasFault language bytes f
       → (answer.status ≡ REFUSED) × (answer.value ≡ f.index)
   -- These take no memory.
   pub unknown_kind : answer.status ≡ UNKNOWN_KIND ↔ (language ≡ None)

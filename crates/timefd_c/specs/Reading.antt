@@ -4,7 +4,7 @@ use Rattle.timefd_component.specs.Tree.{Text, Tree}
 use Rattle.timefd_fault.specs.Faults.{Fault}
 use Rattle.timefd_language.specs.declared.description_version.DescriptionVersion.TheVariants.{One, Two, Three}
 use Rattle.timefd_parse.specs.declared.language.Language.{Language}
-use Rattle.timefd_parse.specs.declared.language.Language.TheVariants.{Version, Strftime}
+use Rattle.timefd_parse.specs.declared.language.Language.TheVariants.{Version}
 use Rattle.timefd_c_nodes.specs.declared.node.Node.{Node}
 use Rattle.timefd_c.specs.declared.answer.TheConstants.{ACCEPTED, REFUSED, NOT_UTF8, NO_MEMORY, UNKNOWN_KIND}
 use Rattle.timefd_c.specs.declared.answer.ReadAnswer.{ReadAnswer}
@@ -62,18 +62,16 @@ pub record Reads (language : Option Language) (bytes : Text) (nodes_before nodes
       × Tells language list nodes_before nodes_after before after answer
   pub refused : answer.status ≡ REFUSED
       → (f : Fault) × HasFault language bytes f × (answer.value ≡ f.index)
-  -- What is so is answered, unless memory runs out.
+  -- What is so is answered: a description unless memory runs out, and a fault always.
   pub spelled : (list : List Tree) → Describes language bytes list → answer.status ≢ NO_MEMORY
       → (answer.status ≡ ACCEPTED) × Tells language list nodes_before nodes_after before after
       answer
-  pub faulty : (f : Fault) → HasFault language bytes f → answer.status ≢ NO_MEMORY
+  pub faulty : (f : Fault) → HasFault language bytes f
       → (answer.status ≡ REFUSED) × (answer.value ≡ f.index)
   -- These take no memory.
   pub unknown_kind : answer.status ≡ UNKNOWN_KIND ↔ (language ≡ None)
   pub not_utf8 : answer.status ≡ NOT_UTF8 ↔ (IsSome language × ¬ (IsUtf8 bytes))
   pub empty : IsSome language → bytes ≡ [] → answer.status ≡ ACCEPTED
-  pub strftime_faulty : language ≡ Some Strftime → (f : Fault) → HasFault language bytes f
-      → answer.status ≢ NO_MEMORY
   -- There are no other statuses, and where nothing is counted the number is 0.
   pub status : answer.status ≤ UNKNOWN_KIND
   pub no_value : answer.status ≢ ACCEPTED → answer.status ≢ REFUSED → answer.value ≡ 0

@@ -26,10 +26,10 @@ Accepts count (Refused f) = ⊥
 Accepts count NotUtf8 = ⊥
 Accepts count UnknownKind = ⊥
 
--- refused for this fault, or out of memory
+-- refused for this fault
 abbrev pub Refuses : Fault → Verdict → Type 0
 Refuses f (Refused g) = lent_fault g ≡ f
-Refuses f NoMemory = ⊤
+Refuses f NoMemory = ⊥
 Refuses f (Accepted value) = ⊥
 Refuses f NotUtf8 = ⊥
 Refuses f UnknownKind = ⊥

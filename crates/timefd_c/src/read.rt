@@ -5,7 +5,7 @@ ghost use Rattle.std.specs.Result.{IfErr};
 ghost use Rattle.timefd_fault.specs.Faults as spec;
 ghost use Rattle.timefd_component.specs.Tree.{Tree};
 ghost use Rattle.timefd_language.specs.Grammar.{nesting_limit};
-ghost use Rattle.timefd_borrowed_fault.specs.BorrowedFaults.{IsLent, IsLentOf, IsLentOrMemory, IsMemory};
+ghost use Rattle.timefd_borrowed_fault.specs.BorrowedFaults.{IsLent, IsLentOf, IsMemory};
 ghost use Rattle.timefd_parse.specs.Language.{FaultIn, SpellsIn};
 ghost use Rattle.timefd_items.specs.Description.{description_tree};
 ghost use Rattle.timefd_format_item.specs.Meaning.{item_trees};
@@ -39,7 +39,8 @@ pub struct Report {
 /// Reads a text of a language, and writes its nodes and the bytes of its literals to the fronts of
 /// the buffers, if both have room for all of them.
 ///
-/// The error is `Invalid` with the fault of the text, or `Memory` where memory ran out.
+/// The error is `Invalid` with the fault of the text, or `Memory` where memory ran out. A text that
+/// has a fault is refused for it even then.
 pub fn read<'a>(
     alloc: Global,
     language: Language,
@@ -54,15 +55,11 @@ pub fn read<'a>(
         × IsReport language list nodes.old nodes.new literals.old literals.new r) }
     ensures fault { IfErr result (IsLentOf (FaultIn language nesting_limit text.now)) }
 
-    // What is spelled is accepted, and what has a fault is refused for it, unless memory runs out.
+    // What is spelled is accepted, unless memory runs out, and what has a fault is refused for it.
     ensures spelled { (list : List Tree) → SpellsIn language nesting_limit text.now list
         → MatchResult result (IsReport language list nodes.old nodes.new literals.old literals.new) IsMemory }
     ensures refused { (f : spec.Fault) → FaultIn language nesting_limit text.now f
-        → MatchResult result (λ _. ⊥) (IsLentOrMemory f) }
-
-    // Faults of strftime are found without memory.
-    ensures strftime { (f : spec.Fault) → language ≡ Language.Strftime
-        → FaultIn language nesting_limit text.now f → MatchResult result (λ _. ⊥) (IsLent f) }
+        → MatchResult result (λ _. ⊥) (IsLent f) }
 
     // The empty text takes no memory.
     ensures empty { text.now ≡ [] → IsOk result }
@@ -92,12 +89,12 @@ fn read_version<'a>(
         × IsReport (Language.Version version) list nodes.old nodes.new literals.old literals.new r) }
     ensures fault { IfErr result (IsLentOf (FaultIn (Language.Version version) nesting_limit text.now)) }
 
-    // What is spelled is accepted, and what has a fault is refused for it, unless memory runs out.
+    // What is spelled is accepted, unless memory runs out, and what has a fault is refused for it.
     ensures spelled { (list : List Tree)
         → SpellsIn (Language.Version version) nesting_limit text.now list
         → MatchResult result (IsReport (Language.Version version) list nodes.old nodes.new literals.old literals.new) IsMemory }
     ensures refused { (f : spec.Fault) → FaultIn (Language.Version version) nesting_limit text.now f
-        → MatchResult result (λ _. ⊥) (IsLentOrMemory f) }
+        → MatchResult result (λ _. ⊥) (IsLent f) }
 
     // The empty text takes no memory.
     ensures empty { text.now ≡ [] → IsOk result }
@@ -149,7 +146,7 @@ fn read_strftime<'a>(
     }
 }
 
-// Why a text of strftime was not read. Its fault is found without memory, even where that ran out.
+// Why a text of strftime was not read, found again as an error that doesn't borrow the tables.
 fn strftime_error(text: &str) -> BorrowedParseError<'_>
     ensures fault { IsLentOf (FaultIn Language.Strftime nesting_limit text.now) result }
     ensures spelled { (list : List Tree) → SpellsIn Language.Strftime nesting_limit text.now list

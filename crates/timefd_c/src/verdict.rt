@@ -23,7 +23,7 @@ pub enum Verdict<'a> {
     Refused(BorrowedFault<'a>),
     /// No UTF-8.
     NotUtf8,
-    /// Memory ran out, which says nothing of the bytes.
+    /// Memory ran out. Then the bytes are a text without a fault.
     NoMemory,
     /// There is no such language.
     UnknownKind,
@@ -51,7 +51,7 @@ pub fn verdict_on(alloc: Global, language: Option<Language>, bytes: &[u8]) -> Ve
     // What is said is so.
     ensures says { Says language bytes.now result }
 
-    // What is so is said, unless memory runs out.
+    // What is so is said: a description unless memory runs out, and a fault always.
     ensures spelled { (list : List Tree) → IsUtf8 bytes.now → SpellsIn language bytes.now list
         → Accepts (amount language list) result }
     ensures faulty { (f : Fault) → IsUtf8 bytes.now → FaultIn language bytes.now f

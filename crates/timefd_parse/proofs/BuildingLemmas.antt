@@ -1,6 +1,7 @@
 -- What is built, one piece after another.
-use Rattle.std.proofs.Common.{◌≡◌, ◌∙◌, ℕ, ◌≤◌, Bool, List, [], ◌∷◌, ◌++◌, length, Result, IsTrue, IsFalse, OnOk, sym, ap, subst, arith, append_assoc, append-nil, length-append}
+use Rattle.std.proofs.Common.{◌≡◌, ◌∙◌, ℕ, ◌≤◌, ◌==◌, Bool, not, List, [], ◌∷◌, ◌++◌, length, Result, IsTrue, IsFalse, OnOk, sym, ap, subst, arith, append_assoc, append-nil, length-append}
 use Rattle.std.proofs.lemmas.Bool.{true≢false}
+use Rattle.std.proofs.lemmas.Bool.Decides.{nat_tests}
 use Rattle.std.proofs.lemmas.Result.{on_ok_weaker}
 use Rattle.timefd_node_list.specs.Nodes.{before, ending}
 use Rattle.timefd_component.specs.Reserved.{reserve_all}
@@ -8,7 +9,7 @@ use Rattle.timefd_component.specs.Tree.{Text, Tree, pack, trees}
 use Rattle.timefd_node_list.proofs.NodeLemmas.{before-append, ending-append}
 use Rattle.timefd_language.specs.declared.description_version.DescriptionVersion.{DescriptionVersion}
 use Rattle.timefd_parse.specs.declared.piece.Piece.{Piece}
-use Rattle.timefd_parse.specs.declared.piece.Piece.TheVariants.{Literal, Component, Built}
+use Rattle.timefd_parse.specs.declared.piece.Piece.TheVariants.{Literal, Component, Compound}
 use Rattle.timefd_language.specs.Bytes.{is_version_three}
 use Rattle.timefd_parse.specs.Pieces.{IsBuilt, IsPiece, IsLeaf, IsLeafTree}
 use Rattle.timefd_parse.specs.Read.{PiecesToEnd}
@@ -31,62 +32,71 @@ list_within Three limit n text list rest three are =
       length-append (spelling are.0) rest,
     )
 
-pub built_none : (strict : Bool) (old : List Tree) → IsBuilt strict old old []
-built_none strict old = λ three. sym (append-nil old)
+pub built_none : (builds : Bool) (old : List Tree) → IsBuilt builds old old []
+built_none builds old = λ on. sym (append-nil old)
 
-pub built_more : (strict : Bool) (old between new done list : List Tree)
-    → IsBuilt strict old between done → IsBuilt strict between new list
-    → IsBuilt strict old new (done ++ list)
-built_more strict old between new done list first more = λ three.
-    more three ∙ ap (λ ts. ts ++ list) (first three) ∙ append_assoc old done list
+pub built_more : (builds : Bool) (old between new done list : List Tree)
+    → IsBuilt builds old between done → IsBuilt builds between new list
+    → IsBuilt builds old new (done ++ list)
+built_more builds old between new done list first more = λ on.
+    more on ∙ ap (λ ts. ts ++ list) (first on) ∙ append_assoc old done list
+
+-- A constant parameter, which stands as a number in what is tested.
+
+pub is_off : (n : ℕ) → n ≡ 0 → IsFalse (not (n == 0))
+is_off n off = ap (λ k. not (k == 0)) off
+
+pub is_on : (n : ℕ) → (n ≡ 0 → ⊥) → IsTrue (not (n == 0))
+is_on n on = grind (arith, nat_tests, on)
 
 -- Pieces.
 
-pub not_strict : (strict : Bool) (old new list : List Tree) → IsFalse strict
-    → IsBuilt strict old new list
-not_strict strict old new list lax = λ three. absurd (true≢false (sym three ∙ lax))
+pub built_unsaid : (builds : Bool) (old new list : List Tree) → IsFalse builds
+    → IsBuilt builds old new list
+built_unsaid builds old new list off = λ on. absurd (true≢false (sym on ∙ off))
 
--- versions 1 and 2 build nothing
-pub is_leaf : (strict : Bool) (old new : List Tree) (piece : Piece) (tree : Tree) → IsFalse strict
-    → IsPiece strict old new piece tree → IsLeaf piece
-is_leaf strict old new (Literal text) tree lax is = tt
-is_leaf strict old new (Component c) tree lax is = tt
-is_leaf strict old new Built tree lax is = absurd (true≢false (sym is.0 ∙ lax))
+-- versions 1 and 2 have no compounds
+pub is_leaf : (strict builds : Bool) (old new : List Tree) (piece : Piece) (tree : Tree)
+    → IsFalse strict → IsPiece strict builds old new piece tree → IsLeaf piece
+is_leaf strict builds old new (Literal text) tree lax is = tt
+is_leaf strict builds old new (Component c) tree lax is = tt
+is_leaf strict builds old new Compound tree lax is = absurd (true≢false (sym is.0 ∙ lax))
 
-pub same_leaf : (strict : Bool) (old new : List Tree) (piece : Piece) (tree leaf : Tree)
-    → IsPiece strict old new piece tree → IsLeafTree piece leaf → leaf ≡ tree
-same_leaf strict old new (Literal text) tree leaf is same = same ∙ sym is.0
-same_leaf strict old new (Component c) tree leaf is same = same ∙ sym is.0
-same_leaf strict old new Built tree leaf is same = absurd same
+pub same_leaf : (strict builds : Bool) (old new : List Tree) (piece : Piece) (tree leaf : Tree)
+    → IsPiece strict builds old new piece tree → IsLeafTree piece leaf → leaf ≡ tree
+same_leaf strict builds old new (Literal text) tree leaf is same = same ∙ sym is.0
+same_leaf strict builds old new (Component c) tree leaf is same = same ∙ sym is.0
+same_leaf strict builds old new Compound tree leaf is same = absurd same
 
 -- The last of them.
 
-pub built_there : (strict : Bool) (old new list : List Tree) (count : ℕ)
-    → IsBuilt strict old new list → count ≡ length list → IsTrue strict → count ≤ length new
-built_there strict old new list count are counted three =
-    omega (arith, counted, ap length (are three), length-append old list)
+pub built_there : (builds : Bool) (old new list : List Tree) (count : ℕ)
+    → IsBuilt builds old new list → count ≡ length list → IsTrue builds → count ≤ length new
+built_there builds old new list count are counted on =
+    omega (arith, counted, ap length (are on), length-append old list)
 
-pub built_last : (strict : Bool) (old new list : List Tree) (count : ℕ)
-    → IsBuilt strict old new list → count ≡ length list → IsTrue strict → ending count new ≡ list
-built_last strict old new list count are counted three = ap (ending count) (are three) ∙
+pub built_last : (builds : Bool) (old new list : List Tree) (count : ℕ)
+    → IsBuilt builds old new list → count ≡ length list → IsTrue builds → ending count new ≡ list
+built_last builds old new list count are counted on = ap (ending count) (are on) ∙
     ending-append old list count counted
 
-pub built_within : (v : DescriptionVersion) (limit n : ℕ) (text rest : Text)
+pub built_within : (v : DescriptionVersion) (builds : Bool) (limit n : ℕ) (text rest : Text)
     (old new list : List Tree) (count : ℕ) → PiecesToEnd v limit n text list rest
-    → IsBuilt (is_version_three v) old new list → count ≡ length list
-    → IsTrue (is_version_three v) → reserve_all (trees (ending count new)) ≤ length text
-built_within v limit n text rest old new list count read are counted three =
+    → IsBuilt builds old new list → count ≡ length list
+    → IsTrue (is_version_three v) → IsTrue builds
+    → reserve_all (trees (ending count new)) ≤ length text
+built_within v builds limit n text rest old new list count read are counted three on =
     subst (λ ts. reserve_all (trees ts) ≤ length text)
-    (sym (built_last (is_version_three v) old new list count are counted three))
+    (sym (built_last builds old new list count are counted on))
     (list_within v limit n text list rest three read)
 
-pub pack_last : {T E : Type 0} (r : Result T E) (strict : Bool) (base old new list : List Tree)
-    (count : ℕ) → IsBuilt strict base old list → count ≡ length list → IsTrue strict
+pub pack_last : {T E : Type 0} (r : Result T E) (builds : Bool) (base old new list : List Tree)
+    (count : ℕ) → IsBuilt builds base old list → count ≡ length list → IsTrue builds
     → OnOk r (new ≡ before count old ++ pack (ending count old) ∷ [])
-    → OnOk r (IsBuilt strict base new (pack list ∷ []))
-pack_last r strict base old new list count are counted three packed =
+    → OnOk r (IsBuilt builds base new (pack list ∷ []))
+pack_last r builds base old new list count are counted on packed =
     on_ok_weaker r
-    (λ e _. e ∙ ap (λ ts. before count ts ++ pack (ending count ts) ∷ []) (are three)
+    (λ e _. e ∙ ap (λ ts. before count ts ++ pack (ending count ts) ∷ []) (are on)
     ∙ ap (λ ts. ts ++ pack (ending count (base ++ list)) ∷ [])
     (before-append base list count counted)
     ∙ ap (λ ts. base ++ pack ts ∷ []) (ending-append base list count counted))

@@ -6,7 +6,7 @@ use Rattle.timefd_language.specs.declared.description_version.DescriptionVersion
 use Rattle.timefd_language.specs.Grammar.{no_pieces, spelling}
 use Rattle.timefd_language.proofs.Reserved.{reserved_within}
 use Rattle.timefd_parse.specs.declared.piece.Piece.{Piece}
-use Rattle.timefd_parse.specs.declared.piece.Piece.TheVariants.{Literal, Component, Built}
+use Rattle.timefd_parse.specs.declared.piece.Piece.TheVariants.{Literal, Component, Compound}
 use Rattle.timefd_parse.specs.Pieces.{IsPiece, own_bytes}
 use Rattle.timefd_parse.proofs.ReadLemmas.{Continues}
 
@@ -22,7 +22,7 @@ pack_sum (t ∷ u ∷ ts) = refl
 
 -- one more piece, which is built or reserves bytes of its own
 pub counted_more : (bytes : ℕ) (old new done : List Tree) (piece : Piece) (tree : Tree)
-    → IsPiece true old new piece tree
+    → IsPiece true true old new piece tree
     → bytes + reserve_all (trees old) ≡ reserve_all (trees done)
     → bytes + own_bytes piece + reserve_all (trees new) ≡ reserve_all (trees (done ++ tree ∷ []))
 counted_more bytes old new done (Literal text) tree is sum =
@@ -42,27 +42,27 @@ counted_more bytes old new done (Component c) tree is sum =
       ap reserved is.1,
       ap (λ ts. reserve_all (trees ts)) (is.2 refl),
     )
-counted_more bytes old new done Built tree is sum =
+counted_more bytes old new done Compound tree is sum =
     omega (
       arith,
       sum,
       one_more_sum done tree,
       one_more_sum old tree,
-      ap (λ ts. reserve_all (trees ts)) is.1,
+      ap (λ ts. reserve_all (trees ts)) (is.1 refl),
     )
 
 pub fewer_more : (old new done : List Tree) (piece : Piece) (tree : Tree)
-    → IsPiece true old new piece tree → length old ≤ length done
+    → IsPiece true true old new piece tree → length old ≤ length done
     → length new ≤ length (done ++ tree ∷ [])
 fewer_more old new done (Literal text) tree is fewer =
     omega (arith, fewer, ap length (is.1 refl), length-append done (tree ∷ []))
 fewer_more old new done (Component c) tree is fewer =
     omega (arith, fewer, ap length (is.2 refl), length-append done (tree ∷ []))
-fewer_more old new done Built tree is fewer =
+fewer_more old new done Compound tree is fewer =
     omega (
       arith,
       fewer,
-      ap length is.1,
+      ap length (is.1 refl),
       length-append old (tree ∷ []),
       length-append done (tree ∷ []),
     )

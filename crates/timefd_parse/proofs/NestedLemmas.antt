@@ -247,23 +247,23 @@ module _ {v : DescriptionVersion} {limit n : ℕ} {text : Text} where
 -- Brackets.
 
 -- what a verdict says of a bracket that it accepts, and of one that it refuses
-abbrev pub Accepts : Bool → ℕ → JudgedHead → code_nested.Nested → ℕ → List Tree → List Tree → Piece
-    → Type 0
-Accepts strict total judged inners end old new piece =
+abbrev pub Accepts : Bool → Bool → ℕ → JudgedHead → code_nested.Nested → ℕ → List Tree → List Tree
+    → Piece → Type 0
+Accepts strict builds total judged inners end old new piece =
     (place : ℕ) (h : Head) (parts : List PlacedDescription) (base : List Tree)
     → IsVerdict strict total h judged.nests judged.verdict → ShowsNested total inners parts
     → place + end ≡ total
-    → IsBuilt strict base old (packed parts)
+    → IsBuilt builds base old (packed parts)
     → (tree : Tree) × (verdict strict h parts place ≡ Ok tree)
-    × IsPiece strict base new piece tree
+    × IsPiece strict builds base new piece tree
 
-abbrev pub Refuses : Bool → ℕ → JudgedHead → code_nested.Nested → ℕ → List Tree → ReadError
+abbrev pub Refuses : Bool → Bool → ℕ → JudgedHead → code_nested.Nested → ℕ → List Tree → ReadError
     → Type 0
-Refuses strict total judged inners end old e =
+Refuses strict builds total judged inners end old e =
     (place : ℕ) (h : Head) (parts : List PlacedDescription) (base : List Tree)
     → IsVerdict strict total h judged.nests judged.verdict → ShowsNested total inners parts
     → place + end ≡ total
-    → IsBuilt strict base old (packed parts)
+    → IsBuilt builds base old (packed parts)
     → MemoryOr (JudgedFault total (verdict strict h parts place)) e
 
 shows_nested : (total : ℕ) (inners : code_nested.Nested) (read : List Tree)
@@ -494,10 +494,10 @@ module _ {v : DescriptionVersion} {limit n : ℕ} {inside : Text} {judged : Judg
       subst (λ k. IsVerdict (is_version_three v) k b.h judged.nests judged.verdict) same
       b.begins.verdict
 
-  module _ (count : ℕ) (base old : List Tree) (counted : count ≡ length read)
-      (are : IsBuilt (is_version_three v) base old read) where
-    built_parts : IsBuilt (is_version_three v) base old (packed parts)
-    built_parts = λ three. are three ∙
+  module _ (builds : Bool) (count : ℕ) (base old : List Tree) (counted : count ≡ length read)
+      (are : IsBuilt builds base old read) where
+    built_parts : IsBuilt builds base old (packed parts)
+    built_parts = λ on. are on ∙
         ap (λ ts. base ++ ts) (read_packed _ _ _ read parts parts_shown)
 
     nested_shown : ShowsNested (length inside + 1)
@@ -507,17 +507,17 @@ module _ {v : DescriptionVersion} {limit n : ℕ} {inside : Text} {judged : Judg
         counted
 
     pub accepted : (after : Text) (new : List Tree) (piece : Piece) → rest ≡ right ∷ after
-        → Accepts (is_version_three v) (length inside + 1) judged
+        → Accepts (is_version_three v) builds (length inside + 1) judged
         (record { spaced = judged.spaced; remaining = remaining; count = count }) (length rest) old new
         piece
         → (tree : Tree) × Leads v limit n (left ∷ inside) tree after
-        × IsPiece (is_version_three v) base new piece tree
+        × IsPiece (is_version_three v) builds base new piece tree
     accepted after new piece closing tree =
         let j = tree place b.h parts base shown nested_shown place_of_rest built_parts in
         (j.0, bracket_leads after j.0 closing j.1, j.2)
 
     pub refuses : (after : Text) (e : ReadError) → rest ≡ right ∷ after
-        → Refuses (is_version_three v) (length inside + 1) judged
+        → Refuses (is_version_three v) builds (length inside + 1) judged
         (record { spaced = judged.spaced; remaining = remaining; count = count }) (length rest) old e
         → MemoryOr (IsFaultAt v limit n (left ∷ inside)) e
     refuses after e closing fails =

@@ -16,14 +16,15 @@ use Rattle.timefd_parse.specs.declared.parsing.BorrowedOutput.TheVariants.{Items
 use Rattle.timefd_language.specs.declared.parse_error.ParseError.{ParseError}
 use Rattle.timefd_language.specs.declared.parse_error.ParseError.TheVariants as told
 use Rattle.timefd_borrowed_fault.specs.declared.borrowed_parse_error.BorrowedParseError.{BorrowedParseError}
-use Rattle.timefd_borrowed_fault.specs.declared.borrowed_parse_error.BorrowedParseError.TheVariants.{Invalid, Memory}
-use Rattle.timefd_borrowed_fault.specs.BorrowedFaults.{IsLentOf, IsLentOrMemory, IsMemory, IsOwned, IsRefusal, Lends}
+use Rattle.timefd_borrowed_fault.specs.BorrowedFaults.{IsLent, IsLentOf, IsMemory, IsOwned, IsRefusal, Lends}
+use Rattle.timefd_borrowed_fault.proofs.LentLemmas as lent
+use Rattle.timefd_borrowed_fault.proofs.LentLemmas.{Assigned}
 use Rattle.timefd_borrowed_fault.proofs.OwnedLemmas.{owned_of}
 use Rattle.timefd_language.specs.Bytes.{is_version_three}
 use Rattle.timefd_language.specs.Fault.{raised}
 use Rattle.timefd_language.specs.Grammar.{Spells, no_pieces, spelling}
 use Rattle.timefd_language.specs.Broken.{FaultOf, broken_text, broken_fault}
-use Rattle.timefd_language.specs.FaultMeaning.{IsFault, MemoryOr}
+use Rattle.timefd_language.specs.FaultMeaning.{MemoryOr}
 use Rattle.timefd_language.specs.Invalid.{IsInvalid}
 use Rattle.timefd_parse.specs.Read.{IsFaultIn, PiecesToEnd}
 use Rattle.timefd_language.specs.Strings.{AreItems}
@@ -65,14 +66,8 @@ no_fault_in v limit text read rest f are h =
 
 -- Faults.
 
-record WholeFault (v : DescriptionVersion) (limit : ℕ) (text : Text) (f : code_fault.Fault) : Type 0
-  where
-    pub g : Fault
-    pub assigned : FaultOf v limit text g
-    pub is : IsFault (length text) f g
-
 whole_fault : (v : DescriptionVersion) (limit : ℕ) (text : Text) (f : code_fault.Fault)
-    → IsFaultIn v limit 0 text f → WholeFault v limit text f
+    → IsFaultIn v limit 0 text f → Assigned (FaultOf v limit text) (length text) f
 whole_fault v limit text f h = record {
   g = raised (broken_fault h.1) (length (spelling h.0));
   assigned = (h.0, h.1, h.2, h.3, h.4, refl);
@@ -83,32 +78,43 @@ whole_fault v limit text f h = record {
   };
 }
 
+whole : (v : DescriptionVersion) (limit : ℕ) (text : Text) (e : ReadError)
+    → MemoryOr (IsFaultIn v limit 0 text) e
+    → MemoryOr (Assigned (FaultOf v limit text) (length text)) e
+whole v limit text (errors.Invalid f) h = whole_fault v limit text f h
+whole v limit text errors.Memory h = tt
+
 pub lent_assigned : (v : DescriptionVersion) (limit : ℕ) (text : Text) (e : ReadError)
     (r : BorrowedParseError) → MemoryOr (IsFaultIn v limit 0 text) e → Lends (length text) e r
     → IsLentOf (FaultOf v limit text) r
-lent_assigned v limit text e (Memory m) h lent = tt
-lent_assigned v limit text errors.Memory (Invalid x) h lent = absurd lent
-lent_assigned v limit text (errors.Invalid f) (Invalid x) h lent =
-    let w = whole_fault v limit text f h in
-    subst (FaultOf v limit text) (sym (lent w.g w.is)) w.assigned
+lent_assigned v limit text e r h =
+    lent.lent_of (FaultOf v limit text) (length text) e r (whole v limit text e h)
 
 pub lent_spelled : (v : DescriptionVersion) (limit : ℕ) (text : Text) (e : ReadError)
     (r : BorrowedParseError) (list : List Tree) → MemoryOr (IsFaultIn v limit 0 text) e
     → Lends (length text) e r → Spells v limit 0 text list → IsMemory r
-lent_spelled v limit text e (Memory m) list h lent s = tt
-lent_spelled v limit text errors.Memory (Invalid x) list h lent s = lent
-lent_spelled v limit text (errors.Invalid f) (Invalid x) list h lent s =
-    let w = whole_fault v limit text f h in
-    (one v limit text).not_both list w.g s w.assigned
+lent_spelled v limit text e r list h lends s =
+    lent.lent_none (FaultOf v limit text) (length text)
+    (λ g is. (one v limit text).not_both list g s is) e r (whole v limit text e h) lends
+
+-- where memory did not run out, the fault is lent
 
 pub lent_refused : (v : DescriptionVersion) (limit : ℕ) (text : Text) (e : ReadError)
-    (r : BorrowedParseError) (f : Fault) → MemoryOr (IsFaultIn v limit 0 text) e
-    → Lends (length text) e r → FaultOf v limit text f → IsLentOrMemory f r
-lent_refused v limit text e (Memory m) f h lent is = tt
-lent_refused v limit text errors.Memory (Invalid x) f h lent is = absurd lent
-lent_refused v limit text (errors.Invalid g) (Invalid x) f h lent is =
-    let w = whole_fault v limit text g h in
-    lent w.g w.is ∙ (one v limit text).one_fault w.g f w.assigned is
+    (r : BorrowedParseError) (f : Fault) → MemoryOr (IsFaultIn v limit 0 text) e → IsInvalid e
+    → Lends (length text) e r → FaultOf v limit text f → IsLent f r
+lent_refused v limit text e r f h is lends has =
+    lent.lent_one (FaultOf v limit text) (length text) f
+    (λ g other. (one v limit text).one_fault g f other has) e r (whole v limit text e h) is lends
+
+pub lent_refusal : (v : DescriptionVersion) (limit : ℕ) (text : Text) (e : ReadError)
+    (r : BorrowedParseError) → MemoryOr (IsFaultIn v limit 0 text) e → IsInvalid e
+    → Lends (length text) e r → IsRefusal r
+lent_refusal v limit text e r h =
+    lent.lent_refusal (FaultOf v limit text) (length text) e r (whole v limit text e h)
+
+pub is_invalid : (e : ReadError) → (e ≡ errors.Memory → ⊥) → IsInvalid e
+is_invalid (errors.Invalid f) other = tt
+is_invalid errors.Memory other = other refl
 
 -- The same of what the caller owns.
 
@@ -117,16 +123,6 @@ pub owned_assigned : (v : DescriptionVersion) (limit : ℕ) (text : Text) (e : B
 owned_assigned v limit text e (told.Memory m) is owned = tt
 owned_assigned v limit text e (told.Invalid x) is owned =
     owned_of (FaultOf v limit text) e x is owned
-
--- where memory did not run out, a fault is lent
-pub lent_refusal : (v : DescriptionVersion) (limit : ℕ) (text : Text) (e : ReadError)
-    (r : BorrowedParseError) → MemoryOr (IsFaultIn v limit 0 text) e → IsInvalid e
-    → Lends (length text) e r → IsRefusal r
-lent_refusal v limit text e (Invalid x) h is lends = tt
-lent_refusal v limit text errors.Memory (Memory m) h is lends = absurd is
-lent_refusal v limit text (errors.Invalid f) (Memory m) h is lends =
-    let w = whole_fault v limit text f h in
-    lends w.g w.is
 
 -- Outputs.
 

@@ -205,13 +205,12 @@ items_end v limit n text rest done before end =
     (w.0, w.1, w.2, w.3 ∙ append-nil done, end)
 
 -- the same, with what is built
-pub members_end : (v : DescriptionVersion) (limit n : ℕ) (text rest : Text)
+pub members_end : (v : DescriptionVersion) (builds : Bool) (limit n : ℕ) (text rest : Text)
     (done old built new : List Tree) (count : ℕ) → Continues v limit n text done rest → IsEnd n rest
-    → count ≡ length done
-    → IsBuilt (is_version_three v) old built done → new ≡ built
-    → AreMembers v limit n text old new count rest
-members_end v limit n text rest done old built new count before end counted are same =
-    (done, items_end v limit n text rest done before end, counted, λ three. same ∙ are three)
+    → count ≡ length done → IsBuilt builds old built done → new ≡ built
+    → AreMembers v builds limit n text old new count rest
+members_end v builds limit n text rest done old built new count before end counted are same =
+    (done, items_end v limit n text rest done before end, counted, λ on. same ∙ are on)
 
 pub items_fault : (v : DescriptionVersion) (limit n : ℕ) (text rest : Text) (done : List Tree)
     (f : code_fault.Fault) → Continues v limit n text done rest → IsFaultAt v limit n rest f

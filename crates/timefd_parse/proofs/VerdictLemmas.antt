@@ -1,11 +1,11 @@
 -- The verdict, rule by rule.
-use Rattle.std.proofs.Common.{◌++◌, ◌<◌, ◌≡◌, ℕ, ◌+◌, Bool, true, false, not, if◌then◌else◌, List, [], ◌∷◌, length, map, Some, None, Ok, Err, refl, sym, ap, ◌∙◌, subst, arith}
+use Rattle.std.proofs.Common.{IsTrue, ◌++◌, ◌<◌, ◌≡◌, ℕ, ◌+◌, Bool, true, false, not, if◌then◌else◌, List, [], ◌∷◌, length, map, Some, None, Ok, Err, refl, sym, ap, ◌∙◌, subst, arith}
 use Rattle.std.proofs.lemmas.List.{length-map}
 use Rattle.timefd_fault.specs.Faults.{Fault, fault}
 use Rattle.timefd_component.specs.Tree.{Tree, optional, first, trees, pack}
 use Rattle.timefd_node_list.specs.Nodes.{before, ending}
 use Rattle.timefd_node_list.proofs.NodeLemmas.{before-append, ending-append}
-use Rattle.timefd_parse.specs.declared.piece.Piece.TheVariants.{Built}
+use Rattle.timefd_parse.specs.declared.piece.Piece.TheVariants.{Compound}
 use Rattle.timefd_parse.specs.declared.verdict.Nested as code_nested
 use Rattle.timefd_language.specs.Bytes.{same}
 use Rattle.timefd_language.specs.Fault.{expected_nested, expected_alternative, many_nested, optional_item, first_item}
@@ -103,24 +103,24 @@ made_optional base old new tree format shown o made same =
     ∙ ap (λ ts. base ++ optional format (pack ts) ∷ []) (ending-append base (tree ∷ []) 1 refl)
     ∙ ap (λ f. base ++ optional f tree ∷ []) same
 
-pub optional_made : (strict : Bool) (total place : ℕ) (n : code_nested.Nested) (formatted : Bool)
+pub optional_made : (strict builds : Bool) (total place : ℕ) (n : code_nested.Nested) (formatted : Bool)
     (h : Head) (parts : List PlacedDescription) (base old new : List Tree)
     → bad_modifiers strict (format ∷ []) [] (placed h) ≡ None
     → formatted ≡ is_formatted strict (placed h)
     → ShowsNested total n parts → n.count ≡ 1 → strict ≡ true
-    → IsBuilt strict base old (packed parts)
-    → new ≡ before 1 old ++ optional formatted (pack (ending 1 old)) ∷ []
+    → IsBuilt builds base old (packed parts)
+    → (IsTrue builds → new ≡ before 1 old ++ optional formatted (pack (ending 1 old)) ∷ [])
     → (tree : Tree) × (optional_verdict strict h parts place ≡ Ok tree)
-    × IsPiece strict base new Built tree
-optional_made strict total place n formatted h parts base old new good same shows one exact are
+    × IsPiece strict builds base new Compound tree
+optional_made strict builds total place n formatted h parts base old new good same shows one exact are
     made =
     let p = parts_one total n parts shows one in (
       optional (is_formatted strict (placed h)) (pack p.0.trees),
       optional_found strict place h p.0 parts good exact p.1,
       (
         exact,
-        made_optional base old new (pack p.0.trees) _ _
-            (are exact ∙ ap (λ ps. base ++ packed ps) p.1) made same,
+        λ on. made_optional base old new (pack p.0.trees) _ _
+            (are on ∙ ap (λ ps. base ++ packed ps) p.1) (made on) same,
       ),
     )
 
@@ -178,21 +178,21 @@ made_first base old new list count o counted made =
     (before-append base list count counted)
     ∙ ap (λ ts. base ++ first (trees ts) ∷ []) (ending-append base list count counted)
 
-pub first_made : (strict : Bool) (total place : ℕ) (n : code_nested.Nested) (h : Head)
+pub first_made : (strict builds : Bool) (total place : ℕ) (n : code_nested.Nested) (h : Head)
     (parts : List PlacedDescription) (base old new : List Tree)
     → bad_modifiers strict [] [] (placed h) ≡ None
     → ShowsNested total n parts → (n.count ≡ 0 → ⊥) → strict ≡ true
-    → IsBuilt strict base old (packed parts)
-    → new ≡ before n.count old ++ first (trees (ending n.count old)) ∷ []
+    → IsBuilt builds base old (packed parts)
+    → (IsTrue builds → new ≡ before n.count old ++ first (trees (ending n.count old)) ∷ [])
     → (tree : Tree) × (first_verdict strict h parts place ≡ Ok tree)
-    × IsPiece strict base new Built tree
-first_made strict total place n h parts base old new good shows some exact are made = (
+    × IsPiece strict builds base new Compound tree
+first_made strict builds total place n h parts base old new good shows some exact are made = (
   first (trees (packed parts)),
   first_found strict place h parts good exact
       (λ e. some (parts_count total n parts shows ∙ ap (λ ps. length (packed ps)) e)),
   (
     exact,
-    made_first base old new (packed parts) n.count (are exact)
-        (parts_count total n parts shows) made,
+    λ on. made_first base old new (packed parts) n.count (are on)
+        (parts_count total n parts shows) (made on),
   ),
 )

@@ -42,11 +42,11 @@ abbrev pub JudgedFault : ℕ → Result Tree Fault → code_fault.Fault → Type
 JudgedFault total rule f = (g : Fault) × (rule ≡ Err g) × IsFault total f g
 
 -- The tree, or the fault. The lists are the trees that were built before the bracket was read, and
--- after.
-abbrev pub Judged : ℕ → Bool → List Tree → List Tree → Result Piece code_error.ReadError
+-- after, if any are.
+abbrev pub Judged : ℕ → Bool → Bool → List Tree → List Tree → Result Piece code_error.ReadError
     → Result Tree Fault → Type 0
-Judged total strict old new r rule =
-    MatchResult r (λ x. (tree : Tree) × (rule ≡ Ok tree) × IsPiece strict old new x tree)
+Judged total strict builds old new r rule =
+    MatchResult r (λ x. (tree : Tree) × (rule ≡ Ok tree) × IsPiece strict builds old new x tree)
     (MemoryOr (JudgedFault total rule))
 
 -- the same of a component, which takes no memory

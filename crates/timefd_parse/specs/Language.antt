@@ -2,7 +2,7 @@
 use Rattle.std.specs.Prelude.{ℕ, ◌≡◌, Bool, true, false, [], List, length, IfOk, IsFalse, IsOk, MatchResult, Result, ⊤}
 use Rattle.std.specs.Result.{IfErr}
 use Rattle.timefd_borrowed_fault.specs.declared.borrowed_parse_error.BorrowedParseError.{BorrowedParseError}
-use Rattle.timefd_borrowed_fault.specs.BorrowedFaults.{IsLentOf, IsLentOrMemory, IsMemory, IsRefusal}
+use Rattle.timefd_borrowed_fault.specs.BorrowedFaults.{IsLent, IsLentOf, IsMemory, IsRefusal}
 use Rattle.timefd_language.specs.Bytes.{is_version_three}
 use Rattle.timefd_language.specs.declared.description_version.DescriptionVersion.{DescriptionVersion}
 use Rattle.timefd_component.specs.Tree.{Text, Tree, pack}
@@ -42,7 +42,8 @@ takes_memory (Version Two) = false
 takes_memory (Version Three) = true
 takes_memory Strftime = false
 
--- The answer is how much a text of the version holds, or its fault, or that memory ran out.
+-- The answer is how much a text of the version holds, or its fault, or that memory ran out, but that
+-- of a text without a fault alone.
 pub record IsAmount (version : DescriptionVersion) (limit : ℕ) (text : Text)
     (r : Result ℕ BorrowedParseError) : Type 0 where
   pub found : IfOk r (λ n. (list : List Tree) × SpellsIn (Version version) limit text list
@@ -51,7 +52,7 @@ pub record IsAmount (version : DescriptionVersion) (limit : ℕ) (text : Text)
   pub spelled : (list : List Tree) → SpellsIn (Version version) limit text list
       → MatchResult r (λ n. n ≡ amount (Version version) list) IsMemory
   pub refused : (f : Fault) → FaultIn (Version version) limit text f
-      → MatchResult r (λ _. ⊥) (IsLentOrMemory f)
+      → MatchResult r (λ _. ⊥) (IsLent f)
   -- Versions 1 and 2 take no memory, and the empty text takes none.
   pub memory : IsFalse (is_version_three version) → IfErr r IsRefusal
   pub empty : text ≡ [] → IsOk r

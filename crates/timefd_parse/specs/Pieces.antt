@@ -4,34 +4,36 @@ use Rattle.timefd_component.specs.Modern.{modern}
 use Rattle.timefd_component.specs.Reserved.{reserved}
 use Rattle.timefd_component.specs.Tree.{Tree, component, literal}
 use Rattle.timefd_parse.specs.declared.piece.Piece as code
-use Rattle.timefd_parse.specs.declared.piece.Piece.TheVariants.{Literal, Component, Built}
+use Rattle.timefd_parse.specs.declared.piece.Piece.TheVariants.{Literal, Component, Compound}
 
--- Version 3, which is strict, builds these trees behind the others. Versions 1 and 2 build none.
+-- A reader that builds has built these trees behind the others. Of another nothing is said.
 abbrev pub IsBuilt : Bool → List Tree → List Tree → List Tree → Type 0
-IsBuilt strict old new list = IsTrue strict → new ≡ old ++ list
+IsBuilt builds old new list = IsTrue builds → new ≡ old ++ list
 
--- The piece is this tree. One that is built is the last tree that is, and version 3 alone has such;
--- of another
--- nothing is built yet, and a component is modern.
-abbrev pub IsPiece : Bool → List Tree → List Tree → code.Piece → Tree → Type 0
-IsPiece strict old new (Literal text) tree = (tree ≡ literal text.now) × (IsTrue strict → new ≡ old)
-IsPiece strict old new (Component c) tree = (tree ≡ component c) × (modern c ≡ c)
-    × (IsTrue strict → new ≡ old)
-IsPiece strict old new Built tree = IsTrue strict × (new ≡ old ++ tree ∷ [])
+-- The piece is this tree. Where the reader builds, a compound is the last tree that is built, and
+-- of another piece nothing is built yet. Version 3 alone, which is strict, has compounds, and a
+-- component is modern.
+abbrev pub IsPiece : Bool → Bool → List Tree → List Tree → code.Piece → Tree → Type 0
+IsPiece strict builds old new (Literal text) tree = (tree ≡ literal text.now)
+    × (IsTrue builds → new ≡ old)
+IsPiece strict builds old new (Component c) tree = (tree ≡ component c) × (modern c ≡ c)
+    × (IsTrue builds → new ≡ old)
+IsPiece strict builds old new Compound tree = IsTrue strict
+    × IsBuilt builds old new (tree ∷ [])
 
 -- a literal or a component
 abbrev pub IsLeaf : code.Piece → Type 0
 IsLeaf (Literal text) = ⊤
 IsLeaf (Component c) = ⊤
-IsLeaf Built = ⊥
+IsLeaf Compound = ⊥
 
 abbrev pub IsLeafTree : code.Piece → Tree → Type 0
 IsLeafTree (Literal text) tree = tree ≡ literal text.now
 IsLeafTree (Component c) tree = tree ≡ component c
-IsLeafTree Built tree = ⊥
+IsLeafTree Compound tree = ⊥
 
 -- how many bytes a piece reserves that isn't built
 abbrev pub own_bytes : code.Piece → ℕ
 own_bytes (Literal text) = length text.now
 own_bytes (Component c) = reserved (modern c)
-own_bytes Built = 0
+own_bytes Compound = 0

@@ -1,5 +1,5 @@
 -- How what is read of a text stands to the grammar.
-use Rattle.std.specs.Prelude.{ℕ, suc, ◌≡◌, ◌+◌, ◌≤◌, ◌<◌, ◌⊎◌, List, [], ◌∷◌, ◌++◌, length, map, Option, Some, None, Result, MatchResult, IsTrue, ⊤}
+use Rattle.std.specs.Prelude.{ℕ, suc, Bool, ◌≡◌, ◌+◌, ◌≤◌, ◌<◌, ◌⊎◌, List, [], ◌∷◌, ◌++◌, length, map, Option, Some, None, Result, MatchResult, IsTrue, ⊤}
 use Rattle.std.specs.Borrow.{Bor}
 use Rattle.std.specs.Str.{IsUtf8}
 use Rattle.std.specs.declared.vec.Vec.{Vec}
@@ -60,35 +60,35 @@ ReadsEscape v limit n text r = MatchResult r (λ x. LeadsOn v limit n text (lite
     (IsFaultAt v limit n text)
 
 -- The text begins with a piece, behind which is the rest. The lists are the trees that were built
--- before it was
--- read, and after.
-abbrev pub BeginsWithPiece : DescriptionVersion → ℕ → ℕ → Text → List Tree → List Tree
+-- before it was read, and after, by a reader that builds.
+abbrev pub BeginsWithPiece : DescriptionVersion → Bool → ℕ → ℕ → Text → List Tree → List Tree
     → Piece × Bor (List ℕ) → Type 0
-BeginsWithPiece v limit n text old new x =
+BeginsWithPiece v builds limit n text old new x =
     (tree : Tree) × LeadsOn v limit n text tree x.1.now
-    × IsPiece (is_version_three v) old new x.0 tree
+    × IsPiece (is_version_three v) builds old new x.0 tree
 
 -- the same of what may want memory
-abbrev pub ReadsPiece : DescriptionVersion → ℕ → ℕ → Text → List Tree → List Tree
+abbrev pub ReadsPiece : DescriptionVersion → Bool → ℕ → ℕ → Text → List Tree → List Tree
     → Result (Piece × Bor (List ℕ)) code_error.ReadError → Type 0
-ReadsPiece v limit n text old new r =
-    MatchResult r (BeginsWithPiece v limit n text old new) (MemoryOr (IsFaultAt v limit n text))
+ReadsPiece v builds limit n text old new r =
+    MatchResult r (BeginsWithPiece v builds limit n text old new)
+    (MemoryOr (IsFaultAt v limit n text))
 
 -- the end of the text, or the `]` of a nested description
 abbrev pub IsEnd : ℕ → Text → Type 0
 IsEnd n [] = ⊤
 IsEnd n (b ∷ rest) = (b ≡ right) × (0 < n)
 
-abbrev pub IsNext : DescriptionVersion → ℕ → ℕ → Text → List Tree → List Tree
+abbrev pub IsNext : DescriptionVersion → Bool → ℕ → ℕ → Text → List Tree → List Tree
     → Option (Piece × Bor (List ℕ)) → Type 0
-IsNext v limit n text old new None = IsEnd n text × (new ≡ old)
-IsNext v limit n text old new (Some x) = BeginsWithPiece v limit n text old new x
+IsNext v builds limit n text old new None = IsEnd n text × (new ≡ old)
+IsNext v builds limit n text old new (Some x) = BeginsWithPiece v builds limit n text old new x
 
 -- the next piece, if there is one
-abbrev pub ReadsNext : DescriptionVersion → ℕ → ℕ → Text → List Tree → List Tree
+abbrev pub ReadsNext : DescriptionVersion → Bool → ℕ → ℕ → Text → List Tree → List Tree
     → Result (Option (Piece × Bor (List ℕ))) code_error.ReadError → Type 0
-ReadsNext v limit n text old new r =
-    MatchResult r (IsNext v limit n text old new) (MemoryOr (IsFaultAt v limit n text))
+ReadsNext v builds limit n text old new r =
+    MatchResult r (IsNext v builds limit n text old new) (MemoryOr (IsFaultAt v limit n text))
 
 -- pieces, and a construct that no piece begins with, with its fault
 abbrev pub IsFaultIn : DescriptionVersion → ℕ → ℕ → Text → code_fault.Fault → Type 0
@@ -110,17 +110,17 @@ AreCounted limit text built bytes =
     × (bytes + reserve_all (trees built) ≡ reserve_all (trees list))
     × (length built ≤ length list)
 
--- so many pieces, and their trees are built
-abbrev pub AreMembers : DescriptionVersion → ℕ → ℕ → Text → List Tree → List Tree → ℕ → Text
+-- so many pieces, and their trees are built, by a reader that builds
+abbrev pub AreMembers : DescriptionVersion → Bool → ℕ → ℕ → Text → List Tree → List Tree → ℕ → Text
     → Type 0
-AreMembers v limit n text old new count rest =
+AreMembers v builds limit n text old new count rest =
     (list : List Tree) × PiecesToEnd v limit n text list rest × (count ≡ length list)
-    × IsBuilt (is_version_three v) old new list
+    × IsBuilt builds old new list
 
-abbrev pub ReadsMembers : DescriptionVersion → ℕ → ℕ → Text → List Tree → List Tree
+abbrev pub ReadsMembers : DescriptionVersion → Bool → ℕ → ℕ → Text → List Tree → List Tree
     → Result (ℕ × Bor (List ℕ)) code_error.ReadError → Type 0
-ReadsMembers v limit n text old new r =
-    MatchResult r (λ x. AreMembers v limit n text old new x.0 x.1.now)
+ReadsMembers v builds limit n text old new r =
+    MatchResult r (λ x. AreMembers v builds limit n text old new x.0 x.1.now)
     (MemoryOr (IsFaultIn v limit n text))
 
 -- The text behind the `[` of a nested description, which is this tree, and what follows its `]`.
@@ -153,16 +153,16 @@ abbrev pub IsNestedFault : DescriptionVersion → ℕ → ℕ → ℕ → Text �
 IsNestedFault v limit n start text f = IsTooDeep limit n text f
     ⊎ (IsCutOff v limit n start text f ⊎ IsBrokenInside v limit n start text f)
 
--- the same, and its tree is built
-abbrev pub IsBuiltNested : DescriptionVersion → ℕ → ℕ → Text → List Tree → List Tree → Text → Type 0
-IsBuiltNested v limit n text old new rest =
-    (tree : Tree) × IsNested v limit n text tree rest
-    × IsBuilt (is_version_three v) old new (tree ∷ [])
+-- the same, and its tree is built, by a reader that builds
+abbrev pub IsBuiltNested : DescriptionVersion → Bool → ℕ → ℕ → Text → List Tree → List Tree → Text
+    → Type 0
+IsBuiltNested v builds limit n text old new rest =
+    (tree : Tree) × IsNested v limit n text tree rest × IsBuilt builds old new (tree ∷ [])
 
-abbrev pub ReadsNested : DescriptionVersion → ℕ → ℕ → ℕ → Text → List Tree → List Tree
+abbrev pub ReadsNested : DescriptionVersion → Bool → ℕ → ℕ → ℕ → Text → List Tree → List Tree
     → Result (Bor (List ℕ)) code_error.ReadError → Type 0
-ReadsNested v limit n start text old new r =
-    MatchResult r (λ x. IsBuiltNested v limit n text old new x.now)
+ReadsNested v builds limit n start text old new r =
+    MatchResult r (λ x. IsBuiltNested v builds limit n text old new x.now)
     (MemoryOr (IsNestedFault v limit n start text))
 
 -- the items of a whole text

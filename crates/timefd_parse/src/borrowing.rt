@@ -11,20 +11,23 @@ ghost use Rattle.timefd_language.specs.Bytes.{is_version_three};
 ghost use Rattle.timefd_language.specs.Grammar.{Spells, nesting_limit};
 ghost use Rattle.timefd_language.specs.Broken.{FaultOf};
 ghost use Rattle.timefd_language.specs.Strings.{AreItems};
-ghost use Rattle.timefd_borrowed_fault.specs.BorrowedFaults.{HasShortFault, IsLentOf, IsLentOrMemory, IsMemory};
+ghost use Rattle.timefd_borrowed_fault.specs.BorrowedFaults.{HasShortFault, IsLent, IsLentOf, IsMemory};
 ghost use Rattle.timefd_parse.specs.Answers.{IsOutput, ReservesAtMost, HasStrings};
 
+use crate::counting::error_of;
 use crate::parsing::BorrowedOutput;
 use crate::read::{items, members, node_room};
 use std::alloc::{AllocError, Global};
-use timefd_borrowed_fault::borrowed_parse_error::{BorrowedParseError, lent};
+use timefd_borrowed_fault::BorrowedParseError;
 use timefd_items::{BorrowedFormatItem, DescriptionBuilder, FormatDescriptionV3};
 use timefd_language::description_version::DescriptionVersion;
+use timefd_language::fault::ReadError;
 
 /// Reads a text of a version as `parse_borrowed_within` does, with a fault that borrows what it
 /// quotes. This call is this port's own.
 ///
-/// The error is `Invalid` with the fault of the text, or `Memory` where memory ran out.
+/// The error is `Invalid` with the fault of the text, or `Memory` where memory ran out. A text that
+/// has a fault is refused for it even then.
 pub fn parse_all_borrowed<'a>(
     alloc: Global,
     version: DescriptionVersion,
@@ -39,11 +42,11 @@ pub fn parse_all_borrowed<'a>(
         × Spells version limit 0 s.now list × IsOutput version list output) }
     ensures fault { IfErr result (IsLentOf (FaultOf version limit s.now)) }
 
-    // What is spelled is accepted, and what has a fault is refused for it, unless memory runs out.
+    // What is spelled is accepted, unless memory runs out, and what has a fault is refused for it.
     ensures spelled { (list : List Tree) → Spells version limit 0 s.now list
         → MatchResult result (IsOutput version list) IsMemory }
     ensures refused { (f : spec.Fault) → FaultOf version limit s.now f
-        → MatchResult result (λ _. ⊥) (IsLentOrMemory f) }
+        → MatchResult result (λ _. ⊥) (IsLent f) }
 
     // The words of a fault are short, so that its sentence can be written.
     ensures words { IfErr result HasShortFault }
@@ -82,12 +85,12 @@ pub fn parse_items<'a>(
     ensures spelled { (list : List Tree) → Spells version limit 0 s.now list
         → MatchResult result (λ items. AreItems items.items list) IsMemory }
     ensures refused { (f : spec.Fault) → FaultOf version limit s.now f
-        → MatchResult result (λ _. ⊥) (IsLentOrMemory f) }
+        → MatchResult result (λ _. ⊥) (IsLent f) }
     ensures empty { s.now ≡ [] → IsOk result }
 {
     match items(alloc, version, s, limit) {
         Ok(items) => Ok(items),
-        Err(error) => Err(lent(error, s.len())),
+        Err(error) => Err(error_of(alloc, version, limit, s, error)),
     }
 }
 
@@ -103,20 +106,20 @@ pub fn parse_description<'a>(
     ensures spelled { (list : List Tree) → Spells Three limit 0 s.now list
         → MatchResult result (λ d. description_tree d ≡ pack list) IsMemory }
     ensures refused { (f : spec.Fault) → FaultOf Three limit s.now f
-        → MatchResult result (λ _. ⊥) (IsLentOrMemory f) }
+        → MatchResult result (λ _. ⊥) (IsLent f) }
     ensures reserved { IfOk result (λ d. reserve (description_tree d) ≤ length s.now) }
     ensures empty { s.now ≡ [] → IsOk result }
 {
-    let len = s.len();
+    let version = DescriptionVersion::Three;
     let mut builder = match DescriptionBuilder::with_capacity(alloc, node_room(s)) {
         Ok(builder) => builder,
-        Err(error) => return Err(BorrowedParseError::Memory(error)),
+        Err(_) => return Err(error_of(alloc, version, limit, s, ReadError::Memory)),
     };
-    match members(&mut builder, DescriptionVersion::Three, s, limit, 0) {
+    match members::<true>(&mut builder, version, s, limit, 0) {
         Ok(_) => match builder.finish() {
             Ok(description) => Ok(description),
             Err(error) => Err(BorrowedParseError::Memory(error)),
         },
-        Err(error) => Err(lent(error, len)),
+        Err(error) => Err(error_of(alloc, version, limit, s, error)),
     }
 }

@@ -3,10 +3,13 @@
 ghost use Rattle.std.specs.Prelude.{ℕ, ◌≡◌, ◌≤◌, ◌<◌, [], List, length, IsFalse, MatchResult};
 ghost use Rattle.std.specs.Result.{IfErr};
 ghost use Rattle.timefd_component.specs.Tree.{Tree};
+ghost use Rattle.timefd_borrowed_fault.specs.BorrowedFaults.{IsLent, IsLentOf, IsMemory};
+ghost use Rattle.timefd_fault.specs.Faults.{Fault};
 ghost use Rattle.timefd_items.specs.Builder.{built};
+ghost use Rattle.timefd_language.specs.Broken.{FaultOf};
 ghost use Rattle.timefd_language.specs.Bytes.{is_version_three};
 ghost use Rattle.timefd_language.specs.FaultMeaning.{MemoryOr};
-ghost use Rattle.timefd_language.specs.Grammar.{nesting_limit};
+ghost use Rattle.timefd_language.specs.Grammar.{Spells};
 ghost use Rattle.timefd_language.specs.Invalid.{IsInvalid};
 ghost use Rattle.timefd_language.specs.declared.description_version.DescriptionVersion.TheVariants.{Three};
 ghost use Rattle.timefd_parse.specs.Language.{IsAmount};
@@ -15,7 +18,7 @@ ghost use Rattle.timefd_parse.specs.Read.{AreCounted, IsFaultIn, PiecesToEnd};
 
 use crate::piece::Piece;
 use crate::read::next_piece;
-use std::alloc::Global;
+use std::alloc::{AllocError, Global};
 use timefd_borrowed_fault::borrowed_parse_error::{BorrowedParseError, lent};
 use timefd_component::reserved::reserved_bytes;
 use timefd_items::DescriptionBuilder;
@@ -49,18 +52,56 @@ pub fn count_bytes<'a>(
 ) -> Result<usize, BorrowedParseError<'a>>
     ensures { IsAmount Three limit text.now result }
 {
-    let len = text.len();
     let mut builder = DescriptionBuilder::new(alloc);
     match bytes_beside(&mut builder, text, limit) {
         Ok(bytes) => match builder.finish() {
             Ok(nested) => Ok(bytes + nested.max_bytes_needed()),
             Err(error) => Err(BorrowedParseError::Memory(error)),
         },
-        Err(error) => Err(lent(error, len)),
+        Err(error) => Err(error_of(alloc, DescriptionVersion::Three, limit, text, error)),
     }
 }
 
-/// How many pieces a text of version 1 or 2 has.
+/// The error of a text of a version that was not read. A fault is found without memory, even where
+/// that ran out.
+pub fn error_of<'a>(
+    alloc: Global,
+    version: DescriptionVersion,
+    limit: u8,
+    text: &'a str,
+    error: ReadError<'a>,
+) -> BorrowedParseError<'a>
+    requires { MemoryOr (IsFaultIn version limit 0 text.now) error }
+    ensures fault { IsLentOf (FaultOf version limit text.now) result }
+    ensures spelled { (list : List Tree) → Spells version limit 0 text.now list → IsMemory result }
+    ensures refused { (f : Fault) → FaultOf version limit text.now f → IsLent f result }
+{
+    match error {
+        ReadError::Memory => checked_again(alloc, version, limit, text),
+        error => lent(error, text.len()),
+    }
+}
+
+/// The error of a text for whose trees there is no memory. It is read again without them.
+#[inline(never)]
+fn checked_again<'a>(
+    alloc: Global,
+    version: DescriptionVersion,
+    limit: u8,
+    text: &'a str,
+) -> BorrowedParseError<'a>
+    ensures fault { IsLentOf (FaultOf version limit text.now) result }
+    ensures spelled { (list : List Tree) → Spells version limit 0 text.now list → IsMemory result }
+    ensures refused { (f : Fault) → FaultOf version limit text.now f → IsLent f result }
+{
+    let mut builder = DescriptionBuilder::new(alloc);
+    match count_pieces(&mut builder, version, text, limit) {
+        Ok(_) => BorrowedParseError::Memory(AllocError),
+        Err(error) => lent(error, text.len()),
+    }
+}
+
+/// How many pieces a text of a version has. They are checked and not built, and take no memory.
 #[inline(always)]
 fn count_pieces<'a>(
     builder: &mut DescriptionBuilder<'a>,
@@ -68,7 +109,6 @@ fn count_pieces<'a>(
     text: &'a str,
     limit: u8,
 ) -> Result<usize, ReadError<'a>>
-    requires { IsFalse (is_version_three version) }
     ensures count { MatchResult result (λ n. (list : List Tree)
         × PiecesToEnd version limit 0 text.now list [] × (n ≡ length list))
         (MemoryOr (IsFaultIn version limit 0 text.now)) }
@@ -78,7 +118,7 @@ fn count_pieces<'a>(
     let mut count = 0;
     let mut rest = text;
     'pieces: loop {
-        let Some((_, after)) = next_piece(builder, version, rest, limit, 0)? else {
+        let Some((_, after)) = next_piece::<false>(builder, version, rest, limit, 0)? else {
             return Ok(count);
         };
         count += 1;
@@ -101,7 +141,13 @@ fn bytes_beside<'a>(
     let mut bytes = 0;
     let mut rest = text;
     'pieces: loop {
-        let Some((piece, after)) = next_piece(builder, DescriptionVersion::Three, rest, limit, 0)?
+        let Some((piece, after)) = next_piece::<true>(
+            builder,
+            DescriptionVersion::Three,
+            rest,
+            limit,
+            0,
+        )?
         else {
             return Ok(bytes);
         };
@@ -118,6 +164,6 @@ fn own_bytes(piece: Piece) -> usize
     match piece {
         Piece::Literal(text) => text.len(),
         Piece::Component(component) => reserved_bytes(component),
-        Piece::Built => 0,
+        Piece::Compound => 0,
     }
 }

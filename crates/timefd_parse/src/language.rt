@@ -4,7 +4,7 @@ ghost use Rattle.std.specs.Prelude.{◌≡◌, ◌≤◌, [], List, IfOk, IsFals
 ghost use Rattle.std.specs.Result.{IfErr};
 ghost use Rattle.timefd_component.specs.Tree.{Tree};
 ghost use Rattle.timefd_fault.specs.Faults as spec;
-ghost use Rattle.timefd_borrowed_fault.specs.BorrowedFaults.{HasShortFault, IsLentOf, IsLentOrMemory, IsMemory, IsRefusal};
+ghost use Rattle.timefd_borrowed_fault.specs.BorrowedFaults.{HasShortFault, IsLent, IsLentOf, IsMemory, IsRefusal};
 ghost use Rattle.timefd_language.specs.Told.{IsFaultOrMemory, MemoryAlone};
 ghost use Rattle.timefd_language.specs.Bytes.{is_version_three};
 ghost use Rattle.timefd_language.specs.Grammar.{nesting_limit};
@@ -82,7 +82,7 @@ pub fn amount_all_borrowed(
     ensures spelled { (list : List Tree) → SpellsIn language limit text.now list
         → MatchResult result (λ n. n ≡ amount language list) IsMemory }
     ensures refused { (f : spec.Fault) → FaultIn language limit text.now f
-        → MatchResult result (λ _. ⊥) (IsLentOrMemory f) }
+        → MatchResult result (λ _. ⊥) (IsLent f) }
 
     // The words of a fault are short, so that its sentence can be written.
     ensures words { IfErr result HasShortFault }
@@ -125,7 +125,7 @@ fn strftime_amount(text: &str) -> Result<usize, BorrowedParseError<'_>>
     ensures spelled { (list : List Tree) → SpellsIn Language.Strftime 0 text.now list
         → MatchResult result (λ n. n ≡ amount Language.Strftime list) IsMemory }
     ensures refused { (f : spec.Fault) → FaultIn Language.Strftime 0 text.now f
-        → MatchResult result (λ _. ⊥) (IsLentOrMemory f) }
+        → MatchResult result (λ _. ⊥) (IsLent f) }
     ensures no_memory { IfErr result IsRefusal }
     ensures empty { text.now ≡ [] → IsOk result }
 {

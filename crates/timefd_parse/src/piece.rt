@@ -10,8 +10,8 @@ use timefd_items::{BorrowedFormatItem, Component};
 pub enum Piece<'a> {
     Literal(&'a str),
     Component(Component),
-    /// A bracket with nested descriptions, which is the last tree that was built.
-    Built,
+    /// A bracket with nested descriptions, which is the last tree that was built, if any is.
+    Compound,
 }
 
 impl<'a> Piece<'a> {
@@ -28,7 +28,7 @@ impl<'a> Piece<'a> {
         match self {
             Piece::Literal(text) => BorrowedFormatItem::StringLiteral(text),
             Piece::Component(component) => BorrowedFormatItem::Component(component),
-            Piece::Built => unreachable!(),
+            Piece::Compound => unreachable!(),
         }
     }
 }

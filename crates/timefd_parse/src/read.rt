@@ -1,6 +1,6 @@
 //! The pieces of a text, one after another.
 
-ghost use Rattle.std.specs.Prelude.{ℕ, ◌≡◌, ◌≤◌, ◌<◌, ◌∷◌, [], length, IsFalse, MatchOption};
+ghost use Rattle.std.specs.Prelude.{ℕ, ◌≡◌, ◌≤◌, ◌<◌, ◌∷◌, [], length, IsFalse, IsTrue, MatchOption};
 ghost use Rattle.std.specs.Result.{IfErr};
 ghost use Rattle.std.specs.Str.{IsUtf8};
 ghost use Rattle.timefd_language.specs.declared.description_version.DescriptionVersion as spec_version;
@@ -122,20 +122,22 @@ fn too_deep<'a>(remaining: usize) -> ReadError<'a>
     })
 }
 
-/// The next piece of a list of items, or none at the list's end.
+/// The next piece of a list of items, or none at the list's end. A reader that doesn't build takes no
+/// memory.
 #[inline(always)]
 #[cycle(read)]
-pub fn next_piece<'a>(
+pub fn next_piece<'a, const BUILDS: bool>(
     builder: &mut DescriptionBuilder<'a>,
     version: DescriptionVersion,
     text: &'a str,
     limit: u8,
     around: u8,
 ) -> Result<Option<(Piece<'a>, &'a str)>, ReadError<'a>>
-    requires { around ≤ limit }
-    ensures next { ReadsNext version limit around text.now (built builder.old) (built builder.new)
-        result }
-    ensures invalid { IsFalse (is_version_three version) → IfErr result IsInvalid }
+    requires within { around ≤ limit }
+    requires builds { IsTrue BUILDS → IsTrue (is_version_three version) }
+    ensures next { ReadsNext version BUILDS limit around text.now (built builder.old)
+        (built builder.new) result }
+    ensures invalid { IsFalse BUILDS → IfErr result IsInvalid }
     ensures some { IfErr result (λ _. 0 < length text.now) }
 {
     match start_of(text) {
@@ -151,7 +153,7 @@ pub fn next_piece<'a>(
             }
             match doubled(version, inside) {
                 Some((byte, rest)) => Ok(Some((Piece::Literal(byte), rest))),
-                None => Ok(Some(bracket(builder, version, inside, limit, around)?)),
+                None => Ok(Some(bracket::<BUILDS>(builder, version, inside, limit, around)?)),
             }
         }
         Start::Backslash(after) => {
@@ -165,28 +167,30 @@ pub fn next_piece<'a>(
     }
 }
 
-/// How many pieces a text begins with, and what stands at their end. In version 3 they are built.
+/// How many pieces a text begins with, and what stands at their end.
 #[cycle(read)]
-pub fn members<'a>(
+pub fn members<'a, const BUILDS: bool>(
     builder: &mut DescriptionBuilder<'a>,
     version: DescriptionVersion,
     text: &'a str,
     limit: u8,
     around: u8,
 ) -> Result<(usize, &'a str), ReadError<'a>>
-    requires { around ≤ limit }
-    ensures members { ReadsMembers version limit around text.now (built builder.old)
+    requires within { around ≤ limit }
+    requires builds { IsTrue BUILDS → IsTrue (is_version_three version) }
+    ensures members { ReadsMembers version BUILDS limit around text.now (built builder.old)
         (built builder.new) result }
-    ensures invalid { IsFalse (is_version_three version) → IfErr result IsInvalid }
+    ensures invalid { IsFalse BUILDS → IfErr result IsInvalid }
     ensures some { IfErr result (λ _. 0 < length text.now) }
 {
     let mut count = 0;
     let mut rest = text;
     'pieces: loop {
-        let Some((piece, after)) = next_piece(builder, version, rest, limit, around)? else {
+        let Some((piece, after)) = next_piece::<BUILDS>(builder, version, rest, limit, around)?
+        else {
             return Ok((count, rest));
         };
-        add(builder, version, piece)?;
+        add::<BUILDS>(builder, piece)?;
         count += 1;
         rest = after;
     }
@@ -195,7 +199,7 @@ pub fn members<'a>(
 /// What follows the `]` of the nested description that has this behind its `[`. The bracket around
 /// it begins where `start` bytes remain.
 #[cycle(read)]
-fn nested<'a>(
+fn nested<'a, const BUILDS: bool>(
     builder: &mut DescriptionBuilder<'a>,
     version: DescriptionVersion,
     text: &'a str,
@@ -203,28 +207,29 @@ fn nested<'a>(
     around: u8,
     start: usize,
 ) -> Result<&'a str, ReadError<'a>>
-    requires { around ≤ limit }
-    ensures nested { ReadsNested version limit around start text.now (built builder.old)
+    requires within { around ≤ limit }
+    requires builds { IsTrue BUILDS → IsTrue (is_version_three version) }
+    ensures nested { ReadsNested version BUILDS limit around start text.now (built builder.old)
         (built builder.new) result }
-    ensures invalid { IsFalse (is_version_three version) → IfErr result IsInvalid }
+    ensures invalid { IsFalse BUILDS → IfErr result IsInvalid }
 {
     if around == limit {
         return Err(too_deep(text.len() + 1));
     }
-    let (count, end) = match members(builder, version, text, limit, around + 1) {
+    let (count, end) = match members::<BUILDS>(builder, version, text, limit, around + 1) {
         Ok(read) => read,
         Err(error) => return Err(enclosed(error, start)),
     };
     let Start::Closing(after) = start_of(end) else {
         return Err(unclosed(start));
     };
-    pack(builder, version, count)?;
+    pack::<BUILDS>(builder, count)?;
     Ok(after)
 }
 
 /// The bracket that has this inside.
 #[cycle(read)]
-fn bracket<'a>(
+fn bracket<'a, const BUILDS: bool>(
     builder: &mut DescriptionBuilder<'a>,
     version: DescriptionVersion,
     inside: &'a str,
@@ -232,10 +237,11 @@ fn bracket<'a>(
     around: u8,
 ) -> Result<(Piece<'a>, &'a str), ReadError<'a>>
     requires within { around ≤ limit }
+    requires builds { IsTrue BUILDS → IsTrue (is_version_three version) }
     requires begins { BeginsNoEscape version inside.now }
-    ensures piece { ReadsPiece version limit around (91 ∷ inside.now) (built builder.old)
+    ensures piece { ReadsPiece version BUILDS limit around (91 ∷ inside.now) (built builder.old)
         (built builder.new) result }
-    ensures invalid { IsFalse (is_version_three version) → IfErr result IsInvalid }
+    ensures invalid { IsFalse BUILDS → IfErr result IsInvalid }
 {
     let start = inside.len() + 1;
     let strict = version.is_strict();
@@ -246,7 +252,7 @@ fn bracket<'a>(
     'inner: loop {
         match start_of(rest) {
             Start::Opening(text) => {
-                let after = nested(builder, version, text, limit, around, start)?;
+                let after = nested::<BUILDS>(builder, version, text, limit, around, start)?;
                 count += 1;
                 rest = cut(after, Class::White).1;
             }
@@ -258,7 +264,7 @@ fn bracket<'a>(
                     remaining,
                     count,
                 };
-                let piece = verdict(builder, strict, &head, nested, span)?;
+                let piece = verdict::<BUILDS>(builder, strict, &head, nested, span)?;
                 return Ok((piece, after));
             }
             _ => return Err(unclosed(start)),
@@ -297,7 +303,8 @@ pub fn items<'a>(
     let mut items = Vec::with_capacity(alloc, first_room(text))?;
     let mut rest = text;
     'pieces: loop {
-        let Some((piece, after)) = next_piece(&mut builder, version, rest, limit, 0)? else {
+        let Some((piece, after)) = next_piece::<false>(&mut builder, version, rest, limit, 0)?
+        else {
             return Ok(items);
         };
         items.push(piece.into_item())?;

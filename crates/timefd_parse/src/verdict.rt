@@ -25,7 +25,7 @@ pub struct Nested {
     /// Whether white bytes stand before the first, and how much of the text remains from its `[` on.
     pub spaced: bool,
     pub remaining: usize,
-    /// How many there are. In version 3 each is a tree, and they are the last that were built.
+    /// How many there are. A reader that builds has made a tree of each, and these are the last.
     pub count: usize,
 }
 
@@ -37,22 +37,22 @@ pub struct Span {
 }
 
 /// The optional description of a bracket named `optional`.
-fn optional<'a>(
+fn optional<'a, const BUILDS: bool>(
     builder: &mut DescriptionBuilder<'a>,
     strict: bool,
     formatted: bool,
     nested: Nested,
     span: Span,
 ) -> Result<Piece<'a>, ReadError<'a>>
-    requires { IsTrue strict → nested.count ≤ length (built builder.old) }
+    requires { IsTrue BUILDS → nested.count ≤ length (built builder.old) }
     ensures tree { (place : ℕ) (h : spec.Head) (parts : List PlacedDescription) (base : List Tree)
         → rules.bad_modifiers strict (format ∷ []) [] (placed h) ≡ None
         → formatted ≡ rules.is_formatted strict (placed h)
         → ShowsNested span.start nested parts → place + span.end ≡ span.start
-        → IsBuilt strict base (built builder.old) (packed parts)
-        → Judged span.start strict base (built builder.new) result
+        → IsBuilt BUILDS base (built builder.old) (packed parts)
+        → Judged span.start strict BUILDS base (built builder.new) result
         (rules.optional_verdict strict h parts place) }
-    ensures invalid { IsFalse strict → IfErr result IsInvalid }
+    ensures invalid { IsFalse BUILDS → IfErr result IsInvalid }
 {
     if nested.count == 0 {
         let kind = FaultKind::Expected("nested format description");
@@ -78,25 +78,28 @@ fn optional<'a>(
             remaining: span.start,
         }));
     }
+    if !BUILDS {
+        return Ok(Piece::Compound);
+    }
     builder.optional(formatted)?;
-    Ok(Piece::Built)
+    Ok(Piece::Compound)
 }
 
 /// The alternatives of a bracket named `first`.
-fn first<'a>(
+fn first<'a, const BUILDS: bool>(
     builder: &mut DescriptionBuilder<'a>,
     strict: bool,
     nested: Nested,
     span: Span,
 ) -> Result<Piece<'a>, ReadError<'a>>
-    requires { IsTrue strict → nested.count ≤ length (built builder.old) }
+    requires { IsTrue BUILDS → nested.count ≤ length (built builder.old) }
     ensures tree { (place : ℕ) (h : spec.Head) (parts : List PlacedDescription) (base : List Tree)
         → rules.bad_modifiers strict [] [] (placed h) ≡ None
         → ShowsNested span.start nested parts → place + span.end ≡ span.start
-        → IsBuilt strict base (built builder.old) (packed parts)
-        → Judged span.start strict base (built builder.new) result
+        → IsBuilt BUILDS base (built builder.old) (packed parts)
+        → Judged span.start strict BUILDS base (built builder.new) result
         (rules.first_verdict strict h parts place) }
-    ensures invalid { IsFalse strict → IfErr result IsInvalid }
+    ensures invalid { IsFalse BUILDS → IfErr result IsInvalid }
 {
     if !strict {
         let kind = FaultKind::NotSupported("'first' item", "runtime-parsed format descriptions");
@@ -112,8 +115,11 @@ fn first<'a>(
             remaining: span.end,
         }));
     }
+    if !BUILDS {
+        return Ok(Piece::Compound);
+    }
     builder.first(nested.count)?;
-    Ok(Piece::Built)
+    Ok(Piece::Compound)
 }
 
 /// The fault of nested descriptions that stand where they may not.
@@ -139,30 +145,32 @@ fn placing_fault(nests: bool, nested: Nested, span: Span) -> Option<Fault<'stati
     })
 }
 
-/// What a bracket is. In version 3 its nested descriptions become one tree.
-pub fn verdict<'a>(
+/// What a bracket is. A reader that builds makes one tree of its nested descriptions.
+pub fn verdict<'a, const BUILDS: bool>(
     builder: &mut DescriptionBuilder<'a>,
     strict: bool,
     head: &JudgedHead<'a>,
     nested: Nested,
     span: Span,
 ) -> Result<Piece<'a>, ReadError<'a>>
-    requires { IsTrue strict → nested.count ≤ length (built builder.old) }
+    requires { IsTrue BUILDS → nested.count ≤ length (built builder.old) }
     ensures tree { (place : ℕ) (h : spec.Head) (parts : List PlacedDescription) (base : List Tree)
         → IsVerdict strict span.start h head.now.nests head.now.verdict
         → ShowsNested span.start nested parts
-        → place + span.end ≡ span.start → IsBuilt strict base (built builder.old) (packed parts)
-        → Judged span.start strict base (built builder.new) result
+        → place + span.end ≡ span.start → IsBuilt BUILDS base (built builder.old) (packed parts)
+        → Judged span.start strict BUILDS base (built builder.new) result
         (rules.verdict strict h parts place) }
-    ensures invalid { IsFalse strict → IfErr result IsInvalid }
+    ensures invalid { IsFalse BUILDS → IfErr result IsInvalid }
 {
     if let Some(fault) = placing_fault(head.nests, nested, span) {
         return Err(ReadError::Invalid(fault));
     }
     match head.verdict {
         HeadVerdict::Component(component) => Ok(Piece::Component(component)),
-        HeadVerdict::Optional(formatted) => optional(builder, strict, formatted, nested, span),
-        HeadVerdict::First => first(builder, strict, nested, span),
+        HeadVerdict::Optional(formatted) => optional::<BUILDS>(
+            builder, strict, formatted, nested, span,
+        ),
+        HeadVerdict::First => first::<BUILDS>(builder, strict, nested, span),
         HeadVerdict::Refused(fault) => Err(ReadError::Invalid(fault)),
     }
 }

@@ -24,8 +24,9 @@ use Rattle.timefd_language.specs.declared.parse_error.ParseError.{ParseError}
 use Rattle.timefd_language.specs.declared.parse_error.ParseError.TheVariants as told
 use Rattle.timefd_borrowed_fault.specs.declared.borrowed_fault.BorrowedFault.{BorrowedFault}
 use Rattle.timefd_borrowed_fault.specs.declared.borrowed_parse_error.BorrowedParseError.{BorrowedParseError}
-use Rattle.timefd_borrowed_fault.specs.declared.borrowed_parse_error.BorrowedParseError.TheVariants.{Invalid, Memory}
-use Rattle.timefd_borrowed_fault.specs.BorrowedFaults.{lent_fault, IsLentOf, IsLentOrMemory, IsMemory, IsOwned, Lends}
+use Rattle.timefd_borrowed_fault.specs.BorrowedFaults.{lent_fault, IsLent, IsLentOf, IsMemory, IsOwned, Lends}
+use Rattle.timefd_borrowed_fault.proofs.LentLemmas.{Assigned, lent_none, lent_of, lent_one}
+use Rattle.timefd_language.specs.Invalid.{IsInvalid}
 use Rattle.timefd_borrowed_fault.proofs.OwnedLemmas.{owned_of}
 use Rattle.timefd_language.specs.Fault.{raised, expected_escape}
 use Rattle.timefd_language.specs.Cut.{IsCut}
@@ -256,13 +257,8 @@ counted_fault text rest n f before bad = fault_behind text rest before.0 f befor
 
 -- Whole texts.
 
-pub record WholeFault (text : Text) (f : code_fault.Fault) : Type 0 where
-  pub g : Fault
-  pub assigned : StrftimeFaultOf text g
-  pub is : IsFault (length text) f g
-
 pub whole_fault : (text : Text) (f : code_fault.Fault) → IsStrftimeFaultIn text f
-    → WholeFault text f
+    → Assigned (StrftimeFaultOf text) (length text) f
 whole_fault text f h = record {
   g = raised (ill_fault h.1) (length (directives_text h.0));
   assigned = (h.0, h.1, h.2, h.3, h.4, refl);
@@ -286,14 +282,15 @@ counted_unrefused text n found f h = (one text).not_both found.0 f found.1 h
 
 -- What the caller is lent.
 
+whole : (text : Text) (e : ReadError) → MemoryOr (IsStrftimeFaultIn text) e
+    → MemoryOr (Assigned (StrftimeFaultOf text) (length text)) e
+whole text (errors.Invalid f) h = whole_fault text f h
+whole text errors.Memory h = tt
+
 pub lent_strftime : (text : Text) (e : ReadError) (r : BorrowedParseError)
     → MemoryOr (IsStrftimeFaultIn text) e → Lends (length text) e r
     → IsLentOf (StrftimeFaultOf text) r
-lent_strftime text e (Memory m) h lent = tt
-lent_strftime text errors.Memory (Invalid x) h lent = absurd lent
-lent_strftime text (errors.Invalid f) (Invalid x) h lent =
-    let w = whole_fault text f h in
-    subst (StrftimeFaultOf text) (sym (lent w.g w.is)) w.assigned
+lent_strftime text e r h = lent_of (StrftimeFaultOf text) (length text) e r (whole text e h)
 
 pub lent_strftime_fault : (text : Text) (f : code_fault.Fault) (b : BorrowedFault)
     → IsStrftimeFaultIn text f → ((g : Fault) → IsFault (length text) f g → lent_fault b ≡ g)
@@ -305,20 +302,21 @@ lent_strftime_fault text f b h lent =
 pub lent_strftime_spelled : (text : Text) (e : ReadError) (r : BorrowedParseError)
     (list : List Tree) → MemoryOr (IsStrftimeFaultIn text) e → Lends (length text) e r
     → SpellsStrftime text list → IsMemory r
-lent_strftime_spelled text e (Memory m) list h lent s = tt
-lent_strftime_spelled text errors.Memory (Invalid x) list h lent s = lent
-lent_strftime_spelled text (errors.Invalid f) (Invalid x) list h lent s =
-    let w = whole_fault text f h in
-    (one text).not_both list w.g s w.assigned
+lent_strftime_spelled text e r list h lent s =
+    lent_none (StrftimeFaultOf text) (length text) (λ g is. (one text).not_both list g s is) e r
+    (whole text e h) lent
 
 pub lent_strftime_refused : (text : Text) (e : ReadError) (r : BorrowedParseError) (f : Fault)
-    → MemoryOr (IsStrftimeFaultIn text) e → Lends (length text) e r → StrftimeFaultOf text f
-    → IsLentOrMemory f r
-lent_strftime_refused text e (Memory m) f h lent is = tt
-lent_strftime_refused text errors.Memory (Invalid x) f h lent is = absurd lent
-lent_strftime_refused text (errors.Invalid g) (Invalid x) f h lent is =
-    let w = whole_fault text g h in
-    lent w.g w.is ∙ (one text).one_fault w.g f w.assigned is
+    → MemoryOr (IsStrftimeFaultIn text) e → IsInvalid e → Lends (length text) e r
+    → StrftimeFaultOf text f → IsLent f r
+lent_strftime_refused text e r f h is lent has =
+    lent_one (StrftimeFaultOf text) (length text) f
+    (λ g other. (one text).one_fault g f other has) e r (whole text e h) is lent
+
+-- an error other than want of memory is a fault
+pub is_invalid : (e : ReadError) → (e ≡ errors.Memory → ⊥) → IsInvalid e
+is_invalid (errors.Invalid f) other = tt
+is_invalid errors.Memory other = other refl
 
 -- The same of what the caller owns.
 

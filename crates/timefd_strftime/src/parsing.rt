@@ -6,7 +6,7 @@ ghost use Rattle.timefd_fault.specs.Faults as spec;
 ghost use Rattle.timefd_format_item.specs.Meaning.{item_tree, item_trees};
 ghost use Rattle.timefd_component.specs.Tree.{Tree};
 ghost use Rattle.timefd_strftime.specs.declared.text.PieceStart.TheVariants.{Literal};
-ghost use Rattle.timefd_borrowed_fault.specs.BorrowedFaults.{IsLentOf, IsLentOrMemory, IsMemory};
+ghost use Rattle.timefd_borrowed_fault.specs.BorrowedFaults.{IsLent, IsLentOf, IsMemory};
 ghost use Rattle.timefd_language.specs.Told.{IsFaultOrMemory, MemoryAlone};
 ghost use Rattle.timefd_language.specs.Strftime.{SpellsStrftime, StrftimeFaultOf};
 ghost use Rattle.timefd_strftime.specs.StrftimeAnswers.{IsStrftimeFault};
@@ -14,11 +14,12 @@ ghost use Rattle.timefd_language.specs.FaultMeaning.{MemoryOr};
 ghost use Rattle.timefd_strftime.specs.StrftimeReading.{BeginsPiece, IsStrftimeFaultIn, IsRestOf, Leads};
 ghost use Rattle.timefd_language.specs.Strings.{are_of_strings, is_of_strings};
 
+use crate::count::count_strftime;
 use crate::directive::directive;
 use crate::item::literal_item;
 use crate::tables::StrftimeTables;
 use crate::text::{PieceStart, piece_start_of};
-use std::alloc::Global;
+use std::alloc::{AllocError, Global};
 use timefd_borrowed_fault::borrowed_parse_error::{BorrowedParseError, lent};
 use timefd_format_item::BorrowedFormatItem;
 use timefd_language::fault::ReadError;
@@ -59,7 +60,8 @@ pub fn parse_strftime_borrowed<'a>(
 /// Reads a text of strftime as `parse_strftime_borrowed` does, with a fault that borrows what it
 /// quotes. This call is this port's own.
 ///
-/// The error is `Invalid` with the fault of the text, or `Memory` where memory ran out.
+/// The error is `Invalid` with the fault of the text, or `Memory` where memory ran out. A text that
+/// has a fault is refused for it even then.
 pub fn parse_strftime_all_borrowed<'a>(
     alloc: Global,
     tables: &'a StrftimeTables<'a>,
@@ -69,11 +71,11 @@ pub fn parse_strftime_all_borrowed<'a>(
     ensures found { IfOk result (λ items. SpellsStrftime s.now (item_trees items.items)) }
     ensures fault { IfErr result (IsLentOf (StrftimeFaultOf s.now)) }
 
-    // What is spelled is accepted, and what has a fault is refused for it, unless memory runs out.
+    // What is spelled is accepted, unless memory runs out, and what has a fault is refused for it.
     ensures spelled { (list : List Tree) → SpellsStrftime s.now list
         → MatchResult result (λ items. item_trees items.items ≡ list) IsMemory }
     ensures refused { (f : spec.Fault) → StrftimeFaultOf s.now f
-        → MatchResult result (λ _. ⊥) (IsLentOrMemory f) }
+        → MatchResult result (λ _. ⊥) (IsLent f) }
 
     // No literal is one of bytes, not even in a composite letter's list.
     ensures strings { IfOk result (λ items. IsTrue (are_of_strings items.items)) }
@@ -83,7 +85,23 @@ pub fn parse_strftime_all_borrowed<'a>(
 {
     match items(alloc, tables, s) {
         Ok(items) => Ok(items),
-        Err(error) => Err(lent(error, s.len())),
+        Err(error) => Err(error_of(error, s)),
+    }
+}
+
+/// The error of a text that was not read. A fault is found without memory, even where that ran out.
+fn error_of<'a>(error: ReadError<'a>, text: &'a str) -> BorrowedParseError<'a>
+    requires { MemoryOr (IsStrftimeFaultIn text.now) error }
+    ensures fault { IsLentOf (StrftimeFaultOf text.now) result }
+    ensures spelled { (list : List Tree) → SpellsStrftime text.now list → IsMemory result }
+    ensures refused { (f : spec.Fault) → StrftimeFaultOf text.now f → IsLent f result }
+{
+    match error {
+        ReadError::Memory => match count_strftime(text) {
+            Ok(_) => BorrowedParseError::Memory(AllocError),
+            Err(fault) => BorrowedParseError::Invalid(fault),
+        },
+        error => lent(error, text.len()),
     }
 }
 

@@ -1,7 +1,7 @@
 use Rattle.std.proofs.Common.{◌≡◌, ◌∙◌, Some, IsUtf8, false, true, refl, subst, sym}
 use Rattle.timefd_c.specs.Reading.{Reads}
 use Rattle.timefd_c.proofs.ReadingLemmas.{reported, faulted, told}
-use Rattle.timefd_borrowed_fault.specs.BorrowedFaults.{lent_fault, IsLentOf, IsLentOrMemory, IsMemory}
+use Rattle.timefd_borrowed_fault.specs.BorrowedFaults.{lent_fault, IsLent, IsLentOf, IsMemory}
 use Rattle.timefd_language.specs.Grammar.{nesting_limit}
 use Rattle.timefd_parse.specs.Language.{FaultIn}
 use Rattle.timefd_c.proofs.nodes.timefd_read.Goals as goal
@@ -44,6 +44,6 @@ returns-in-Err-Invalid c =
           (subst IsUtf8 (sym text.0) text.1)
           (subst (IsLentOf (FaultIn language nesting_limit bytes)) is r.fault)
           (λ list s. subst IsMemory is (r.spelled list s))
-          (λ g h. subst (IsLentOrMemory g) is (r.refused g h))
+          (λ g h. subst (IsLent g) is (r.refused g h))
           (λ nil. let no : false ≡ true = r.empty nil in absurd cc))))));
     }

@@ -1,7 +1,6 @@
 use Rattle.std.proofs.Common.{subst}
 use Rattle.timefd_parse.specs.Language.{FaultIn}
 use Rattle.timefd_language.specs.Grammar.{nesting_limit}
-use Rattle.timefd_c.proofs.ReportLemmas.{lent_or_memory}
 use Rattle.timefd_c.proofs.read.read.Goals as goal
 
 pub returns-in-Version-clause-refused : goal.returns-in-Version-clause-refused
@@ -11,10 +10,5 @@ returns-in-Version-clause-refused c = λ f has.
 
 pub returns-in-Strftime-clause-refused : goal.returns-in-Strftime-clause-refused
 returns-in-Strftime-clause-refused c = λ f has.
-    lent_or_memory f c.read_strftime.result (c.read_strftime.ensures.refused f
-    (subst (λ l. FaultIn l nesting_limit c.args.text.now f) c.in-Strftime.is has))
-
-pub returns-in-Strftime-clause-strftime : goal.returns-in-Strftime-clause-strftime
-returns-in-Strftime-clause-strftime c = λ f is has.
     c.read_strftime.ensures.refused f
-    (subst (λ l. FaultIn l nesting_limit c.args.text.now f) is has)
+    (subst (λ l. FaultIn l nesting_limit c.args.text.now f) c.in-Strftime.is has)

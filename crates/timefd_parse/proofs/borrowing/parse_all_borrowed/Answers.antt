@@ -1,7 +1,7 @@
 use Rattle.std.proofs.Common.{List, refl, sym, subst}
 use Rattle.timefd_fault.specs.Faults.{Fault}
 use Rattle.timefd_component.specs.Tree.{Tree}
-use Rattle.timefd_borrowed_fault.specs.BorrowedFaults.{IsLentOrMemory, IsMemory}
+use Rattle.timefd_borrowed_fault.specs.BorrowedFaults.{IsLent, IsMemory}
 use Rattle.timefd_borrowed_fault.proofs.ShortWords.{short_fault, short_lent}
 use Rattle.timefd_language.specs.declared.description_version.DescriptionVersion.TheVariants.{Three}
 use Rattle.timefd_language.specs.Broken.{FaultOf}
@@ -21,7 +21,7 @@ returns-in-Err-clause-spelled c = subst (λ v. (list : List Tree)
 
 pub returns-in-Err-clause-refused : goal.returns-in-Err-clause-refused
 returns-in-Err-clause-refused c = subst (λ v. (f : Fault) → FaultOf v c.args.limit c.args.s.now f
-    → IsLentOrMemory f c.in-Err.error) (sym c.in-Three.is) c.in-Err.ensures.refused
+    → IsLent f c.in-Err.error) (sym c.in-Three.is) c.in-Err.ensures.refused
 
 pub returns-in-Err-clause-words : goal.returns-in-Err-clause-words
 returns-in-Err-clause-words c =

@@ -2,20 +2,9 @@ use Rattle.std.proofs.Common.{◌∙◌, ◌≤◌, ◌++◌, length, refl, sym,
 use Rattle.timefd_items.specs.Builder.{built}
 use Rattle.timefd_component.specs.Reserved.{reserve_all}
 use Rattle.timefd_component.specs.Tree.{pack, trees}
-use Rattle.timefd_parse.proofs.ParseLemmas.{items_spelled, same_list, none_read, no_fault_in, lent_assigned, lent_spelled, lent_refused, reserves_at_most}
+use Rattle.timefd_parse.proofs.ParseLemmas.{items_spelled, same_list, none_read, no_fault_in, reserves_at_most}
 use Rattle.timefd_parse.proofs.BuildingLemmas.{list_within}
 use Rattle.timefd_parse.proofs.borrowing.parse_description.Goals as goal
-
-pub returns-clause-fault : goal.returns-clause-fault
-returns-clause-fault c = lent_assigned _ _ _ _ _ c.in-Err-members.ensures.members c.lent.ensures
-
-pub returns-clause-spelled : goal.returns-clause-spelled
-returns-clause-spelled c = λ list s. lent_spelled _ _ _ _ _ list c.in-Err-members.ensures.members
-    c.lent.ensures s
-
-pub returns-clause-refused : goal.returns-clause-refused
-returns-clause-refused c = λ f h. lent_refused _ _ _ _ _ f c.in-Err-members.ensures.members
-    c.lent.ensures h
 
 -- all trees of the text reserve no more bytes than it has
 pub finish-requires : goal.finish-requires
@@ -60,3 +49,8 @@ returns-in-Ok-members-clause-empty c = λ e.
     c.in-Err-finish.ensures.empty (m.3 refl ∙
     ap (λ ts. ts ++ m.0) c.in-Ok.ensures.empty ∙
     none_read _ _ _ _ _ m.1 e)
+
+-- where memory ran out behind the last piece, the text has no fault
+pub returns-in-Ok-members-clause-refused : goal.returns-in-Ok-members-clause-refused
+returns-in-Ok-members-clause-refused c = λ f h.
+    no_fault_in _ _ _ _ _ f c.in-Ok-members.ensures.members.1 h

@@ -1,4 +1,4 @@
-use Rattle.std.proofs.Common.{◌∷◌, ◌++◌, [], length, ap, arith, subst}
+use Rattle.std.proofs.Common.{◌∷◌, ◌++◌, [], length, true, ap, arith, subst}
 use Rattle.std.proofs.lemmas.Result.{err_from_is_err_and}
 use Rattle.timefd_component.specs.Reserved.{reserve_all}
 use Rattle.timefd_component.specs.Tree.{trees}
@@ -18,7 +18,7 @@ returns-in_err-piece-clause-bytes c =
 
 pub returns-in_default-clause-bytes : goal.returns-in_default-clause-bytes
 returns-in_default-clause-bytes c =
-    let end = subst (IsNext Three c.args.limit 0 c.pieces.rest.now (built c.pieces.builder)
+    let end = subst (IsNext Three true c.args.limit 0 c.pieces.rest.now (built c.pieces.builder)
     (built c.next_piece.new.builder)) c.in_default.is c.in_ok-piece.ensures.next in (
       c.pieces.invariant.2,
       subst (PiecesToEnd Three c.args.limit 0 c.args.text.now c.pieces.invariant.2)
@@ -29,7 +29,7 @@ returns-in_default-clause-bytes c =
 
 pub overflow_add-bytes : goal.overflow_add-bytes
 overflow_add-bytes c =
-    let next = subst (IsNext Three c.args.limit 0 c.pieces.rest.now (built c.pieces.builder)
+    let next = subst (IsNext Three true c.args.limit 0 c.pieces.rest.now (built c.pieces.builder)
     (built c.next_piece.new.builder)) c.in-Some.is c.in_ok-piece.ensures.next in
     let more = counted_more c.pieces.bytes (built c.pieces.builder) (built c.next_piece.new.builder)
     c.pieces.invariant.2 c.in-Some.piece next.0 next.2 c.pieces.invariant.4 in
@@ -40,7 +40,7 @@ overflow_add-bytes c =
 
 pub pieces-preserved : goal.pieces-preserved
 pieces-preserved c =
-    let next = subst (IsNext Three c.args.limit 0 c.pieces.rest.now (built c.pieces.builder)
+    let next = subst (IsNext Three true c.args.limit 0 c.pieces.rest.now (built c.pieces.builder)
     (built c.next_piece.new.builder)) c.in-Some.is c.in_ok-piece.ensures.next in
     let more = counted_more c.pieces.bytes (built c.pieces.builder) (built c.next_piece.new.builder)
     c.pieces.invariant.2 c.in-Some.piece next.0 next.2 c.pieces.invariant.4 in (

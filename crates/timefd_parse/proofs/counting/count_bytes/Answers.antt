@@ -7,7 +7,7 @@ use Rattle.timefd_language.specs.declared.description_version.DescriptionVersion
 use Rattle.timefd_parse.proofs.AmountLemmas.{lent-in-version}
 use Rattle.timefd_parse.proofs.BuildingLemmas.{list_within}
 use Rattle.timefd_parse.proofs.CountingLemmas.{none_built, pack_sum}
-use Rattle.timefd_parse.proofs.ParseLemmas.{items_spelled, same_list, none_read, no_fault_in, lent_assigned, lent_spelled, lent_refused}
+use Rattle.timefd_parse.proofs.ParseLemmas.{items_spelled, same_list, none_read, no_fault_in}
 use Rattle.timefd_parse.proofs.counting.count_bytes.Goals as goal
 
 pub finish-requires : goal.finish-requires
@@ -59,7 +59,7 @@ returns-in-Ok c =
       found = tt;
       fault = tt;
       spelled = λ list s. tt;
-      refused = λ f h. tt;
+      refused = λ f h. no_fault_in _ _ _ _ _ f m.1 h;
       memory = λ lax. absurd (true≢false lax);
       empty = λ e. c.in-Err-finish.ensures.empty
           (none_built _ m.0 m.3 (none_read _ _ _ _ _ m.1 e));
@@ -67,12 +67,11 @@ returns-in-Ok c =
 
 pub returns : goal.returns
 returns c =
-    let bad = c.in-Err.ensures.bytes in
     record {
       found = tt;
-      fault = lent-in-version _ _ _ _ (lent_assigned _ _ _ _ _ bad c.lent.ensures);
-      spelled = λ list s. lent_spelled _ _ _ _ _ list bad c.lent.ensures s;
-      refused = λ f h. lent_refused _ _ _ _ _ f bad c.lent.ensures h;
+      fault = lent-in-version _ _ _ _ c.error_of.ensures.fault;
+      spelled = c.error_of.ensures.spelled;
+      refused = c.error_of.ensures.refused;
       memory = λ lax. absurd (true≢false lax);
       empty = λ e. absurd (omega (arith, c.in-Err.ensures.some, ap length e));
     }

@@ -23,7 +23,7 @@ returns c =
       found = tt;
       fault = lent-in-version _ _ _ _ (lent_assigned _ _ _ _ _ bad c.lent.ensures);
       spelled = λ list s. lent_spelled _ _ _ _ _ list bad c.lent.ensures s;
-      refused = λ f h. lent_refused _ _ _ _ _ f bad c.lent.ensures h;
+      refused = λ f h. lent_refused _ _ _ _ _ f bad c.in-Err.ensures.invalid c.lent.ensures h;
       memory = λ lax. lent_refusal _ _ _ _ _ bad c.in-Err.ensures.invalid c.lent.ensures;
       empty = λ e. absurd (omega (arith, c.in-Err.ensures.some, ap length e));
     }

@@ -1,4 +1,4 @@
-use Rattle.std.proofs.Common.{◌∷◌, ◌++◌, [], arith, length-append, subst}
+use Rattle.std.proofs.Common.{◌∷◌, ◌++◌, [], false, arith, length-append, subst}
 use Rattle.std.proofs.lemmas.Result.{err_from_is_err_and}
 use Rattle.timefd_items.specs.Builder.{built}
 use Rattle.timefd_parse.specs.Read.{IsFaultIn, IsNext, PiecesToEnd}
@@ -14,8 +14,8 @@ returns-in_err-after-clause-count c =
 
 pub returns-in_default-clause-count : goal.returns-in_default-clause-count
 returns-in_default-clause-count c =
-    let end = subst (IsNext c.args.version c.args.limit 0 c.pieces.rest.now (built c.pieces.builder)
-    (built c.next_piece.new.builder)) c.in_default.is c.in_ok-after.ensures.next in (
+    let end = subst (IsNext c.args.version false c.args.limit 0 c.pieces.rest.now
+    (built c.pieces.builder) (built c.next_piece.new.builder)) c.in_default.is c.in_ok-after.ensures.next in (
       c.pieces.invariant.2,
       subst (PiecesToEnd c.args.version c.args.limit 0 c.args.text.now c.pieces.invariant.2)
           (end_outside _ end.0) (items_end _ _ _ _ _ _ c.pieces.invariant.3 end.0),
@@ -24,7 +24,7 @@ returns-in_default-clause-count c =
 
 pub pieces-preserved : goal.pieces-preserved
 pieces-preserved c =
-    let next = subst (IsNext c.args.version c.args.limit 0 c.pieces.rest.now
+    let next = subst (IsNext c.args.version false c.args.limit 0 c.pieces.rest.now
     (built c.pieces.builder) (built c.next_piece.new.builder)) c.in-Some.is
     c.in_ok-after.ensures.next in (
       next.1.utf8,

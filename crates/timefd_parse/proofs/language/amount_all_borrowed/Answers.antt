@@ -1,7 +1,7 @@
 use Rattle.std.proofs.Common.{◌≡◌, List, IfOk, IfErr, IsFalse, MatchResult, sym, subst}
 use Rattle.timefd_fault.specs.Faults.{Fault}
 use Rattle.timefd_component.specs.Tree.{Tree}
-use Rattle.timefd_borrowed_fault.specs.BorrowedFaults.{HasShortFault, IsLentOf, IsLentOrMemory, IsMemory}
+use Rattle.timefd_borrowed_fault.specs.BorrowedFaults.{HasShortFault, IsLent, IsLentOf, IsMemory}
 use Rattle.timefd_parse.specs.Language.{SpellsIn, FaultIn, amount, takes_memory}
 use Rattle.timefd_borrowed_fault.proofs.ShortWords.{short_lent}
 use Rattle.timefd_parse.proofs.AmountLemmas.{builds_nothing, if_err_more, short_in}
@@ -27,7 +27,7 @@ returns-in-Version-clause-spelled c =
 pub returns-in-Version-clause-refused : goal.returns-in-Version-clause-refused
 returns-in-Version-clause-refused c =
     subst (λ l. (f : Fault) → FaultIn l c.args.limit c.args.text.now f
-    → MatchResult c.version_amount.result (λ _. ⊥) (IsLentOrMemory f)) (sym c.in-Version.is)
+    → MatchResult c.version_amount.result (λ _. ⊥) (IsLent f)) (sym c.in-Version.is)
     c.version_amount.ensures.refused
 
 pub returns-in-Strftime-clause-found : goal.returns-in-Strftime-clause-found
@@ -50,7 +50,7 @@ returns-in-Strftime-clause-spelled c =
 pub returns-in-Strftime-clause-refused : goal.returns-in-Strftime-clause-refused
 returns-in-Strftime-clause-refused c =
     subst (λ l. (f : Fault) → FaultIn l c.args.limit c.args.text.now f
-    → MatchResult c.strftime_amount.result (λ _. ⊥) (IsLentOrMemory f)) (sym c.in-Strftime.is)
+    → MatchResult c.strftime_amount.result (λ _. ⊥) (IsLent f)) (sym c.in-Strftime.is)
     c.strftime_amount.ensures.refused
 
 pub returns-in-Version-clause-words : goal.returns-in-Version-clause-words

@@ -1,8 +1,8 @@
-use Rattle.std.proofs.Common.{◌∙◌, ◌+◌, length, sym, ap, subst, arith, lit<, [], ◌∷◌, ◌++◌, length-append, refl}
+use Rattle.std.proofs.Common.{◌+◌, ◌≤◌, ◌==◌, IsTrue, not, rules, length, ap, subst, arith, lit<, [], ◌∷◌, ◌++◌, length-append, refl}
 use Rattle.std.proofs.lemmas.Result.{err_from_is_err_and}
 use Rattle.timefd_items.specs.Builder.{built}
 use Rattle.timefd_component.specs.Tree.{pack}
-use Rattle.timefd_language.specs.Bytes.{left}
+use Rattle.timefd_language.specs.Bytes.{left, is_version_three}
 use Rattle.timefd_parse.specs.HeadVerdicts.{BeginsWithJudged}
 use Rattle.timefd_parse.specs.Read.{IsFaultIn, IsNext}
 use Rattle.timefd_parse.proofs.BuildingLemmas.{built_none, built_more, built_there, built_within}
@@ -11,7 +11,7 @@ use Rattle.timefd_parse.proofs.NestedLemmas.{Accepts, Refuses, bracket_begins, b
 use Rattle.timefd_parse.proofs.read.+read.Goals as goal
 
 pub bracket-inner-init : goal.bracket-inner-init
-bracket-inner-init t c =
+bracket-inner-init g t c =
     let e = c.in_ok-head.ensures in
     let begins = subst (λ s. BeginsWithJudged s (left ∷ c.args.inside.now) c.in_ok-head.head
     c.in_ok-head.behind.now e.0.0) c.is_strict-strict.ensures e.0.1 in (
@@ -24,57 +24,62 @@ bracket-inner-init t c =
     )
 
 pub nested-returns-then-around-limit-clause-nested : goal.nested-returns-then-around-limit-clause-nested
-nested-returns-then-around-limit-clause-nested t c =
+nested-returns-then-around-limit-clause-nested g t c =
     at_limit _ _ _ _ _ _ c.if-around-limit.true c.too_deep.ensures.fault
 
 pub nested-returns-in-Err-clause-nested : goal.nested-returns-in-Err-clause-nested
-nested-returns-in-Err-clause-nested t c = inner_fails _ _ _ _ _ _ _ _ (omega arith)
-    (omega (arith, c.if-around-limit.false, c.requires)) c.in-Err.ensures.members
-    c.enclosed.ensures.fault
+nested-returns-in-Err-clause-nested g t c =
+    let within : c.args.around ≤ c.args.limit = search rules in
+    inner_fails _ _ _ _ _ _ _ _ (omega arith) (omega (arith, c.if-around-limit.false, within))
+    c.in-Err.ensures.members c.enclosed.ensures.fault
 
 pub nested-returns-in_default-clause-nested : goal.nested-returns-in_default-clause-nested
-nested-returns-in_default-clause-nested t c =
+nested-returns-in_default-clause-nested g t c =
+    let within : c.args.around ≤ c.args.limit = search rules in
     inner_cut_off _ _ _ _ _ _ _ _ _ (omega arith)
-    (omega (arith, c.if-around-limit.false, c.requires)) c.in-Ok.ensures.members.1
+    (omega (arith, c.if-around-limit.false, within)) c.in-Ok.ensures.members.1
     (no_closing _ _ _ c.start_of.ensures c.in-Ok.ensures.members.1.4 c.in_default.not-Closing)
     c.unclosed.ensures.fault
 
 pub nested-pack-requires-clause-there : goal.nested-pack-requires-clause-there
-nested-pack-requires-clause-there t c =
+nested-pack-requires-clause-there g t c =
     let m = c.in-Ok.ensures.members in
     built_there _ _ _ m.0 _ m.3 m.2
 
 -- the nested description reserves no more bytes than its text has
 pub nested-pack-requires-clause-fits : goal.nested-pack-requires-clause-fits
-nested-pack-requires-clause-fits t c =
+nested-pack-requires-clause-fits g t c =
     let m = c.in-Ok.ensures.members in
-    λ three. omega (
+    let builds : IsTrue (not (g.row.BUILDS == 0)) → IsTrue (is_version_three c.args.version) =
+    search rules in
+    λ on. omega (
       arith,
-      built_within c.args.version c.args.limit _ c.args.text.now _ _ _ m.0 _
-          m.1 m.3 m.2 three,
+      built_within c.args.version (not (g.row.BUILDS == 0)) c.args.limit _ c.args.text.now _ _ _ m.0
+          _ m.1 m.3 m.2 (builds on) on,
     )
 
 pub nested-returns-clause-nested : goal.nested-returns-clause-nested
-nested-returns-clause-nested t c =
+nested-returns-clause-nested g t c =
+    let within : c.args.around ≤ c.args.limit = search rules in
     let m = c.in-Ok.ensures.members in (
       pack m.0,
       inner_read _ _ _ _ _ (omega arith)
-          (omega (arith, c.if-around-limit.false, c.requires)) m.1 c.in-Closing.ensures refl,
+          (omega (arith, c.if-around-limit.false, within)) m.1 c.in-Closing.ensures refl,
       c.in_ok-pack.ensures.built _ m.0 m.3 m.2,
     )
 
 pub bracket-returns-in_err-after-in-Opening-clause-piece : goal.bracket-returns-in_err-after-in-Opening-clause-piece
-bracket-returns-in_err-after-in-Opening-clause-piece t c =
+bracket-returns-in_err-after-in-Opening-clause-piece g t c =
     let p = err_from_is_err_and c.from_residual-in_err-after-in-Opening.result
     c.from_residual-in_err-after-in-Opening.ensures.1 in
     rw (p.1, p.2) (nested_fault c.inner.invariant.3 _ _ c.in-Opening.ensures
     c.in_err-after-in-Opening.ensures.nested)
 
 pub bracket-overflow_add-count : goal.bracket-overflow_add-count
-bracket-overflow_add-count t c = omega (arith, c.inner.invariant.1, ap length c.in-Opening.ensures)
+bracket-overflow_add-count g t c = omega (arith, c.inner.invariant.1, ap length c.in-Opening.ensures)
 
 pub bracket-inner-preserved : goal.bracket-inner-preserved
-bracket-inner-preserved t c =
+bracket-inner-preserved g t c =
     let n = c.in_ok-after-in-Opening.ensures.nested in (
       c.cut.ensures.utf8,
       omega (
@@ -91,15 +96,15 @@ bracket-inner-preserved t c =
     )
 
 pub bracket-verdict-requires : goal.bracket-verdict-requires
-bracket-verdict-requires t c = λ strict. built_there _ _ _ _ _ c.inner.invariant.5
-    c.inner.invariant.4 (sym c.is_strict-strict.ensures ∙ strict)
+bracket-verdict-requires g t c = λ on. built_there _ _ _ _ _ c.inner.invariant.5
+    c.inner.invariant.4 on
 
 pub bracket-returns-in_err-piece-in-Closing-clause-piece : goal.bracket-returns-in_err-piece-in-Closing-clause-piece
-bracket-returns-in_err-piece-in-Closing-clause-piece t c =
+bracket-returns-in_err-piece-in-Closing-clause-piece g t c =
     let p = err_from_is_err_and c.from_residual-in_err-piece-in-Closing.result
     c.from_residual-in_err-piece-in-Closing.ensures.1 in
     let judged = subst
-    (λ s. Refuses s (length c.args.inside.now + 1) c.in_ok-head.head
+    (λ s. Refuses s (not (g.row.BUILDS == 0)) (length c.args.inside.now + 1) c.in_ok-head.head
     (record {
       spaced = c.in_ok-head.head.spaced;
       remaining = length c.in_ok-head.behind.now;
@@ -107,13 +112,13 @@ bracket-returns-in_err-piece-in-Closing-clause-piece t c =
     })
     (length c.inner.rest.now) (built c.inner.builder) c.in_err-piece-in-Closing.field-0.0)
     c.is_strict-strict.ensures c.in_err-piece-in-Closing.ensures.tree in
-    rw (p.1, p.2) (refuses c.inner.invariant.3 _ _ _ c.inner.invariant.4 c.inner.invariant.5 _
+    rw (p.1, p.2) (refuses c.inner.invariant.3 _ _ _ _ c.inner.invariant.4 c.inner.invariant.5 _
     c.in_err-piece-in-Closing.field-0.0 c.in-Closing.ensures judged)
 
 pub bracket-returns-in-Closing-clause-piece : goal.bracket-returns-in-Closing-clause-piece
-bracket-returns-in-Closing-clause-piece t c =
+bracket-returns-in-Closing-clause-piece g t c =
     let judged = subst
-    (λ s. Accepts s (length c.args.inside.now + 1) c.in_ok-head.head
+    (λ s. Accepts s (not (g.row.BUILDS == 0)) (length c.args.inside.now + 1) c.in_ok-head.head
     (record {
       spaced = c.in_ok-head.head.spaced;
       remaining = length c.in_ok-head.behind.now;
@@ -122,7 +127,7 @@ bracket-returns-in-Closing-clause-piece t c =
     (length c.inner.rest.now) (built c.inner.builder) (built c.verdict.new.builder)
     c.in_ok-piece-in-Closing.piece)
     c.is_strict-strict.ensures c.in_ok-piece-in-Closing.ensures.tree in
-    let a = accepted c.inner.invariant.3 _ _ _ c.inner.invariant.4 c.inner.invariant.5 _
+    let a = accepted c.inner.invariant.3 _ _ _ _ c.inner.invariant.4 c.inner.invariant.5 _
     (built c.verdict.new.builder) c.in_ok-piece-in-Closing.piece c.in-Closing.ensures judged in (
       a.0,
       record {
@@ -134,13 +139,13 @@ bracket-returns-in-Closing-clause-piece t c =
     )
 
 pub bracket-returns-in_default-clause-piece : goal.bracket-returns-in_default-clause-piece
-bracket-returns-in_default-clause-piece t c =
+bracket-returns-in_default-clause-piece g t c =
     never_closed c.inner.invariant.3 _
     (no_bracket _ _ c.start_of.ensures c.in_default.not-Opening c.in_default.not-Closing)
     c.unclosed.ensures.fault
 
 pub members-returns-in_err-piece : goal.members-returns-in_err-piece
-members-returns-in_err-piece t c =
+members-returns-in_err-piece g t c =
     let p = err_from_is_err_and c.from_residual.result c.from_residual.ensures.1 in
     rw (p.1, p.2) (record {
       members = memory_or _ (IsFaultIn c.args.version c.args.limit c.args.around c.args.text.now)
@@ -151,12 +156,14 @@ members-returns-in_err-piece t c =
     })
 
 pub members-returns-in_default : goal.members-returns-in_default
-members-returns-in_default t c =
-    let next = subst (IsNext c.args.version c.args.limit c.args.around c.pieces.rest.now
+members-returns-in_default g t c =
+    let next = subst (IsNext c.args.version (not (g.row.BUILDS == 0)) c.args.limit
+    c.args.around c.pieces.rest.now
     (built c.pieces.builder) (built c.next_piece.new.builder)) c.in_default.is
     c.in_ok-piece.ensures.next in
     record {
-      members = members_end c.args.version c.args.limit c.args.around c.args.text.now
+      members = members_end c.args.version (not (g.row.BUILDS == 0)) c.args.limit
+          c.args.around c.args.text.now
           c.pieces.rest.now c.pieces.invariant.2 _ _ _ _ c.pieces.invariant.3 next.0
           c.pieces.invariant.4 c.pieces.invariant.5 next.1;
       some = tt;
@@ -164,15 +171,17 @@ members-returns-in_default t c =
     }
 
 pub members-overflow_add-count : goal.members-overflow_add-count
-members-overflow_add-count t c =
-    let next = subst (IsNext c.args.version c.args.limit c.args.around c.pieces.rest.now
+members-overflow_add-count g t c =
+    let next = subst (IsNext c.args.version (not (g.row.BUILDS == 0)) c.args.limit
+    c.args.around c.pieces.rest.now
     (built c.pieces.builder) (built c.next_piece.new.builder)) c.in-Some.is
     c.in_ok-piece.ensures.next in
     omega (arith, next.1.shorter, c.pieces.invariant.1)
 
 pub members-pieces-preserved : goal.members-pieces-preserved
-members-pieces-preserved t c =
-    let next = subst (IsNext c.args.version c.args.limit c.args.around c.pieces.rest.now
+members-pieces-preserved g t c =
+    let next = subst (IsNext c.args.version (not (g.row.BUILDS == 0)) c.args.limit
+    c.args.around c.pieces.rest.now
     (built c.pieces.builder) (built c.next_piece.new.builder)) c.in-Some.is
     c.in_ok-piece.ensures.next in (
       next.1.utf8,
@@ -181,11 +190,12 @@ members-pieces-preserved t c =
       continues_more _ _ _ _ _ _ _ _ c.pieces.invariant.3 next.1.leads,
       omega (arith, c.pieces.invariant.4, length-append c.pieces.invariant.2 (next.0 ∷ [])),
       built_more _ _ _ _ _ _ c.pieces.invariant.5
-          (c.in_ok-add.ensures.built (built c.pieces.builder) next.0 next.2),
+          (c.in_ok-add.ensures.built (is_version_three c.args.version) (built c.pieces.builder)
+          next.0 next.2),
     )
 
 pub next_piece-returns-in_err-literal-in-Closing-2 : goal.next_piece-returns-in_err-literal-in-Closing-2
-next_piece-returns-in_err-literal-in-Closing-2 t c =
+next_piece-returns-in_err-literal-in-Closing-2 g t c =
     let p = err_from_is_err_and c.from_residual.result c.from_residual.ensures.1 in
     rw (p.1, p.2) (record {
       next = fault_outside _ _ _ _ _ (omega (arith, c.if-around-gt0.false))
@@ -195,7 +205,7 @@ next_piece-returns-in_err-literal-in-Closing-2 t c =
     })
 
 pub next_piece-returns-in_ok-literal-in-Closing-2 : goal.next_piece-returns-in_ok-literal-in-Closing-2
-next_piece-returns-in_ok-literal-in-Closing-2 t c = record {
+next_piece-returns-in_ok-literal-in-Closing-2 g t c = record {
   next = (
     _,
     closing_outside _ _ _ _ _ _ (omega (arith, c.if-around-gt0.false))
@@ -207,7 +217,7 @@ next_piece-returns-in_ok-literal-in-Closing-2 t c = record {
 }
 
 pub next_piece-returns-in-Some : goal.next_piece-returns-in-Some
-next_piece-returns-in-Some t c = record {
+next_piece-returns-in-Some g t c = record {
   next = (
     _,
     opening_leads _ _ _ _ _ _ _ c.in-Opening.ensures
@@ -219,7 +229,7 @@ next_piece-returns-in-Some t c = record {
 }
 
 pub next_piece-returns-in-Some-doubled : goal.next_piece-returns-in-Some-doubled
-next_piece-returns-in-Some-doubled t c =
+next_piece-returns-in-Some-doubled g t c =
     let e = c.in-Some-doubled.ensures in
     record {
       next = (
@@ -232,7 +242,7 @@ next_piece-returns-in-Some-doubled t c =
     }
 
 pub next_piece-returns-in_ok-literal-in-Backslash : goal.next_piece-returns-in_ok-literal-in-Backslash
-next_piece-returns-in_ok-literal-in-Backslash t c =
+next_piece-returns-in_ok-literal-in-Backslash g t c =
     record {
       next = (
         _,
@@ -244,7 +254,7 @@ next_piece-returns-in_ok-literal-in-Backslash t c =
     }
 
 pub next_piece-returns-in-Other : goal.next_piece-returns-in-Other
-next_piece-returns-in-Other t c = record {
+next_piece-returns-in-Other g t c = record {
   next =
       (_, c.run.ensures c.args.limit c.args.around, (refl, λ three. refl));
   some = tt;

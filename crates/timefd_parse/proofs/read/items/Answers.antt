@@ -1,4 +1,4 @@
-use Rattle.std.proofs.Common.{◌∷◌, ◌++◌, [], map, IsTrue, arith, sym, subst}
+use Rattle.std.proofs.Common.{◌∷◌, ◌++◌, [], map, IsTrue, false, arith, sym, subst}
 use Rattle.std.proofs.lemmas.List.{map-append}
 use Rattle.std.proofs.lemmas.Result.{err_from_is_err_and}
 use Rattle.timefd_format_item.specs.Meaning.{item_tree}
@@ -24,8 +24,8 @@ returns-in_err-piece c =
 
 pub returns-in_default : goal.returns-in_default
 returns-in_default c =
-    let end = subst (IsNext c.args.version c.args.limit 0 c.pieces.rest.now (built c.pieces.builder)
-    (built c.next_piece.new.builder)) c.in_default.is c.in_ok-piece.ensures.next in
+    let end = subst (IsNext c.args.version false c.args.limit 0 c.pieces.rest.now
+    (built c.pieces.builder) (built c.next_piece.new.builder)) c.in_default.is c.in_ok-piece.ensures.next in
     record {
       items = (
         subst (PiecesToEnd c.args.version c.args.limit 0 c.args.text.now
@@ -38,7 +38,7 @@ returns-in_default c =
 
 pub pieces-preserved : goal.pieces-preserved
 pieces-preserved c =
-    let next = subst (IsNext c.args.version c.args.limit 0 c.pieces.rest.now
+    let next = subst (IsNext c.args.version false c.args.limit 0 c.pieces.rest.now
     (built c.pieces.builder) (built c.next_piece.new.builder)) c.in-Some.is
     c.in_ok-piece.ensures.next in
     record {
@@ -52,7 +52,7 @@ pieces-preserved c =
           (map-append item_tree c.pieces.items.items (c.into_item.result ∷ [])))
           (subst (λ tree. Continues c.args.version c.args.limit 0 c.args.text.now
           (map item_tree c.pieces.items.items ++ tree ∷ []) c.in-Some.after.now)
-          (sym (same_leaf (is_version_three c.args.version) (built c.pieces.builder)
+          (sym (same_leaf (is_version_three c.args.version) false (built c.pieces.builder)
           (built c.next_piece.new.builder) c.in-Some.piece next.0 (item_tree c.into_item.result)
           next.2 c.into_item.ensures.tree))
           (continues_more _ _ _ _ _ _ _ _ c.pieces.invariant.before next.1.leads)));
@@ -62,8 +62,8 @@ pieces-preserved c =
 
 pub into_item-requires : goal.into_item-requires
 into_item-requires c =
-    let next = subst (IsNext c.args.version c.args.limit 0 c.pieces.rest.now
+    let next = subst (IsNext c.args.version false c.args.limit 0 c.pieces.rest.now
     (built c.pieces.builder) (built c.next_piece.new.builder)) c.in-Some.is
     c.in_ok-piece.ensures.next in
-    is_leaf (is_version_three c.args.version) (built c.pieces.builder)
+    is_leaf (is_version_three c.args.version) false (built c.pieces.builder)
     (built c.next_piece.new.builder) c.in-Some.piece next.0 c.requires next.2

@@ -1,12 +1,14 @@
-use Rattle.std.proofs.Common.{refl, arith}
+use Rattle.std.proofs.Common.{◌∙◌, refl, sym, arith}
+use Rattle.std.proofs.lemmas.Bool.{true≢false}
 use Rattle.timefd_items.specs.Builder.{built}
 use Rattle.timefd_fault.specs.Faults.{fault}
 use Rattle.timefd_language.specs.Fault.{expected_nested, optional_item}
+use Rattle.timefd_parse.proofs.BuildingLemmas.{is_off, is_on}
 use Rattle.timefd_parse.proofs.VerdictLemmas.{parts_none, parts_one, parts_many, optional_none, optional_many, optional_lax, optional_made}
 use Rattle.timefd_parse.proofs.verdict.optional.Goals as goal
 
 pub returns-then-nested-eq0-clause-tree : goal.returns-then-nested-eq0-clause-tree
-returns-then-nested-eq0-clause-tree c = λ place h parts base good same shows e are. (
+returns-then-nested-eq0-clause-tree g c = λ place h parts base good same shows e are. (
   fault expected_nested place,
   optional_none _ place h parts good
       (parts_none c.args.span.start c.args.nested parts shows c.if-nested-eq0.true),
@@ -14,7 +16,7 @@ returns-then-nested-eq0-clause-tree c = λ place h parts base good same shows e 
 )
 
 pub returns-then-nested-gt1-clause-tree : goal.returns-then-nested-gt1-clause-tree
-returns-then-nested-gt1-clause-tree c = λ place h parts base good same shows e are.
+returns-then-nested-gt1-clause-tree g c = λ place h parts base good same shows e are.
     let many = parts_many c.args.span.start c.args.nested parts shows
     (omega (arith, c.if-nested-gt1.true)) in (
       many.0,
@@ -24,7 +26,7 @@ returns-then-nested-gt1-clause-tree c = λ place h parts base good same shows e 
     )
 
 pub returns-then-not-strict-clause-tree : goal.returns-then-not-strict-clause-tree
-returns-then-not-strict-clause-tree c = λ place h parts base good same shows e are.
+returns-then-not-strict-clause-tree g c = λ place h parts base good same shows e are.
     let one = parts_one c.args.span.start c.args.nested parts shows
     (omega (arith, c.if-nested-eq0.false, c.if-nested-gt1.false)) in (
       fault optional_item 0,
@@ -34,11 +36,19 @@ returns-then-not-strict-clause-tree c = λ place h parts base good same shows e 
     )
 
 pub optional-requires : goal.optional-requires
-optional-requires c = omega (arith, c.if-nested-eq0.false, c.requires c.if-not-strict.false)
+optional-requires g c =
+    omega (arith, c.if-nested-eq0.false, c.requires (is_on g.row.BUILDS c.if-not-this.false))
 
 pub returns-clause-tree : goal.returns-clause-tree
-returns-clause-tree c = λ place h parts base good same shows e are.
-    optional_made c.args.strict c.args.span.start place c.args.nested c.args.formatted h parts
+returns-clause-tree g c = λ place h parts base good same shows e are.
+    optional_made c.args.strict _ c.args.span.start place c.args.nested c.args.formatted h parts
     base (built c.args.builder.now) (built c.optional.new.self) good same shows
     (omega (arith, c.if-nested-eq0.false, c.if-nested-gt1.false)) c.if-not-strict.false are
-    c.in_ok-optional.ensures.made
+    (λ on. c.in_ok-optional.ensures.made)
+
+pub returns-then-not-this-clause-tree : goal.returns-then-not-this-clause-tree
+returns-then-not-this-clause-tree g c = λ place h parts base good same shows e are.
+    optional_made c.args.strict _ c.args.span.start place c.args.nested c.args.formatted h parts
+    base (built c.args.builder.now) (built c.args.builder.now) good same shows
+    (omega (arith, c.if-nested-eq0.false, c.if-nested-gt1.false)) c.if-not-strict.false are
+    (λ on. absurd (true≢false (sym on ∙ is_off g.row.BUILDS c.if-not-this.true)))

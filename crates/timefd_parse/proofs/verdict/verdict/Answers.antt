@@ -1,4 +1,4 @@
-use Rattle.std.proofs.Common.{sym, subst}
+use Rattle.std.proofs.Common.{◌==◌, not, sym, subst}
 use Rattle.timefd_items.specs.Builder.{built}
 use Rattle.timefd_language.specs.Verdict.{optional_verdict, first_verdict}
 use Rattle.timefd_parse.specs.HeadVerdicts.{IsVerdict}
@@ -7,16 +7,16 @@ use Rattle.timefd_parse.proofs.HeadVerdictLemmas.{misplaced_nested, well_placed}
 use Rattle.timefd_parse.proofs.verdict.verdict.Goals as goal
 
 pub returns-in-Some-clause-tree : goal.returns-in-Some-clause-tree
-returns-in-Some-clause-tree c = λ place h parts base is nested e are.
+returns-in-Some-clause-tree g c = λ place h parts base is nested e are.
     misplaced_nested c.args.strict c.args.span.start place h c.args.head.now.nests parts
     c.args.head.now.verdict c.placing_fault.result _ is (c.placing_fault.ensures parts nested)
     c.in-Some.is
 
 pub returns-in-Optional-clause-tree : goal.returns-in-Optional-clause-tree
-returns-in-Optional-clause-tree c = λ place h parts base is nested e are.
+returns-in-Optional-clause-tree g c = λ place h parts base is nested e are.
     let v = subst (IsVerdict c.args.strict c.args.span.start h c.args.head.now.nests)
     c.in-Optional.is is in
-    subst (Judged c.args.span.start c.args.strict base (built c.optional.new.builder)
+    subst (Judged c.args.span.start c.args.strict (not (g.row.BUILDS == 0)) base (built c.optional.new.builder)
     c.optional.result)
     (sym (well_placed c.args.strict c.args.span.start place h c.args.head.now.nests parts
     (optional_verdict c.args.strict h) c.placing_fault.result v.2
@@ -24,10 +24,10 @@ returns-in-Optional-clause-tree c = λ place h parts base is nested e are.
     (c.optional.ensures.tree place h parts base v.0 v.1 nested e are)
 
 pub returns-in-First-clause-tree : goal.returns-in-First-clause-tree
-returns-in-First-clause-tree c = λ place h parts base is nested e are.
+returns-in-First-clause-tree g c = λ place h parts base is nested e are.
     let v = subst (IsVerdict c.args.strict c.args.span.start h c.args.head.now.nests)
     c.in-First.is is in
-    subst (Judged c.args.span.start c.args.strict base (built c.first.new.builder) c.first.result)
+    subst (Judged c.args.span.start c.args.strict (not (g.row.BUILDS == 0)) base (built c.first.new.builder) c.first.result)
     (sym (well_placed c.args.strict c.args.span.start place h c.args.head.now.nests parts
     (first_verdict c.args.strict h) c.placing_fault.result v.1
     (c.placing_fault.ensures parts nested) c.in_default.is))
