@@ -93,8 +93,8 @@ impl InvalidFormatDescription {
         }
     }
 
-    /// A copy, which holds the same name or value in memory of its own. An `Err` comes where there
-    /// is none left for it.
+    /// A copy, which holds the same name or value in memory of its own. An `Err` comes where
+    /// there is none left for it.
     pub fn clone(&self, alloc: Global) -> Result<Self, AllocError>
         ensures { IfOk result (λ copy. spec.fault_of copy ≡ spec.fault_of self.now) }
     {
