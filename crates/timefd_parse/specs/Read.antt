@@ -130,8 +130,7 @@ IsNested v limit n text tree rest =
     × (text ≡ spelling inner ++ right ∷ rest) × (tree ≡ pack (items inner))
 
 -- The faults behind the `[` of a nested description: it is one too many, the text ends in it, or it
--- has a fault.
--- The bracket around it begins where `start` bytes remain.
+-- has a fault. The bracket around it begins where `start` bytes remain.
 
 abbrev pub IsTooDeep : ℕ → ℕ → Text → code_fault.Fault → Type 0
 IsTooDeep limit n text f = (n ≡ limit) × IsFault (length text + 1) f (fault too_highly_nested 0)

@@ -64,10 +64,10 @@ unfolding digits
 is_20 = by_padding _ refl refl refl
 
 -- a number that isn't negative, with a plus or without
-signed : (lowest highest n : ℕ) (has_plus : ℕ → Bool) (shown : ℕ → Text) (text : Text) (b : Bool)
+is_signed : (lowest highest n : ℕ) (has_plus : ℕ → Bool) (shown : ℕ → Text) (text : Text) (b : Bool)
     → n ≤ highest → b ≡ has_plus n → text ≡ shown n
     → IsSigned lowest highest has_plus shown (either b (43 ∷ text) text)
-signed lowest highest n has_plus shown text b within sign is =
+is_signed lowest highest n has_plus shown text b within sign is =
     inr (n, within, by b ∙ ap₂ (λ s t. plus_where s ++ t) sign is)
   where
     by : (s : Bool) → either s (43 ∷ text) text ≡ plus_where s ++ text
@@ -81,12 +81,12 @@ small_year false = refl
 
 extended : (b : Bool) (shown : ℕ → Text) (text : Text) → text ≡ shown 2026
     → IsExtended b shown (either b (43 ∷ text) text)
-extended b shown text = signed 999999 999999 2026 (λ year. b || nat_le 10000 year) shown text b
+extended b shown text = is_signed 999999 999999 2026 (λ year. b || nat_le 10000 year) shown text b
     (omega arith) (small_year b)
 
 standard : (b : Bool) (shown : ℕ → Text) (text : Text) → text ≡ shown 2026
     → IsStandard b shown (either b (43 ∷ text) text)
-standard b shown text = signed 9999 9999 2026 (λ year. b) shown text b (omega arith) refl
+standard b shown text = is_signed 9999 9999 2026 (λ year. b) shown text b (omega arith) refl
 
 weekday_sunday : (b : Bool) → IsWeekday b (either b (codes "3") (codes "2"))
 unfolding digits
@@ -168,18 +168,18 @@ is_text (OffsetHour m) = offset_hour m.sign_is_mandatory m.padding
 is_text (OffsetMinute m) = (30, omega arith, omega arith, is_30 m.padding)
 is_text (OffsetSecond m) = (0, omega arith, omega arith, is_0_in_2 m.padding)
 is_text (UnixTimestampSecond m) =
-    signed 31619087596800 31494784780799 1770104107 (λ n. m.sign_is_mandatory) decimal
+    is_signed 31619087596800 31494784780799 1770104107 (λ n. m.sign_is_mandatory) decimal
     (codes "1770104107") m.sign_is_mandatory (omega arith) refl refl
 is_text (UnixTimestampMillisecond m) =
-    signed 31619087596800000 31494784780799999 1770104107012 (λ n. m.sign_is_mandatory) decimal
+    is_signed 31619087596800000 31494784780799999 1770104107012 (λ n. m.sign_is_mandatory) decimal
     (codes "1770104107012") m.sign_is_mandatory (omega arith) refl refl
 is_text (UnixTimestampMicrosecond m) =
-    signed 31619087596800000000 31494784780799999999 1770104107012345 (λ n. m.sign_is_mandatory)
+    is_signed 31619087596800000000 31494784780799999999 1770104107012345 (λ n. m.sign_is_mandatory)
     decimal (codes "1770104107012345") m.sign_is_mandatory (omega arith) refl refl
 is_text (UnixTimestampNanosecond m) =
-    signed 31619087596800000000000 31494784780799999999999 1770104107012345678
-    (λ n. m.sign_is_mandatory) decimal (codes "1770104107012345678") m.sign_is_mandatory (omega arith)
-    refl refl
+    is_signed 31619087596800000000000 31494784780799999999999 1770104107012345678
+    (λ n. m.sign_is_mandatory) decimal (codes "1770104107012345678") m.sign_is_mandatory
+    (omega arith) refl refl
 is_text (Ignore m) = refl
 is_text (End m) = refl
 is_text (Month m) = refl
