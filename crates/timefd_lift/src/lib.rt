@@ -11,6 +11,3 @@ mod modifier;
 
 pub use from_one::v1_to_v2;
 pub use from_two::v2_to_v3;
-
-#[cfg(test)]
-mod tests;

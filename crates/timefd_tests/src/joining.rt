@@ -66,11 +66,11 @@ enum Reader {
 /// Adds the item in print. What is no literal stands between two bytes 0, which no text here has,
 /// so that neighbouring literals read as one.
 fn add_item(rt: &impl Abort, printed: &mut String, item: &BorrowedFormatItem) {
-    match item {
-        BorrowedFormatItem::StringLiteral(text) => printed.push_str(text),
-        other => write!(printed, "\0{other:?}\0"),
+    if let BorrowedFormatItem::StringLiteral(text) = item {
+        printed.push_str(text).expect(rt, AMPLE);
+        return;
     }
-    .expect(rt, AMPLE)
+    write!(printed, "\0{item:?}\0").expect(rt, AMPLE);
 }
 
 fn add_items(rt: &impl Abort, printed: &mut String, items: &[BorrowedFormatItem]) {
@@ -81,11 +81,11 @@ fn add_items(rt: &impl Abort, printed: &mut String, items: &[BorrowedFormatItem]
 
 /// Adds the tree in print, as `add_item` does.
 fn add_tree(rt: &impl Abort, printed: &mut String, tree: &FormatDescriptionV3Inner) {
-    match tree {
-        FormatDescriptionV3Inner::BorrowedLiteral(text) => printed.push_str(text),
-        other => write!(printed, "\0{other:?}\0"),
+    if let FormatDescriptionV3Inner::BorrowedLiteral(text) = tree {
+        printed.push_str(text).expect(rt, AMPLE);
+        return;
     }
-    .expect(rt, AMPLE)
+    write!(printed, "\0{tree:?}\0").expect(rt, AMPLE);
 }
 
 /// Adds the members of a compound, and any other tree alone.

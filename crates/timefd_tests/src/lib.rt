@@ -23,6 +23,8 @@ mod printed;
 #[cfg(test)]
 mod refused_memory;
 #[cfg(test)]
+mod rewritten;
+#[cfg(test)]
 mod strftime;
 #[cfg(test)]
 mod version3;

@@ -1,13 +1,12 @@
 //! Texts rewritten twice, where one allocation may be refused. `gate/memory` runs this test once
 //! for each allocation, and refuses that one.
 
-use super::AMPLE;
-use crate::{v1_to_v2, v2_to_v3};
+use crate::answers::REFUSED;
+use crate::printed::AMPLE;
 use std::alloc::Global;
 use std::process::Abort;
+use timefd_lift::{v1_to_v2, v2_to_v3};
 use timefd_parse::{DescriptionVersion, ParseError};
-
-const REFUSED: &str = "memory ran out";
 
 /// What the text of version 1 or 2 is rewritten to, or the sentence of its fault, or that memory
 /// ran out.

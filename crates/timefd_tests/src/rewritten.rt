@@ -3,15 +3,13 @@
 mod from_two;
 mod refused_memory;
 
-use crate::v1_to_v2;
+use super::printed::AMPLE;
 use std::alloc::Global;
 use std::process::Abort;
+use timefd_lift::v1_to_v2;
 use timefd_parse::{
     BorrowedFormatItem, BorrowedOutput, DescriptionVersion, ParseError, parse, parse_borrowed,
 };
-
-/// What a test says where an allocation fails.
-const AMPLE: &str = "memory suffices";
 
 /// What a text is rewritten to, or the sentence of its fault.
 fn answer(rt: &impl Abort, alloc: Global, text: &str) -> String {

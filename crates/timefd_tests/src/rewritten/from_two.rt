@@ -1,10 +1,10 @@
 //! Texts of version 2 with what they are rewritten to, and the items of both.
 
-use super::AMPLE;
-use crate::v2_to_v3;
+use crate::printed::AMPLE;
 use std::alloc::Global;
 use std::process::Abort;
 use timefd_items::{FormatDescriptionV3, Shape, View};
+use timefd_lift::v2_to_v3;
 use timefd_parse::{
     BorrowedFormatItem, BorrowedOutput, DescriptionVersion, ParseError, parse_borrowed,
 };
