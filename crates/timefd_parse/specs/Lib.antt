@@ -4,6 +4,7 @@ pub mod Checked
 pub mod Heads
 pub mod Pieces
 pub mod Judged
+pub mod Quick
 pub mod Read
 pub mod Answers
 pub mod Language
