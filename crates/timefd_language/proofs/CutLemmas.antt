@@ -101,8 +101,11 @@ longer_front q p (b ∷ bytes) (suc n) passes le = elim (cases_Bool (q b)) [
       (1 + prefix_len q bytes) 0) pass le in
       let more = longer_front q p bytes n passes (omega (arith, le')) in
       rw (passes b pass) (omega (arith, more))
-  | inr fail ↦ absurd (omega (arith, subst (λ t. suc n ≤ cond t
-      (1 + prefix_len q bytes) 0) fail le))
+  | inr fail ↦ absurd (omega (
+    arith,
+    subst (λ t. suc n ≤ cond t
+        (1 + prefix_len q bytes) 0) fail le,
+  ))
 ]
 
 -- the front from a place within it on
@@ -115,8 +118,11 @@ front_from p (b ∷ bytes) (suc n) le = elim (cases_Bool (p b)) [
       let le' : suc n ≤ 1 + prefix_len p bytes = subst (λ t. suc n ≤ cond t
       (1 + prefix_len p bytes) 0) pass le in
       rw pass (omega (arith, front_from p bytes n (omega (arith, le'))))
-  | inr fail ↦ absurd (omega (arith, subst (λ t. suc n ≤ cond t
-      (1 + prefix_len p bytes) 0) fail le))
+  | inr fail ↦ absurd (omega (
+    arith,
+    subst (λ t. suc n ≤ cond t
+        (1 + prefix_len p bytes) 0) fail le,
+  ))
 ]
 
 -- the same, as a part of the bytes is read
