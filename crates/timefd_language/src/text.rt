@@ -135,6 +135,15 @@ pub fn cut(text: &str, class: Class) -> (&str, &str)
     text.split_at(class_len(text.as_bytes(), class))
 }
 
+/// The same of a class of literals, which needs no look at words.
+#[inline(always)]
+fn cut_literal(text: &str, class: Class) -> (&str, &str)
+    ensures parts { IsCut (class_test class) text.now result.0.now result.1.now }
+    ensures utf8 { IsUtf8 result.1.now }
+{
+    text.split_at(run_len(text.as_bytes(), class))
+}
+
 /// The longest front that is one literal of the version, and the rest.
 #[inline(always)]
 pub fn cut_run(version: DescriptionVersion, text: &str) -> (&str, &str)
@@ -142,8 +151,8 @@ pub fn cut_run(version: DescriptionVersion, text: &str) -> (&str, &str)
     ensures utf8 { IsUtf8 result.1.now }
 {
     match version {
-        DescriptionVersion::One => cut(text, Class::RunWithBackslash),
-        DescriptionVersion::Two | DescriptionVersion::Three => cut(text, Class::Run),
+        DescriptionVersion::One => cut_literal(text, Class::RunWithBackslash),
+        DescriptionVersion::Two | DescriptionVersion::Three => cut_literal(text, Class::Run),
     }
 }
 

@@ -1,5 +1,5 @@
 -- Brackets with the name of a component and at most one modifier.
-use Rattle.std.specs.Prelude.{◌≡◌, Bool, true, false, List, [], ◌∷◌, ◌++◌, Some, ⊤}
+use Rattle.std.specs.Prelude.{◌≡◌, Bool, true, false, List, [], ◌∷◌, ◌++◌, Some}
 use Rattle.std.specs.Str.{IsUtf8}
 use Rattle.timefd_component.specs.Tree.{Text}
 use Rattle.timefd_language.specs.declared.name.ComponentName.{ComponentName}
@@ -9,16 +9,10 @@ use Rattle.timefd_language.specs.Combinations.{Refusal}
 use Rattle.timefd_language.specs.Head.{Modifier, IsModifier, modifier_text}
 use Rattle.timefd_language.specs.Names.{row_for}
 use Rattle.timefd_language.specs.Values.{Key, key_in, setting_in}
-use Rattle.timefd_parse.specs.declared.bare.Front.{Front}
-use Rattle.timefd_parse.specs.declared.bare.Front.TheVariants.{Closed, Open, Other}
 
--- what the inside of a bracket begins with
-abbrev pub ShowsFront : Text → Front → Type 0
-ShowsFront inside (Closed name rest) =
-    (inside ≡ (row_for name).name ++ right ∷ rest.now) × IsUtf8 rest.now
-ShowsFront inside (Open name after) =
-    (inside ≡ (row_for name).name ++ after.now) × IsUtf8 after.now
-ShowsFront inside Other = ⊤
+-- the inside of a bracket begins with this name, and the rest follows
+abbrev pub BeginsWithName : Text → ComponentName → Text → Type 0
+BeginsWithName inside name rest = (inside ≡ (row_for name).name ++ rest) × IsUtf8 rest
 
 -- The text is one modifier and `]`, and the rest. A component of this name takes the modifier's key,
 -- and its value sets this.

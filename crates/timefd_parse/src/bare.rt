@@ -1,148 +1,194 @@
-//! Brackets that hold the name of a component and at most one modifier, as most brackets do.
+//! Brackets that hold the name of a component and nothing else, as most brackets do.
 
-ghost use Rattle.std.specs.Prelude.{◌≡◌, ◌++◌, ◌∷◌, MatchOption, ⊤};
+ghost use Rattle.std.specs.Prelude.{◌≡◌, ◌++◌, ◌∷◌, [], MatchOption, Ok, ⊤};
 ghost use Rattle.std.specs.Str.{IsUtf8};
-ghost use Rattle.timefd_language.specs.Combinations as spec;
+ghost use Rattle.timefd_language.specs.Bytes.{is_version_three};
 ghost use Rattle.timefd_language.specs.Names.{row_for};
+ghost use Rattle.timefd_language.specs.Settings.{defaults};
+ghost use Rattle.timefd_language.specs.declared.name.ComponentName as names;
 ghost use Rattle.timefd_parse.specs.Read.{IsBare};
-ghost use Rattle.timefd_parse.specs.Quick.{IsOnlyModifier, ShowsFront, any_refused};
 
-use crate::modifier::read_modifier;
 use timefd_items::Component;
-use timefd_language::combination::refusals;
-use timefd_language::component::component_of;
 use timefd_language::description_version::DescriptionVersion;
-use timefd_language::key::key_of;
-use timefd_language::name::{ComponentName, Name};
-use timefd_language::same::{equal, same};
-use timefd_language::setting::{Setting, Settings};
-use timefd_language::text::{Class, Start, cut, start_of, tail};
-use timefd_language::value::setting_of;
+use timefd_language::name::ComponentName;
+use timefd_modifier::{
+    CalendarYearFullExtendedRange, CalendarYearFullStandardRange, Day, End, Hour24, Minute,
+    MonthNumerical, OffsetHour, OffsetMinute, OffsetSecond, Ordinal, Period, Second, Subsecond,
+    UnixTimestampSecond, WeekNumberIso, WeekdayLong,
+};
 
-/// What the inside of a bracket begins with.
-#[derive(Clone, Copy)]
-enum Front<'a> {
-    /// The name of a component and `]`, and what follows the bracket.
-    Closed(ComponentName, &'a str),
-    /// The name of a component, and what follows the name.
-    Open(ComponentName, &'a str),
-    /// Something else, or a name that is written otherwise.
-    Other,
+/// What follows these bytes, if the text begins with them.
+#[inline(always)]
+fn behind<'a>(text: &'a str, front: &str) -> Option<&'a str>
+    ensures { MatchOption result ⊤ (λ rest. (text.now ≡ front.now ++ rest.now) × IsUtf8 rest.now) }
+{
+    let rest = text.strip_prefix(front)?;
+    Some(rest)
 }
 
-/// The component of the bracket that has this inside, and what follows the bracket; none if more than
-/// one modifier stands in it, or it has a fault, or its name isn't written as the table has it.
+/// This component, which is that of the name with no modifiers, if the text begins with the name and
+/// `]`, and what follows.
+#[inline(always)]
+fn alone<'a>(
+    version: DescriptionVersion,
+    inside: &'a str,
+    name: ComponentName,
+    closed: &str,
+    component: Component,
+) -> Option<(Component, &'a str)>
+    requires spelled { closed.now ≡ (row_for name).name ++ 93 ∷ [] }
+    requires made { (row_for name).component (defaults (is_version_three version)) ≡ Ok component }
+    ensures { MatchOption result ⊤ (λ x. IsBare version inside.now x.0 x.1.now) }
+{
+    let rest = behind(inside, closed)?;
+    Some((component, rest))
+}
+
+/// The component of `year` with no modifiers, whose range of years depends on the version.
+#[inline(always)]
+fn plain_year(version: DescriptionVersion) -> Component
+    ensures { (row_for names.ComponentName.Year).component (defaults (is_version_three version))
+        ≡ Ok result }
+{
+    match version {
+        DescriptionVersion::One | DescriptionVersion::Two => {
+            Component::CalendarYearFullExtendedRange(CalendarYearFullExtendedRange::default())
+        }
+        DescriptionVersion::Three => {
+            Component::CalendarYearFullStandardRange(CalendarYearFullStandardRange::default())
+        }
+    }
+}
+
+/// The component of the bracket that has this inside, if that is its name alone and as it is spelled
+/// in every version, and what follows the bracket.
 #[inline(always)]
 pub fn bare<'a>(version: DescriptionVersion, inside: &'a str) -> Option<(Component, &'a str)>
     ensures { MatchOption result ⊤ (λ x. IsBare version inside.now x.0 x.1.now) }
 {
-    let strict = version.is_strict();
-    match front_of(inside) {
-        Front::Closed(name, rest) => {
-            let component = component_of(name, Settings::new(strict))?;
-            Some((component, rest))
-        }
-        Front::Open(name, after) => {
-            let (key, setting, rest) = modifier(strict, name, after)?;
-            let mut settings = Settings::new(strict);
-            settings.set(setting);
-            let component = component_of(name, settings)?;
-            if strict && is_refused(component, key) {
-                return None;
-            }
-            Some((component, rest))
-        }
-        Front::Other => None,
+    match inside.as_bytes() {
+        [b'd', ..] => alone(
+            version,
+            inside,
+            ComponentName::Day,
+            "day]",
+            Component::Day(Day::default()),
+        ),
+        [b'e', ..] => alone(
+            version,
+            inside,
+            ComponentName::End,
+            "end]",
+            Component::End(End::default()),
+        ),
+        [b'h', ..] => alone(
+            version,
+            inside,
+            ComponentName::Hour,
+            "hour]",
+            Component::Hour24(Hour24::default()),
+        ),
+        [b'm', b'i', ..] => alone(
+            version,
+            inside,
+            ComponentName::Minute,
+            "minute]",
+            Component::Minute(Minute::default()),
+        ),
+        [b'm', ..] => alone(
+            version,
+            inside,
+            ComponentName::Month,
+            "month]",
+            Component::MonthNumerical(MonthNumerical::default()),
+        ),
+        [b'o', b'r', ..] => alone(
+            version,
+            inside,
+            ComponentName::Ordinal,
+            "ordinal]",
+            Component::Ordinal(Ordinal::default()),
+        ),
+        [b'o', ..] => offset(version, inside),
+        [b'p', ..] => alone(
+            version,
+            inside,
+            ComponentName::Period,
+            "period]",
+            Component::Period(Period::default()),
+        ),
+        [b's', b'e', ..] => alone(
+            version,
+            inside,
+            ComponentName::Second,
+            "second]",
+            Component::Second(Second::default()),
+        ),
+        [b's', ..] => alone(
+            version,
+            inside,
+            ComponentName::Subsecond,
+            "subsecond]",
+            Component::Subsecond(Subsecond::default()),
+        ),
+        [b'u', ..] => alone(
+            version,
+            inside,
+            ComponentName::UnixTimestamp,
+            "unix_timestamp]",
+            Component::UnixTimestampSecond(UnixTimestampSecond::default()),
+        ),
+        [b'w', b'e', b'e', b'k', b'd', ..] => alone(
+            version,
+            inside,
+            ComponentName::Weekday,
+            "weekday]",
+            Component::WeekdayLong(WeekdayLong::default()),
+        ),
+        [b'w', ..] => alone(
+            version,
+            inside,
+            ComponentName::WeekNumber,
+            "week_number]",
+            Component::WeekNumberIso(WeekNumberIso::default()),
+        ),
+        [b'y', ..] => alone(
+            version,
+            inside,
+            ComponentName::Year,
+            "year]",
+            plain_year(version),
+        ),
+        _ => None,
     }
 }
 
-/// The name that a few of the bytes tell, if the inside begins with it.
+/// The same of the parts of an offset.
 #[inline(always)]
-fn front_of(inside: &str) -> Front<'_>
-    ensures { ShowsFront inside.now result }
+fn offset<'a>(version: DescriptionVersion, inside: &'a str) -> Option<(Component, &'a str)>
+    ensures { MatchOption result ⊤ (λ x. IsBare version inside.now x.0 x.1.now) }
 {
     match inside.as_bytes() {
-        [b'd', ..] => named(inside, ComponentName::Day),
-        [b'e', ..] => named(inside, ComponentName::End),
-        [b'h', ..] => named(inside, ComponentName::Hour),
-        [b'm', b'i', ..] => named(inside, ComponentName::Minute),
-        [b'm', ..] => named(inside, ComponentName::Month),
-        [b'o', b'r', ..] => named(inside, ComponentName::Ordinal),
-        [b'o', _, _, _, _, _, _, b'h', ..] => named(inside, ComponentName::OffsetHour),
-        [b'o', _, _, _, _, _, _, b'm', ..] => named(inside, ComponentName::OffsetMinute),
-        [b'o', ..] => named(inside, ComponentName::OffsetSecond),
-        [b'p', ..] => named(inside, ComponentName::Period),
-        [b's', b'e', ..] => named(inside, ComponentName::Second),
-        [b's', ..] => named(inside, ComponentName::Subsecond),
-        [b'u', ..] => named(inside, ComponentName::UnixTimestamp),
-        [b'w', b'e', b'e', b'k', b'd', ..] => named(inside, ComponentName::Weekday),
-        [b'w', ..] => named(inside, ComponentName::WeekNumber),
-        [b'y', ..] => named(inside, ComponentName::Year),
-        _ => Front::Other,
+        [_, _, _, _, _, _, _, b'h', ..] => alone(
+            version,
+            inside,
+            ComponentName::OffsetHour,
+            "offset_hour]",
+            Component::OffsetHour(OffsetHour::default()),
+        ),
+        [_, _, _, _, _, _, _, b'm', ..] => alone(
+            version,
+            inside,
+            ComponentName::OffsetMinute,
+            "offset_minute]",
+            Component::OffsetMinute(OffsetMinute::default()),
+        ),
+        _ => alone(
+            version,
+            inside,
+            ComponentName::OffsetSecond,
+            "offset_second]",
+            Component::OffsetSecond(OffsetSecond::default()),
+        ),
     }
-}
-
-/// What follows the name, if the inside begins with that.
-#[inline(always)]
-fn named(inside: &str, name: ComponentName) -> Front<'_>
-    ensures { ShowsFront inside.now result }
-{
-    let Some(after) = behind(inside, name) else {
-        return Front::Other;
-    };
-    match after.as_bytes() {
-        [b']', ..] => Front::Closed(name, tail(after)),
-        _ => Front::Open(name, after),
-    }
-}
-
-/// The same. The name's bytes are compared in place, where its length and they are constants.
-#[inline(always)]
-fn behind(inside: &str, name: ComponentName) -> Option<&str>
-    ensures { MatchOption result ⊤ (λ rest. (inside.now ≡ (row_for name).name ++ rest.now)
-        × IsUtf8 rest.now) }
-{
-    let word = name.spelling();
-    if inside.len() < word.len() {
-        return None;
-    }
-    if equal(word.as_bytes(), &inside.as_bytes()[..word.len()]) {
-        Some(&inside[word.len()..])
-    } else {
-        None
-    }
-}
-
-/// The key and the setting of the one modifier that stands behind the name, and what follows the
-/// bracket.
-#[inline(never)]
-fn modifier(strict: bool, name: ComponentName, text: &str) -> Option<(&str, Setting, &str)>
-    ensures { MatchOption result ⊤ (λ x. IsOnlyModifier strict name text.now x.0.now x.1 x.2.now) }
-{
-    let (white, word) = cut(text, Class::White);
-    if white.is_empty() {
-        return None;
-    }
-    let Ok(Some((modifier, end))) = read_modifier(word) else {
-        return None;
-    };
-    let Start::Closing(rest) = start_of(end) else {
-        return None;
-    };
-    let key = key_of(Name::Component(name), strict, modifier.key)?;
-    let setting = setting_of(key, strict, modifier.value)?;
-    Some((modifier.key, setting, rest))
-}
-
-/// Whether version 3 refuses a key with the component.
-#[inline(always)]
-fn is_refused(component: Component, key: &str) -> bool
-    ensures { result ≡ any_refused (spec.refusals component) key.now }
-{
-    for refusal in refusals(component) {
-        if same(true, refusal.key.spelling(), key) {
-            return true;
-        }
-    }
-    false
 }

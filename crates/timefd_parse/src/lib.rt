@@ -12,6 +12,7 @@ mod head_verdict;
 mod language;
 mod modifier;
 mod modifiers;
+mod one_modifier;
 mod parsing;
 mod piece;
 mod places;

@@ -17,6 +17,7 @@ ghost use Rattle.timefd_component.specs.Tree.{literal};
 use crate::bare::bare;
 use crate::building::{add, pack};
 use crate::head_verdict::judged_head;
+use crate::one_modifier::with_modifier;
 use crate::piece::Piece;
 use crate::verdict::{Nested, Span, verdict};
 use std::alloc::Global;
@@ -149,6 +150,9 @@ pub fn next_piece<'a, const BUILDS: bool>(
         }
         Start::Opening(inside) => {
             if let Some((component, rest)) = bare(version, inside) {
+                return Ok(Some((Piece::Component(component), rest)));
+            }
+            if let Some((component, rest)) = with_modifier(version, inside) {
                 return Ok(Some((Piece::Component(component), rest)));
             }
             match doubled(version, inside) {

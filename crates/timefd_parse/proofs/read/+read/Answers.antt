@@ -228,6 +228,18 @@ next_piece-returns-in-Some g t c = record {
   invalid = λ lax. tt;
 }
 
+pub next_piece-returns-in-Some-with_modifier : goal.next_piece-returns-in-Some-with_modifier
+next_piece-returns-in-Some-with_modifier g t c = record {
+  next = (
+    _,
+    opening_leads _ _ _ _ _ _ _ c.in-Opening.ensures
+        (c.in-Some-with_modifier.ensures.leads c.args.limit c.args.around),
+    (refl, c.in-Some-with_modifier.ensures.is_modern, λ three. refl),
+  );
+  some = tt;
+  invalid = λ lax. tt;
+}
+
 pub next_piece-returns-in-Some-doubled : goal.next_piece-returns-in-Some-doubled
 next_piece-returns-in-Some-doubled g t c =
     let e = c.in-Some-doubled.ensures in

@@ -1,7 +1,7 @@
 use Rattle.std.proofs.Common.{subst, arith, false-eqb}
 use Rattle.timefd_parse.specs.ReadModifiers.{ReadsWord}
 use Rattle.timefd_parse.proofs.BareLemmas.{only_modifier}
-use Rattle.timefd_parse.proofs.bare.modifier.Goals as goal
+use Rattle.timefd_parse.proofs.one_modifier.modifier.Goals as goal
 
 pub returns : goal.returns
 returns c =

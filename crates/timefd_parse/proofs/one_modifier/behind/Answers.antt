@@ -1,5 +1,5 @@
 use Rattle.timefd_parse.proofs.BareLemmas.{begins_with_name, behind_name}
-use Rattle.timefd_parse.proofs.bare.behind.Goals as goal
+use Rattle.timefd_parse.proofs.one_modifier.behind.Goals as goal
 
 pub range_from-requires : goal.range_from-requires
 range_from-requires c _ =
