@@ -152,9 +152,6 @@ pub fn next_piece<'a, const BUILDS: bool>(
             if let Some((component, rest)) = bare(version, inside) {
                 return Ok(Some((Piece::Component(component), rest)));
             }
-            if let Some((component, rest)) = with_modifier(version, inside) {
-                return Ok(Some((Piece::Component(component), rest)));
-            }
             match doubled(version, inside) {
                 Some((byte, rest)) => Ok(Some((Piece::Literal(byte), rest))),
                 None => Ok(Some(bracket::<BUILDS>(builder, version, inside, limit, around)?)),
@@ -247,6 +244,9 @@ fn bracket<'a, const BUILDS: bool>(
         (built builder.new) result }
     ensures invalid { IsFalse BUILDS → IfErr result IsInvalid }
 {
+    if let Some((component, rest)) = with_modifier(version, inside) {
+        return Ok((Piece::Component(component), rest));
+    }
     let start = inside.len() + 1;
     let strict = version.is_strict();
     let (head, behind) = judged_head(strict, inside)?;

@@ -10,6 +10,13 @@ use Rattle.timefd_parse.proofs.ReadLemmas.{continues_more, members_end, items_fa
 use Rattle.timefd_parse.proofs.NestedLemmas.{Accepts, Refuses, bracket_begins, behind_within, no_bracket, no_closing, accepted, refuses, never_closed, at_limit, inner_fails, inner_cut_off, inner_read, nested_shorter, nested_fault, one_more}
 use Rattle.timefd_parse.proofs.read.+read.Goals as goal
 
+pub bracket-returns-in-Some-clause-piece : goal.bracket-returns-in-Some-clause-piece
+bracket-returns-in-Some-clause-piece g t c = (
+  _,
+  c.in-Some.ensures.leads c.args.limit c.args.around,
+  (refl, c.in-Some.ensures.is_modern, λ three. refl),
+)
+
 pub bracket-inner-init : goal.bracket-inner-init
 bracket-inner-init g t c =
     let e = c.in_ok-head.ensures in
@@ -138,10 +145,10 @@ bracket-returns-in-Closing-clause-piece g t c =
       a.2,
     )
 
-pub bracket-returns-in_default-clause-piece : goal.bracket-returns-in_default-clause-piece
-bracket-returns-in_default-clause-piece g t c =
+pub bracket-returns-in_default-start_of-clause-piece : goal.bracket-returns-in_default-start_of-clause-piece
+bracket-returns-in_default-start_of-clause-piece g t c =
     never_closed c.inner.invariant.3 _
-    (no_bracket _ _ c.start_of.ensures c.in_default.not-Opening c.in_default.not-Closing)
+    (no_bracket _ _ c.start_of.ensures c.in_default-start_of.not-Opening c.in_default-start_of.not-Closing)
     c.unclosed.ensures.fault
 
 pub members-returns-in_err-piece : goal.members-returns-in_err-piece
@@ -223,18 +230,6 @@ next_piece-returns-in-Some g t c = record {
     opening_leads _ _ _ _ _ _ _ c.in-Opening.ensures
         (c.in-Some.ensures.leads c.args.limit c.args.around),
     (refl, c.in-Some.ensures.is_modern, λ three. refl),
-  );
-  some = tt;
-  invalid = λ lax. tt;
-}
-
-pub next_piece-returns-in-Some-with_modifier : goal.next_piece-returns-in-Some-with_modifier
-next_piece-returns-in-Some-with_modifier g t c = record {
-  next = (
-    _,
-    opening_leads _ _ _ _ _ _ _ c.in-Opening.ensures
-        (c.in-Some-with_modifier.ensures.leads c.args.limit c.args.around),
-    (refl, c.in-Some-with_modifier.ensures.is_modern, λ three. refl),
   );
   some = tt;
   invalid = λ lax. tt;
