@@ -59,13 +59,13 @@ built_unsaid builds old new list off = λ on. absurd (true≢false (sym on ∙ o
 pub is_leaf : (strict builds : Bool) (old new : List Tree) (piece : Piece) (tree : Tree)
     → IsFalse strict → IsPiece strict builds old new piece tree → IsLeaf piece
 is_leaf strict builds old new (Literal text) tree lax is = tt
-is_leaf strict builds old new (Component c) tree lax is = tt
+is_leaf strict builds old new (Component c bytes) tree lax is = tt
 is_leaf strict builds old new Compound tree lax is = absurd (true≢false (sym is.0 ∙ lax))
 
 pub same_leaf : (strict builds : Bool) (old new : List Tree) (piece : Piece) (tree leaf : Tree)
     → IsPiece strict builds old new piece tree → IsLeafTree piece leaf → leaf ≡ tree
 same_leaf strict builds old new (Literal text) tree leaf is same = same ∙ sym is.0
-same_leaf strict builds old new (Component c) tree leaf is same = same ∙ sym is.0
+same_leaf strict builds old new (Component c bytes) tree leaf is same = same ∙ sym is.0
 same_leaf strict builds old new Compound tree leaf is same = absurd same
 
 -- The last of them.

@@ -33,13 +33,14 @@ counted_more bytes old new done (Literal text) tree is sum =
       ap reserve is.0,
       ap (λ ts. reserve_all (trees ts)) (is.1 refl),
     )
-counted_more bytes old new done (Component c) tree is sum =
+counted_more bytes old new done (Component c own) tree is sum =
     omega (
       arith,
       sum,
       one_more_sum done tree,
       ap reserve is.0,
       ap reserved is.1,
+      is.3 refl,
       ap (λ ts. reserve_all (trees ts)) (is.2 refl),
     )
 counted_more bytes old new done Compound tree is sum =
@@ -56,7 +57,7 @@ pub fewer_more : (old new done : List Tree) (piece : Piece) (tree : Tree)
     → length new ≤ length (done ++ tree ∷ [])
 fewer_more old new done (Literal text) tree is fewer =
     omega (arith, fewer, ap length (is.1 refl), length-append done (tree ∷ []))
-fewer_more old new done (Component c) tree is fewer =
+fewer_more old new done (Component c own) tree is fewer =
     omega (arith, fewer, ap length (is.2 refl), length-append done (tree ∷ []))
 fewer_more old new done Compound tree is fewer =
     omega (

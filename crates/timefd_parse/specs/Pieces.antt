@@ -11,29 +11,29 @@ abbrev pub IsBuilt : Bool → List Tree → List Tree → List Tree → Type 0
 IsBuilt builds old new list = IsTrue builds → new ≡ old ++ list
 
 -- The piece is this tree. Where the reader builds, a compound is the last tree that is built, and
--- of another piece nothing is built yet. Version 3 alone, which is strict, has compounds, and a
--- component is modern.
+-- of another piece nothing is built yet, and the bytes that a component reserves are told. Version 3
+-- alone, which is strict, has compounds, and a component is modern.
 abbrev pub IsPiece : Bool → Bool → List Tree → List Tree → code.Piece → Tree → Type 0
 IsPiece strict builds old new (Literal text) tree = (tree ≡ literal text.now)
     × (IsTrue builds → new ≡ old)
-IsPiece strict builds old new (Component c) tree = (tree ≡ component c) × (modern c ≡ c)
-    × (IsTrue builds → new ≡ old)
+IsPiece strict builds old new (Component c bytes) tree = (tree ≡ component c) × (modern c ≡ c)
+    × (IsTrue builds → new ≡ old) × (IsTrue builds → bytes ≡ reserved (modern c))
 IsPiece strict builds old new Compound tree = IsTrue strict
     × IsBuilt builds old new (tree ∷ [])
 
 -- a literal or a component
 abbrev pub IsLeaf : code.Piece → Type 0
 IsLeaf (Literal text) = ⊤
-IsLeaf (Component c) = ⊤
+IsLeaf (Component c bytes) = ⊤
 IsLeaf Compound = ⊥
 
 abbrev pub IsLeafTree : code.Piece → Tree → Type 0
 IsLeafTree (Literal text) tree = tree ≡ literal text.now
-IsLeafTree (Component c) tree = tree ≡ component c
+IsLeafTree (Component c bytes) tree = tree ≡ component c
 IsLeafTree Compound tree = ⊥
 
 -- how many bytes a piece reserves that isn't built
 abbrev pub own_bytes : code.Piece → ℕ
 own_bytes (Literal text) = length text.now
-own_bytes (Component c) = reserved (modern c)
+own_bytes (Component c bytes) = bytes
 own_bytes Compound = 0

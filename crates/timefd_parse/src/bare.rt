@@ -1,13 +1,16 @@
 //! Brackets that hold the name of a component and nothing else, as most brackets do.
 
-ghost use Rattle.std.specs.Prelude.{◌≡◌, ◌++◌, ◌∷◌, [], MatchOption, Ok, ⊤};
+ghost use Rattle.std.specs.Prelude.{◌≡◌, ◌++◌, ◌∷◌, [], IfSome, MatchOption, Ok, ⊤};
 ghost use Rattle.std.specs.Str.{IsUtf8};
+ghost use Rattle.timefd_component.specs.Modern.{modern};
+ghost use Rattle.timefd_component.specs.Reserved.{reserved};
 ghost use Rattle.timefd_language.specs.Bytes.{is_version_three};
 ghost use Rattle.timefd_language.specs.Names.{row_for};
 ghost use Rattle.timefd_language.specs.Settings.{defaults};
 ghost use Rattle.timefd_language.specs.declared.name.ComponentName as names;
 ghost use Rattle.timefd_parse.specs.Read.{IsBare};
 
+use timefd_component::reserved::reserved_bytes;
 use timefd_items::Component;
 use timefd_language::description_version::DescriptionVersion;
 use timefd_language::name::ComponentName;
@@ -35,13 +38,14 @@ fn alone<'a>(
     name: ComponentName,
     closed: &str,
     component: Component,
-) -> Option<(Component, &'a str)>
+) -> Option<(Component, usize, &'a str)>
     requires spelled { closed.now ≡ (row_for name).name ++ 93 ∷ [] }
     requires made { (row_for name).component (defaults (is_version_three version)) ≡ Ok component }
-    ensures { MatchOption result ⊤ (λ x. IsBare version inside.now x.0 x.1.now) }
+    ensures component { MatchOption result ⊤ (λ x. IsBare version inside.now x.0 x.2.now) }
+    ensures bytes { IfSome result (λ x. x.1 ≡ reserved (modern x.0)) }
 {
     let rest = behind(inside, closed)?;
-    Some((component, rest))
+    Some((component, reserved_bytes(component), rest))
 }
 
 /// The component of `year` with no modifiers, whose range of years depends on the version.
@@ -63,8 +67,9 @@ fn plain_year(version: DescriptionVersion) -> Component
 /// The component of the bracket that has this inside, if that is its name alone and as it is spelled
 /// in every version, and what follows the bracket.
 #[inline(always)]
-pub fn bare<'a>(version: DescriptionVersion, inside: &'a str) -> Option<(Component, &'a str)>
-    ensures { MatchOption result ⊤ (λ x. IsBare version inside.now x.0 x.1.now) }
+pub fn bare<'a>(version: DescriptionVersion, inside: &'a str) -> Option<(Component, usize, &'a str)>
+    ensures component { MatchOption result ⊤ (λ x. IsBare version inside.now x.0 x.2.now) }
+    ensures bytes { IfSome result (λ x. x.1 ≡ reserved (modern x.0)) }
 {
     match inside.as_bytes() {
         [b'd', ..] => alone(
@@ -165,8 +170,9 @@ pub fn bare<'a>(version: DescriptionVersion, inside: &'a str) -> Option<(Compone
 
 /// The same of the parts of an offset.
 #[inline(always)]
-fn offset<'a>(version: DescriptionVersion, inside: &'a str) -> Option<(Component, &'a str)>
-    ensures { MatchOption result ⊤ (λ x. IsBare version inside.now x.0 x.1.now) }
+fn offset<'a>(version: DescriptionVersion, inside: &'a str) -> Option<(Component, usize, &'a str)>
+    ensures component { MatchOption result ⊤ (λ x. IsBare version inside.now x.0 x.2.now) }
+    ensures bytes { IfSome result (λ x. x.1 ≡ reserved (modern x.0)) }
 {
     match inside.as_bytes() {
         [_, _, _, _, _, _, _, b'h', ..] => alone(

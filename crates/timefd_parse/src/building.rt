@@ -30,7 +30,7 @@ pub fn add<'a, const BUILDS: bool>(
     }
     match piece {
         Piece::Literal(text) => builder.literal(text),
-        Piece::Component(component) => builder.component(component),
+        Piece::Component(component, _) => builder.component(component),
         Piece::Compound => Ok(()),
     }
 }

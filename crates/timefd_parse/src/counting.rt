@@ -20,7 +20,6 @@ use crate::piece::Piece;
 use crate::read::next_piece;
 use std::alloc::{AllocError, Global};
 use timefd_borrowed_fault::borrowed_parse_error::{BorrowedParseError, lent};
-use timefd_component::reserved::reserved_bytes;
 use timefd_items::DescriptionBuilder;
 use timefd_language::description_version::DescriptionVersion;
 use timefd_language::fault::ReadError;
@@ -163,7 +162,7 @@ fn own_bytes(piece: Piece) -> usize
 {
     match piece {
         Piece::Literal(text) => text.len(),
-        Piece::Component(component) => reserved_bytes(component),
+        Piece::Component(_, bytes) => bytes,
         Piece::Compound => 0,
     }
 }

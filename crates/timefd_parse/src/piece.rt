@@ -1,15 +1,21 @@
 //! What a piece of a text is.
 
-ghost use Rattle.std.specs.Prelude.{IsTrue};
+ghost use Rattle.std.specs.Prelude.{◌≡◌, Bool, List, IsTrue};
+ghost use Rattle.timefd_component.specs.Modern.{modern};
+ghost use Rattle.timefd_component.specs.Tree as spec;
+ghost use Rattle.timefd_component.specs.Tree.{Tree};
 ghost use Rattle.timefd_format_item.specs.Meaning.{item_tree};
+ghost use Rattle.timefd_parse.specs.Pieces.{IsPiece};
 
+use timefd_component::reserved::reserved_bytes;
 use timefd_items::{BorrowedFormatItem, Component};
 
 /// A literal, or what a bracket is.
 #[derive(Clone, Copy)]
 pub enum Piece<'a> {
     Literal(&'a str),
-    Component(Component),
+    /// A component, and how many bytes it reserves where the reader builds.
+    Component(Component, usize),
     /// A bracket with nested descriptions, which is the last tree that was built, if any is.
     Compound,
 }
@@ -27,8 +33,19 @@ impl<'a> Piece<'a> {
     {
         match self {
             Piece::Literal(text) => BorrowedFormatItem::StringLiteral(text),
-            Piece::Component(component) => BorrowedFormatItem::Component(component),
+            Piece::Component(component, _) => BorrowedFormatItem::Component(component),
             Piece::Compound => unreachable!(),
         }
     }
+}
+
+/// A component as a piece. A reader that doesn't build asks for no bytes.
+#[inline(always)]
+pub fn component_piece<'a, const BUILDS: bool>(component: Component) -> Piece<'a>
+    ensures { (strict : Bool) (old new : List Tree) → modern component ≡ component
+        → (IsTrue BUILDS → new ≡ old)
+        → IsPiece strict BUILDS old new result (spec.component component) }
+{
+    let bytes = if BUILDS { reserved_bytes(component) } else { 0 };
+    Piece::Component(component, bytes)
 }

@@ -18,7 +18,7 @@ use crate::bare::bare;
 use crate::building::{add, pack};
 use crate::head_verdict::judged_head;
 use crate::one_modifier::with_modifier;
-use crate::piece::Piece;
+use crate::piece::{Piece, component_piece};
 use crate::verdict::{Nested, Span, verdict};
 use std::alloc::Global;
 use timefd_items::{BorrowedFormatItem, DescriptionBuilder};
@@ -149,8 +149,8 @@ pub fn next_piece<'a, const BUILDS: bool>(
             Ok(Some((Piece::Literal(literal), rest)))
         }
         Start::Opening(inside) => {
-            if let Some((component, rest)) = bare(version, inside) {
-                return Ok(Some((Piece::Component(component), rest)));
+            if let Some((component, bytes, rest)) = bare(version, inside) {
+                return Ok(Some((Piece::Component(component, bytes), rest)));
             }
             match doubled(version, inside) {
                 Some((byte, rest)) => Ok(Some((Piece::Literal(byte), rest))),
@@ -245,7 +245,7 @@ fn bracket<'a, const BUILDS: bool>(
     ensures invalid { IsFalse BUILDS → IfErr result IsInvalid }
 {
     if let Some((component, rest)) = with_modifier(version, inside) {
-        return Ok((Piece::Component(component), rest));
+        return Ok((component_piece::<BUILDS>(component), rest));
     }
     let start = inside.len() + 1;
     let strict = version.is_strict();

@@ -15,7 +15,7 @@ ghost use Rattle.timefd_parse.specs.Pieces.{IsBuilt};
 ghost use Rattle.timefd_parse.specs.Judged.{ShowsNested, Judged, packed};
 
 use crate::head_verdict::{HeadVerdict, JudgedHead};
-use crate::piece::Piece;
+use crate::piece::{Piece, component_piece};
 use timefd_items::DescriptionBuilder;
 use timefd_language::fault::{Fault, FaultKind, ReadError};
 
@@ -166,7 +166,7 @@ pub fn verdict<'a, const BUILDS: bool>(
         return Err(ReadError::Invalid(fault));
     }
     match head.verdict {
-        HeadVerdict::Component(component) => Ok(Piece::Component(component)),
+        HeadVerdict::Component(component) => Ok(component_piece::<BUILDS>(component)),
         HeadVerdict::Optional(formatted) => optional::<BUILDS>(
             builder, strict, formatted, nested, span,
         ),

@@ -3,8 +3,8 @@ use Rattle.timefd_language.specs.Names.{row_for}
 use Rattle.timefd_parse.proofs.BareLemmas.{is_bare}
 use Rattle.timefd_parse.proofs.bare.alone.Goals as goal
 
-pub returns : goal.returns
-returns c =
+pub returns-clause-component : goal.returns-clause-component
+returns-clause-component c =
     is_bare c.args.version _ c.args.inside.now c.in_ok-rest.rest.now c.args.name _ c.args.component
     refl (
       c.in_ok-rest.ensures.0 ∙ ap (λ t. t ++ c.in_ok-rest.rest.now) c.requires.spelled ∙

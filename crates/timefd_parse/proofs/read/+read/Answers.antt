@@ -14,7 +14,7 @@ pub bracket-returns-in-Some-clause-piece : goal.bracket-returns-in-Some-clause-p
 bracket-returns-in-Some-clause-piece g t c = (
   _,
   c.in-Some.ensures.leads c.args.limit c.args.around,
-  (refl, c.in-Some.ensures.is_modern, λ three. refl),
+  c.component_piece.ensures _ _ _ c.in-Some.ensures.is_modern (λ three. refl),
 )
 
 pub bracket-inner-init : goal.bracket-inner-init
@@ -228,8 +228,8 @@ next_piece-returns-in-Some g t c = record {
   next = (
     _,
     opening_leads _ _ _ _ _ _ _ c.in-Opening.ensures
-        (c.in-Some.ensures.leads c.args.limit c.args.around),
-    (refl, c.in-Some.ensures.is_modern, λ three. refl),
+        (c.in-Some.ensures.component.leads c.args.limit c.args.around),
+    (refl, c.in-Some.ensures.component.is_modern, λ three. refl, λ three. c.in-Some.ensures.bytes),
   );
   some = tt;
   invalid = λ lax. tt;

@@ -1,9 +1,10 @@
-use Rattle.std.proofs.Common.{◌==◌, not, sym, subst}
+use Rattle.std.proofs.Common.{◌==◌, not, Ok, ◌++◌, sym, ap, ◌∙◌, subst, append-nil}
+use Rattle.timefd_component.specs.Tree.{component}
 use Rattle.timefd_items.specs.Builder.{built}
 use Rattle.timefd_language.specs.Verdict.{optional_verdict, first_verdict}
 use Rattle.timefd_parse.specs.HeadVerdicts.{IsVerdict}
-use Rattle.timefd_parse.specs.Judged.{Judged}
-use Rattle.timefd_parse.proofs.HeadVerdictLemmas.{misplaced_nested, well_placed}
+use Rattle.timefd_parse.specs.Judged.{Judged, packed}
+use Rattle.timefd_parse.proofs.HeadVerdictLemmas.{misplaced_nested, none_nested, well_placed}
 use Rattle.timefd_parse.proofs.verdict.verdict.Goals as goal
 
 pub returns-in-Some-clause-tree : goal.returns-in-Some-clause-tree
@@ -11,6 +12,21 @@ returns-in-Some-clause-tree g c = λ place h parts base is nested e are.
     misplaced_nested c.args.strict c.args.span.start place h c.args.head.now.nests parts
     c.args.head.now.verdict c.placing_fault.result _ is (c.placing_fault.ensures parts nested)
     c.in-Some.is
+
+pub returns-in-Component-clause-tree : goal.returns-in-Component-clause-tree
+returns-in-Component-clause-tree g c = λ place h parts base is nested e are.
+    let v = subst (IsVerdict c.args.strict c.args.span.start h c.args.head.now.nests)
+    c.in-Component.is is in
+    let placed = c.placing_fault.ensures parts nested in
+    let none = none_nested c.args.span.start c.args.head.now.nests parts c.placing_fault.result v.0
+    placed c.in_default.is in (
+      component c.in-Component.component,
+      well_placed c.args.strict c.args.span.start place h c.args.head.now.nests parts
+          (λ parts place. Ok (component c.in-Component.component)) c.placing_fault.result v.2 placed
+          c.in_default.is,
+      c.component_piece.ensures _ _ _ v.1
+          (λ on. are on ∙ ap (λ ps. base ++ packed ps) none ∙ append-nil base),
+    )
 
 pub returns-in-Optional-clause-tree : goal.returns-in-Optional-clause-tree
 returns-in-Optional-clause-tree g c = λ place h parts base is nested e are.
