@@ -10,7 +10,6 @@ ghost use Rattle.timefd_language.specs.Settings.{defaults};
 ghost use Rattle.timefd_language.specs.declared.name.ComponentName as names;
 ghost use Rattle.timefd_parse.specs.Read.{IsBare};
 
-use timefd_component::reserved::reserved_bytes;
 use timefd_items::Component;
 use timefd_language::description_version::DescriptionVersion;
 use timefd_language::name::ComponentName;
@@ -29,8 +28,8 @@ fn behind<'a>(text: &'a str, front: &str) -> Option<&'a str>
     Some(rest)
 }
 
-/// This component, which is that of the name with no modifiers, if the text begins with the name and
-/// `]`, and what follows.
+/// This component, which is that of the name with no modifiers and reserves so many bytes, if the text
+/// begins with the name and `]`, and what follows.
 #[inline(always)]
 fn alone<'a>(
     version: DescriptionVersion,
@@ -38,14 +37,16 @@ fn alone<'a>(
     name: ComponentName,
     closed: &str,
     component: Component,
+    bytes: usize,
 ) -> Option<(Component, usize, &'a str)>
     requires spelled { closed.now ≡ (row_for name).name ++ 93 ∷ [] }
     requires made { (row_for name).component (defaults (is_version_three version)) ≡ Ok component }
+    requires bytes { bytes ≡ reserved (modern component) }
     ensures component { MatchOption result ⊤ (λ x. IsBare version inside.now x.0 x.2.now) }
     ensures bytes { IfSome result (λ x. x.1 ≡ reserved (modern x.0)) }
 {
     let rest = behind(inside, closed)?;
-    Some((component, reserved_bytes(component), rest))
+    Some((component, bytes, rest))
 }
 
 /// The component of `year` with no modifiers, whose range of years depends on the version.
@@ -64,6 +65,18 @@ fn plain_year(version: DescriptionVersion) -> Component
     }
 }
 
+/// How many bytes it reserves.
+#[inline(always)]
+fn plain_year_bytes(version: DescriptionVersion) -> usize
+    ensures { (c : Component) → (row_for names.ComponentName.Year).component
+        (defaults (is_version_three version)) ≡ Ok c → result ≡ reserved (modern c) }
+{
+    match version {
+        DescriptionVersion::One | DescriptionVersion::Two => 7,
+        DescriptionVersion::Three => 5,
+    }
+}
+
 /// The component of the bracket that has this inside, if that is its name alone and as it is spelled
 /// in every version, and what follows the bracket.
 #[inline(always)]
@@ -78,6 +91,7 @@ pub fn bare<'a>(version: DescriptionVersion, inside: &'a str) -> Option<(Compone
             ComponentName::Day,
             "day]",
             Component::Day(Day::default()),
+            2,
         ),
         [b'e', ..] => alone(
             version,
@@ -85,6 +99,7 @@ pub fn bare<'a>(version: DescriptionVersion, inside: &'a str) -> Option<(Compone
             ComponentName::End,
             "end]",
             Component::End(End::default()),
+            0,
         ),
         [b'h', ..] => alone(
             version,
@@ -92,6 +107,7 @@ pub fn bare<'a>(version: DescriptionVersion, inside: &'a str) -> Option<(Compone
             ComponentName::Hour,
             "hour]",
             Component::Hour24(Hour24::default()),
+            2,
         ),
         [b'm', b'i', ..] => alone(
             version,
@@ -99,6 +115,7 @@ pub fn bare<'a>(version: DescriptionVersion, inside: &'a str) -> Option<(Compone
             ComponentName::Minute,
             "minute]",
             Component::Minute(Minute::default()),
+            2,
         ),
         [b'm', ..] => alone(
             version,
@@ -106,6 +123,7 @@ pub fn bare<'a>(version: DescriptionVersion, inside: &'a str) -> Option<(Compone
             ComponentName::Month,
             "month]",
             Component::MonthNumerical(MonthNumerical::default()),
+            2,
         ),
         [b'o', b'r', ..] => alone(
             version,
@@ -113,6 +131,7 @@ pub fn bare<'a>(version: DescriptionVersion, inside: &'a str) -> Option<(Compone
             ComponentName::Ordinal,
             "ordinal]",
             Component::Ordinal(Ordinal::default()),
+            3,
         ),
         [b'o', ..] => offset(version, inside),
         [b'p', ..] => alone(
@@ -121,6 +140,7 @@ pub fn bare<'a>(version: DescriptionVersion, inside: &'a str) -> Option<(Compone
             ComponentName::Period,
             "period]",
             Component::Period(Period::default()),
+            2,
         ),
         [b's', b'e', ..] => alone(
             version,
@@ -128,6 +148,7 @@ pub fn bare<'a>(version: DescriptionVersion, inside: &'a str) -> Option<(Compone
             ComponentName::Second,
             "second]",
             Component::Second(Second::default()),
+            2,
         ),
         [b's', ..] => alone(
             version,
@@ -135,6 +156,7 @@ pub fn bare<'a>(version: DescriptionVersion, inside: &'a str) -> Option<(Compone
             ComponentName::Subsecond,
             "subsecond]",
             Component::Subsecond(Subsecond::default()),
+            9,
         ),
         [b'u', ..] => alone(
             version,
@@ -142,6 +164,7 @@ pub fn bare<'a>(version: DescriptionVersion, inside: &'a str) -> Option<(Compone
             ComponentName::UnixTimestamp,
             "unix_timestamp]",
             Component::UnixTimestampSecond(UnixTimestampSecond::default()),
+            15,
         ),
         [b'w', b'e', b'e', b'k', b'd', ..] => alone(
             version,
@@ -149,6 +172,7 @@ pub fn bare<'a>(version: DescriptionVersion, inside: &'a str) -> Option<(Compone
             ComponentName::Weekday,
             "weekday]",
             Component::WeekdayLong(WeekdayLong::default()),
+            9,
         ),
         [b'w', ..] => alone(
             version,
@@ -156,6 +180,7 @@ pub fn bare<'a>(version: DescriptionVersion, inside: &'a str) -> Option<(Compone
             ComponentName::WeekNumber,
             "week_number]",
             Component::WeekNumberIso(WeekNumberIso::default()),
+            2,
         ),
         [b'y', ..] => alone(
             version,
@@ -163,6 +188,7 @@ pub fn bare<'a>(version: DescriptionVersion, inside: &'a str) -> Option<(Compone
             ComponentName::Year,
             "year]",
             plain_year(version),
+            plain_year_bytes(version),
         ),
         _ => None,
     }
@@ -181,6 +207,7 @@ fn offset<'a>(version: DescriptionVersion, inside: &'a str) -> Option<(Component
             ComponentName::OffsetHour,
             "offset_hour]",
             Component::OffsetHour(OffsetHour::default()),
+            3,
         ),
         [_, _, _, _, _, _, _, b'm', ..] => alone(
             version,
@@ -188,6 +215,7 @@ fn offset<'a>(version: DescriptionVersion, inside: &'a str) -> Option<(Component
             ComponentName::OffsetMinute,
             "offset_minute]",
             Component::OffsetMinute(OffsetMinute::default()),
+            2,
         ),
         _ => alone(
             version,
@@ -195,6 +223,7 @@ fn offset<'a>(version: DescriptionVersion, inside: &'a str) -> Option<(Component
             ComponentName::OffsetSecond,
             "offset_second]",
             Component::OffsetSecond(OffsetSecond::default()),
+            2,
         ),
     }
 }
