@@ -1,5 +1,5 @@
 -- What was read of a whole text.
-use Rattle.std.proofs.Common.{◌≡◌, ℕ, ◌≤◌, List, [], ◌++◌, length, IsFalse, refl, sym, ap, ◌∙◌, subst, arith, append-nil, length-append}
+use Rattle.std.proofs.Common.{◌≡◌, ℕ, ◌≤◌, List, [], ◌++◌, length, Ok, IsFalse, refl, sym, ap, ◌∙◌, subst, arith, append-nil, length-append}
 use Rattle.std.specs.declared.vec.Vec.{Vec}
 use Rattle.std.specs.declared.alloc.Global.{Global}
 use Rattle.std.proofs.lemmas.Bool.{true≢false}
@@ -12,6 +12,7 @@ use Rattle.timefd_language.specs.declared.description_version.DescriptionVersion
 use Rattle.timefd_language.specs.declared.fault.Fault as code_fault
 use Rattle.timefd_language.specs.declared.fault.ReadError.{ReadError}
 use Rattle.timefd_language.specs.declared.fault.ReadError.TheVariants as errors
+use Rattle.timefd_parse.specs.declared.language.Language.TheVariants.{Version}
 use Rattle.timefd_parse.specs.declared.parsing.BorrowedOutput.TheVariants.{Items}
 use Rattle.timefd_language.specs.declared.parse_error.ParseError.{ParseError}
 use Rattle.timefd_language.specs.declared.parse_error.ParseError.TheVariants as told
@@ -29,6 +30,7 @@ use Rattle.timefd_language.specs.Invalid.{IsInvalid}
 use Rattle.timefd_parse.specs.Read.{IsFaultIn, PiecesToEnd}
 use Rattle.timefd_language.specs.Strings.{AreItems}
 use Rattle.timefd_parse.specs.Answers.{IsOutput, IsAssigned}
+use Rattle.timefd_parse.specs.Language.{IsAmount, amount}
 use Rattle.timefd_language.specs.Laws.{HasOneAnswer}
 use Rattle.timefd_language.proofs.LawLemmas.{one_answer_law}
 use Rattle.timefd_language.proofs.Reserved.{reserves_within_law}
@@ -63,6 +65,19 @@ pub no_fault_in : (v : DescriptionVersion) (limit : ℕ) (text : Text) (read : L
     (rest : Text) (f : Fault) → PiecesToEnd v limit 0 text read rest → FaultOf v limit text f → ⊥
 no_fault_in v limit text read rest f are h =
     (one v limit text).not_both read f (items_spelled v limit text read rest are) h
+
+-- how much a text holds that was read to its end
+pub is_amount : (v : DescriptionVersion) (limit : ℕ) (text : Text) (read : List Tree) (rest : Text)
+    (n : ℕ) → PiecesToEnd v limit 0 text read rest → n ≡ amount (Version v) read
+    → IsAmount v limit text (Ok n)
+is_amount v limit text read rest n are e = record {
+  found = (read, items_spelled v limit text read rest are, e);
+  fault = tt;
+  spelled = λ list s. e ∙ ap (amount (Version v)) (same_list v limit text read rest list are s);
+  refused = λ f h. no_fault_in v limit text read rest f are h;
+  memory = λ lax. tt;
+  empty = λ none. refl;
+}
 
 -- Faults.
 

@@ -53,10 +53,16 @@ pub fn count_bytes<'a>(
 {
     let mut builder = DescriptionBuilder::new(alloc);
     match bytes_beside(&mut builder, text, limit) {
-        Ok(bytes) => match builder.finish() {
-            Ok(nested) => Ok(bytes + nested.max_bytes_needed()),
-            Err(error) => Err(BorrowedParseError::Memory(error)),
-        },
+        Ok(bytes) => {
+            // Most texts have nothing nested.
+            if builder.len() == 0 {
+                return Ok(bytes);
+            }
+            match builder.finish() {
+                Ok(nested) => Ok(bytes + nested.max_bytes_needed()),
+                Err(error) => Err(BorrowedParseError::Memory(error)),
+            }
+        }
         Err(error) => Err(error_of(alloc, DescriptionVersion::Three, limit, text, error)),
     }
 }

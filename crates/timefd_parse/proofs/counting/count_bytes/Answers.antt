@@ -7,7 +7,7 @@ use Rattle.timefd_language.specs.declared.description_version.DescriptionVersion
 use Rattle.timefd_parse.proofs.AmountLemmas.{lent-in-version}
 use Rattle.timefd_parse.proofs.BuildingLemmas.{list_within}
 use Rattle.timefd_parse.proofs.CountingLemmas.{none_built, pack_sum}
-use Rattle.timefd_parse.proofs.ParseLemmas.{items_spelled, same_list, none_read, no_fault_in}
+use Rattle.timefd_parse.proofs.ParseLemmas.{is_amount, none_read, no_fault_in}
 use Rattle.timefd_parse.proofs.counting.count_bytes.Goals as goal
 
 pub finish-requires : goal.finish-requires
@@ -31,26 +31,28 @@ overflow_add-result c =
       pack_sum (built c.bytes_beside.new.builder),
     )
 
+pub returns-then-len-eq0 : goal.returns-then-len-eq0
+returns-then-len-eq0 c =
+    let m = c.in-Ok.ensures.bytes in
+    let none : built c.bytes_beside.new.builder ≡ [] =
+    none_built (built c.bytes_beside.new.builder) []
+    (omega (arith, c.len.ensures, c.if-len-eq0.true)) refl in
+    is_amount Three c.args.limit c.args.text.now m.0 [] c.in-Ok.bytes m.1
+    (omega (arith, m.2, ap (λ ts. reserve_all (trees ts)) none, pack_sum m.0))
+
 pub returns-in-Ok-finish : goal.returns-in-Ok-finish
 returns-in-Ok-finish c =
     let m = c.in-Ok.ensures.bytes in
-    let total : c.in-Ok.bytes + c.max_bytes_needed.result ≡ reserve (pack m.0) =
-    omega (
+    is_amount Three c.args.limit c.args.text.now m.0 []
+    (c.in-Ok.bytes + c.max_bytes_needed.result) m.1
+    (omega (
       arith,
       m.2,
       c.max_bytes_needed.ensures.reserved,
       ap reserve c.in-Ok-finish.ensures.ok,
       pack_sum (built c.bytes_beside.new.builder),
       pack_sum m.0,
-    ) in
-    record {
-      found = (m.0, items_spelled _ _ _ _ _ m.1, total);
-      fault = tt;
-      spelled = λ list s. total ∙ ap (λ l. reserve (pack l)) (same_list _ _ _ _ _ list m.1 s);
-      refused = λ f h. no_fault_in _ _ _ _ _ f m.1 h;
-      memory = λ lax. tt;
-      empty = λ e. refl;
-    }
+    ))
 
 pub returns-in-Ok : goal.returns-in-Ok
 returns-in-Ok c =

@@ -1,20 +1,13 @@
-use Rattle.std.proofs.Common.{◌∙◌, length, refl, ap, arith}
+use Rattle.std.proofs.Common.{◌∙◌, [], length, ap, arith}
 use Rattle.timefd_parse.proofs.AmountLemmas.{lax-amount, lent-in-version}
-use Rattle.timefd_parse.proofs.ParseLemmas.{items_spelled, same_list, no_fault_in, lent_assigned, lent_spelled, lent_refusal, lent_refused}
+use Rattle.timefd_parse.proofs.ParseLemmas.{is_amount, lent_assigned, lent_spelled, lent_refusal, lent_refused}
 use Rattle.timefd_parse.proofs.counting.count_items.Goals as goal
 
 pub returns-in-Ok : goal.returns-in-Ok
 returns-in-Ok c =
     let m = c.in-Ok.ensures.count in
-    record {
-      found = (m.0, items_spelled _ _ _ _ _ m.1, m.2 ∙ lax-amount _ m.0 c.requires);
-      fault = tt;
-      spelled = λ list s. m.2 ∙ ap length (same_list _ _ _ _ _ list m.1 s)
-          ∙ lax-amount _ list c.requires;
-      refused = λ f h. no_fault_in _ _ _ _ _ f m.1 h;
-      memory = λ lax. tt;
-      empty = λ e. refl;
-    }
+    is_amount c.args.version c.args.limit c.args.text.now m.0 [] c.in-Ok.count m.1
+    (m.2 ∙ lax-amount c.args.version m.0 c.requires)
 
 pub returns : goal.returns
 returns c =
