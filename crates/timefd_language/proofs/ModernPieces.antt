@@ -108,7 +108,7 @@ component_modern strict h tree (Some r) known e =
     subst IsModern leaf.1 (row_has IsModernRow strict h.name rows r rows_modern known
     (settings strict r.keys (placed h)) leaf.0 leaf.2)
 
-pack_modern : (ts : List Tree) → AreModern (trees ts) → IsModern (pack ts)
+pub pack_modern : (ts : List Tree) → AreModern (trees ts) → IsModern (pack ts)
 pack_modern [] h = tt
 pack_modern (t ∷ []) h = h.0
 pack_modern (t ∷ u ∷ ts) h = h

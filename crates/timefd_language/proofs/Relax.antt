@@ -336,15 +336,15 @@ all_found keys [] plain g = tt
 all_found keys (m ∷ ms) plain g = (good_found keys m plain g.0, all_found keys ms plain g.1)
 
 -- they are good without case too
-good_modifiers : (keys : List Key) (before ms : List Placed) → Each (IsFound keys) ms
+good_without_case : (keys : List Key) (before ms : List Placed) → Each (IsFound keys) ms
     → bad_modifiers false keys before ms ≡ None
-good_modifiers keys before [] f = refl
-good_modifiers keys before (m ∷ ms) f =
+good_without_case keys before [] f = refl
+good_without_case keys before (m ∷ ms) f =
     none_or _ _
     (ap (λ o. bad_modifier false o before m) f.0.loose_key
     ∙ none_refused (not (is_some (setting_in false f.0.key.values m.value))) _ _
     (ap (λ o. not (is_some o)) f.0.loose_setting))
-    (good_modifiers keys (before ++ m ∷ []) ms f.1)
+    (good_without_case keys (before ++ m ∷ []) ms f.1)
 
 -- and set the same
 settings_same : (keys : List Key) (s : Settings) (ms : List Placed) → Each (IsFound keys) ms
@@ -403,7 +403,7 @@ component_relaxed : (h : Head) (r : Row) (tree : Tree) → IsPlainRow r
 component_relaxed h r tree plain e = (
   none_behind (bad_modifiers false r.keys [] (placed h))
       (made false h (r.component (settings false r.keys (placed h))))
-      (good_modifiers r.keys [] (placed h) found)
+      (good_without_case r.keys [] (placed h) found)
       ∙ ap (made false h) (by (is_set true (codes "range") (placed h)) refl)
       ∙ ap (λ t. Ok (relaxed_tree h t)) leaf.1,
   subst (IsStandardIn h) leaf.1 (λ n. (standard n).1),
