@@ -1,8 +1,7 @@
 -- What is answered of a text that was read as nodes, and of one that has a fault.
 use Rattle.std.proofs.Common.{◌∙◌, ◌++◌, ◌∷◌, [], IsTrue, take, drop, sym, ℕ, ◌≡◌, ◌+◌, ◌≤◌, length, List, Option, Some, None, IsSome, IsUtf8, false, true, refl, ap, subst, arith}
 use Rattle.std.proofs.Math.Seq.{take-append_seam}
-use Rattle.timefd_component.specs.Modern.{AreModern, IsModern}
-use Rattle.timefd_component.specs.Tree.{Text, Tree, pack, trees}
+use Rattle.timefd_component.specs.Tree.{Text, Tree, pack}
 use Rattle.timefd_language.proofs.ModernPieces.{pack_modern, modernity_law, strftime_modernity_law}
 use Rattle.timefd_c_nodes.specs.Decoding.{read_nodes}
 use Rattle.timefd_c_nodes.specs.Encoding.{nodes_from, literals_of, own_text}
