@@ -234,15 +234,16 @@ letters_modern f =
     each-passes (λ l. all_current (l.item f)) (λ l. IsModern (l.item f))
     (λ l e. all_modern (l.item f) e) letters refl
 
-item_modern : (ls : List Letter) (f : Flag) (b : ℕ) (tree : Tree) → Each (λ l. IsModern (l.item f)) ls
-    → item_in ls f b ≡ Some tree → IsModern tree
-item_modern [] f b tree all e = absurd cc
-item_modern (l ∷ ls) f b tree all e =
-    by (λ h. item_modern ls f b tree all.1 h) (is_one_of b l.letters) e
+-- what holds of each letter's item holds of the one that is found
+pub item_has : (P : Tree → Type 0) (ls : List Letter) (f : Flag) (b : ℕ) (tree : Tree)
+    → Each (λ l. P (l.item f)) ls → item_in ls f b ≡ Some tree → P tree
+item_has P [] f b tree all e = absurd cc
+item_has P (l ∷ ls) f b tree all e =
+    by (λ h. item_has P ls f b tree all.1 h) (is_one_of b l.letters) e
   where
-    by : (item_in ls f b ≡ Some tree → IsModern tree) → (t : Bool)
-        → elim t [ true ↦ Some (l.item f) | false ↦ item_in ls f b ] ≡ Some tree → IsModern tree
-    by more true h = let is : l.item f ≡ tree = cc in subst IsModern is all.0
+    by : (item_in ls f b ≡ Some tree → P tree) → (t : Bool)
+        → elim t [ true ↦ Some (l.item f) | false ↦ item_in ls f b ] ≡ Some tree → P tree
+    by more true h = let is : l.item f ≡ tree = cc in subst P is all.0
     by more false h = more h
 
 directives_modern : (ds : Directives) → AreDirectives ds → AreModern (trees (directive_items ds))
@@ -250,7 +251,7 @@ unfolding item_of
 directives_modern no_directives are = tt
 directives_modern (plain bytes rest) are = (tt, directives_modern rest are.2)
 directives_modern (directive f b tree rest) are =
-    (item_modern letters f b tree (letters_modern f) are.2, directives_modern rest are.3)
+    (item_has IsModern letters f b tree (letters_modern f) are.2, directives_modern rest are.3)
 
 pub strftime_modernity_law : StrftimeModernity
 strftime_modernity_law text list h =

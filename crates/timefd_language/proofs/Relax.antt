@@ -35,7 +35,8 @@ use Rattle.timefd_language.specs.Relaxed.{IsFlat, IsStandard, IsStandardIn, AreS
 use Rattle.timefd_language.specs.Laws.{Relaxing}
 use Rattle.timefd_language.proofs.Lookup.{Each, each-map, each-passes, IsLowered, equal-true, named-found, named-lowered, count_of-sets}
 use Rattle.timefd_language.proofs.Roomy.{behind_ok, made_ok}
-use Rattle.timefd_language.proofs.Recase.{or_none, none_or, refuse_none, none_refused, behind_none, none_behind, unless_two, unless_one}
+use Rattle.timefd_language.proofs.Recase.{or_none, none_or, refuse_none, none_refused, behind_none, none_behind, unless_two}
+use Rattle.timefd_language.proofs.Lift.{unless_fault}
 
 -- Keys.
 
@@ -486,7 +487,7 @@ verdict_relaxed h close tree e = by (same true (codes "optional") h.name)
     by true u c = absurd (unless_two (bad_modifiers true (format ∷ []) [] (placed h)) None
         (fault expected_nested close) (optional (is_formatted true (placed h)) (only [])) tree c)
     by false true c =
-        absurd (unless_one (any_modifier (placed h)) (fault expected_alternative close)
+        absurd (unless_fault (any_modifier (placed h)) (fault expected_alternative close)
         (first (trees [])) tree c)
     by false false c = named_relaxed h close tree (row_of true h.name) refl c
 
