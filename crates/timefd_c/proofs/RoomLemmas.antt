@@ -1,20 +1,20 @@
 -- How many nodes, and how many bytes of literals, a text has.
-use Rattle.std.proofs.Common.{ℕ, suc, ◌≡◌, ◌+◌, ◌*◌, ◌≤◌, ◌⊎◌, inl, inr, cond, Bool, true, List, [], ◌∷◌, ◌++◌, map, Ok, Option, Some, None, length, length-append, nat_le, refl, ap, subst, arith, codes, ◌&&◌}
+use Rattle.std.proofs.Common.{ℕ, suc, ◌≡◌, ◌+◌, ◌*◌, ◌≤◌, Bool, true, List, [], ◌∷◌, ◌++◌, map, Ok, Option, Some, None, length, length-append, nat_le, refl, ap, subst, arith, ◌&&◌}
 use Rattle.timefd_component.specs.Tree.{Text, Tree, component, literal, compound, optional, first, Trees, no_trees, more_trees, trees, pack}
 use Rattle.timefd_component.specs.Reserved.{tree_count, trees_count}
 use Rattle.timefd_node_list.specs.Views.{walked, walked_all}
 use Rattle.timefd_language.specs.declared.description_version.DescriptionVersion.{DescriptionVersion}
 use Rattle.timefd_language.specs.declared.description_version.DescriptionVersion.TheVariants.{One, Two, Three}
-use Rattle.timefd_language.specs.Bytes.{right, left, same, is_run_byte, is_version_three}
+use Rattle.timefd_language.specs.Bytes.{right, left, is_run_byte, is_version_three}
 use Rattle.timefd_language.specs.Head.{Head, head_text, placed}
 use Rattle.timefd_language.specs.Names.{Row, row_of}
-use Rattle.timefd_language.specs.Verdict.{PlacedDescription, behind, bad_modifiers, settings, made, touching, nested_refused, is_formatted, only, optional_verdict, first_verdict, component_verdict, verdict}
+use Rattle.timefd_language.specs.Verdict.{PlacedDescription, bad_modifiers, settings, made, is_formatted, only, component_verdict, verdict}
 use Rattle.timefd_language.specs.Grammar.{Pieces, no_pieces, run, escape, closing, bracket, Nested, no_nested, nested, spelling, nested_text, items, ArePieces, AreNested, parts_from, nesting_limit}
 use Rattle.timefd_language.specs.Letters.{Flag, letters, item_of}
 use Rattle.timefd_language.specs.Strftime.{Directives, no_directives, plain, directive, is_plain, flag_text, directives_text, directive_items, AreDirectives}
 use Rattle.timefd_language.proofs.Lookup.{Each, each-passes}
 use Rattle.timefd_language.proofs.ModernPieces.{item_has}
-use Rattle.timefd_language.proofs.Roomy.{unless_ok, behind_ok, either, made_ok}
+use Rattle.timefd_language.proofs.Roomy.{behind_ok, made_ok, verdict_has}
 use Rattle.timefd_language.proofs.Sizes.{length_one}
 use Rattle.timefd_parse.specs.declared.language.Language.{Language}
 use Rattle.timefd_parse.specs.declared.language.Language.TheVariants.{Version, Strftime}
@@ -121,28 +121,9 @@ component_within strict h ps tree (Some r) e =
 verdict_within : (strict : Bool) (h : Head) (ps : List PlacedDescription) (close : ℕ) (tree : Tree)
     → verdict strict h ps close ≡ Ok tree → IsWithin ps tree
 verdict_within strict h ps close tree e =
-    outer (either (same strict (codes "optional") h.name) (optional_verdict strict h ps close) _
-    (Ok tree) (behind_ok (touching ps) _ tree e))
-  where
-    inner : (first_verdict strict h ps close ≡ Ok tree)
-        ⊎ (behind (nested_refused ps) (component_verdict strict h (row_of strict h.name)) ≡ Ok tree)
-        → IsWithin ps tree
-    inner (inl f) = subst (IsWithin ps)
-        (unless_ok _ (first (trees (map (λ p. pack p.trees) ps))) tree f) (first_within ps)
-    inner (inr c) = component_within strict h ps tree (row_of strict h.name)
-        (behind_ok (nested_refused ps) (component_verdict strict h (row_of strict h.name)) tree c)
-
-    outer : (optional_verdict strict h ps close ≡ Ok tree)
-        ⊎ (cond (same strict (codes "first") h.name) (first_verdict strict h ps close)
-        (behind (nested_refused ps) (component_verdict strict h (row_of strict h.name))) ≡ Ok tree)
-        → IsWithin ps tree
-    outer (inl o) = subst (IsWithin ps)
-        (unless_ok _ (optional (is_formatted strict (placed h)) (only ps)) tree o)
-        (optional_within ps (is_formatted strict (placed h)))
-    outer (inr r) =
-        inner (either (same strict (codes "first") h.name) (first_verdict strict h ps close)
-        (behind (nested_refused ps) (component_verdict strict h (row_of strict h.name)))
-        (Ok tree) r)
+    verdict_has (IsWithin ps) strict h ps close tree
+    (optional_within ps (is_formatted strict (placed h))) (first_within ps)
+    (component_within strict h ps tree (row_of strict h.name)) e
 
 -- All pieces.
 

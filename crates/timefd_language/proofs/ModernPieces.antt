@@ -1,5 +1,5 @@
 -- All components of a text are modern.
-use Rattle.std.proofs.Common.{ℕ, suc, ◌+◌, ◌≡◌, sym, ◌⊎◌, inl, inr, cond, Bool, true, false, ◌&&◌, List, [], ◌∷◌, ◌++◌, map, Result, Ok, Option, Some, None, length, refl, subst, codes}
+use Rattle.std.proofs.Common.{ℕ, suc, ◌+◌, ◌≡◌, sym, Bool, true, false, ◌&&◌, List, [], ◌∷◌, ◌++◌, map, Result, Ok, Option, Some, None, length, refl, subst}
 use Rattle.std.proofs.lemmas.Bool.{and_parts}
 use Rattle.std.specs.declared.num.NonZeroU16.{NonZeroU16}
 use Rattle.timefd_component.specs.declared.component.Component.{Component}
@@ -13,13 +13,13 @@ use Rattle.timefd_language.specs.Head.{Head, head_text, placed}
 use Rattle.timefd_language.specs.declared.setting.Settings.{Settings}
 use Rattle.timefd_language.specs.declared.name.ComponentName.{ComponentName}
 use Rattle.timefd_language.specs.Names.{Row, rows, row_for, row_of, component_names, ignored}
-use Rattle.timefd_language.specs.Verdict.{PlacedDescription, behind, bad_modifiers, settings, made, touching, nested_refused, is_formatted, only, optional_verdict, first_verdict, component_verdict, verdict}
+use Rattle.timefd_language.specs.Verdict.{PlacedDescription, bad_modifiers, settings, made, only, component_verdict, verdict}
 use Rattle.timefd_language.specs.Grammar.{Pieces, no_pieces, run, escape, closing, bracket, Nested, no_nested, nested, spelling, nested_text, items, ArePieces, AreNested, parts_from}
 use Rattle.timefd_language.specs.Letters.{Flag, Letter, letters, is_one_of, item_in, item_of}
 use Rattle.timefd_language.specs.Strftime.{Directives, no_directives, plain, directive, directive_items, AreDirectives}
 use Rattle.timefd_language.specs.Laws.{Modernity, StrftimeModernity}
 use Rattle.timefd_language.proofs.Lookup.{Each, each-map, each-passes}
-use Rattle.timefd_language.proofs.Roomy.{unless_ok, behind_ok, either, made_ok}
+use Rattle.timefd_language.proofs.Roomy.{behind_ok, made_ok, verdict_has}
 
 -- Rows.
 
@@ -129,30 +129,8 @@ only_modern (p ∷ ps) h = pack_modern p.trees h.0
 verdict_modern : (strict : Bool) (h : Head) (parts : List PlacedDescription) (close : ℕ)
     (tree : Tree) → PartsModern parts → verdict strict h parts close ≡ Ok tree → IsModern tree
 verdict_modern strict h parts close tree modern e =
-    outer (either (same strict (codes "optional") h.name) (optional_verdict strict h parts close) _
-    (Ok tree) (behind_ok (touching parts) _ tree e))
-  where
-    inner : (first_verdict strict h parts close ≡ Ok tree)
-        ⊎ (behind (nested_refused parts) (component_verdict strict h (row_of strict h.name)) ≡ Ok
-        tree) → IsModern tree
-    inner (inl f) = subst IsModern (unless_ok _ (first (trees (map (λ p. pack p.trees) parts))) tree
-        f) (packs_modern parts modern)
-    inner (inr c) = component_modern strict h tree (row_of strict h.name) refl
-        (behind_ok (nested_refused parts) (component_verdict strict h (row_of strict h.name)) tree
-        c)
-
-    outer : (optional_verdict strict h parts close ≡ Ok tree)
-        ⊎ (cond (same strict (codes "first") h.name) (first_verdict strict h parts close)
-        (behind (nested_refused parts) (component_verdict strict h (row_of strict h.name))) ≡ Ok
-        tree)
-        → IsModern tree
-    outer (inl o) =
-        subst IsModern (unless_ok _ (optional (is_formatted strict (placed h)) (only parts)) tree o)
-        (only_modern parts modern)
-    outer (inr r) =
-        inner (either (same strict (codes "first") h.name) (first_verdict strict h parts close)
-        (behind (nested_refused parts) (component_verdict strict h (row_of strict h.name)))
-        (Ok tree) r)
+    verdict_has IsModern strict h parts close tree (only_modern parts modern)
+    (packs_modern parts modern) (component_modern strict h tree (row_of strict h.name) refl) e
 
 -- All pieces.
 
