@@ -1,9 +1,8 @@
 -- What is answered of a text that was read as nodes, and of one that has a fault.
 use Rattle.std.proofs.Common.{◌∙◌, ◌++◌, ◌∷◌, [], IsTrue, take, drop, sym, ℕ, ◌≡◌, ◌+◌, ◌≤◌, length, List, Option, Some, None, IsSome, IsUtf8, false, true, refl, ap, subst, arith}
 use Rattle.std.proofs.Math.Seq.{take-append_seam}
-use Rattle.timefd_component.specs.Modern.{AreModern, IsModern}
-use Rattle.timefd_component.specs.Tree.{Text, Tree, pack, trees}
-use Rattle.timefd_language.proofs.ModernPieces.{modernity_law, strftime_modernity_law}
+use Rattle.timefd_component.specs.Tree.{Text, Tree, pack}
+use Rattle.timefd_language.proofs.ModernPieces.{pack_modern, modernity_law, strftime_modernity_law}
 use Rattle.timefd_c_nodes.specs.Decoding.{read_nodes}
 use Rattle.timefd_c_nodes.specs.Encoding.{nodes_from, literals_of, own_text}
 use Rattle.timefd_c_nodes.proofs.DecodeLemmas.{trees_back, tree_back}
@@ -64,11 +63,6 @@ three_within Strftime bytes list nodes spelled three is = absurd cc
 nodes_length : (ts : List Tree) (at used : ℕ) → length (nodes_from at used ts) ≡ length ts
 nodes_length [] at used = refl
 nodes_length (t ∷ ts) at used = omega (arith, nodes_length ts (at + 1) (used + length (own_text t)))
-
-pack_modern : (list : List Tree) → AreModern (trees list) → IsModern (pack list)
-pack_modern [] h = h
-pack_modern (t ∷ []) h = h.0
-pack_modern (t ∷ u ∷ ts) h = h
 
 parts_back : (language : Language) (bytes : Text) (list : List Tree)
     → SpellsIn language nesting_limit bytes list

@@ -1,5 +1,5 @@
 -- What is reported of a description.
-use Rattle.std.proofs.Common.{◌≡◌, ◌∙◌, ℕ, ◌≤◌, ◌++◌, ◌↔◌, Bool, true, false, IsTrue, IfOk, IsErr, IsOk, MatchResult, Result, Ok, Err, List, [], ◌⊎◌, inl, inr, map, length, drop, refl, sym, ap, subst, arith}
+use Rattle.std.proofs.Common.{◌≡◌, ◌∙◌, ℕ, ◌≤◌, ◌++◌, ◌↔◌, Bool, true, false, IsTrue, IfOk, IsErr, IsOk, MatchResult, Result, Ok, Err, List, [], inl, inr, map, length, drop, refl, sym, ap, subst, arith}
 use Rattle.std.proofs.lemmas.List.{length-map}
 use Rattle.std.specs.Result.{IfErr}
 use Rattle.std.specs.declared.alloc.Global.{Global}
@@ -22,7 +22,6 @@ use Rattle.timefd_c_nodes.specs.declared.node.Node.{Node}
 use Rattle.timefd_c_nodes.specs.declared.size.Size.{Size}
 use Rattle.timefd_c_nodes.specs.Encoding.{nodes_from, literals_of}
 use Rattle.timefd_c_nodes.specs.Sizes.{IsSize, IsTooLarge}
-use Rattle.timefd_fault.specs.Faults.{Fault}
 use Rattle.timefd_language.specs.Grammar.{Spells, nesting_limit, no_pieces}
 use Rattle.timefd_language.specs.Strftime.{SpellsStrftime, no_directives}
 use Rattle.timefd_parse.proofs.ParseLemmas.{one}

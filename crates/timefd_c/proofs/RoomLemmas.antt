@@ -1,25 +1,26 @@
 -- How many nodes, and how many bytes of literals, a text has.
-use Rattle.std.proofs.Common.{ℕ, suc, ◌≡◌, ◌+◌, ◌*◌, ◌≤◌, ◌⊎◌, inl, inr, cond, Bool, true, false, List, [], ◌∷◌, ◌++◌, map, Result, Ok, Option, Some, None, length, length-append, nat_le, refl, ap, subst, arith, codes, ◌&&◌}
+use Rattle.std.proofs.Common.{ℕ, suc, ◌≡◌, ◌+◌, ◌*◌, ◌≤◌, Bool, true, List, [], ◌∷◌, ◌++◌, map, Ok, Option, Some, None, length, length-append, nat_le, refl, ap, subst, arith, ◌&&◌}
 use Rattle.timefd_component.specs.Tree.{Text, Tree, component, literal, compound, optional, first, Trees, no_trees, more_trees, trees, pack}
 use Rattle.timefd_component.specs.Reserved.{tree_count, trees_count}
 use Rattle.timefd_node_list.specs.Views.{walked, walked_all}
-use Rattle.timefd_fault.specs.Faults.{Fault}
 use Rattle.timefd_language.specs.declared.description_version.DescriptionVersion.{DescriptionVersion}
 use Rattle.timefd_language.specs.declared.description_version.DescriptionVersion.TheVariants.{One, Two, Three}
-use Rattle.timefd_language.specs.Bytes.{right, left, same, is_run_byte, is_version_three}
+use Rattle.timefd_language.specs.Bytes.{right, left, is_run_byte, is_version_three}
 use Rattle.timefd_language.specs.Head.{Head, head_text, placed}
 use Rattle.timefd_language.specs.Names.{Row, row_of}
-use Rattle.timefd_language.specs.Verdict.{PlacedDescription, behind, bad_modifiers, settings, made, touching, nested_refused, is_formatted, only, optional_verdict, first_verdict, component_verdict, verdict}
+use Rattle.timefd_language.specs.Verdict.{PlacedDescription, bad_modifiers, settings, made, is_formatted, only, component_verdict, verdict}
 use Rattle.timefd_language.specs.Grammar.{Pieces, no_pieces, run, escape, closing, bracket, Nested, no_nested, nested, spelling, nested_text, items, ArePieces, AreNested, parts_from, nesting_limit}
-use Rattle.timefd_language.specs.Letters.{Flag, Letter, letters, is_one_of, item_in, item_of}
+use Rattle.timefd_language.specs.Letters.{Flag, letters, item_of}
 use Rattle.timefd_language.specs.Strftime.{Directives, no_directives, plain, directive, is_plain, flag_text, directives_text, directive_items, AreDirectives}
 use Rattle.timefd_language.proofs.Lookup.{Each, each-passes}
-use Rattle.timefd_language.proofs.Roomy.{unless_ok, behind_ok, made_ok}
+use Rattle.timefd_language.proofs.ModernPieces.{item_has}
+use Rattle.timefd_language.proofs.Roomy.{behind_ok, made_ok, verdict_has}
 use Rattle.timefd_language.proofs.Sizes.{length_one}
 use Rattle.timefd_parse.specs.declared.language.Language.{Language}
 use Rattle.timefd_parse.specs.declared.language.Language.TheVariants.{Version, Strftime}
 use Rattle.timefd_parse.specs.Language.{SpellsIn}
-use Rattle.timefd_c_nodes.specs.Encoding.{literals_of, own_text}
+use Rattle.timefd_c_nodes.specs.Encoding.{literals_of}
+use Rattle.timefd_c_nodes.proofs.WriteLemmas.{literals-length}
 use Rattle.timefd_c_nodes.proofs.TreeLemmas.{walked_length, walked_all_length}
 use Rattle.timefd_c.specs.Reports.{parts}
 use Rattle.timefd_c.specs.Reading.{most_nodes, most_literals}
@@ -37,32 +38,22 @@ abbrev mutual
   bytes_in_all no_trees = 0
   bytes_in_all (more_trees t ts) = bytes_in t + bytes_in_all ts
 
-literals_append : (a b : List Tree)
-    → length (literals_of (a ++ b)) ≡ length (literals_of a) + length (literals_of b)
-literals_append [] b = omega arith
-literals_append (t ∷ ts) b = omega (
-  arith,
-  length-append (own_text t) (literals_of (ts ++ b)),
-  length-append (own_text t) (literals_of ts),
-  literals_append ts b,
-)
-
 mutual
   walked_bytes : (t : Tree) → length (literals_of (walked t)) ≡ bytes_in t
   walked_bytes (component c) = refl
   walked_bytes (literal bytes) = omega (arith, length-append bytes [])
   walked_bytes (compound ts) =
-      omega (arith, literals_append (walked_all ts) (compound ts ∷ []), all_walked_bytes ts)
+      omega (arith, literals-length (walked_all ts) (compound ts ∷ []), all_walked_bytes ts)
   walked_bytes (optional format t) =
-      omega (arith, literals_append (walked t) (optional format t ∷ []), walked_bytes t)
+      omega (arith, literals-length (walked t) (optional format t ∷ []), walked_bytes t)
   walked_bytes (first ts) =
-      omega (arith, literals_append (walked_all ts) (first ts ∷ []), all_walked_bytes ts)
+      omega (arith, literals-length (walked_all ts) (first ts ∷ []), all_walked_bytes ts)
 
   all_walked_bytes : (ts : Trees) → length (literals_of (walked_all ts)) ≡ bytes_in_all ts
   all_walked_bytes no_trees = refl
   all_walked_bytes (more_trees t ts) = omega (
     arith,
-    literals_append (walked t) (walked_all ts),
+    literals-length (walked t) (walked_all ts),
     walked_bytes t,
     all_walked_bytes ts,
   )
@@ -127,35 +118,12 @@ component_within strict h ps tree (Some r) e =
     (made strict h (r.component (settings strict r.keys (placed h)))) tree e) in
     subst (IsWithin ps) leaf.1 (record { nodes = omega arith; literals = omega arith })
 
-either : (b : Bool) (x y z : Result Tree Fault) → cond b x y ≡ z → (x ≡ z) ⊎ (y ≡ z)
-either true x y z e = inl e
-either false x y z e = inr e
-
 verdict_within : (strict : Bool) (h : Head) (ps : List PlacedDescription) (close : ℕ) (tree : Tree)
     → verdict strict h ps close ≡ Ok tree → IsWithin ps tree
 verdict_within strict h ps close tree e =
-    outer (either (same strict (codes "optional") h.name) (optional_verdict strict h ps close) _
-    (Ok tree) (behind_ok (touching ps) _ tree e))
-  where
-    inner : (first_verdict strict h ps close ≡ Ok tree)
-        ⊎ (behind (nested_refused ps) (component_verdict strict h (row_of strict h.name)) ≡ Ok tree)
-        → IsWithin ps tree
-    inner (inl f) = subst (IsWithin ps)
-        (unless_ok _ (first (trees (map (λ p. pack p.trees) ps))) tree f) (first_within ps)
-    inner (inr c) = component_within strict h ps tree (row_of strict h.name)
-        (behind_ok (nested_refused ps) (component_verdict strict h (row_of strict h.name)) tree c)
-
-    outer : (optional_verdict strict h ps close ≡ Ok tree)
-        ⊎ (cond (same strict (codes "first") h.name) (first_verdict strict h ps close)
-        (behind (nested_refused ps) (component_verdict strict h (row_of strict h.name))) ≡ Ok tree)
-        → IsWithin ps tree
-    outer (inl o) = subst (IsWithin ps)
-        (unless_ok _ (optional (is_formatted strict (placed h)) (only ps)) tree o)
-        (optional_within ps (is_formatted strict (placed h)))
-    outer (inr r) =
-        inner (either (same strict (codes "first") h.name) (first_verdict strict h ps close)
-        (behind (nested_refused ps) (component_verdict strict h (row_of strict h.name)))
-        (Ok tree) r)
+    verdict_has (IsWithin ps) strict h ps close tree
+    (optional_within ps (is_formatted strict (placed h))) (first_within ps)
+    (component_within strict h ps tree (row_of strict h.name)) e
 
 -- All pieces.
 
@@ -259,17 +227,6 @@ letters_small f =
     each-passes (λ l. nat_le (tree_count (l.item f)) 14 && nat_le (bytes_in (l.item f)) 6)
     (λ l. IsSmall (l.item f)) (λ l e. small (l.item f) e) letters refl
 
-item_small : (ls : List Letter) (f : Flag) (b : ℕ) (tree : Tree) → Each (λ l. IsSmall (l.item f)) ls
-    → item_in ls f b ≡ Some tree → IsSmall tree
-item_small [] f b tree all e = absurd cc
-item_small (l ∷ ls) f b tree all e =
-    by (λ h. item_small ls f b tree all.1 h) (is_one_of b l.letters) e
-  where
-    by : (item_in ls f b ≡ Some tree → IsSmall tree) → (t : Bool)
-        → elim t [ true ↦ Some (l.item f) | false ↦ item_in ls f b ] ≡ Some tree → IsSmall tree
-    by more true h = let is : l.item f ≡ tree = cc in subst IsSmall is all.0
-    by more false h = more h
-
 record DirectivesWithin (list : List Tree) (text : Text) : Type 0 where
   nodes : trees_count (trees list) ≤ 7 * length text
   literals : bytes_in_all (trees list) ≤ 3 * length text
@@ -285,7 +242,7 @@ directives_within (plain bytes rest) are =
       literals = omega (arith, length-append bytes (directives_text rest), more.literals);
     }
 directives_within (directive f b tree rest) are =
-    let item = item_small letters f b tree (letters_small f) are.2 in
+    let item = item_has IsSmall letters f b tree (letters_small f) are.2 in
     let more = directives_within rest are.3 in
     let whole = length-append (flag_text f) (b ∷ directives_text rest) in
     record {

@@ -1,27 +1,15 @@
 -- The component of a node is the one that it was made of.
 use Rattle.std.proofs.Common.{◌≡◌, ℕ, zero, suc, ◌<◌, Bool, true, false, Option, Some, refl, ap, ap₂, subst, arith}
-use Rattle.std.specs.Prelude.{⊤}
 use Rattle.std.proofs.Math.Bridge.{le_prop}
 use native.Mathlib.Nat.{zero-lt-suc}
 use Rattle.std.specs.declared.num.NonZeroU16.{NonZeroU16}
-use Rattle.timefd_modifier.specs.declared.month.Month.{Month as MonthFields}
-use Rattle.timefd_modifier.specs.declared.day.Weekday.{Weekday as WeekdayFields}
-use Rattle.timefd_modifier.specs.declared.week.WeekNumber.{WeekNumber as WeekNumberFields}
-use Rattle.timefd_modifier.specs.declared.clock.Hour.{Hour as HourFields}
-use Rattle.timefd_modifier.specs.declared.timestamp.UnixTimestamp.{UnixTimestamp as UnixTimestampFields}
-use Rattle.timefd_modifier.specs.declared.year.Year.{Year as YearFields}
-use Rattle.timefd_modifier.specs.declared.enums.MonthRepr.{MonthRepr}
-use Rattle.timefd_modifier.specs.declared.enums.WeekdayRepr.{WeekdayRepr}
-use Rattle.timefd_modifier.specs.declared.enums.WeekNumberRepr.{WeekNumberRepr}
-use Rattle.timefd_modifier.specs.declared.enums.YearRepr.{YearRepr}
-use Rattle.timefd_modifier.specs.declared.enums.YearRange.{YearRange}
-use Rattle.timefd_modifier.specs.declared.enums.UnixTimestampPrecision.{UnixTimestampPrecision}
 use Rattle.timefd_modifier.specs.declared.enums.Padding.{Padding}
 use Rattle.timefd_modifier.specs.declared.enums.SubsecondDigits.{SubsecondDigits}
 use Rattle.timefd_modifier.specs.declared.enums.TrailingInput.{TrailingInput}
 use Rattle.timefd_component.specs.declared.component.Component.{Component}
 use Rattle.timefd_component.specs.declared.component.Component.TheVariants.{Day, MonthShort, MonthLong, MonthNumerical, Ordinal, WeekdayShort, WeekdayLong, WeekdaySunday, WeekdayMonday, WeekNumberIso, WeekNumberSunday, WeekNumberMonday, CalendarYearFullExtendedRange, CalendarYearFullStandardRange, CalendarYearCenturyExtendedRange, CalendarYearCenturyStandardRange, IsoYearFullExtendedRange, IsoYearFullStandardRange, IsoYearCenturyExtendedRange, IsoYearCenturyStandardRange, CalendarYearLastTwo, IsoYearLastTwo, Hour12, Hour24, Minute, Period, Second, Subsecond, OffsetHour, OffsetMinute, OffsetSecond, Ignore, UnixTimestampSecond, UnixTimestampMillisecond, UnixTimestampMicrosecond, UnixTimestampNanosecond, End, Month, Weekday, WeekNumber, Hour, UnixTimestamp, Year}
-use Rattle.timefd_component.specs.Modern.{modern, modern_month, modern_weekday, modern_week_number, modern_hour, modern_timestamp, modern_year}
+use Rattle.timefd_component.specs.Modern.{modern}
+use Rattle.timefd_component.proofs.ModernLemmas.{IsReplacement, month_replaced, weekday_replaced, week_replaced, hour_replaced, timestamp_replaced, year_replaced}
 use Rattle.timefd_c_nodes.specs.Encoding.{flag_number, padding_number, digits_number, trailing_input_number, component_node}
 use Rattle.timefd_c_nodes.specs.Decoding.{flag_of, padding_of, digits_of, trailing_input_of, count_of, with_one, with_two, component_of}
 
@@ -58,57 +46,6 @@ count_back c = by c.value c.ok
     by zero p = absurd (omega (arith, p))
     by (suc n) p = ap {B = Option NonZeroU16} (λ q. Some (record { value = suc n; ok = q }))
         (le_prop (zero-lt-suc n) p)
-
--- No deprecated component is modern.
-
-abbrev IsNotDeprecated : Component → Type 0
-IsNotDeprecated (Month m) = ⊥
-IsNotDeprecated (Weekday w) = ⊥
-IsNotDeprecated (WeekNumber w) = ⊥
-IsNotDeprecated (Hour h) = ⊥
-IsNotDeprecated (UnixTimestamp t) = ⊥
-IsNotDeprecated (Year y) = ⊥
-IsNotDeprecated c = ⊤
-
-month_old : (r : MonthRepr) (y x : MonthFields) → modern_month r y ≡ Month x → ⊥
-month_old MonthRepr.Short y x e = subst IsNotDeprecated e tt
-month_old MonthRepr.Long y x e = subst IsNotDeprecated e tt
-month_old MonthRepr.Numerical y x e = subst IsNotDeprecated e tt
-
-weekday_old : (r : WeekdayRepr) (y x : WeekdayFields) → modern_weekday r y ≡ Weekday x → ⊥
-weekday_old WeekdayRepr.Short y x e = subst IsNotDeprecated e tt
-weekday_old WeekdayRepr.Long y x e = subst IsNotDeprecated e tt
-weekday_old WeekdayRepr.Sunday y x e = subst IsNotDeprecated e tt
-weekday_old WeekdayRepr.Monday y x e = subst IsNotDeprecated e tt
-
-week_old : (r : WeekNumberRepr) (y x : WeekNumberFields) → modern_week_number r y ≡ WeekNumber x → ⊥
-week_old WeekNumberRepr.Iso y x e = subst IsNotDeprecated e tt
-week_old WeekNumberRepr.Sunday y x e = subst IsNotDeprecated e tt
-week_old WeekNumberRepr.Monday y x e = subst IsNotDeprecated e tt
-
-hour_old : (b : Bool) (y x : HourFields) → modern_hour b y ≡ Hour x → ⊥
-hour_old true y x e = subst IsNotDeprecated e tt
-hour_old false y x e = subst IsNotDeprecated e tt
-
-timestamp_old : (p : UnixTimestampPrecision) (y x : UnixTimestampFields)
-    → modern_timestamp p y ≡ UnixTimestamp x → ⊥
-timestamp_old UnixTimestampPrecision.Second y x e = subst IsNotDeprecated e tt
-timestamp_old UnixTimestampPrecision.Millisecond y x e = subst IsNotDeprecated e tt
-timestamp_old UnixTimestampPrecision.Microsecond y x e = subst IsNotDeprecated e tt
-timestamp_old UnixTimestampPrecision.Nanosecond y x e = subst IsNotDeprecated e tt
-
-year_old : (iso : Bool) (k : YearRepr) (r : YearRange) (y x : YearFields)
-    → modern_year iso k r y ≡ Year x → ⊥
-year_old true YearRepr.Full YearRange.Extended y x e = subst IsNotDeprecated e tt
-year_old true YearRepr.Full YearRange.Standard y x e = subst IsNotDeprecated e tt
-year_old true YearRepr.Century YearRange.Extended y x e = subst IsNotDeprecated e tt
-year_old true YearRepr.Century YearRange.Standard y x e = subst IsNotDeprecated e tt
-year_old false YearRepr.Full YearRange.Extended y x e = subst IsNotDeprecated e tt
-year_old false YearRepr.Full YearRange.Standard y x e = subst IsNotDeprecated e tt
-year_old false YearRepr.Century YearRange.Extended y x e = subst IsNotDeprecated e tt
-year_old false YearRepr.Century YearRange.Standard y x e = subst IsNotDeprecated e tt
-year_old true YearRepr.LastTwo r y x e = subst IsNotDeprecated e tt
-year_old false YearRepr.LastTwo r y x e = subst IsNotDeprecated e tt
 
 -- Components, by one modifier or by two.
 
@@ -208,9 +145,9 @@ component_back (UnixTimestampNanosecond m) at h = by_one
     (flag_back m.sign_is_mandatory)
 component_back (End m) at h = by_one (λ t. End (record { trailing_input = t }))
     (trailing_input_back m.trailing_input)
-component_back (Month m) at h = absurd (month_old m.repr m m h)
-component_back (Weekday w) at h = absurd (weekday_old w.repr w w h)
-component_back (WeekNumber w) at h = absurd (week_old w.repr w w h)
-component_back (Hour x) at h = absurd (hour_old x.is_12_hour_clock x x h)
-component_back (UnixTimestamp t) at h = absurd (timestamp_old t.precision t t h)
-component_back (Year y) at h = absurd (year_old y.iso_week_based y.repr y.range y y h)
+component_back (Month m) at h = absurd (subst IsReplacement h (month_replaced m.repr m))
+component_back (Weekday w) at h = absurd (subst IsReplacement h (weekday_replaced w.repr w))
+component_back (WeekNumber w) at h = absurd (subst IsReplacement h (week_replaced w.repr w))
+component_back (Hour x) at h = absurd (subst IsReplacement h (hour_replaced x.is_12_hour_clock x))
+component_back (UnixTimestamp t) at h = absurd (subst IsReplacement h (timestamp_replaced t.precision t))
+component_back (Year y) at h = absurd (subst IsReplacement h (year_replaced y.iso_week_based y.repr y.range y))

@@ -14,11 +14,12 @@ use Rattle.timefd_language.specs.Grammar.{Pieces, Nested, no_pieces, run, escape
 use Rattle.timefd_language.specs.Rewritten.{doubled, rewritten}
 use Rattle.timefd_language.specs.Laws.{Lifting}
 use Rattle.timefd_language.proofs.Roomy.{behind_ok}
+use Rattle.timefd_language.proofs.Spans.{zero_from_one}
 use Rattle.timefd_language.proofs.Join.{with_run, with_run-spelling, with_run-pieces, with_run-joined, literals_joined}
 
 -- Versions 1 and 2 accept no bracket with a nested description.
 
-unless_fault : (o : Option Fault) (f : Fault) (t u : Tree) → unless (o or Some f) t ≡ Ok u → ⊥
+pub unless_fault : (o : Option Fault) (f : Fault) (t u : Tree) → unless (o or Some f) t ≡ Ok u → ⊥
 unless_fault (Some g) f t u e = cc
 unless_fault None f t u e = cc
 
@@ -157,16 +158,12 @@ lifted-spelling (closing rest) = ap (λ x. backslash ∷ right ∷ x) (lifted-sp
 lifted-spelling (bracket h ns white tree rest) =
     ap (λ x. head_text h ++ nested_text ns ++ white ++ right ∷ x) (lifted-spelling rest)
 
-run_zero : (bytes : Text) → OneOrMore (is_run_byte One) bytes → ZeroOrMore (is_run_byte One) bytes
-run_zero [] h = absurd h
-run_zero (b ∷ bytes) h = h
-
 lifted-are : (limit : ℕ) (ps : Pieces) → ArePieces One limit 0 ps
     → ArePieces Two limit 0 (lifted ps)
 unfolding lifted
 lifted-are limit no_pieces are = tt
 lifted-are limit (run bytes rest) are =
-    doubled_pieces-are limit bytes (lifted rest) (run_zero bytes are.0)
+    doubled_pieces-are limit bytes (lifted rest) (zero_from_one (is_run_byte One) bytes are.0)
     (lifted-are limit rest are.2)
 lifted-are limit (escape a b rest) are = ((refl, refl), lifted-are limit rest are.1)
 lifted-are limit (closing rest) are = ((refl, refl), lifted-are limit rest are.2)

@@ -1,8 +1,9 @@
 -- All components of a text are modern.
-use Rattle.std.proofs.Common.{ℕ, suc, ◌+◌, ◌≡◌, sym, ◌⊎◌, inl, inr, cond, Bool, true, false, List, [], ◌∷◌, ◌++◌, map, Result, Ok, Option, Some, None, length, refl, subst, codes}
+use Rattle.std.proofs.Common.{ℕ, suc, ◌+◌, ◌≡◌, sym, Bool, true, false, ◌&&◌, List, [], ◌∷◌, ◌++◌, map, Result, Ok, Option, Some, None, length, refl, subst}
+use Rattle.std.proofs.lemmas.Bool.{and_parts}
 use Rattle.std.specs.declared.num.NonZeroU16.{NonZeroU16}
 use Rattle.timefd_component.specs.declared.component.Component.{Component}
-use Rattle.timefd_component.specs.Tree.{Text, Tree, optional, first, trees, pack}
+use Rattle.timefd_component.specs.Tree.{Text, Tree, component, literal, compound, optional, first, Trees, no_trees, more_trees, trees, pack}
 use Rattle.timefd_fault.specs.Faults.{Kind}
 use Rattle.timefd_component.specs.Modern.{modern, IsModern, AreModern}
 use Rattle.timefd_component.proofs.ModernLemmas.{modern_twice_law}
@@ -12,13 +13,13 @@ use Rattle.timefd_language.specs.Head.{Head, head_text, placed}
 use Rattle.timefd_language.specs.declared.setting.Settings.{Settings}
 use Rattle.timefd_language.specs.declared.name.ComponentName.{ComponentName}
 use Rattle.timefd_language.specs.Names.{Row, rows, row_for, row_of, component_names, ignored}
-use Rattle.timefd_language.specs.Verdict.{PlacedDescription, behind, bad_modifiers, settings, made, touching, nested_refused, is_formatted, only, optional_verdict, first_verdict, component_verdict, verdict}
+use Rattle.timefd_language.specs.Verdict.{PlacedDescription, bad_modifiers, settings, made, only, component_verdict, verdict}
 use Rattle.timefd_language.specs.Grammar.{Pieces, no_pieces, run, escape, closing, bracket, Nested, no_nested, nested, spelling, nested_text, items, ArePieces, AreNested, parts_from}
 use Rattle.timefd_language.specs.Letters.{Flag, Letter, letters, is_one_of, item_in, item_of}
 use Rattle.timefd_language.specs.Strftime.{Directives, no_directives, plain, directive, directive_items, AreDirectives}
 use Rattle.timefd_language.specs.Laws.{Modernity, StrftimeModernity}
-use Rattle.timefd_language.proofs.Lookup.{Each, each-map}
-use Rattle.timefd_language.proofs.Roomy.{unless_ok, behind_ok, either, made_ok}
+use Rattle.timefd_language.proofs.Lookup.{Each, each-map, each-passes}
+use Rattle.timefd_language.proofs.Roomy.{behind_ok, made_ok, verdict_has}
 
 -- Rows.
 
@@ -108,7 +109,7 @@ component_modern strict h tree (Some r) known e =
     subst IsModern leaf.1 (row_has IsModernRow strict h.name rows r rows_modern known
     (settings strict r.keys (placed h)) leaf.0 leaf.2)
 
-pack_modern : (ts : List Tree) → AreModern (trees ts) → IsModern (pack ts)
+pub pack_modern : (ts : List Tree) → AreModern (trees ts) → IsModern (pack ts)
 pack_modern [] h = tt
 pack_modern (t ∷ []) h = h.0
 pack_modern (t ∷ u ∷ ts) h = h
@@ -128,30 +129,8 @@ only_modern (p ∷ ps) h = pack_modern p.trees h.0
 verdict_modern : (strict : Bool) (h : Head) (parts : List PlacedDescription) (close : ℕ)
     (tree : Tree) → PartsModern parts → verdict strict h parts close ≡ Ok tree → IsModern tree
 verdict_modern strict h parts close tree modern e =
-    outer (either (same strict (codes "optional") h.name) (optional_verdict strict h parts close) _
-    (Ok tree) (behind_ok (touching parts) _ tree e))
-  where
-    inner : (first_verdict strict h parts close ≡ Ok tree)
-        ⊎ (behind (nested_refused parts) (component_verdict strict h (row_of strict h.name)) ≡ Ok
-        tree) → IsModern tree
-    inner (inl f) = subst IsModern (unless_ok _ (first (trees (map (λ p. pack p.trees) parts))) tree
-        f) (packs_modern parts modern)
-    inner (inr c) = component_modern strict h tree (row_of strict h.name) refl
-        (behind_ok (nested_refused parts) (component_verdict strict h (row_of strict h.name)) tree
-        c)
-
-    outer : (optional_verdict strict h parts close ≡ Ok tree)
-        ⊎ (cond (same strict (codes "first") h.name) (first_verdict strict h parts close)
-        (behind (nested_refused parts) (component_verdict strict h (row_of strict h.name))) ≡ Ok
-        tree)
-        → IsModern tree
-    outer (inl o) =
-        subst IsModern (unless_ok _ (optional (is_formatted strict (placed h)) (only parts)) tree o)
-        (only_modern parts modern)
-    outer (inr r) =
-        inner (either (same strict (codes "first") h.name) (first_verdict strict h parts close)
-        (behind (nested_refused parts) (component_verdict strict h (row_of strict h.name)))
-        (Ok tree) r)
+    verdict_has IsModern strict h parts close tree (only_modern parts modern)
+    (packs_modern parts modern) (component_modern strict h tree (row_of strict h.name) refl) e
 
 -- All pieces.
 
@@ -183,207 +162,66 @@ modernity_law v limit n text list h =
 
 -- Strftime.
 
-abbrev IsModernLetter : Letter → Type 0
-IsModernLetter l = (f : Flag) → IsModern (l.item f)
+-- whether no component of a tree is deprecated
+abbrev is_current : Component → Bool
+is_current (Component.Month m) = false
+is_current (Component.Weekday w) = false
+is_current (Component.WeekNumber w) = false
+is_current (Component.Hour h) = false
+is_current (Component.UnixTimestamp t) = false
+is_current (Component.Year y) = false
+is_current c = true
 
-letters_modern : Each IsModernLetter letters
-letters_modern = (
-  λ f. tt,
-  (
-    λ f. tt,
-    (
-      λ f. tt,
-      (
-        λ f. refl,
-        (
-          λ f. refl,
-          (
-            λ f. refl,
-            (
-              λ f. refl,
-              (
-                λ f. refl,
-                (
-                  λ f. refl,
-                  (
-                    λ f. refl,
-                    (
-                      λ f. refl,
-                      (
-                        λ f. refl,
-                        (
-                          λ f. refl,
-                          (
-                            λ f. refl,
-                            (
-                              λ f. refl,
-                              (
-                                λ f. refl,
-                                (
-                                  λ f. refl,
-                                  (
-                                    λ f. refl,
-                                    (
-                                      λ f. refl,
-                                      (
-                                        λ f. refl,
-                                        (
-                                          λ f. refl,
-                                          (
-                                            λ f. refl,
-                                            (
-                                              λ f. refl,
-                                              (
-                                                λ f. refl,
-                                                (
-                                                  λ f. refl,
-                                                  (
-                                                    λ f. refl,
-                                                    (
-                                                      λ f. refl,
-                                                      (
-                                                        λ f. refl,
-                                                        (
-                                                          λ f. refl,
-                                                          (
-                                                            λ f. refl,
-                                                            (
-                                                              λ f. (
-                                                                refl,
-                                                                (
-                                                                  tt,
-                                                                  (
-                                                                    refl,
-                                                                    (
-                                                                      tt,
-                                                                      (
-                                                                        refl,
-                                                                        (
-                                                                          tt,
-                                                                          (
-                                                                            refl,
-                                                                            (
-                                                                              tt,
-                                                                              (
-                                                                                refl,
-                                                                                (
-                                                                                  tt,
-                                                                                  (
-                                                                                    refl,
-                                                                                    (
-                                                                                      tt,
-                                                                                      (
-                                                                                        refl,
-                                                                                        tt,
-                                                                                      ),
-                                                                                    ),
-                                                                                  ),
-                                                                                ),
-                                                                              ),
-                                                                            ),
-                                                                          ),
-                                                                        ),
-                                                                      ),
-                                                                    ),
-                                                                  ),
-                                                                ),
-                                                              ),
-                                                              (
-                                                                λ f. (
-                                                                  refl,
-                                                                  (tt, (refl, (tt, (refl, tt)))),
-                                                                ),
-                                                                (
-                                                                  λ f. (
-                                                                    refl,
-                                                                    (
-                                                                      tt,
-                                                                      (
-                                                                        refl,
-                                                                        (tt, (refl, tt)),
-                                                                      ),
-                                                                    ),
-                                                                  ),
-                                                                  (
-                                                                    λ f. (
-                                                                      refl,
-                                                                      (
-                                                                        tt,
-                                                                        (
-                                                                          refl,
-                                                                          (
-                                                                            tt,
-                                                                            (
-                                                                              refl,
-                                                                              (tt, (refl, tt)),
-                                                                            ),
-                                                                          ),
-                                                                        ),
-                                                                      ),
-                                                                    ),
-                                                                    (
-                                                                      λ f. (refl, (tt, (refl, tt))),
-                                                                      (
-                                                                        λ f. (
-                                                                          refl,
-                                                                          (
-                                                                            tt,
-                                                                            (
-                                                                              refl,
-                                                                              (tt, (refl, tt)),
-                                                                            ),
-                                                                          ),
-                                                                        ),
-                                                                        (
-                                                                          λ f. (refl, (refl, tt)),
-                                                                          tt,
-                                                                        ),
-                                                                      ),
-                                                                    ),
-                                                                  ),
-                                                                ),
-                                                              ),
-                                                            ),
-                                                          ),
-                                                        ),
-                                                      ),
-                                                    ),
-                                                  ),
-                                                ),
-                                              ),
-                                            ),
-                                          ),
-                                        ),
-                                      ),
-                                    ),
-                                  ),
-                                ),
-                              ),
-                            ),
-                          ),
-                        ),
-                      ),
-                    ),
-                  ),
-                ),
-              ),
-            ),
-          ),
-        ),
-      ),
-    ),
-  ),
-)
+abbrev mutual
+  all_current : Tree → Bool
+  all_current (component c) = is_current c
+  all_current (literal bytes) = true
+  all_current (compound ts) = each_current ts
+  all_current (optional format t) = all_current t
+  all_current (first ts) = each_current ts
 
-item_modern : (ls : List Letter) (f : Flag) (b : ℕ) (tree : Tree) → Each IsModernLetter ls
-    → item_in ls f b ≡ Some tree → IsModern tree
-item_modern [] f b tree all e = absurd cc
-item_modern (l ∷ ls) f b tree all e =
-    by (λ h. item_modern ls f b tree all.1 h) (is_one_of b l.letters) e
+  each_current : Trees → Bool
+  each_current no_trees = true
+  each_current (more_trees t ts) = all_current t && each_current ts
+
+current_modern : (c : Component) → is_current c ≡ true → modern c ≡ c
+current_modern (Component.Month m) e = absurd cc
+current_modern (Component.Weekday w) e = absurd cc
+current_modern (Component.WeekNumber w) e = absurd cc
+current_modern (Component.Hour h) e = absurd cc
+current_modern (Component.UnixTimestamp t) e = absurd cc
+current_modern (Component.Year y) e = absurd cc
+current_modern _ e = refl
+
+mutual
+  all_modern : (t : Tree) → all_current t ≡ true → IsModern t
+  all_modern (component c) e = current_modern c e
+  all_modern (literal bytes) e = tt
+  all_modern (compound ts) e = each_modern ts e
+  all_modern (optional format t) e = all_modern t e
+  all_modern (first ts) e = each_modern ts e
+
+  each_modern : (ts : Trees) → each_current ts ≡ true → AreModern ts
+  each_modern no_trees e = tt
+  each_modern (more_trees t ts) e =
+      let p = and_parts (all_current t) (each_current ts) e in
+      (all_modern t p.0, each_modern ts p.1)
+
+letters_modern : (f : Flag) → Each (λ l. IsModern (l.item f)) letters
+letters_modern f =
+    each-passes (λ l. all_current (l.item f)) (λ l. IsModern (l.item f))
+    (λ l e. all_modern (l.item f) e) letters refl
+
+-- what holds of each letter's item holds of the one that is found
+pub item_has : (P : Tree → Type 0) (ls : List Letter) (f : Flag) (b : ℕ) (tree : Tree)
+    → Each (λ l. P (l.item f)) ls → item_in ls f b ≡ Some tree → P tree
+item_has P [] f b tree all e = absurd cc
+item_has P (l ∷ ls) f b tree all e =
+    by (λ h. item_has P ls f b tree all.1 h) (is_one_of b l.letters) e
   where
-    by : (item_in ls f b ≡ Some tree → IsModern tree) → (t : Bool)
-        → elim t [ true ↦ Some (l.item f) | false ↦ item_in ls f b ] ≡ Some tree → IsModern tree
-    by more true h = let is : l.item f ≡ tree = cc in subst IsModern is (all.0 f)
+    by : (item_in ls f b ≡ Some tree → P tree) → (t : Bool)
+        → elim t [ true ↦ Some (l.item f) | false ↦ item_in ls f b ] ≡ Some tree → P tree
+    by more true h = let is : l.item f ≡ tree = cc in subst P is all.0
     by more false h = more h
 
 directives_modern : (ds : Directives) → AreDirectives ds → AreModern (trees (directive_items ds))
@@ -391,7 +229,7 @@ unfolding item_of
 directives_modern no_directives are = tt
 directives_modern (plain bytes rest) are = (tt, directives_modern rest are.2)
 directives_modern (directive f b tree rest) are =
-    (item_modern letters f b tree letters_modern are.2, directives_modern rest are.3)
+    (item_has IsModern letters f b tree (letters_modern f) are.2, directives_modern rest are.3)
 
 pub strftime_modernity_law : StrftimeModernity
 strftime_modernity_law text list h =

@@ -19,7 +19,7 @@ use Rattle.timefd_language.specs.Grammar.{Pieces, no_pieces, run, escape, closin
 use Rattle.timefd_language.specs.Laws.{Recasing}
 use Rattle.timefd_language.proofs.Roomy.{behind_ok}
 use Rattle.timefd_language.proofs.Lookup.{named-recased}
-use Rattle.timefd_language.proofs.Lift.{bracket_refuses}
+use Rattle.timefd_language.proofs.Lift.{bracket_refuses, unless_fault}
 use Rattle.timefd_language.specs.Recased.{SameButCase, RecasedModifiers, RecasedHead, Recased}
 
 -- Bytes.
@@ -303,10 +303,6 @@ unless_two (Some x) b f t u e = cc
 unless_two None (Some x) f t u e = cc
 unless_two None None f t u e = cc
 
-pub unless_one : (a : Option Fault) (f : Fault) (t u : Tree) → unless (a or Some f) t ≡ Ok u → ⊥
-unless_one (Some x) f t u e = cc
-unless_one None f t u e = cc
-
 verdict-recased : (h g : Head) (close close' : ℕ) (tree : Tree) → RecasedHead h g
     → verdict false h [] close ≡ Ok tree → verdict false g [] close' ≡ Ok tree
 verdict-recased h g close close' tree r e =
@@ -327,7 +323,7 @@ verdict-recased h g close close' tree r e =
         (unless_two (bad_modifiers false (format ∷ []) [] (placed h)) None
         (fault expected_nested close) (optional (is_formatted false (placed h)) (only [])) tree c)
     optional_case false true c = absurd
-        (unless_one (any_modifier (placed h)) (fault first_item 0) (first (trees [])) tree c)
+        (unless_fault (any_modifier (placed h)) (fault first_item 0) (first (trees [])) tree c)
     optional_case false false c = component-recased h g (row_of false h.name) tree r c
 
 not_strict : (v : DescriptionVersion) → is_version_three v ≡ false

@@ -5,25 +5,26 @@ use Rattle.timefd_fault.specs.Faults.{Fault, fault, invalid_combination}
 use Rattle.timefd_language.specs.declared.description_version.DescriptionVersion.TheVariants.{Three}
 use Rattle.timefd_language.proofs.Reader.{answer_of}
 
-record Case : Type 0 where
+-- a text between brackets, and its fault
+record RefusedText : Type 0 where
   text : Text
   fault : Fault
 
-answers : List Case → List (Result (List Tree) Fault)
-answers = map (λ c. answer_of Three 127 (91 ∷ (c.text ++ 93 ∷ [])))
+answers_given : List RefusedText → List (Result (List Tree) Fault)
+answers_given = map (λ c. answer_of Three 127 (91 ∷ (c.text ++ 93 ∷ [])))
 
-wanted : List Case → List (Result (List Tree) Fault)
-wanted = map (λ c. Err c.fault)
+faults_wanted : List RefusedText → List (Result (List Tree) Fault)
+faults_wanted = map (λ c. Err c.fault)
 
-abbrev refuses : Text → Text → Text → ℕ → Case
+abbrev refuses : Text → Text → Text → ℕ → RefusedText
 refuses text key context index = record {
   text = text;
   fault =
       fault (invalid_combination key context) index;
 }
 
-cases : List Case
-cases =
+refused_texts : List RefusedText
+refused_texts =
     refuses (codes "month case_sensitive:true") (codes "case_sensitive")
     (codes "for numerical month") 7
     ∷ refuses (codes "month padding:none repr:long") (codes "padding") (codes "for long month") 7
@@ -42,6 +43,6 @@ cases =
     ∷ refuses (codes "year base:iso_week range:extended repr:last_two") (codes "range")
     (codes "when `repr:last_two` is used") 20 ∷ []
 
-all_refused : answers cases ≡ wanted cases
-unfolding answers wanted cases answer_of
+all_refused : answers_given refused_texts ≡ faults_wanted refused_texts
+unfolding answers_given faults_wanted refused_texts answer_of
 all_refused = refl

@@ -35,7 +35,8 @@ use Rattle.timefd_language.specs.Relaxed.{IsFlat, IsStandard, IsStandardIn, AreS
 use Rattle.timefd_language.specs.Laws.{Relaxing}
 use Rattle.timefd_language.proofs.Lookup.{Each, each-map, each-passes, IsLowered, equal-true, named-found, named-lowered, count_of-sets}
 use Rattle.timefd_language.proofs.Roomy.{behind_ok, made_ok}
-use Rattle.timefd_language.proofs.Recase.{or_none, none_or, refuse_none, none_refused, behind_none, none_behind, unless_two, unless_one}
+use Rattle.timefd_language.proofs.Recase.{or_none, none_or, refuse_none, none_refused, behind_none, none_behind, unless_two}
+use Rattle.timefd_language.proofs.Lift.{unless_fault}
 
 -- Keys.
 
@@ -336,15 +337,15 @@ all_found keys [] plain g = tt
 all_found keys (m ∷ ms) plain g = (good_found keys m plain g.0, all_found keys ms plain g.1)
 
 -- they are good without case too
-good_modifiers : (keys : List Key) (before ms : List Placed) → Each (IsFound keys) ms
+good_without_case : (keys : List Key) (before ms : List Placed) → Each (IsFound keys) ms
     → bad_modifiers false keys before ms ≡ None
-good_modifiers keys before [] f = refl
-good_modifiers keys before (m ∷ ms) f =
+good_without_case keys before [] f = refl
+good_without_case keys before (m ∷ ms) f =
     none_or _ _
     (ap (λ o. bad_modifier false o before m) f.0.loose_key
     ∙ none_refused (not (is_some (setting_in false f.0.key.values m.value))) _ _
     (ap (λ o. not (is_some o)) f.0.loose_setting))
-    (good_modifiers keys (before ++ m ∷ []) ms f.1)
+    (good_without_case keys (before ++ m ∷ []) ms f.1)
 
 -- and set the same
 settings_same : (keys : List Key) (s : Settings) (ms : List Placed) → Each (IsFound keys) ms
@@ -403,7 +404,7 @@ component_relaxed : (h : Head) (r : Row) (tree : Tree) → IsPlainRow r
 component_relaxed h r tree plain e = (
   none_behind (bad_modifiers false r.keys [] (placed h))
       (made false h (r.component (settings false r.keys (placed h))))
-      (good_modifiers r.keys [] (placed h) found)
+      (good_without_case r.keys [] (placed h) found)
       ∙ ap (made false h) (by (is_set true (codes "range") (placed h)) refl)
       ∙ ap (λ t. Ok (relaxed_tree h t)) leaf.1,
   subst (IsStandardIn h) leaf.1 (λ n. (standard n).1),
@@ -486,7 +487,7 @@ verdict_relaxed h close tree e = by (same true (codes "optional") h.name)
     by true u c = absurd (unless_two (bad_modifiers true (format ∷ []) [] (placed h)) None
         (fault expected_nested close) (optional (is_formatted true (placed h)) (only [])) tree c)
     by false true c =
-        absurd (unless_one (any_modifier (placed h)) (fault expected_alternative close)
+        absurd (unless_fault (any_modifier (placed h)) (fault expected_alternative close)
         (first (trees [])) tree c)
     by false false c = named_relaxed h close tree (row_of true h.name) refl c
 

@@ -1,18 +1,16 @@
 -- What a text of version 3 reserves.
-use Rattle.std.proofs.Common.{ℕ, suc, ◌≡◌, ◌+◌, ◌≤◌, ◌⊎◌, inl, inr, cond, Bool, true, false, List, [], ◌∷◌, ◌++◌, map, Ok, length, length-append, refl, ap, subst, arith, codes}
+use Rattle.std.proofs.Common.{ℕ, suc, ◌≡◌, ◌+◌, ◌≤◌, Bool, true, false, List, [], ◌∷◌, ◌++◌, map, Ok, length, length-append, refl, ap, subst, arith}
 use Rattle.timefd_language.specs.declared.description_version.DescriptionVersion.TheVariants.{Three}
 use Rattle.timefd_component.specs.Tree.{Text, Tree, component, optional, first, trees, pack}
-use Rattle.timefd_language.specs.Bytes.{same, right, left, is_run_byte}
-use Rattle.timefd_language.specs.Fault.{optional_item, expected_nested, expected_alternative}
+use Rattle.timefd_language.specs.Bytes.{right, left, is_run_byte}
 use Rattle.timefd_language.specs.Head.{Head, IsHead, head_text, placed}
-use Rattle.timefd_language.specs.Values.{format}
 use Rattle.timefd_language.specs.Names.{row_of}
-use Rattle.timefd_language.specs.Verdict.{PlacedDescription, ◌or◌, behind, bad_modifiers, touching, too_many, nested_wanted, refuse, any_modifier, is_formatted, only, optional_verdict, first_verdict, component_verdict, nested_refused, verdict}
+use Rattle.timefd_language.specs.Verdict.{PlacedDescription, is_formatted, only, component_verdict, verdict}
 use Rattle.timefd_language.specs.Grammar.{Pieces, no_pieces, run, escape, closing, bracket, Nested, no_nested, nested, spelling, nested_text, items, ArePieces, AreNested, parts_from}
 use Rattle.timefd_component.specs.Reserved.{reserved, reserve, reserve_all, reserve_first, tree_count, trees_count}
 use Rattle.timefd_language.specs.Laws.{ReservesWithin}
 use Rattle.timefd_language.proofs.Sizes.{length_one}
-use Rattle.timefd_language.proofs.Roomy.{unless_ok, behind_ok, either, component-room}
+use Rattle.timefd_language.proofs.Roomy.{verdict_has, component-room}
 
 -- of a list of trees, and of the lists of several nested descriptions
 abbrev total : List Tree → ℕ
@@ -105,32 +103,9 @@ component_within h parts tree ih e = by (component-room h tree ih e)
 verdict_within : (h : Head) (parts : List PlacedDescription) (close : ℕ) (tree : Tree) → IsHead h
     → verdict true h parts close ≡ Ok tree → IsWithin h parts tree
 verdict_within h parts close tree ih e =
-    outer (either (same true (codes "optional") h.name) (optional_verdict true h parts close) _
-    (Ok tree) (behind_ok (touching parts) _ tree e))
-  where
-    inner : (first_verdict true h parts close ≡ Ok tree)
-        ⊎ (behind (nested_refused parts) (component_verdict true h (row_of true h.name)) ≡ Ok tree)
-        → IsWithin h parts tree
-    inner (inl f) = subst (IsWithin h parts)
-        (unless_ok (any_modifier (placed h) or nested_wanted expected_alternative parts close)
-        (first (trees (map (λ p. pack p.trees) parts))) tree f) (first_within h parts)
-    inner (inr c) = component_within h parts tree ih
-        (behind_ok (nested_refused parts) (component_verdict true h (row_of true h.name)) tree c)
-
-    outer : (optional_verdict true h parts close ≡ Ok tree)
-        ⊎ (cond (same true (codes "first") h.name) (first_verdict true h parts close)
-        (behind (nested_refused parts) (component_verdict true h (row_of true h.name))) ≡ Ok
-        tree)
-        → IsWithin h parts tree
-    outer (inl o) =
-        subst (IsWithin h parts)
-        (unless_ok (bad_modifiers true (format ∷ []) [] (placed h) or too_many parts or
-        nested_wanted expected_nested parts close or refuse false optional_item 0)
-        (optional (is_formatted true (placed h)) (only parts)) tree o)
-        (optional_within h parts (is_formatted true (placed h)))
-    outer (inr r) =
-        inner (either (same true (codes "first") h.name) (first_verdict true h parts close)
-        (behind (nested_refused parts) (component_verdict true h (row_of true h.name))) (Ok tree) r)
+    verdict_has (IsWithin h parts) true h parts close tree
+    (optional_within h parts (is_formatted true (placed h))) (first_within h parts)
+    (component_within h parts tree ih) e
 
 -- All pieces.
 

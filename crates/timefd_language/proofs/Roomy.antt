@@ -1,5 +1,5 @@
 -- The text of a component has room for what the component reserves.
-use Rattle.std.proofs.Common.{ℕ, ◌≡◌, ◌+◌, ◌≤◌, ◌⊎◌, inl, inr, cond, Bool, true, false, List, [], ◌∷◌, ◌++◌, Result, Ok, Err, Option, Some, None, length, length-append, refl, ap, subst, arith, leb-true}
+use Rattle.std.proofs.Common.{ℕ, ◌≡◌, ◌+◌, ◌≤◌, ◌⊎◌, inl, inr, cond, Bool, true, false, List, [], ◌∷◌, ◌++◌, map, codes, Result, Ok, Err, Option, Some, None, length, length-append, refl, ap, subst, arith, leb-true}
 use Rattle.std.proofs.Math.Dec.{leb}
 use Rattle.std.specs.List.{list_all}
 use Rattle.std.specs.declared.num.NonZeroU16.{NonZeroU16}
@@ -17,11 +17,11 @@ use Rattle.timefd_modifier.specs.declared.clock.Hour.{Hour}
 use Rattle.timefd_modifier.specs.declared.timestamp.UnixTimestamp.{UnixTimestamp}
 use Rattle.timefd_modifier.specs.declared.year.Year.{Year}
 use Rattle.timefd_component.specs.declared.component.Component.{Component}
-use Rattle.timefd_component.specs.Tree.{Text, Tree, component}
+use Rattle.timefd_component.specs.Tree.{Text, Tree, component, optional, first, trees, pack}
 use Rattle.timefd_fault.specs.Faults.{Kind, Fault}
 use Rattle.timefd_component.specs.Modern.{modern_month, modern_weekday, modern_week_number, modern_hour, modern_timestamp, modern_year}
 use Rattle.timefd_component.specs.Reserved.{digits_shown, reserved}
-use Rattle.timefd_language.specs.Bytes.{colon, named}
+use Rattle.timefd_language.specs.Bytes.{colon, named, same}
 use Rattle.timefd_language.specs.Head.{Modifier, Head, IsHead, modifier_text, modifiers_text, head_text, placed_from, placed, name_index}
 use Rattle.timefd_language.specs.declared.setting.Setting.{Setting}
 use Rattle.timefd_language.specs.declared.setting.Settings.{Settings}
@@ -30,7 +30,7 @@ use Rattle.timefd_language.specs.Values.{Value, Values, words, numbers, Key, set
 use Rattle.timefd_language.specs.declared.name.ComponentName.{ComponentName}
 use Rattle.timefd_language.specs.Names.{Row, row, rows, row_of, row_for, component_names, ignored, day, end, hour, minute, month, offset_hour, offset_minute, offset_second, ordinal, period, second, subsecond, unix_timestamp, weekday, week_number, year}
 use Rattle.timefd_language.proofs.Lookup.{Each, each-map, each-passes, named-found, count_of-sets}
-use Rattle.timefd_language.specs.Verdict.{unless, behind, bad_modifiers, setting_of, with_option, settings_from, settings, combination, made, component_verdict}
+use Rattle.timefd_language.specs.Verdict.{PlacedDescription, touching, nested_refused, is_formatted, only, optional_verdict, first_verdict, verdict, unless, behind, bad_modifiers, setting_of, with_option, settings_from, settings, combination, made, component_verdict}
 
 -- Settings that need room: how many bytes past those of the name.
 
@@ -301,9 +301,43 @@ pub behind_ok : (o : Option Fault) (r : Result Tree Fault) (t : Tree) → behind
 behind_ok (Some f) r t e = absurd cc
 behind_ok None r t e = e
 
-pub either : (b : Bool) (x y z : Result Tree Fault) → cond b x y ≡ z → (x ≡ z) ⊎ (y ≡ z)
+either : (b : Bool) (x y z : Result Tree Fault) → cond b x y ≡ z → (x ≡ z) ⊎ (y ≡ z)
 either true x y z e = inl e
 either false x y z e = inr e
+
+-- what holds of an optional item, of a first and of what a component comes to holds of the tree of a
+-- verdict
+pub verdict_has : (P : Tree → Type 0) (strict : Bool) (h : Head) (parts : List PlacedDescription)
+    (close : ℕ) (tree : Tree)
+    → P (optional (is_formatted strict (placed h)) (only parts))
+    → P (first (trees (map (λ p. pack p.trees) parts)))
+    → (component_verdict strict h (row_of strict h.name) ≡ Ok tree → P tree)
+    → verdict strict h parts close ≡ Ok tree → P tree
+verdict_has P strict h parts close tree of_optional of_first of_component e =
+    outer (either (same strict (codes "optional") h.name) (optional_verdict strict h parts close) _
+    (Ok tree) (behind_ok (touching parts) _ tree e))
+  where
+    inner : (first_verdict strict h parts close ≡ Ok tree)
+        ⊎ (behind (nested_refused parts) (component_verdict strict h (row_of strict h.name)) ≡ Ok
+        tree) → P tree
+    inner (inl f) =
+        subst P (unless_ok _ (first (trees (map (λ p. pack p.trees) parts))) tree f) of_first
+    inner (inr c) = of_component
+        (behind_ok (nested_refused parts) (component_verdict strict h (row_of strict h.name)) tree
+        c)
+
+    outer : (optional_verdict strict h parts close ≡ Ok tree)
+        ⊎ (cond (same strict (codes "first") h.name) (first_verdict strict h parts close)
+        (behind (nested_refused parts) (component_verdict strict h (row_of strict h.name))) ≡ Ok
+        tree)
+        → P tree
+    outer (inl o) =
+        subst P (unless_ok _ (optional (is_formatted strict (placed h)) (only parts)) tree o)
+        of_optional
+    outer (inr r) =
+        inner (either (same strict (codes "first") h.name) (first_verdict strict h parts close)
+        (behind (nested_refused parts) (component_verdict strict h (row_of strict h.name)))
+        (Ok tree) r)
 
 -- the tree is a component that reserves at most so many bytes
 abbrev pub IsLeafWithin : Tree → ℕ → Type 0

@@ -1,5 +1,5 @@
 -- Words that are compared.
-use Rattle.std.proofs.Common.{ℕ, ◌≡◌, length, ◌==◌, Bool, true, false, [], ◌∷◌, map, IsTrue, ◌&&◌, ◌↔◌, refl, sym, ap, ap₂, ◌∙◌, arith, eq-eqb}
+use Rattle.std.proofs.Common.{ℕ, ◌≡◌, length, ◌==◌, Bool, true, false, [], ◌∷◌, map, IsTrue, ◌↔◌, refl, sym, ap, ap₂, ◌∙◌, arith, eq-eqb}
 use Rattle.std.specs.Char.{to_ascii_lowercase}
 use Rattle.std.proofs.lemmas.Bool.{and_from}
 use Rattle.std.proofs.lemmas.Bool.Decides.{nat_tests, same_from_decides}

@@ -2,22 +2,11 @@
 use Rattle.std.proofs.Common.{ℕ, suc, zero, ◌≡◌, ◌≤◌, ◌==◌, cond, Bool, true, false, List, [], ◌∷◌, Option, Some, None, Result, Ok, codes, nat_le, refl, sym, subst, leb-true}
 use Rattle.std.specs.Prelude.{⊤}
 use Rattle.std.specs.declared.num.NonZeroU16.{NonZeroU16}
-use Rattle.timefd_modifier.specs.declared.month.Month.{Month}
-use Rattle.timefd_modifier.specs.declared.day.Weekday.{Weekday}
-use Rattle.timefd_modifier.specs.declared.week.WeekNumber.{WeekNumber}
-use Rattle.timefd_modifier.specs.declared.clock.Hour.{Hour}
-use Rattle.timefd_modifier.specs.declared.timestamp.UnixTimestamp.{UnixTimestamp}
-use Rattle.timefd_modifier.specs.declared.year.Year.{Year}
-use Rattle.timefd_modifier.specs.declared.enums.MonthRepr.{MonthRepr}
-use Rattle.timefd_modifier.specs.declared.enums.WeekdayRepr.{WeekdayRepr}
-use Rattle.timefd_modifier.specs.declared.enums.WeekNumberRepr.{WeekNumberRepr}
-use Rattle.timefd_modifier.specs.declared.enums.UnixTimestampPrecision.{UnixTimestampPrecision}
-use Rattle.timefd_modifier.specs.declared.enums.YearRepr.{YearRepr}
-use Rattle.timefd_modifier.specs.declared.enums.YearRange.{YearRange}
 use Rattle.timefd_component.specs.declared.component.Component.{Component}
 use Rattle.timefd_component.specs.Tree.{Text, Tree, component}
 use Rattle.timefd_fault.specs.Faults.{Kind, Fault, fault}
-use Rattle.timefd_component.specs.Modern.{modern, modern_month, modern_weekday, modern_week_number, modern_hour, modern_timestamp, modern_year}
+use Rattle.timefd_component.specs.Modern.{modern}
+use Rattle.timefd_component.proofs.ModernLemmas.{IsReplacement, month_replaced, weekday_replaced, week_replaced, hour_replaced, timestamp_replaced, year_replaced}
 use Rattle.timefd_language.specs.Bytes.{same}
 use Rattle.timefd_language.specs.Fault.{expected_nested, optional_item, first_item}
 use Rattle.timefd_language.specs.Head.{Head, Placed, placed}
@@ -102,45 +91,13 @@ by_form : (d c : Component) → ◌≡◌ {A = Result Component Kind} (Ok d) (Ok
     → IsCounted c
 by_form d c e counted = let is : d ≡ c = cc in subst IsCounted is counted
 
-month_counted : (r : MonthRepr) (m : Month) → IsCounted (modern_month r m)
-month_counted MonthRepr.Short m = tt
-month_counted MonthRepr.Long m = tt
-month_counted MonthRepr.Numerical m = tt
+replacement_counted : (c : Component) → IsReplacement c → IsCounted c
+replacement_counted (Component.Ignore i) is = absurd is
+replacement_counted _ is = tt
 
-weekday_counted : (r : WeekdayRepr) (w : Weekday) → IsCounted (modern_weekday r w)
-weekday_counted WeekdayRepr.Short w = tt
-weekday_counted WeekdayRepr.Long w = tt
-weekday_counted WeekdayRepr.Sunday w = tt
-weekday_counted WeekdayRepr.Monday w = tt
-
-week_counted : (r : WeekNumberRepr) (w : WeekNumber) → IsCounted (modern_week_number r w)
-week_counted WeekNumberRepr.Iso w = tt
-week_counted WeekNumberRepr.Sunday w = tt
-week_counted WeekNumberRepr.Monday w = tt
-
-hour_counted : (b : Bool) (h : Hour) → IsCounted (modern_hour b h)
-hour_counted true h = tt
-hour_counted false h = tt
-
-timestamp_counted : (p : UnixTimestampPrecision) (t : UnixTimestamp)
-    → IsCounted (modern_timestamp p t)
-timestamp_counted UnixTimestampPrecision.Second t = tt
-timestamp_counted UnixTimestampPrecision.Millisecond t = tt
-timestamp_counted UnixTimestampPrecision.Microsecond t = tt
-timestamp_counted UnixTimestampPrecision.Nanosecond t = tt
-
-year_counted : (iso : Bool) (k : YearRepr) (r : YearRange) (y : Year)
-    → IsCounted (modern_year iso k r y)
-year_counted true YearRepr.Full YearRange.Extended y = tt
-year_counted true YearRepr.Full YearRange.Standard y = tt
-year_counted true YearRepr.Century YearRange.Extended y = tt
-year_counted true YearRepr.Century YearRange.Standard y = tt
-year_counted true YearRepr.LastTwo r y = tt
-year_counted false YearRepr.Full YearRange.Extended y = tt
-year_counted false YearRepr.Full YearRange.Standard y = tt
-year_counted false YearRepr.Century YearRange.Extended y = tt
-year_counted false YearRepr.Century YearRange.Standard y = tt
-year_counted false YearRepr.LastTwo r y = tt
+by_replacement : (d c : Component) → ◌≡◌ {A = Result Component Kind} (Ok d) (Ok c)
+    → IsReplacement d → IsCounted c
+by_replacement d c e is = by_form d c e (replacement_counted d is)
 
 ignore_counted : (o : Option NonZeroU16) (c : Component) → IsSmall o → ignored o ≡ Ok c
     → IsCounted c
@@ -150,12 +107,12 @@ ignore_counted (Some n) c small e = by_form (Component.Ignore (record { count = 
 name_counted : (n : ComponentName) → IsCountedRow (row_for n)
 name_counted ComponentName.Day = λ strict ms c e. by_form _ c e tt
 name_counted ComponentName.End = λ strict ms c e. by_form _ c e tt
-name_counted ComponentName.Hour = λ strict ms c e. by_form _ c e (hour_counted _ _)
+name_counted ComponentName.Hour = λ strict ms c e. by_replacement _ c e (hour_replaced _ _)
 name_counted ComponentName.Ignore =
     λ strict ms c e. ignore_counted (settings strict (count ∷ []) ms).count c
     (all_small strict (defaults strict) ms tt) e
 name_counted ComponentName.Minute = λ strict ms c e. by_form _ c e tt
-name_counted ComponentName.Month = λ strict ms c e. by_form _ c e (month_counted _ _)
+name_counted ComponentName.Month = λ strict ms c e. by_replacement _ c e (month_replaced _ _)
 name_counted ComponentName.OffsetHour = λ strict ms c e. by_form _ c e tt
 name_counted ComponentName.OffsetMinute = λ strict ms c e. by_form _ c e tt
 name_counted ComponentName.OffsetSecond = λ strict ms c e. by_form _ c e tt
@@ -163,10 +120,10 @@ name_counted ComponentName.Ordinal = λ strict ms c e. by_form _ c e tt
 name_counted ComponentName.Period = λ strict ms c e. by_form _ c e tt
 name_counted ComponentName.Second = λ strict ms c e. by_form _ c e tt
 name_counted ComponentName.Subsecond = λ strict ms c e. by_form _ c e tt
-name_counted ComponentName.UnixTimestamp = λ strict ms c e. by_form _ c e (timestamp_counted _ _)
-name_counted ComponentName.Weekday = λ strict ms c e. by_form _ c e (weekday_counted _ _)
-name_counted ComponentName.WeekNumber = λ strict ms c e. by_form _ c e (week_counted _ _)
-name_counted ComponentName.Year = λ strict ms c e. by_form _ c e (year_counted _ _ _ _)
+name_counted ComponentName.UnixTimestamp = λ strict ms c e. by_replacement _ c e (timestamp_replaced _ _)
+name_counted ComponentName.Weekday = λ strict ms c e. by_replacement _ c e (weekday_replaced _ _)
+name_counted ComponentName.WeekNumber = λ strict ms c e. by_replacement _ c e (week_replaced _ _)
+name_counted ComponentName.Year = λ strict ms c e. by_replacement _ c e (year_replaced _ _ _ _)
 
 -- Brackets.
 

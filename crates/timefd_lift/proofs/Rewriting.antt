@@ -10,6 +10,7 @@ use Rattle.timefd_language.specs.Head.{Head, IsHead, Modifier, AreModifiers, IsM
 use Rattle.timefd_language.specs.Grammar.{Pieces, no_pieces, run, escape, closing, bracket, no_nested, nested, spelling, ArePieces}
 use Rattle.timefd_language.specs.Rewritten.{doubled, rewritten}
 use Rattle.timefd_lift.specs.Bytewise.{outside, inside}
+use Rattle.timefd_language.proofs.Spans.{all-append, all-implied, zero_from_one}
 use Rattle.timefd_language.proofs.Lift.{bracket_refuses}
 
 -- Runs.
@@ -31,10 +32,6 @@ outside_run (b ∷ bytes) rest h =
           rw (plain.0, plain.1, other) (ap (λ x. b ∷ x) more)
     ]
 
-run_passes : (bytes : Text) → OneOrMore (is_run_byte One) bytes → ZeroOrMore (is_run_byte One) bytes
-run_passes [] h = absurd h
-run_passes (b ∷ bytes) h = h
-
 -- Components.
 
 abbrev is_inner : ℕ → Bool
@@ -55,35 +52,21 @@ word_inner b e = (and_parts (not (is_special b)) (not (is_white b)) e).0
 key_inner : (b : ℕ) → is_key_byte b ≡ true → not (is_special b) ≡ true
 key_inner b e = word_inner b (and_parts (not (b == colon)) (is_word_byte b) e).1
 
-all_of : (p q : ℕ → Bool) → ((b : ℕ) → p b ≡ true → q b ≡ true) → (bytes : Text)
-    → ZeroOrMore p bytes → ZeroOrMore q bytes
-all_of p q h [] all = refl
-all_of p q h (b ∷ bytes) all =
-    let parts = and_parts (p b) (list_all p bytes) all in
-    and_from (q b) (list_all q bytes) (h b parts.0) (all_of p q h bytes parts.1)
-
 some_of : (p q : ℕ → Bool) → ((b : ℕ) → p b ≡ true → q b ≡ true) → (bytes : Text)
     → OneOrMore p bytes → ZeroOrMore q bytes
-some_of p q h [] some = absurd some
-some_of p q h (b ∷ bytes) some = all_of p q h (b ∷ bytes) some
-
-all_append : (p : ℕ → Bool) (a b : Text) → ZeroOrMore p a → ZeroOrMore p b → ZeroOrMore p (a ++ b)
-all_append p [] b ha hb = hb
-all_append p (x ∷ a) b ha hb =
-    let parts = and_parts (p x) (list_all p a) ha in
-    and_from (p x) (list_all p (a ++ b)) parts.0 (all_append p a b parts.1 hb)
+some_of p q h bytes some = all-implied p q h bytes (zero_from_one p bytes some)
 
 modifier_inner : (m : Modifier) → IsModifier m → ZeroOrMore is_inner (modifier_text m)
 modifier_inner m is =
-    all_append is_inner (m.white ++ m.key) (colon ∷ m.value)
-    (all_append is_inner m.white m.key (some_of is_white is_inner white_inner m.white is.white)
+    all-append is_inner (m.white ++ m.key) (colon ∷ m.value)
+    (all-append is_inner m.white m.key (some_of is_white is_inner white_inner m.white is.white)
     (some_of is_key_byte is_inner key_inner m.key is.key))
     (and_from (is_inner colon) (list_all is_inner m.value) refl
     (some_of is_word_byte is_inner word_inner m.value is.value))
 
 modifiers_inner : (ms : List Modifier) → AreModifiers ms → ZeroOrMore is_inner (modifiers_text ms)
 modifiers_inner [] are = refl
-modifiers_inner (m ∷ ms) are = all_append is_inner (modifier_text m) (modifiers_text ms)
+modifiers_inner (m ∷ ms) are = all-append is_inner (modifier_text m) (modifiers_text ms)
     (modifier_inner m are.0) (modifiers_inner ms are.1)
 
 -- what stands between the brackets of a component
@@ -93,14 +76,14 @@ between h white = h.white ++ h.name ++ modifiers_text h.modifiers ++ [] ++ white
 between_inner : (h : Head) (white : Text) → IsHead h → ZeroOrMore is_white white
     → ZeroOrMore is_inner (between h white)
 between_inner h white is blank =
-    all_append is_inner (h.white ++ h.name ++ modifiers_text h.modifiers ++ []) white
-    (all_append is_inner (h.white ++ h.name ++ modifiers_text h.modifiers) []
-    (all_append is_inner (h.white ++ h.name) (modifiers_text h.modifiers)
-    (all_append is_inner h.white h.name (all_of is_white is_inner white_inner h.white is.white)
+    all-append is_inner (h.white ++ h.name ++ modifiers_text h.modifiers ++ []) white
+    (all-append is_inner (h.white ++ h.name ++ modifiers_text h.modifiers) []
+    (all-append is_inner (h.white ++ h.name) (modifiers_text h.modifiers)
+    (all-append is_inner h.white h.name (all-implied is_white is_inner white_inner h.white is.white)
     (some_of is_word_byte is_inner word_inner h.name is.name))
     (modifiers_inner h.modifiers is.modifiers))
     refl)
-    (all_of is_white is_inner white_inner white blank)
+    (all-implied is_white is_inner white_inner white blank)
 
 inside_whole : (bytes rest : Text) → ZeroOrMore is_inner bytes
     → inside (bytes ++ right ∷ rest) ≡ bytes ++ right ∷ outside rest
@@ -122,7 +105,7 @@ pub outside-spelling : (limit n : ℕ) (ps : Pieces) → ArePieces One limit n p
     → outside (spelling ps) ≡ rewritten ps
 outside-spelling limit n no_pieces are = refl
 outside-spelling limit n (run bytes rest) are =
-    outside_run bytes (spelling rest) (run_passes bytes are.0) ∙
+    outside_run bytes (spelling rest) (zero_from_one (is_run_byte One) bytes are.0) ∙
     ap (λ x. doubled bytes ++ x) (outside-spelling limit n rest are.2)
 outside-spelling limit n (escape a b rest) are =
     rw (are.0.0, are.0.1) (ap (λ x. backslash ∷ left ∷ x) (outside-spelling limit n rest are.1))

@@ -1,10 +1,11 @@
 //! What version 2 escapes in a text of version 1.
 
-ghost use Rattle.std.specs.Prelude.{◌≡◌, ◌≤◌, ◌<◌, ◌++◌, ◌∷◌, ◌&&◌, ◌==◌, not, if◌then◌else◌, length, take, drop, slice_index, MatchOption, IsFalse};
-ghost use Rattle.std.specs.Str.{IsUtf8};
+ghost use Rattle.std.specs.Prelude.{◌≡◌, ◌≤◌, ◌++◌, ◌&&◌, ◌==◌, not, if◌then◌else◌, length, take, drop, MatchOption, IsFalse};
 ghost use Rattle.timefd_language.specs.Bytes.{left, right};
 ghost use Rattle.timefd_lift.specs.Bytewise as spec;
 ghost use Rattle.timefd_lift.specs.Bytewise.{outside, EndsOrIsEscaped, IsEscape};
+
+use timefd_language::text::tail;
 
 /// Whether an escape is written for the front of a text: outside of components for `[[`, `]` and `\`.
 #[inline(always)]
@@ -47,17 +48,6 @@ pub fn kept_len(bytes: &[u8]) -> usize
         in_component = goes_on(in_component, *byte);
     }
     bytes.len()
-}
-
-/// What follows the first byte, which is ASCII.
-#[inline(always)]
-fn tail(text: &str) -> &str
-    requires there { 0 < length text.now }
-    requires ascii { slice_index text.now 0 < 128 }
-    ensures rest { text.now ≡ slice_index text.now 0 ∷ result.now }
-    ensures utf8 { IsUtf8 result.now }
-{
-    &text[1..]
 }
 
 /// The escape that is written for the front of a text outside of components, and what follows.

@@ -82,16 +82,16 @@ abbrev place_if : Bool → ℕ → Option ℕ
 place_if true i = Some i
 place_if false i = None
 
-first_more : (key : Text) (ps : List Placed) (p : Placed)
+first_place_more : (key : Text) (ps : List Placed) (p : Placed)
     → first_place key (ps ++ p ∷ []) ≡ first_or (first_place key ps)
     (place_if (equal key p.key) p.key_index)
-first_more key [] p = by (equal key p.key)
+first_place_more key [] p = by (equal key p.key)
   where
     by : (t : Bool) → elim t as (λ _. Option ℕ) [ true ↦ Some p.key_index | false ↦ None ]
         ≡ place_if t p.key_index
     by true = refl
     by false = refl
-first_more key (q ∷ ps) p = by (equal key q.key) (first_more key ps p)
+first_place_more key (q ∷ ps) p = by (equal key q.key) (first_place_more key ps p)
   where
     by : (t : Bool) → first_place key (ps ++ p ∷ []) ≡ first_or (first_place key ps)
         (place_if (equal key p.key) p.key_index)
@@ -111,7 +111,7 @@ none_shown total None None is e = refl
 none_shown total None (Some g) is e = absurd is
 none_shown total (Some f) b is e = absurd (cc)
 
-shows_none : (total : ℕ) (o : Option code_fault.Fault) (b : Option Fault) → o ≡ None → b ≡ None
+pub shows_none : (total : ℕ) (o : Option code_fault.Fault) (b : Option Fault) → o ≡ None → b ≡ None
     → ShowsFault total o b
 shows_none total None None e d = tt
 shows_none total None (Some g) e d = absurd (cc)
@@ -320,7 +320,7 @@ place_more total places key j r ps p is_named none at before =
         equal-true (key_for key).key (key_for j).key e in
         shows (Some r) (Some p.key_index)
         (place_law places key j r ∙ ap (λ t. if t then Some r else place places j) e)
-        (first_more (key_for j).key ps p ∙
+        (first_place_more (key_for j).key ps p ∙
         ap (λ i. first_or i (place_if (equal (key_for j).key p.key) p.key_index))
         (ap (λ k. first_place k ps) (sym same) ∙ none)
         ∙ ap (λ t. first_or None (place_if t p.key_index))
@@ -329,7 +329,7 @@ place_more total places key j r ps p is_named none at before =
     by false e =
         shows (place places j) (first_place (key_for j).key ps)
         (place_law places key j r ∙ ap (λ t. if t then Some r else place places j) e)
-        (first_more (key_for j).key ps p ∙
+        (first_place_more (key_for j).key ps p ∙
         ap (λ t. first_or (first_place (key_for j).key ps) (place_if t p.key_index))
         (ap (equal (key_for j).key) (sym is_named) ∙ equal_not (key_for key).key (key_for j).key
         e)

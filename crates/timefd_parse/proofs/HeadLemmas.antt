@@ -47,15 +47,15 @@ no_modifiers strict name start c stops new =
           λ k total e. new name total;
     }
 
-are_more : (ms : List Modifier) (m : Modifier) → AreModifiers ms → IsModifier m
+modifiers_more : (ms : List Modifier) (m : Modifier) → AreModifiers ms → IsModifier m
     → AreModifiers (ms ++ m ∷ [])
-are_more [] m are is = (is, tt)
-are_more (x ∷ ms) m are is = (are.0, are_more ms m are.1 is)
+modifiers_more [] m are is = (is, tt)
+modifiers_more (x ∷ ms) m are is = (are.0, modifiers_more ms m are.1 is)
 
-text_more : (ms : List Modifier) (m : Modifier)
+modifiers_text_more : (ms : List Modifier) (m : Modifier)
     → modifiers_text (ms ++ m ∷ []) ≡ modifiers_text ms ++ modifier_text m
-text_more [] m = append-nil (modifier_text m)
-text_more (x ∷ ms) m = ap (λ t. modifier_text x ++ t) (text_more ms m) ∙
+modifiers_text_more [] m = append-nil (modifier_text m)
+modifiers_text_more (x ∷ ms) m = ap (λ t. modifier_text x ++ t) (modifiers_text_more ms m) ∙
     sym (append_assoc (modifier_text x) (modifiers_text ms) (modifier_text m))
 
 placed_more : (k : ℕ) (ms : List Modifier) (m : Modifier)
@@ -97,11 +97,11 @@ modifiers_step strict name start rest white after word after_word c c' item befo
     ap length w.whole ∙ length-append white after in
     record {
       list = before.list ++ m ∷ [];
-      are = are_more before.list m before.are
+      are = modifiers_more before.list m before.are
           (record { white = spaced; key = is.key; value = is.value });
       whole = before.whole ∙ ap (λ t. modifiers_text before.list ++ t)
           (w.whole ∙ ap (λ t. white ++ t) (u.cut.whole ∙ ap (λ t. t ++ after_word) is.whole)) ∙
-          rw (text_more before.list m) (simp append_assoc);
+          rw (modifiers_text_more before.list m) (simp append_assoc);
       stops = u.cut.stops;
       checks = λ k total e.
           subst (Checks strict name total c') (sym (placed_more k before.list m))

@@ -29,7 +29,7 @@ use Rattle.timefd_parse.specs.Checked.{Checks, ShowsFault, ShowsPlace, first_pla
 use Rattle.timefd_parse.specs.Heads.{ShowsHead}
 use Rattle.timefd_parse.specs.HeadVerdicts.{IsVerdict, Decides, nests, refused_unless, placing}
 use Rattle.timefd_parse.specs.Judged.{ShowsPlaces, JudgedFault}
-use Rattle.timefd_parse.proofs.CheckLemmas.{none_shown}
+use Rattle.timefd_parse.proofs.CheckLemmas.{none_shown, shows_none}
 use Rattle.timefd_parse.proofs.VerdictLemmas.{any_is_bad}
 
 -- What modifiers come to.
@@ -58,16 +58,10 @@ misplaced_at r (p ∷ ps) = by (equal r.key p.key) (misplaced_at r ps)
     by true e = refl
     by false e = e
 
-pub none_refused : (total : ℕ) (o : Option code_fault.Fault) (b : Option Fault) → o ≡ None
-    → b ≡ None → ShowsFault total o b
-none_refused total None None e d = tt
-none_refused total None (Some g) e d = absurd cc
-none_refused total (Some f) b e d = absurd cc
-
 pub lax_refused : (total : ℕ) (strict : Bool) (c : Component) (ps : List Placed) → strict ≡ false
     → ShowsFault total None (combination strict c ps)
 lax_refused total strict c ps lax =
-    none_refused total None _ refl (ap (λ b. if b then combined (refusals c) ps else None) lax)
+    shows_none total None _ refl (ap (λ b. if b then combined (refusals c) ps else None) lax)
 
 pub exactly : (strict : Bool) (c : Component) (ps : List Placed) → strict ≡ true
     → combination strict c ps ≡ combined (refusals c) ps

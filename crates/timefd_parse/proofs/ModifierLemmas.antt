@@ -1,13 +1,14 @@
 -- A word that is a modifier, or isn't, from its key and what stands behind it.
-use Rattle.std.proofs.Common.{◌≡◌, ℕ, ◌+◌, ◌<◌, ◌==◌, Bool, true, false, [], ◌∷◌, ◌++◌, length, refl, sym, ap, ◌∙◌, subst, arith, append_assoc, length-append}
+use Rattle.std.proofs.Common.{◌≡◌, ℕ, ◌+◌, ◌<◌, ◌==◌, Bool, false, [], ◌∷◌, ◌++◌, length, refl, sym, ap, ◌∙◌, subst, arith, append_assoc, length-append}
 use Rattle.std.specs.List.{list_all}
-use Rattle.std.proofs.lemmas.Bool.{and_parts, and_from}
+use Rattle.std.proofs.lemmas.Bool.{and_from}
 use Rattle.timefd_component.specs.Tree.{Text}
 use Rattle.timefd_language.specs.declared.fault.Fault as code_fault
 use Rattle.timefd_language.specs.Bytes.{colon, is_word_byte, is_key_byte, ZeroOrMore, OneOrMore, StopsBefore}
 use Rattle.timefd_language.specs.Broken.{no_colon, no_key, no_value, misfit_fault}
 use Rattle.timefd_language.specs.Cut.{IsCut}
 use Rattle.timefd_language.specs.FaultMeaning.{IsFault}
+use Rattle.timefd_language.proofs.Spans.{all-append, all-implied, key-word}
 use Rattle.timefd_parse.specs.ReadModifiers.{BeginsWithWord, IsNoWord}
 
 -- Stretches.
@@ -21,24 +22,10 @@ pub one_or_more : (test : ℕ → Bool) (text : Text) → 0 < length text → Ze
 one_or_more test [] some passes = absurd (omega arith)
 one_or_more test (b ∷ text) some passes = passes
 
-all_join : (test : ℕ → Bool) (a b : Text) → ZeroOrMore test a → ZeroOrMore test b
-    → ZeroOrMore test (a ++ b)
-all_join test [] b p q = q
-all_join test (x ∷ a) b p q =
-    let h = and_parts (test x) (list_all test a) p in
-    and_from (test x) (list_all test (a ++ b)) h.0 (all_join test a b h.1 q)
-
 -- Bytes of keys.
 
-key_is_word : (b : ℕ) → is_key_byte b ≡ true → is_word_byte b ≡ true
-key_is_word b h = (and_parts _ (is_word_byte b) h).1
-
 keys_are_words : (text : Text) → ZeroOrMore is_key_byte text → ZeroOrMore is_word_byte text
-keys_are_words [] h = refl
-keys_are_words (b ∷ text) h =
-    let p = and_parts (is_key_byte b) (list_all is_key_byte text) h in
-    and_from (is_word_byte b) (list_all is_word_byte text) (key_is_word b p.0)
-    (keys_are_words text p.1)
+keys_are_words text h = all-implied is_key_byte is_word_byte key-word text h
 
 word_stop : (b : ℕ) → is_key_byte b ≡ false → (b == colon) ≡ false → is_word_byte b ≡ false
 word_stop b key other = sym (rw other refl) ∙ key
@@ -73,7 +60,7 @@ word_of_parts text key behind after value rest is e v = record {
   cut = record {
     whole = is.whole ∙ ap (λ t. key ++ t) (e ∙ ap (λ t. colon ∷ t) v.whole) ∙
         sym (append_assoc key (colon ∷ value) rest);
-    passes = all_join is_word_byte key (colon ∷ value) (keys_are_words key is.passes)
+    passes = all-append is_word_byte key (colon ∷ value) (keys_are_words key is.passes)
         (and_from (is_word_byte colon) (list_all is_word_byte value) refl v.passes);
     stops = v.stops;
   };

@@ -34,20 +34,20 @@ add : Nested → Text → Pieces → Nested
 add no_nested white ps = nested white ps no_nested
 add (nested w qs ns) white ps = nested w qs (add ns white ps)
 
-are_more : (v : DescriptionVersion) (limit n : ℕ) (ns : Nested) (white : Text) (ps : Pieces)
+nested_more : (v : DescriptionVersion) (limit n : ℕ) (ns : Nested) (white : Text) (ps : Pieces)
     → AreNested v limit n ns → ZeroOrMore is_white white → n < limit → ArePieces v limit (suc n) ps
     → AreNested v limit n (add ns white ps)
 unfolding add
-are_more v limit n no_nested white ps are w lt is = (w, lt, is, tt)
-are_more v limit n (nested w0 qs ns) white ps are w lt is =
-    (are.0, are.1, are.2, are_more v limit n ns white ps are.3 w lt is)
+nested_more v limit n no_nested white ps are w lt is = (w, lt, is, tt)
+nested_more v limit n (nested w0 qs ns) white ps are w lt is =
+    (are.0, are.1, are.2, nested_more v limit n ns white ps are.3 w lt is)
 
-text_more : (ns : Nested) (white : Text) (ps : Pieces)
+nested_text_more : (ns : Nested) (white : Text) (ps : Pieces)
     → nested_text (add ns white ps) ≡ nested_text ns ++ (white ++ left ∷ spelling ps ++ right ∷ [])
 unfolding add
-text_more no_nested white ps = refl
-text_more (nested w qs ns) white ps =
-    ap (λ t. w ++ left ∷ spelling qs ++ right ∷ t) (text_more ns white ps) ∙ simp append_assoc
+nested_text_more no_nested white ps = refl
+nested_text_more (nested w qs ns) white ps =
+    ap (λ t. w ++ left ∷ spelling qs ++ right ∷ t) (nested_text_more ns white ps) ∙ simp append_assoc
 
 part : ℕ → Text → Pieces → PlacedDescription
 part k white ps = record {
@@ -130,11 +130,11 @@ unfolding add
 whole_more no_nested white ps rest = tt
 whole_more (nested w qs ns) white ps rest = tt
 
-first_more : (spaced : Bool) (remaining : ℕ) (ns : Nested) (white : Text) (ps : Pieces)
+first_nested_more : (spaced : Bool) (remaining : ℕ) (ns : Nested) (white : Text) (ps : Pieces)
     (w rest : Text) → IsFirst spaced remaining (add ns white ps) w rest
 unfolding add
-first_more spaced remaining no_nested white ps w rest = tt
-first_more spaced remaining (nested v qs ns) white ps w rest = tt
+first_nested_more spaced remaining no_nested white ps w rest = tt
+first_nested_more spaced remaining (nested v qs ns) white ps w rest = tt
 
 first_place : (k total : ℕ) (spaced : Bool) (remaining : ℕ) (ns : Nested) (white : Text)
     (ps : Pieces) (rest : Text) → IsFirst spaced remaining ns white rest
@@ -158,14 +158,14 @@ nested_step v limit n start spaced remaining read rest text after white' rest' f
     opening lt are e cut tree = record {
       list = add before.list before.white front;
       white = white';
-      are = are_more v limit n before.list before.white front before.are before.all_white lt are;
+      are = nested_more v limit n before.list before.white front before.are before.all_white lt are;
       all_white = cut.passes;
       stops = cut.stops;
       whole = before.whole ∙ ap (λ t. nested_text before.list ++ before.white ++ t)
           (opening ∙ ap (λ t. left ∷ t) (e ∙ ap (λ t. spelling front ++ right ∷ t) cut.whole)) ∙
-          rw (text_more before.list before.white front) (simp append_assoc);
+          rw (nested_text_more before.list before.white front) (simp append_assoc);
       wholly = whole_more before.list before.white front rest';
-      first = first_more spaced remaining before.list before.white front white' rest';
+      first = first_nested_more spaced remaining before.list before.white front white' rest';
       shows = λ k total f.
           subst (λ ps. ShowsDescriptions total spaced remaining (read ++ inner ∷ []) ps)
           (sym (parts_more k before.list before.white front))

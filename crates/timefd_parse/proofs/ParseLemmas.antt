@@ -127,10 +127,6 @@ pub lent_refusal : (v : DescriptionVersion) (limit : ℕ) (text : Text) (e : Rea
 lent_refusal v limit text e r h =
     lent.lent_refusal (FaultOf v limit text) (length text) e r (whole v limit text e h)
 
-pub is_invalid : (e : ReadError) → (e ≡ errors.Memory → ⊥) → IsInvalid e
-is_invalid (errors.Invalid f) other = tt
-is_invalid errors.Memory other = other refl
-
 -- The same of what the caller owns.
 
 pub owned_assigned : (v : DescriptionVersion) (limit : ℕ) (text : Text) (e : BorrowedParseError)

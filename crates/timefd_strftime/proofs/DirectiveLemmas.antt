@@ -1,6 +1,6 @@
 -- Directives, read one at a time.
 use Rattle.std.proofs.Common.{◌≡◌, ℕ, ◌+◌, ◌<◌, true, append-nil, append_assoc, List, [], ◌∷◌, ◌++◌, Option, Some, None, length, map, get_or, drop, refl, sym, ap, ◌∙◌, subst, arith, length-append, IsTrue, IsUtf8}
-use Rattle.std.proofs.lemmas.Bool.{and_from, and_parts, both_ways}
+use Rattle.std.proofs.lemmas.Bool.{both_ways}
 use Rattle.std.proofs.lemmas.List.{map-append}
 use Rattle.std.proofs.lemmas.Bool.Decides.{nat_tests}
 use Rattle.std.specs.Borrow.{Bor}
@@ -15,7 +15,7 @@ use Rattle.timefd_language.specs.Letters.{Flag, unflagged, flagged, item_of}
 use Rattle.timefd_strftime.specs.declared.letter.Letter.{Letter}
 use Rattle.timefd_strftime.specs.LetterMeaning.{IsLetter, flag_padding, letter_tree}
 use Rattle.timefd_language.specs.Strftime.{percent, is_flag, is_plain, flag_text, Directives, no_directives, plain, directive, directives_text, directive_items, IsBehind, AreDirectives, SpellsStrftime, cut_short, unknown, cut_index, ill_text, unknown_kind, ill_fault, StrftimeFaultOf}
-use Rattle.timefd_language.specs.Strings.{is_of_strings, are_of_strings}
+use Rattle.timefd_language.specs.Strings.{is_of_strings}
 use Rattle.timefd_language.specs.Laws.{HasOneStrftimeAnswer}
 use Rattle.timefd_language.specs.declared.fault.Fault as code_fault
 use Rattle.timefd_language.specs.declared.fault.ReadError.{ReadError}

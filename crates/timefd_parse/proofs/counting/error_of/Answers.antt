@@ -1,4 +1,5 @@
-use Rattle.timefd_parse.proofs.ParseLemmas.{is_invalid, lent_assigned, lent_spelled, lent_refused}
+use Rattle.timefd_strftime.proofs.DirectiveLemmas.{is_invalid}
+use Rattle.timefd_parse.proofs.ParseLemmas.{lent_assigned, lent_spelled, lent_refused}
 use Rattle.timefd_parse.proofs.counting.error_of.Goals as goal
 
 pub returns-in_default-clause-fault : goal.returns-in_default-clause-fault

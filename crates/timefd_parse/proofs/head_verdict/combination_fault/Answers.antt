@@ -2,7 +2,8 @@ use Rattle.std.proofs.Common.{◌∙◌, ap, get_or, map, refl, sym, arith}
 use Rattle.std.proofs.lemmas.List.{drop_all, drop_more}
 use Rattle.timefd_language.specs.Lookup.{refusal_for}
 use Rattle.timefd_language.specs.Verdict.{combined}
-use Rattle.timefd_parse.proofs.HeadVerdictLemmas.{lax_refused, exactly, refused_here, refused_later, none_refused, no_refusal}
+use Rattle.timefd_parse.proofs.CheckLemmas.{shows_none}
+use Rattle.timefd_parse.proofs.HeadVerdictLemmas.{lax_refused, exactly, refused_here, refused_later, no_refusal}
 use Rattle.timefd_parse.proofs.head_verdict.combination_fault.Goals as goal
 
 pub returns-then-not-strict : goal.returns-then-not-strict
@@ -32,7 +33,7 @@ refusals-preserved c = λ total ps shows.
 
 pub returns : goal.returns
 returns c = λ total ps shows.
-    none_refused total _ _ refl
+    shows_none total _ _ refl
     (exactly _ _ ps c.if-not-strict.false ∙
     c.refusals.invariant total ps (shows c.if-not-strict.false)
     ∙ ap (λ l. combined (map refusal_for l) ps)
