@@ -37,7 +37,8 @@ uint32_t timefd_version(void);
 
 /* malloc or realloc gave no memory. The value is 0. From timefd_judge, timefd_check and timefd_read it comes only of a text
    without a fault: these find a fault without memory, and write its sentence without it. The first two answer it of texts
-   of version 3 alone. From timefd_v1_to_v2 and timefd_v2_to_v3 it says nothing of the text. */
+   of version 3 alone. From timefd_v1_to_v2 and timefd_v2_to_v3 it may also come of a text with one of the two faults that
+   quote it, an invalid component name and an invalid modifier. */
 #define TIMEFD_NO_MEMORY 3u
 
 /* The kind is none of the four numbers above, whatever the bytes are. The value is 0. */

@@ -1,6 +1,6 @@
 -- What is told of a borrowed error.
-use Rattle.std.proofs.Common.{◌∙◌, sym, subst}
-use Rattle.timefd_fault.specs.Faults.{Fault, fault_of}
+use Rattle.std.proofs.Common.{◌∙◌, IsTrue, sym, subst}
+use Rattle.timefd_fault.specs.Faults.{Fault, fault_of, quotes}
 use Rattle.timefd_fault.specs.declared.invalid_format_description.InvalidFormatDescription.{InvalidFormatDescription}
 use Rattle.timefd_language.specs.declared.parse_error.ParseError.{ParseError}
 use Rattle.timefd_language.specs.declared.parse_error.ParseError.TheVariants as told
@@ -17,7 +17,7 @@ owned_memory (Memory m) r is owned = owned
 pub owned_fault : (f : Fault) (e : BorrowedParseError) (r : ParseError) → IsLent f e
     → IsOwned e r → IsFaultOrMemory f r
 owned_fault f (Invalid g) (told.Invalid x) is owned = owned ∙ is
-owned_fault f (Invalid g) (told.Memory n) is owned = tt
+owned_fault f (Invalid g) (told.Memory n) is owned = subst (λ (h : Fault). IsTrue (quotes h.kind)) is owned
 owned_fault f (Memory m) r is owned = absurd is
 
 pub owned_of : (P : Fault → Type 0) (e : BorrowedParseError) (x : InvalidFormatDescription)

@@ -19,7 +19,8 @@ pub enum BorrowedParseError<'a> {
 }
 
 impl<'a> BorrowedParseError<'a> {
-    /// The same with a copy of what the fault quotes, or `Memory` where there is no memory for it.
+    /// The same with a copy of what the fault quotes, or `Memory` where there is no memory for that.
+    /// A fault that quotes nothing takes none.
     pub fn into_owned(self, alloc: Global) -> ParseError
         ensures { IsOwned self.entry result }
     {

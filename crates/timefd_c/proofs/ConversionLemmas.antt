@@ -1,13 +1,13 @@
--- What is answered of a conversion that was made, and of a text that has a fault.
-use Rattle.std.proofs.Common.{ℕ, ◌≡◌, ◌≤◌, ◌<◌, ◌++◌, [], length, drop, IsUtf8, refl, ap, sym, subst, ◌∙◌, arith}
+-- What is answered of a conversion that was made, of a text that has a fault, and where memory ran out.
+use Rattle.std.proofs.Common.{ℕ, ◌≡◌, ◌≤◌, ◌<◌, ◌++◌, [], length, drop, IsTrue, IsUtf8, refl, ap, sym, subst, ◌∙◌, arith}
 use Rattle.timefd_component.specs.Tree.{Text}
-use Rattle.timefd_fault.specs.Faults.{Fault}
+use Rattle.timefd_fault.specs.Faults.{Fault, quotes}
 use Rattle.timefd_language.specs.declared.description_version.DescriptionVersion.{DescriptionVersion}
 use Rattle.timefd_language.specs.Broken.{FaultOf}
 use Rattle.timefd_language.specs.Grammar.{nesting_limit}
 use Rattle.timefd_c.specs.Answers.{plain}
 use Rattle.timefd_c.specs.Conversions.{ConvertsBy}
-use Rattle.timefd_c.specs.declared.answer.TheConstants.{ACCEPTED, REFUSED}
+use Rattle.timefd_c.specs.declared.answer.TheConstants.{ACCEPTED, NO_MEMORY, REFUSED}
 
 written_or_kept : (v : DescriptionVersion) (IsOne HasItems : Text → Text
     → Type 0) (bytes before after text : Text) (written : ℕ) → IsUtf8 bytes
@@ -25,6 +25,7 @@ written_or_kept v IsOne HasItems bytes before after text written utf8 is same on
       refused = λ e. absurd (omega (arith, e));
       spelled = λ other other_is more. (refl, ap length (one other other_is.1));
       faulty = λ f h more. absurd (no_fault f h.1);
+      unquoted = λ f h none. absurd (no_fault f h.1);
       not_utf8 = (λ e. absurd (omega (arith, e)), λ no. absurd (no utf8));
       empty = λ nil. refl;
       status = omega arith;
@@ -70,10 +71,30 @@ refused v IsOne HasItems bytes buffer f utf8 has not_spelled one not_empty = rec
   refused = λ e. (f, (utf8, has), refl);
   spelled = λ text is more. absurd (not_spelled text is.1);
   faulty = λ g h more. (refl, ap (λ x. x.index) (one g h.1));
+  unquoted = λ g h none. absurd (omega (arith, none));
   not_utf8 = (λ e. absurd (omega (arith, e)), λ no. absurd (no utf8));
   empty = λ nil. absurd (not_empty nil);
   status = omega arith;
   no_value = λ accepted refused. absurd (refused refl);
+  whole = λ e. absurd (omega (arith, e));
+  too_short = λ e. absurd (omega (arith, e));
+  kept = λ accepted. (refl, refl);
+  no_sentence = refl;
+}
+
+pub unread : (v : DescriptionVersion) (IsOne HasItems : Text → Text → Type 0) (bytes buffer : Text)
+    → IsUtf8 bytes → ((f : Fault) → FaultOf v nesting_limit bytes f → IsTrue (quotes f.kind))
+    → (bytes ≡ [] → ⊥) → ConvertsBy v IsOne HasItems bytes buffer buffer (plain NO_MEMORY 0)
+unread v IsOne HasItems bytes buffer utf8 quoted not_empty = record {
+  accepted = λ e. absurd (omega (arith, e));
+  refused = λ e. absurd (omega (arith, e));
+  spelled = λ text is more. absurd (more refl);
+  faulty = λ f h more. absurd (more refl);
+  unquoted = λ f h none. quoted f h.1;
+  not_utf8 = (λ e. absurd (omega (arith, e)), λ no. absurd (no utf8));
+  empty = λ nil. absurd (not_empty nil);
+  status = omega arith;
+  no_value = λ accepted refused. refl;
   whole = λ e. absurd (omega (arith, e));
   too_short = λ e. absurd (omega (arith, e));
   kept = λ accepted. (refl, refl);

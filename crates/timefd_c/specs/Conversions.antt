@@ -1,7 +1,7 @@
 -- What is answered to C of a text of one version that is rewritten as one of the next.
-use Rattle.std.specs.Prelude.{◌≡◌, ◌≢◌, ◌≤◌, ◌<◌, ◌*◌, ◌++◌, ◌↔◌, [], Some, length, drop, IsUtf8}
+use Rattle.std.specs.Prelude.{◌≡◌, ◌≢◌, ◌≤◌, ◌<◌, ◌*◌, ◌++◌, ◌↔◌, [], IsTrue, Some, length, drop, IsUtf8}
 use Rattle.timefd_component.specs.Tree.{Text}
-use Rattle.timefd_fault.specs.Faults.{Fault}
+use Rattle.timefd_fault.specs.Faults.{Fault, quotes}
 use Rattle.timefd_language.specs.declared.description_version.DescriptionVersion.{DescriptionVersion}
 use Rattle.timefd_language.specs.declared.description_version.DescriptionVersion.TheVariants.{One, Two}
 use Rattle.timefd_parse.specs.declared.language.Language.TheVariants.{Version}
@@ -36,6 +36,9 @@ pub record ConvertsBy (version : DescriptionVersion) (IsOne HasItems : Text → 
       → (answer.status ≡ ACCEPTED) × (answer.value ≡ length converted)
   pub faulty : (f : Fault) → HasFaultIn version bytes f → answer.status ≢ NO_MEMORY
       → (answer.status ≡ REFUSED) × (answer.value ≡ f.index)
+  -- A fault that quotes nothing of the text is answered whatever memory there is.
+  pub unquoted : (f : Fault) → HasFaultIn version bytes f → answer.status ≡ NO_MEMORY
+      → IsTrue (quotes f.kind)
   -- These take no memory.
   pub not_utf8 : answer.status ≡ NOT_UTF8 ↔ ¬ (IsUtf8 bytes)
   pub empty : bytes ≡ [] → answer.status ≡ ACCEPTED

@@ -13,7 +13,8 @@ pub const REFUSED: u32 = 1;
 /// The status of bytes that are no UTF-8. The value is 0.
 pub const NOT_UTF8: u32 = 2;
 
-/// The status where memory ran out, which says nothing of the text. The value is 0.
+/// The status where memory ran out. The text has no fault then, or for a conversion may have one that
+/// quotes it. The value is 0.
 pub const NO_MEMORY: u32 = 3;
 
 /// The status where the number is that of no language. The value is 0.

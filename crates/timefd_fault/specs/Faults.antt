@@ -22,6 +22,12 @@ pub record Fault : Type 0 where
   pub kind : Kind
   pub index : ℕ
 
+-- whether a fault of this kind quotes the text, so that a copy of it takes memory
+abbrev pub quotes : Kind → Bool
+quotes (invalid_name name) = true
+quotes (invalid_modifier value) = true
+quotes other = false
+
 abbrev pub fault : Kind → ℕ → Fault
 fault kind index = record { kind = kind; index = index }
 
@@ -40,9 +46,3 @@ fault_of (InvalidModifierCombination modifier context index) =
 
 abbrev pub index : InvalidFormatDescription → ℕ
 index error = (fault_of error).index
-
--- whether it quotes the text, in a string of its own
-abbrev pub owns : InvalidFormatDescription → Bool
-owns (InvalidComponentName name index) = true
-owns (InvalidModifier value index) = true
-owns other = false

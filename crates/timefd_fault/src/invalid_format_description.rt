@@ -97,7 +97,7 @@ impl InvalidFormatDescription {
     /// is none left for it; a fault without either takes none.
     pub fn clone(&self, alloc: Global) -> Result<Self, AllocError>
         ensures same { IfOk result (λ copy. spec.fault_of copy ≡ spec.fault_of self.now) }
-        ensures no_memory { IsFalse (spec.owns self.now) → IsOk result }
+        ensures no_memory { IsFalse (spec.quotes (spec.fault_of self.now).kind) → IsOk result }
     {
         match self {
             InvalidFormatDescription::InvalidComponentName { name, index } => Ok(

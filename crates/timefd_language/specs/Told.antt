@@ -1,6 +1,6 @@
 -- What an error of the public calls says.
-use Rattle.std.specs.Prelude.{ℕ, ◌≡◌, ⊤}
-use Rattle.timefd_fault.specs.Faults.{Fault, fault_of}
+use Rattle.std.specs.Prelude.{ℕ, ◌≡◌, IsTrue, ⊤}
+use Rattle.timefd_fault.specs.Faults.{Fault, fault_of, quotes}
 use Rattle.timefd_language.specs.declared.fault.ReadError.{ReadError}
 use Rattle.timefd_language.specs.declared.fault.ReadError.TheVariants as errors
 use Rattle.timefd_language.specs.declared.parse_error.ParseError.{ParseError}
@@ -12,10 +12,10 @@ abbrev pub MemoryAlone : ParseError → Type 0
 MemoryAlone (Invalid f) = ⊥
 MemoryAlone (Memory e) = ⊤
 
--- this fault, or out of memory
+-- this fault or, only where it quotes the text, out of memory
 abbrev pub IsFaultOrMemory : Fault → ParseError → Type 0
 IsFaultOrMemory f (Invalid g) = fault_of g ≡ f
-IsFaultOrMemory f (Memory e) = ⊤
+IsFaultOrMemory f (Memory e) = IsTrue (quotes f.kind)
 
 -- what is told of an error in a text with so many bytes: the fault, or out of memory
 abbrev pub Tells : ℕ → ReadError → ParseError → Type 0

@@ -5,24 +5,36 @@ ghost use Rattle.timefd_language.specs.declared.fault.ReadError.TheVariants.{Inv
 
 use std::alloc::{AllocError, AllocFailed};
 
-/// Why a text is refused.
+/// Why a text is refused: `InvalidFormatDescription` without the place. Each variant holds the fields
+/// of its counterpart in their order.
 #[derive(Clone, Copy)]
 pub enum FaultKind<'a> {
+    /// `UnclosedOpeningBracket`.
     UnclosedBracket,
+    /// `InvalidComponentName`, with the name as it is written.
     InvalidName(&'a str),
+    /// `InvalidModifier`, with the text at fault as it is written.
     InvalidModifier(&'a str),
+    /// `MissingComponentName`.
     MissingName,
+    /// `MissingRequiredModifier`, with the modifier's key.
     MissingModifier(&'static str),
+    /// `Expected`, with what was to stand there.
     Expected(&'static str),
+    /// `NotSupported`, with what isn't supported, and in what: empty where that is not said.
     NotSupported(&'static str, &'static str),
+    /// `DuplicateModifier`, with the modifier's key.
     DuplicateModifier(&'static str),
+    /// `InvalidModifierCombination`, with the modifier's key, and beside what it isn't valid.
     InvalidCombination(&'static str, &'static str),
 }
 
 /// A fault, and how many bytes of the text remain from its place on.
 #[derive(Clone, Copy)]
 pub struct Fault<'a> {
+    /// Why.
     pub kind: FaultKind<'a>,
+    /// How many bytes remain.
     pub remaining: usize,
 }
 

@@ -1,8 +1,8 @@
 //! The error of the public calls, and how it is made of a fault.
 
-ghost use Rattle.std.specs.Prelude.{◌≡◌, ◌≤◌, IfOk};
+ghost use Rattle.std.specs.Prelude.{◌≡◌, ◌≤◌, IfOk, IsErr, IsTrue};
 ghost use Rattle.timefd_fault.specs.Faults as spec;
-ghost use Rattle.timefd_language.specs.FaultMeaning.{IsFault, MemoryOr};
+ghost use Rattle.timefd_language.specs.FaultMeaning.{IsFault, MemoryOr, kind_of};
 ghost use Rattle.timefd_language.specs.Told.{Tells};
 
 use crate::fault::{Fault, FaultKind, ReadError};
@@ -14,7 +14,7 @@ use timefd_fault::InvalidFormatDescription;
 pub enum ParseError {
     /// The text is no description, for this fault.
     Invalid(InvalidFormatDescription),
-    /// Memory ran out, which says nothing of the text.
+    /// Memory ran out. The text has no fault then, or one that quotes its text.
     Memory(AllocError),
 }
 
@@ -32,14 +32,16 @@ pub fn told(alloc: Global, error: ReadError, len: usize) -> ParseError
     }
 }
 
-/// The fault of a text with so many bytes.
+/// The fault of a text with so many bytes. Only one that quotes the text takes memory.
 fn invalid_description(
     alloc: Global,
     fault: Fault,
     len: usize,
 ) -> Result<InvalidFormatDescription, AllocError>
     requires { fault.remaining ≤ len }
-    ensures { IfOk result (λ e. (g : spec.Fault) → IsFault len fault.entry g → spec.fault_of e ≡ g) }
+    ensures fault { IfOk result (λ e. (g : spec.Fault) → IsFault len fault.entry g
+        → spec.fault_of e ≡ g) }
+    ensures memory { IsErr result → IsTrue (spec.quotes (kind_of fault.entry.kind)) }
 {
     let index = len - fault.remaining;
     Ok(match fault.kind {

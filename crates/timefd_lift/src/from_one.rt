@@ -20,7 +20,8 @@ use timefd_parse::{ParseError, parse};
 /// The text of version 2 that means what a text of version 1 means: components as they are, and
 /// outside of them `[[` as `\[`, `]` as `\]`, `\` as `\\`, and all else as it is.
 ///
-/// The error is the fault that version 1 finds in the text, or `Memory` where memory ran out.
+/// The error is the fault that version 1 finds in the text, or `Memory` where memory ran out. A fault
+/// that quotes nothing of the text is answered even then.
 pub fn v1_to_v2(alloc: Global, s: &str) -> Result<String, ParseError>
     // What is answered is the text rewritten, which has the same items. What is refused is refused
     // for the fault that the rules of version 1 assign.
@@ -28,8 +29,8 @@ pub fn v1_to_v2(alloc: Global, s: &str) -> Result<String, ParseError>
     ensures same_items { IfOk result (λ answer. HasItemsOf s.now (string_bytes answer)) }
     ensures fault { IfErr result (IsAssigned One nesting_limit s.now) }
 
-    // What version 1 spells is rewritten, and what has a fault is refused for it, unless memory
-    // runs out.
+    // What version 1 spells is rewritten, unless memory runs out. What has a fault is refused for it,
+    // unless the fault quotes the text and memory runs out for that.
     ensures spelled { (ps : Pieces) → IsSpelledBy ps s.now → IsTextOrMemory (rewritten ps) result }
     ensures refused { (f : spec.Fault) → FaultOf One nesting_limit s.now f
         → MatchResult result (λ _. ⊥) (IsFaultOrMemory f) }

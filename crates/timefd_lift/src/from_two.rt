@@ -25,8 +25,8 @@ use timefd_parse::{BorrowedOutput, DescriptionVersion, ParseError, parse_borrowe
 /// small letters with its modifiers in one order, those alone that aren't version 3's default, and
 /// `[`, `]` and `\` of literals behind a `\`.
 ///
-/// The error is the fault that version 2 finds in the text, or `Memory` where memory ran out. This
-/// call is this port's own.
+/// The error is the fault that version 2 finds in the text, or `Memory` where memory ran out. A fault
+/// that quotes nothing of the text is answered even then. This call is this port's own.
 pub fn v2_to_v3(alloc: Global, s: &str) -> Result<String, ParseError>
     // What is answered is the text written anew, which has the same items. What is refused is
     // refused for the fault that the rules of version 2 assign.
@@ -34,8 +34,8 @@ pub fn v2_to_v3(alloc: Global, s: &str) -> Result<String, ParseError>
     ensures same_items { IfOk result (λ answer. KeepsItemsOf s.now (string_bytes answer)) }
     ensures fault { IfErr result (IsAssigned Two nesting_limit s.now) }
 
-    // What version 2 spells is written anew, and what has a fault is refused for it, unless memory
-    // runs out.
+    // What version 2 spells is written anew, unless memory runs out. What has a fault is refused for it,
+    // unless the fault quotes the text and memory runs out for that.
     ensures spelled { (list : List Tree) → Spells Two nesting_limit 0 s.now list
         → IsTextOrMemory (text.written list) result }
     ensures refused { (f : spec.Fault) → FaultOf Two nesting_limit s.now f

@@ -29,7 +29,8 @@ pub enum Language {
 /// How much a text holds: how many items, or in version 3 how many bytes its description reserves.
 /// At most `limit` nested descriptions may stand around one another; strftime nests none.
 ///
-/// The error is `Invalid` with the fault of the text, or `Memory` where memory ran out.
+/// The error is `Invalid` with the fault of the text, or `Memory` where memory ran out. A fault that
+/// quotes nothing of the text is answered even then.
 #[inline(always)]
 pub fn amount_within(
     alloc: Global,
@@ -45,7 +46,8 @@ pub fn amount_within(
         (list : List Tree) × SpellsIn language limit text.now list × (n ≡ amount language list)) }
     ensures fault { IfErr result (IsAssignedIn language limit text.now) }
 
-    // What is spelled is accepted, and what has a fault is refused for it, unless memory runs out.
+    // What is spelled is accepted, unless memory runs out. What has a fault is refused for it, unless
+    // the fault quotes the text and memory runs out for that.
     ensures spelled { (list : List Tree) → SpellsIn language limit text.now list
         → MatchResult result (λ n. n ≡ amount language list) MemoryAlone }
     ensures refused { (f : spec.Fault) → FaultIn language limit text.now f
@@ -62,7 +64,8 @@ pub fn amount_within(
 
 /// How much a text holds, as `amount_within` says it, with a fault that borrows what it quotes.
 ///
-/// The error is `Invalid` with the fault of the text, or `Memory` where memory ran out.
+/// The error is `Invalid` with the fault of the text, or `Memory` where memory ran out. A text that
+/// has a fault is refused for it even then.
 #[inline(always)]
 pub fn amount_all_borrowed(
     alloc: Global,
@@ -78,7 +81,7 @@ pub fn amount_all_borrowed(
         (list : List Tree) × SpellsIn language limit text.now list × (n ≡ amount language list)) }
     ensures fault { IfErr result (IsLentOf (FaultIn language limit text.now)) }
 
-    // What is spelled is accepted, and what has a fault is refused for it, unless memory runs out.
+    // What is spelled is accepted, unless memory runs out, and what has a fault is refused for it.
     ensures spelled { (list : List Tree) → SpellsIn language limit text.now list
         → MatchResult result (λ n. n ≡ amount language list) IsMemory }
     ensures refused { (f : spec.Fault) → FaultIn language limit text.now f

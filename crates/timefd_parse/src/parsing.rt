@@ -36,7 +36,8 @@ pub enum BorrowedOutput<'a> {
 /// Reads a text of a version: `time`'s `parse_borrowed`. What it answers borrows the text's
 /// literals.
 ///
-/// The error is `Invalid` with the fault of the text, or `Memory` where memory ran out.
+/// The error is `Invalid` with the fault of the text, or `Memory` where memory ran out. A fault that
+/// quotes nothing of the text is answered even then.
 pub fn parse_borrowed<'a>(
     alloc: Global,
     version: DescriptionVersion,
@@ -48,7 +49,8 @@ pub fn parse_borrowed<'a>(
         × Spells version nesting_limit 0 s.now list × IsOutput version list output) }
     ensures fault { IfErr result (IsAssigned version nesting_limit s.now) }
 
-    // What is spelled is accepted, and what has a fault is refused for it, unless memory runs out.
+    // What is spelled is accepted, unless memory runs out. What has a fault is refused for it, unless
+    // the fault quotes the text and memory runs out for that.
     ensures spelled { (list : List Tree) → Spells version nesting_limit 0 s.now list
         → MatchResult result (IsOutput version list) MemoryAlone }
     ensures refused { (f : spec.Fault) → FaultOf version nesting_limit s.now f
@@ -68,7 +70,8 @@ pub fn parse_borrowed<'a>(
 /// Reads a text of a version as `parse_borrowed` does, with at most `limit` nested descriptions
 /// around one another. This call is this port's own.
 ///
-/// The error is `Invalid` with the fault of the text, or `Memory` where memory ran out.
+/// The error is `Invalid` with the fault of the text, or `Memory` where memory ran out. A fault that
+/// quotes nothing of the text is answered even then.
 pub fn parse_borrowed_within<'a>(
     alloc: Global,
     version: DescriptionVersion,
@@ -83,7 +86,8 @@ pub fn parse_borrowed_within<'a>(
         × Spells version limit 0 s.now list × IsOutput version list output) }
     ensures fault { IfErr result (IsAssigned version limit s.now) }
 
-    // What is spelled is accepted, and what has a fault is refused for it, unless memory runs out.
+    // What is spelled is accepted, unless memory runs out. What has a fault is refused for it, unless
+    // the fault quotes the text and memory runs out for that.
     ensures spelled { (list : List Tree) → Spells version limit 0 s.now list
         → MatchResult result (IsOutput version list) MemoryAlone }
     ensures refused { (f : spec.Fault) → FaultOf version limit s.now f
@@ -105,7 +109,8 @@ pub fn parse_borrowed_within<'a>(
 
 /// Reads a text of version 1: `time`'s `parse`.
 ///
-/// The error is `Invalid` with the fault of the text, or `Memory` where memory ran out.
+/// The error is `Invalid` with the fault of the text, or `Memory` where memory ran out. A fault that
+/// quotes nothing of the text is answered even then.
 pub fn parse<'a>(alloc: Global, s: &'a str) -> Result<Vec<BorrowedFormatItem<'a>>, ParseError>
     // What is accepted is spelled so, and what is refused is refused for the fault that the rules
     // assign.
@@ -113,7 +118,8 @@ pub fn parse<'a>(alloc: Global, s: &'a str) -> Result<Vec<BorrowedFormatItem<'a>
         × Spells One nesting_limit 0 s.now list × AreItems items.items list) }
     ensures fault { IfErr result (IsAssigned One nesting_limit s.now) }
 
-    // What is spelled is accepted, and what has a fault is refused for it, unless memory runs out.
+    // What is spelled is accepted, unless memory runs out. What has a fault is refused for it, unless
+    // the fault quotes the text and memory runs out for that.
     ensures spelled { (list : List Tree) → Spells One nesting_limit 0 s.now list
         → MatchResult result (λ items. AreItems items.items list) MemoryAlone }
     ensures refused { (f : spec.Fault) → FaultOf One nesting_limit s.now f

@@ -29,7 +29,8 @@ use timefd_language::text::{Class, cut};
 /// Reads a text of strftime: `time`'s `parse_strftime_borrowed`. The items of composite letters borrow
 /// the tables' lists.
 ///
-/// The error is `Invalid` with the fault of the text, or `Memory` where memory ran out.
+/// The error is `Invalid` with the fault of the text, or `Memory` where memory ran out. A fault that
+/// quotes nothing of the text is answered even then.
 pub fn parse_strftime_borrowed<'a>(
     alloc: Global,
     tables: &'a StrftimeTables<'a>,
@@ -39,7 +40,8 @@ pub fn parse_strftime_borrowed<'a>(
     ensures found { IfOk result (λ items. SpellsStrftime s.now (item_trees items.items)) }
     ensures fault { IfErr result (IsStrftimeFault s.now) }
 
-    // What is spelled is accepted, and what has a fault is refused for it, unless memory runs out.
+    // What is spelled is accepted, unless memory runs out. What has a fault is refused for it, unless
+    // the fault quotes the text and memory runs out for that.
     ensures spelled { (list : List Tree) → SpellsStrftime s.now list
         → MatchResult result (λ items. item_trees items.items ≡ list) MemoryAlone }
     ensures refused { (f : spec.Fault) → StrftimeFaultOf s.now f

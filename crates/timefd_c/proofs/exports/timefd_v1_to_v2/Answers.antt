@@ -8,7 +8,7 @@ use Rattle.timefd_lift.specs.Answers.{IsRewritten, HasItemsOf}
 use Rattle.timefd_c.specs.Answers.{plain}
 use Rattle.timefd_c.specs.Conversions.{Converts}
 use Rattle.timefd_c.specs.declared.answer.TheConstants.{ACCEPTED, REFUSED}
-use Rattle.timefd_c.proofs.ConversionLemmas.{converted, refused}
+use Rattle.timefd_c.proofs.ConversionLemmas.{converted, refused, unread}
 use Rattle.timefd_c.proofs.exports.timefd_v1_to_v2.Goals as goal
 
 pub returns-in-Ok-v1_to_v2 : goal.returns-in-Ok-v1_to_v2
@@ -55,4 +55,21 @@ returns-in-Err-Invalid c =
                 (λ nil. let no : false ≡ true = v.empty nil in absurd cc),
             λ e. absurd (omega (arith, e)),
           )));
+    }
+
+pub returns-in-Err-Memory : goal.returns-in-Err-Memory
+returns-in-Err-Memory c =
+    let read = c.in-Ok.ensures.cases in
+    let v = c.in-Err-Memory.ensures in
+    let is = c.in-Err-Memory.field-0-is in
+    let text = c.in-Ok.text.now in
+    let buffer = c.args.buffer.now in
+    record {
+      converts = subst (λ bytes. Converts bytes buffer buffer c.plain-in-Err-Memory.result) read.0
+          (subst (Converts text buffer buffer) (sym c.plain-in-Err-Memory.ensures) (
+            unread One IsRewritten HasItemsOf text buffer (subst IsUtf8 (sym read.0) read.1)
+                (λ f has. subst (IsFaultOrMemory f) is (v.refused f has))
+                (λ nil. let no : false ≡ true = v.empty nil in absurd cc),
+            λ e. absurd (omega (arith, e)),
+          ));
     }

@@ -8,7 +8,7 @@ use Rattle.timefd_lift.specs.Modernized.{IsWrittenOf, KeepsItemsOf}
 use Rattle.timefd_c.specs.Answers.{plain}
 use Rattle.timefd_c.specs.Conversions.{ConvertsBy}
 use Rattle.timefd_c.specs.declared.answer.TheConstants.{ACCEPTED, REFUSED}
-use Rattle.timefd_c.proofs.ConversionLemmas.{converted, refused}
+use Rattle.timefd_c.proofs.ConversionLemmas.{converted, refused, unread}
 use Rattle.timefd_c.proofs.exports.timefd_v2_to_v3.Goals as goal
 
 pub returns-in-Ok-v2_to_v3 : goal.returns-in-Ok-v2_to_v3
@@ -54,4 +54,21 @@ returns-in-Err-Invalid c =
           (λ other other_is. subst MemoryAlone is (v.spelled other_is.0 other_is.1))
           (λ f has. subst (IsFaultOrMemory f) is (v.refused f has)) (λ nil. let no : false ≡ true =
           v.empty nil in absurd cc))));
+    }
+
+pub returns-in-Err-Memory : goal.returns-in-Err-Memory
+returns-in-Err-Memory c =
+    let read = c.in-Ok.ensures.cases in
+    let v = c.in-Err-Memory.ensures in
+    let is = c.in-Err-Memory.field-0-is in
+    let text = c.in-Ok.text.now in
+    let buffer = c.args.buffer.now in
+    record {
+      converts = subst (λ bytes. ConvertsBy Two IsWrittenOf KeepsItemsOf bytes buffer buffer
+          c.plain-in-Err-Memory.result) read.0
+          (subst (ConvertsBy Two IsWrittenOf KeepsItemsOf text buffer buffer)
+          (sym c.plain-in-Err-Memory.ensures)
+          (unread Two IsWrittenOf KeepsItemsOf text buffer (subst IsUtf8 (sym read.0) read.1)
+          (λ f has. subst (IsFaultOrMemory f) is (v.refused f has)) (λ nil. let no : false ≡ true =
+          v.empty nil in absurd cc)));
     }

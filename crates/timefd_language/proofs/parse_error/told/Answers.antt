@@ -5,4 +5,4 @@ use Rattle.timefd_language.proofs.parse_error.told.Goals as goal
 
 pub returns-in-Ok : goal.returns-in-Ok
 returns-in-Ok c = subst (λ e. Tells c.args.len e (Invalid c.in-Ok.fault)) (sym c.in-Invalid.is)
-    c.in-Ok.ensures
+    c.in-Ok.ensures.fault

@@ -25,3 +25,6 @@ pub returns-in-Ok-escaped-clause-within : goal.returns-in-Ok-escaped-clause-with
 returns-in-Ok-escaped-clause-within c =
     subst (λ answer. length answer ≤ 2 * length c.args.s.now) (sym c.in-Ok-escaped.ensures.written)
     (outside-length c.args.s.now)
+
+pub returns-in-Ok-clause-refused : goal.returns-in-Ok-clause-refused
+returns-in-Ok-clause-refused c = λ f has. absurd (c.in-Ok.ensures.refused f has)

@@ -39,3 +39,6 @@ returns-in-Ok-Items-clause-empty c = λ nil.
     (subst (IsOutput Two []) c.in-Ok-Items.field-0-is
     (c.in-Ok-Items.ensures.spelled [] (no_pieces, tt, nil, refl))) in
     search rules
+
+pub returns-in-Ok-Items-clause-refused : goal.returns-in-Ok-Items-clause-refused
+returns-in-Ok-Items-clause-refused c = λ f has. absurd (c.in-Ok-Items.ensures.refused f has)
