@@ -1,5 +1,6 @@
 -- Trees added to a list of nodes, trees taken off a list, and a description's one tree.
-use Rattle.std.proofs.Common.{◌≡◌, ◌∙◌, ℕ, zero, suc, ◌+◌, ◌-◌, ◌<◌, ◌≤◌, Bool, true, false, List, [], ◌∷◌, ◌++◌, map, length, take, drop, is_some, vec_len, vec_capacity, refl, ◌==◌, sym, ap, append_assoc, arith, length-append}
+use Rattle.std.proofs.Common.{◌≡◌, ◌∙◌, ℕ, zero, suc, ◌+◌, ◌-◌, ◌<◌, ◌≤◌, Bool, true, false, List, [], ◌∷◌, ◌++◌, map, length, take, drop}
+use Rattle.std.proofs.Common.{get_or, is_some, vec_len, vec_capacity, refl, ◌==◌, sym, ap, append_assoc, arith, length-append}
 use Rattle.std.proofs.lemmas.Bool.Decides.{nat_tests}
 use Rattle.std.proofs.lemmas.List.{map-append}
 use Rattle.timefd_items.specs.declared.format_description_v3.inner.FormatDescriptionV3Inner.{FormatDescriptionV3Inner}
@@ -81,6 +82,22 @@ pub length-inner_trees : (xs : List FormatDescriptionV3Inner)
     → length (map inner_tree xs) ≡ length xs
 length-inner_trees [] = refl
 length-inner_trees (x ∷ xs) = ap suc (length-inner_trees xs)
+
+-- a member has no more trees than all of them
+pub member_count : (xs : List FormatDescriptionV3Inner) (i : ℕ) (x : FormatDescriptionV3Inner)
+    → i < length xs → x ≡ get_or xs i x
+    → tree_count (inner_tree x) ≤ trees_count (trees (map inner_tree xs))
+member_count [] i x h e = absurd (omega (arith, h))
+member_count (y ∷ ys) zero x h e = omega (arith, ap (λ z. tree_count (inner_tree z)) e)
+member_count (y ∷ ys) (suc i) x h e = omega (arith, member_count ys i x (omega (arith, h)) e)
+
+-- nor than all from its place on
+pub member_left : (xs : List FormatDescriptionV3Inner) (i : ℕ) (x : FormatDescriptionV3Inner)
+    → i < length xs → x ≡ get_or xs i x
+    → tree_count (inner_tree x) ≤ trees_count (trees (map inner_tree (drop i xs)))
+member_left [] i x h e = absurd (omega (arith, h))
+member_left (y ∷ ys) zero x h e = omega (arith, ap (λ z. tree_count (inner_tree z)) e)
+member_left (y ∷ ys) (suc i) x h e = member_left ys i x (omega (arith, h)) e
 
 -- The members taken off a list of trees.
 map-take : (n : ℕ) (xs : List FormatDescriptionV3Inner)

@@ -1,3 +1,4 @@
 pub mod Meaning
 pub mod Description
 pub mod Builder
+pub mod Content

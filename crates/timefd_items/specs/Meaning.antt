@@ -1,6 +1,17 @@
 -- The tree that a description means.
 use Rattle.std.specs.Prelude.{Bool, true, false, string_bytes, box_value}
-use Rattle.timefd_component.specs.declared.component.Component.TheVariants.{Day, MonthShort, MonthLong, MonthNumerical, Ordinal, WeekdayShort, WeekdayLong, WeekdaySunday, WeekdayMonday, WeekNumberIso, WeekNumberSunday, WeekNumberMonday, CalendarYearFullExtendedRange, CalendarYearFullStandardRange, CalendarYearCenturyExtendedRange, CalendarYearCenturyStandardRange, IsoYearFullExtendedRange, IsoYearFullStandardRange, IsoYearCenturyExtendedRange, IsoYearCenturyStandardRange, CalendarYearLastTwo, IsoYearLastTwo, Hour12, Hour24, Minute, Period, Second, Subsecond, OffsetHour, OffsetMinute, OffsetSecond, Ignore, UnixTimestampSecond, UnixTimestampMillisecond, UnixTimestampMicrosecond, UnixTimestampNanosecond, End}
+use Rattle.timefd_component.specs.declared.component.Component.TheVariants.{Day, MonthShort, MonthLong, MonthNumerical, Ordinal}
+use Rattle.timefd_component.specs.declared.component.Component.TheVariants.{WeekdayShort, WeekdayLong, WeekdaySunday, WeekdayMonday}
+use Rattle.timefd_component.specs.declared.component.Component.TheVariants.{WeekNumberIso, WeekNumberSunday, WeekNumberMonday}
+use Rattle.timefd_component.specs.declared.component.Component.TheVariants.{CalendarYearFullExtendedRange, CalendarYearFullStandardRange}
+use Rattle.timefd_component.specs.declared.component.Component.TheVariants.{CalendarYearCenturyExtendedRange}
+use Rattle.timefd_component.specs.declared.component.Component.TheVariants.{CalendarYearCenturyStandardRange, IsoYearFullExtendedRange}
+use Rattle.timefd_component.specs.declared.component.Component.TheVariants.{IsoYearFullStandardRange, IsoYearCenturyExtendedRange}
+use Rattle.timefd_component.specs.declared.component.Component.TheVariants.{IsoYearCenturyStandardRange, CalendarYearLastTwo}
+use Rattle.timefd_component.specs.declared.component.Component.TheVariants.{IsoYearLastTwo, Hour12, Hour24, Minute, Period, Second}
+use Rattle.timefd_component.specs.declared.component.Component.TheVariants.{Subsecond, OffsetHour, OffsetMinute, OffsetSecond, Ignore}
+use Rattle.timefd_component.specs.declared.component.Component.TheVariants.{UnixTimestampSecond, UnixTimestampMillisecond}
+use Rattle.timefd_component.specs.declared.component.Component.TheVariants.{UnixTimestampMicrosecond, UnixTimestampNanosecond, End}
 use Rattle.timefd_items.specs.declared.format_description_v3.inner.FormatDescriptionV3Inner.{FormatDescriptionV3Inner}
 use Rattle.timefd_items.specs.declared.format_description_v3.inner.FormatDescriptionV3Inner.TheOpen.{FormatDescriptionV3Inner-F}
 use Rattle.timefd_items.specs.declared.format_description_v3.inner.FormatDescriptionV3Inner.TheOpen as inner

@@ -6,6 +6,7 @@ ghost use Rattle.timefd_component.specs.Reserved.{reserve};
 ghost use Rattle.timefd_component.specs.Tree.{pack};
 
 pub mod builder;
+mod content;
 mod copies;
 mod debug;
 mod flatten;

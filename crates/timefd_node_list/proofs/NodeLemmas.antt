@@ -1,5 +1,6 @@
 -- Lists of nodes: one more behind them, and the way back over the last trees.
-use Rattle.std.proofs.Common.{◌≡◌, ◌∙◌, ℕ, zero, suc, ◌+◌, ◌-◌, ◌<◌, ◌≤◌, ◌^◌, List, [], ◌∷◌, ◌++◌, map, length, take, drop, refl, sym, ap, subst, append_assoc, arith, length-append, length-drop, get_or}
+use Rattle.std.proofs.Common.{◌≡◌, ◌∙◌, ℕ, zero, suc, ◌+◌, ◌-◌, ◌<◌, ◌≤◌, ◌^◌, List, [], ◌∷◌, ◌++◌, map, length, take, drop, refl, sym, ap}
+use Rattle.std.proofs.Common.{subst, append_assoc, arith, length-append, length-drop, get_or}
 use Rattle.std.proofs.lemmas.List.{take-append-drop, take-append-le, drop-append-le, take_all, drop_all, length-take-le}
 use Rattle.std.proofs.Math.Seq.{take-append_seam, drop-append_seam}
 use Rattle.std.proofs.lemmas.List.{map-append}
@@ -8,7 +9,8 @@ use Rattle.timefd_node_list.specs.declared.node.Node.{Node}
 use Rattle.timefd_component.specs.Modern.{modern}
 use Rattle.timefd_component.specs.Tree.{Tree, trees, pack}
 use Rattle.timefd_component.specs.Reserved.{tree_count, trees_count, reserve, reserve_first, reserved}
-use Rattle.timefd_node_list.specs.Nodes.{Role, text, shown, together, perhaps, either, arity, Part, part, made, before, ending, grown, grown_by, Fits, Fit, kept_bytes, last_kept}
+use Rattle.timefd_node_list.specs.Nodes.{Role, text, shown, together, perhaps, either, arity, Part, part, made, before, ending, grown}
+use Rattle.timefd_node_list.specs.Nodes.{grown_by, Fits, Fit, kept_bytes, last_kept}
 
 pub grown_by-append : (ts : List Tree) (ps qs : List Part)
     → grown_by ts (ps ++ qs) ≡ grown_by (grown_by ts ps) qs
@@ -290,9 +292,9 @@ step_inside ns k m p f h e o =
     omega (arith, count_inside ns (suc k) f h, ap (λ us. trees_count (trees us)) o.ends, o.nodes, e)
 
 -- The same over the nodes themselves.
-pub part_at : (xs : List Node) (i : ℕ) (n : Node) → n ≡ get_or xs i n
+pub found_part : (xs : List Node) (i : ℕ) (n : Node) → n ≡ get_or xs i n
     → part n ≡ get_or (map part xs) i (part n)
-part_at xs i n e = ap part e ∙ sym (get_or-part xs i n)
+found_part xs i n e = ap part e ∙ sym (get_or-part xs i n)
   where
     get_or-part : (xs : List Node) (i : ℕ) (d : Node)
         → get_or (map part xs) i (part d) ≡ part (get_or xs i d)
@@ -309,7 +311,7 @@ pub node_back : (xs : List Node) (k m : ℕ) (n : Node) → Fit [] (map part xs)
     → m ≡ trees_count (trees (ending k (grown_by [] (map part xs))))
     → n ≡ get_or xs (length xs - 1 - m) n → OneBack (map part xs) k m (part n)
 node_back xs k m n f h e is =
-    one_back (map part xs) k m (part n) f h e (part_at xs (length xs - 1 - m) n is ∙
+    one_back (map part xs) k m (part n) f h e (found_part xs (length xs - 1 - m) n is ∙
     ap (λ l. get_or (map part xs) (l - 1 - m) (part n)) (sym (length-parts xs)))
 
 -- a node finds its members among the trees of those before it

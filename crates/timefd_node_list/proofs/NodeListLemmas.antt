@@ -1,5 +1,6 @@
 -- What a node with members says of them, and what the node of one tree keeps.
-use Rattle.std.proofs.Common.{◌≡◌, ◌∙◌, ℕ, ◌-◌, ◌^◌, ◌≤◌, Bool, true, false, if◌then◌else◌, List, [], ◌∷◌, length, refl, sym, ap, subst, arith}
+use Rattle.std.proofs.Common.{◌≡◌, ◌∙◌, ℕ, ◌-◌, ◌^◌, ◌≤◌, Bool, true, false, if◌then◌else◌, List, [], ◌∷◌, length, refl, sym, ap, subst}
+use Rattle.std.proofs.Common.{arith}
 use Rattle.timefd_node_list.specs.declared.node.Members.{Members}
 use Rattle.timefd_node_list.specs.declared.node.Node.TheVariants as node
 use Rattle.timefd_node_list.specs.declared.tally.Tally.{Tally}

@@ -1,5 +1,6 @@
 -- The sum that a builder keeps of what its trees reserve.
-use Rattle.std.proofs.Common.{◌≡◌, ◌∙◌, ℕ, ◌+◌, ◌-◌, ◌^◌, ◌≤◌, Bool, true, false, ◌&&◌, List, [], ◌∷◌, ◌++◌, length, min, refl, sym, ap, arith, rules}
+use Rattle.std.proofs.Common.{◌≡◌, ◌∙◌, ℕ, ◌+◌, ◌-◌, ◌^◌, ◌≤◌, Bool, true, false, ◌&&◌, List, [], ◌∷◌, ◌++◌, length, min, refl, sym, ap}
+use Rattle.std.proofs.Common.{arith, rules}
 use Rattle.std.proofs.lemmas.List.{take-append-drop}
 use Rattle.timefd_node_list.specs.Nodes.{Fit, Fits, Part, before, ending, grown_by, kept_bytes, together}
 use Rattle.timefd_component.specs.Reserved.{reserve, reserve_all, reserve_first, trees_count}
@@ -19,16 +20,16 @@ sum_of : (ts us : List Tree) (known : Bool) (sum : ℕ)
     → reserve_all (trees ts) ≡ reserve_all (trees us) → IsSum ts known sum → IsSum us known sum
 sum_of ts us known sum e h = λ k. h k ∙ ap kept_bytes e
 
-kept_more : (rest bytes : ℕ)
+kept_saturates : (rest bytes : ℕ)
     → min (kept_bytes rest + bytes) (2 ^ 64 - 1) ≡ kept_bytes (rest + bytes)
-kept_more rest bytes = omega arith
+kept_saturates rest bytes = omega arith
 
 pub sum-one_more : (ts us : List Tree) (t : Tree) (known : Bool) (sum bytes : ℕ)
     → us ≡ ts ++ t ∷ [] → bytes ≡ reserve t → IsSum ts known sum
     → IsSum us known (min (sum + bytes) (2 ^ 64 - 1))
 sum-one_more ts us t known sum bytes e g h = λ k.
     ap (λ s. min (s + bytes) (2 ^ 64 - 1)) (h k)
-    ∙ kept_more (reserve_all (trees ts)) bytes
+    ∙ kept_saturates (reserve_all (trees ts)) bytes
     ∙ ap kept_bytes (omega (
       arith,
       g,

@@ -1,12 +1,15 @@
 -- The nodes of some trees side by side, read alone: those of the last trees, and those of one tree.
-use Rattle.std.proofs.Common.{◌≡◌, ◌∙◌, ℕ, zero, suc, ◌+◌, ◌-◌, ◌≤◌, List, [], ◌∷◌, ◌++◌, map, length, take, drop, max, refl, sym, ap, subst, append_assoc, arith, length-append, get_or}
+use Rattle.std.proofs.Common.{◌≡◌, ◌∙◌, ℕ, zero, suc, ◌+◌, ◌-◌, ◌≤◌, List, [], ◌∷◌, ◌++◌, map, length, take, drop, max, refl, sym, ap}
+use Rattle.std.proofs.Common.{subst, append_assoc, arith, length-append, get_or}
 use Rattle.std.proofs.lemmas.List.{append-nil, take-append-drop, take-map, drop-map, take_all}
 use Rattle.std.proofs.Math.Seq.{take-append_seam, drop-append_seam}
 use Rattle.timefd_node_list.specs.declared.node.Node.{Node}
 use Rattle.timefd_node_list.specs.Nodes.{Part, part, arity, made, before, ending, grown, grown_by, Fits, Fit, kept_bytes}
 use Rattle.timefd_component.specs.Reserved.{reserve, tree_count, trees_count}
 use Rattle.timefd_component.specs.Tree.{Tree, trees, pack}
-use Rattle.timefd_node_list.proofs.NodeLemmas.{Last, last_of, grown_by-append, fit_one_more, fit_front, fit_rest, fits_at, grown_at, grown_some, before-append, ending-append, before-one_more, ending-one_more, before_zero, ending_zero, length-before, length-ending, Back, back, length-parts, one_member}
+use Rattle.timefd_node_list.proofs.NodeLemmas.{Last, last_of, grown_by-append, fit_one_more, fit_front, fit_rest, fits_at, grown_at}
+use Rattle.timefd_node_list.proofs.NodeLemmas.{grown_some, before-append, ending-append, before-one_more, ending-one_more, before_zero}
+use Rattle.timefd_node_list.proofs.NodeLemmas.{ending_zero, length-before, length-ending, Back, back, length-parts, one_member}
 
 -- Nodes behind some trees leave those as they are.
 before_frame : (ts us : List Tree) (a : ℕ) → a ≤ length us → before a (ts ++ us) ≡ ts ++ before a us

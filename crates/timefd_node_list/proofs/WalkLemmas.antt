@@ -1,14 +1,17 @@
 -- The trees of the nodes in turn are all parts of the trees that they are.
-use Rattle.std.proofs.Common.{◌≡◌, ◌∙◌, ℕ, zero, suc, ◌+◌, ◌-◌, ◌<◌, ◌≤◌, List, [], ◌∷◌, ◌++◌, map, length, take, drop, refl, sym, ap, append_assoc, arith, get_or}
+use Rattle.std.proofs.Common.{◌≡◌, ◌∙◌, ℕ, zero, suc, ◌+◌, ◌-◌, ◌<◌, ◌≤◌, List, [], ◌∷◌, ◌++◌, map, length, take, drop, refl, sym, ap}
+use Rattle.std.proofs.Common.{append_assoc, arith, get_or}
 use Rattle.std.proofs.lemmas.List.{append-nil, take-append-drop, drop_all, length-take-le}
 use Rattle.timefd_node_list.specs.declared.node.Node.{Node}
 use Rattle.timefd_node_list.specs.declared.view.View.{View}
-use Rattle.timefd_node_list.specs.Nodes.{Role, text, shown, together, perhaps, either, arity, Part, part, made, before, ending, grown, grown_by, Fits, Fit}
+use Rattle.timefd_node_list.specs.Nodes.{Role, text, shown, together, perhaps, either, arity, Part, part, made, before, ending, grown}
+use Rattle.timefd_node_list.specs.Nodes.{grown_by, Fits, Fit}
 use Rattle.timefd_component.specs.Reserved.{trees_count}
 use Rattle.timefd_component.specs.Tree.{Tree, trees, pack}
 use Rattle.timefd_node_list.specs.Views.{walked, walked_all, made_each, view_tree, walk_from}
 use Rattle.timefd_node_list.proofs.ViewLemmas.{Cut, cut}
-use Rattle.timefd_node_list.proofs.NodeLemmas.{made-count, count_inside, length-ending, ending-append, fit_take, fits_at, grown_at, grown_some, length-parts}
+use Rattle.timefd_node_list.proofs.NodeLemmas.{made-count, count_inside, length-ending, ending-append, fit_take, fits_at, grown_at}
+use Rattle.timefd_node_list.proofs.NodeLemmas.{grown_some, length-parts}
 
 walked_all-append : (ts us : List Tree)
     → walked_all (trees (ts ++ us)) ≡ walked_all (trees ts) ++ walked_all (trees us)

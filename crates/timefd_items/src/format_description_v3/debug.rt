@@ -1,6 +1,7 @@
 //! How descriptions print under `{:?}`: a lent and an owned part of one content alike.
 
 use super::FormatDescriptionV3;
+use super::content::Content;
 use super::inner::FormatDescriptionV3Inner;
 use std::fmt;
 use timefd_component::debug::ModifiersOf;
@@ -12,34 +13,32 @@ impl fmt::Debug for FormatDescriptionV3<'_> {
 }
 
 impl fmt::Debug for FormatDescriptionV3Inner<'_> {
-    #[cycle(debug)]
     fn fmt<W: fmt::Write>(&self, f: &mut fmt::Formatter<W>) -> fmt::Result {
-        if let Some(component) = self.component() {
-            return fmt::Debug::fmt(&ModifiersOf(component), f);
+        match self.content() {
+            Content::Component(component) => fmt::Debug::fmt(&ModifiersOf(component), f),
+            content => write_content(content, f),
         }
-        match self {
-            &FormatDescriptionV3Inner::BorrowedLiteral(text) => write!(f, "Literal({text:?})"),
-            &FormatDescriptionV3Inner::BorrowedCompound(items) => {
-                write_members("Compound", items, f)
-            }
-            &FormatDescriptionV3Inner::BorrowedOptional { format, item } => {
-                write!(
-                    f,
-                    "Optional {{ should_format: {format:?}, item: {item:?} }}"
-                )
-            }
-            &FormatDescriptionV3Inner::BorrowedFirst(items) => write_members("First", items, f),
-            FormatDescriptionV3Inner::OwnedLiteral(text) => write!(f, "Literal({text:?})"),
-            FormatDescriptionV3Inner::OwnedCompound(items) => write_members("Compound", items, f),
-            FormatDescriptionV3Inner::OwnedOptional { format, item } => {
-                write!(
-                    f,
-                    "Optional {{ should_format: {format:?}, item: {item:?} }}"
-                )
-            }
-            FormatDescriptionV3Inner::OwnedFirst(items) => write_members("First", items, f),
-            _ => unreachable!(),
+    }
+}
+
+#[cycle(debug)]
+fn write_content<W: fmt::Write>(
+    content: Content<'_, '_>,
+    f: &mut fmt::Formatter<W>,
+) -> fmt::Result {
+    match content {
+        Content::Component(component) => {
+            let leaf = ModifiersOf(component);
+            write!(f, "{leaf:?}")
         }
+        Content::Literal(text) => write!(f, "Literal({text:?})"),
+        Content::Compound(items) => write_members("Compound", items, f),
+        Content::Optional { format, item } => {
+            write!(f, "Optional {{ should_format: {format:?}, item: ")?;
+            write_content(item.content(), f)?;
+            f.write_str(" }")
+        }
+        Content::First(items) => write_members("First", items, f),
     }
 }
 
@@ -50,12 +49,11 @@ fn write_members<W: fmt::Write>(
     f: &mut fmt::Formatter<W>,
 ) -> fmt::Result {
     write!(f, "{name}([")?;
-    for at in 0..items.len() {
+    'items: for at in 0..items.len() {
         if at > 0 {
             f.write_str(", ")?;
         }
-        let item = &items[at];
-        write!(f, "{item:?}")?;
+        write_content(items[at].content(), f)?;
     }
     f.write_str("])")
 }

@@ -1,11 +1,13 @@
 //! From a tree to nodes: their number, and the tree taken apart into them.
 
 ghost use Rattle.std.specs.Prelude.{◌≡◌, ◌+◌, ◌≤◌, ◌∷◌, [], map, true, IsFalse, IsTrue};
+ghost use Rattle.timefd_items.specs.Content.{content_tree};
 ghost use Rattle.timefd_items.specs.Meaning.{inner_tree, owns};
 ghost use Rattle.timefd_node_list.specs.NodeTrees.{Adds, HasRoom};
 ghost use Rattle.timefd_component.specs.Reserved.{tree_count, trees_count, within};
 ghost use Rattle.timefd_component.specs.Tree.{trees};
 
+use crate::format_description_v3::content::Content;
 use crate::format_description_v3::inner::FormatDescriptionV3Inner;
 use timefd_node_list::node_list::NodeList;
 
@@ -21,31 +23,11 @@ impl<'a> FormatDescriptionV3Inner<'a> {
     pub(super) fn nodes_within(&self, limit: usize) -> Option<usize>
         ensures { result ≡ within limit (tree_count (inner_tree self.now)) }
     {
-        if self.component().is_some() {
-            return and_one(0, limit);
-        }
-        match self {
-            &FormatDescriptionV3Inner::BorrowedLiteral(_) => and_one(0, limit),
-            &FormatDescriptionV3Inner::BorrowedCompound(items) => {
-                and_one(Self::all_nodes_within(items, limit)?, limit)
-            }
-            &FormatDescriptionV3Inner::BorrowedOptional { format: _, item } => {
-                and_one(item.nodes_within(limit)?, limit)
-            }
-            &FormatDescriptionV3Inner::BorrowedFirst(items) => {
-                and_one(Self::all_nodes_within(items, limit)?, limit)
-            }
-            FormatDescriptionV3Inner::OwnedLiteral(_) => and_one(0, limit),
-            FormatDescriptionV3Inner::OwnedCompound(items) => {
-                and_one(Self::all_nodes_within(items, limit)?, limit)
-            }
-            FormatDescriptionV3Inner::OwnedOptional { format: _, item } => {
-                and_one(item.nodes_within(limit)?, limit)
-            }
-            FormatDescriptionV3Inner::OwnedFirst(items) => {
-                and_one(Self::all_nodes_within(items, limit)?, limit)
-            }
-            _ => unreachable!(),
+        match self.content() {
+            Content::Component(_) | Content::Literal(_) => and_one(0, limit),
+            Content::Compound(items) => and_one(Self::all_nodes_within(items, limit)?, limit),
+            Content::Optional { format: _, item } => and_one(item.nodes_within(limit)?, limit),
+            Content::First(items) => and_one(Self::all_nodes_within(items, limit)?, limit),
         }
     }
 
@@ -96,31 +78,13 @@ impl<'a> FormatDescriptionV3Inner<'a> {
         ensures added { IsTrue result → Adds list.old list.new (inner_tree self.now ∷ []) }
         ensures left { IsFalse result → (list.new ≡ list.old) × (owns self.now ≡ true) }
     {
-        if let Some(component) = self.component() {
-            list.component(component);
-            return true;
+        match self.borrowed_content() {
+            Some(content) => {
+                content.flatten(list);
+                true
+            }
+            None => false,
         }
-        match self {
-            &FormatDescriptionV3Inner::BorrowedLiteral(text) => list.literal(text),
-            &FormatDescriptionV3Inner::BorrowedCompound(items) => {
-                Self::flatten_all_lent(items, list);
-                list.compound(items.len());
-            }
-            &FormatDescriptionV3Inner::BorrowedOptional { format, item } => {
-                item.flatten_lent(list);
-                list.optional(format);
-            }
-            &FormatDescriptionV3Inner::BorrowedFirst(items) => {
-                Self::flatten_all_lent(items, list);
-                list.first(items.len());
-            }
-            FormatDescriptionV3Inner::OwnedLiteral(_)
-            | FormatDescriptionV3Inner::OwnedCompound(_)
-            | FormatDescriptionV3Inner::OwnedOptional { .. }
-            | FormatDescriptionV3Inner::OwnedFirst(_) => return false,
-            _ => unreachable!(),
-        }
-        true
     }
 
     #[cycle(flatten)]
@@ -132,55 +96,42 @@ impl<'a> FormatDescriptionV3Inner<'a> {
             item.flatten(list);
         }
     }
+}
 
-    /// Adds this tree, which is lent, for which there is room.
+impl<'a> Content<'a, 'a> {
+    /// Adds the tree of this content, for which there is room.
     #[cycle(flatten_lent)]
-    fn flatten_lent(&'a self, list: &mut NodeList<'a>)
-        requires { HasRoom list.old (tree_count (inner_tree self.now)) }
-        ensures { Adds list.old list.new (inner_tree self.now ∷ []) }
+    fn flatten(self, list: &mut NodeList<'a>)
+        requires { HasRoom list.old (tree_count (content_tree self)) }
+        ensures { Adds list.old list.new (content_tree self.entry ∷ []) }
     {
-        if let Some(component) = self.component() {
-            list.component(component);
-            return;
-        }
         match self {
-            &FormatDescriptionV3Inner::BorrowedLiteral(text) => list.literal(text),
-            &FormatDescriptionV3Inner::BorrowedCompound(items) => {
-                Self::flatten_all_lent(items, list);
+            Content::Component(component) => {
+                list.component(component);
+            }
+            Content::Literal(text) => list.literal(text),
+            Content::Compound(items) => {
+                Self::flatten_all(items, list);
                 list.compound(items.len());
             }
-            &FormatDescriptionV3Inner::BorrowedOptional { format, item } => {
-                item.flatten_lent(list);
+            Content::Optional { format, item } => {
+                item.content().flatten(list);
                 list.optional(format);
             }
-            &FormatDescriptionV3Inner::BorrowedFirst(items) => {
-                Self::flatten_all_lent(items, list);
+            Content::First(items) => {
+                Self::flatten_all(items, list);
                 list.first(items.len());
             }
-            FormatDescriptionV3Inner::OwnedLiteral(text) => list.literal(text.as_str()),
-            FormatDescriptionV3Inner::OwnedCompound(items) => {
-                Self::flatten_all_lent(items, list);
-                list.compound(items.len());
-            }
-            FormatDescriptionV3Inner::OwnedOptional { format, item } => {
-                item.flatten_lent(list);
-                list.optional(*format);
-            }
-            FormatDescriptionV3Inner::OwnedFirst(items) => {
-                Self::flatten_all_lent(items, list);
-                list.first(items.len());
-            }
-            _ => unreachable!(),
         }
     }
 
     #[cycle(flatten_lent)]
-    fn flatten_all_lent(items: &'a [Self], list: &mut NodeList<'a>)
+    fn flatten_all(items: &'a [FormatDescriptionV3Inner<'a>], list: &mut NodeList<'a>)
         requires { HasRoom list.old (trees_count (trees (map inner_tree items.now))) }
         ensures { Adds list.old list.new (map inner_tree items.now) }
     {
         'items: for at in 0..items.len() {
-            items[at].flatten_lent(list);
+            items[at].content().flatten(list);
         }
     }
 }

@@ -7,6 +7,7 @@ ghost use Rattle.timefd_component.specs.Reserved.{reserve, tree_count};
 ghost use Rattle.timefd_component.specs.Tree.{compound, is_none, no_trees, trees};
 
 use crate::format_description_v3::FormatDescriptionV3;
+use crate::format_description_v3::content::Content;
 use crate::format_description_v3::inner::FormatDescriptionV3Inner;
 use std::alloc::Global;
 use timefd_node_list::node_list::NodeList;
@@ -70,9 +71,8 @@ impl<'a> FormatDescriptionV3Inner<'a> {
     fn is_empty_compound(&self) -> bool
         ensures { result ≡ is_none (inner_tree self.now) }
     {
-        match self {
-            &FormatDescriptionV3Inner::BorrowedCompound(items) => are_none(items),
-            FormatDescriptionV3Inner::OwnedCompound(items) => are_none(items),
+        match self.content() {
+            Content::Compound(items) => are_none(items),
             _ => false,
         }
     }

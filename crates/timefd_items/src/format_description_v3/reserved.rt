@@ -5,6 +5,7 @@ ghost use Rattle.timefd_items.specs.Meaning.{inner_tree};
 ghost use Rattle.timefd_component.specs.Reserved.{reserve, reserve_all, within};
 ghost use Rattle.timefd_component.specs.Tree.{trees};
 
+use super::content::Content;
 use super::inner::FormatDescriptionV3Inner;
 use timefd_component::reserved::reserved_bytes;
 
@@ -20,37 +21,21 @@ impl FormatDescriptionV3Inner<'_> {
     pub fn bytes_within(&self, limit: usize) -> Option<usize>
         ensures { result ≡ within limit (reserve (inner_tree self.now)) }
     {
-        if let Some(component) = self.component() {
-            return up_to(reserved_bytes(component), limit);
-        }
-        match self {
-            &FormatDescriptionV3Inner::BorrowedLiteral(text) => up_to(text.len(), limit),
-            &FormatDescriptionV3Inner::BorrowedCompound(items) => Self::sum_within(items, limit),
-            &FormatDescriptionV3Inner::BorrowedOptional { format, item } => {
+        match self.content() {
+            Content::Component(component) => up_to(reserved_bytes(component), limit),
+            Content::Literal(text) => up_to(text.len(), limit),
+            Content::Compound(items) => Self::sum_within(items, limit),
+            Content::Optional { format, item } => {
                 if format {
                     item.bytes_within(limit)
                 } else {
                     Some(0)
                 }
             }
-            &FormatDescriptionV3Inner::BorrowedFirst(items) => match items {
+            Content::First(items) => match items {
                 [] => Some(0),
                 [first, ..] => first.bytes_within(limit),
             },
-            FormatDescriptionV3Inner::OwnedLiteral(text) => up_to(text.len(), limit),
-            FormatDescriptionV3Inner::OwnedCompound(items) => Self::sum_within(items, limit),
-            FormatDescriptionV3Inner::OwnedOptional { format, item } => {
-                if *format {
-                    item.bytes_within(limit)
-                } else {
-                    Some(0)
-                }
-            }
-            FormatDescriptionV3Inner::OwnedFirst(items) => match items.as_slice() {
-                [] => Some(0),
-                [first, ..] => first.bytes_within(limit),
-            },
-            _ => unreachable!(),
         }
     }
 

@@ -1,7 +1,16 @@
-use Rattle.std.proofs.Common.{◌≡◌, map, take}
+use Rattle.std.proofs.Common.{◌≡◌, ◌+◌, ◌*◌, map, take}
 use Rattle.timefd_items.specs.Meaning.{inner_tree}
+use Rattle.timefd_component.specs.Reserved.{tree_count, trees_count}
+use Rattle.timefd_component.specs.Tree.{trees}
 use Rattle.timefd_items.proofs.format_description_v3.inner.FormatDescriptionV3Inner.+clone.Given as goal
 
 -- the copies are of those before this one
 abbrev pub invariant-clone_all-items : goal.invariant-clone_all-items
 invariant-clone_all-items l = map inner_tree l.copies.items ≡ map inner_tree (take l.at l.items)
+
+-- a list is one step in front of its first
+abbrev pub decreases-clone : goal.decreases-clone
+decreases-clone l = 2 * tree_count (inner_tree l.self.now)
+
+abbrev pub decreases-clone_all : goal.decreases-clone_all
+decreases-clone_all l = 2 * trees_count (trees (map inner_tree l.items.now)) + 1
