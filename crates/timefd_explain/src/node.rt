@@ -2,14 +2,13 @@
 
 use std::alloc::{AllocError, Global};
 use timefd_component::Component;
-use timefd_component::debug::ModifiersOf;
 use timefd_component::reserved::reserved_bytes;
 use timefd_drawing::shown::safe;
 use timefd_items::{Shape, View};
 use timefd_parse::{
     BorrowedFormatItem, BorrowedOutput, DescriptionVersion, ParseError, parse_borrowed,
 };
-use timefd_sample::sample;
+use timefd_sample::{sample, words_of};
 
 /// What is shown of a node.
 #[derive(Clone, Copy)]
@@ -207,11 +206,11 @@ pub fn push_component(
     component: Component,
 ) -> Result<usize, AllocError> {
     let bytes = reserved_bytes(component);
-    let fields = ModifiersOf(component);
+    let words = words_of(alloc, component)?;
     let what = match modifiers_in(text) {
-        None => format!(in alloc; "{fields:?}")?,
-        Some("") => format!(in alloc; "{fields:?}, by default")?,
-        Some(set) => format!(in alloc; "{fields:?}, set: {}", safe(alloc, set)?)?,
+        None => words,
+        Some("") => format!(in alloc; "{words}, by default")?,
+        Some(set) => format!(in alloc; "{words}, set: {}", safe(alloc, set)?)?,
     };
     push_node(
         alloc,

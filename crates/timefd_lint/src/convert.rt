@@ -1,10 +1,11 @@
-//! Descriptions rewritten in the next version of the language.
+//! Descriptions rewritten in a later version of the language.
 
 ghost use Rattle.std.specs.Prelude.{IfOk, string_bytes};
 ghost use Rattle.std.specs.Result.{IfErr};
+ghost use Rattle.timefd_language.specs.declared.description_version.DescriptionVersion.TheVariants.{One};
 ghost use Rattle.timefd_language.specs.Grammar.{nesting_limit};
 ghost use Rattle.timefd_parse.specs.Answers.{IsAssigned};
-ghost use Rattle.timefd_lint.specs.Conversions.{KeepsItems, version_of};
+ghost use Rattle.timefd_lint.specs.Conversions.{KeepsItems, KeepsItemsOver, version_of};
 
 use std::alloc::Global;
 use timefd_lift::{v1_to_v2, v2_to_v3};
@@ -15,6 +16,7 @@ use timefd_parse::{DescriptionVersion, Language, ParseError};
 pub enum Conversion {
     OneToTwo,
     TwoToThree,
+    OneToThree,
 }
 
 /// The conversion from a language to a version, where there is one.
@@ -26,11 +28,14 @@ pub fn conversion_between(from: Language, to: DescriptionVersion) -> Option<Conv
         (Language::Version(DescriptionVersion::Two), DescriptionVersion::Three) => {
             Some(Conversion::TwoToThree)
         }
+        (Language::Version(DescriptionVersion::One), DescriptionVersion::Three) => {
+            Some(Conversion::OneToThree)
+        }
         _ => None,
     }
 }
 
-/// The text of the next version with the same items, neighbouring literals joined. The error is the
+/// The text of the later version with the same items, neighbouring literals joined. The error is the
 /// fault that the earlier version finds in the text, or `Memory` where memory ran out.
 pub fn converted(alloc: Global, conversion: Conversion, text: &str) -> Result<String, ParseError>
     ensures same_items { IfOk result (λ answer.
@@ -40,5 +45,17 @@ pub fn converted(alloc: Global, conversion: Conversion, text: &str) -> Result<St
     match conversion {
         Conversion::OneToTwo => v1_to_v2(alloc, text),
         Conversion::TwoToThree => v2_to_v3(alloc, text),
+        Conversion::OneToThree => v1_to_v3(alloc, text),
+    }
+}
+
+// By way of version 2, which accepts what is rewritten: so the second step has no fault to find.
+fn v1_to_v3(alloc: Global, text: &str) -> Result<String, ParseError>
+    ensures same_items { IfOk result (λ answer. KeepsItemsOver text.now (string_bytes answer)) }
+    ensures refused { IfErr result (IsAssigned One nesting_limit text.now) }
+{
+    match v1_to_v2(alloc, text) {
+        Ok(between) => v2_to_v3(alloc, &between),
+        Err(error) => Err(error),
     }
 }

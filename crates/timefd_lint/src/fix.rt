@@ -1,4 +1,4 @@
-//! A file whose lines are rewritten in the next version of the language.
+//! A file whose lines are rewritten in a later version of the language.
 
 use crate::convert::{Conversion, converted};
 use crate::line::{is_passed_over, without_newline};

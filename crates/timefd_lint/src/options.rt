@@ -38,7 +38,7 @@ impl Options<'_> {
     }
 
     // Whether all that is asked for can be had together: trees are drawn alone, and lines of files
-    // are written back, in the next version.
+    // are written back, in a later version.
     fn go_together(self) -> bool {
         if self.explains && !matches!(self.style.format, Format::Human) {
             return false;

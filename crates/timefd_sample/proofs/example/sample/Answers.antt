@@ -3,7 +3,7 @@ use Rattle.timefd_component.specs.Modern.{modern}
 use Rattle.timefd_component.specs.Texts.{IsText}
 use Rattle.timefd_sample.specs.Samples as spec
 use Rattle.timefd_sample.proofs.SampleLemmas.{is_text}
-use Rattle.timefd_sample.proofs.sample.Goals as goal
+use Rattle.timefd_sample.proofs.example.sample.Goals as goal
 
 pub returns : goal.returns
 returns c =
