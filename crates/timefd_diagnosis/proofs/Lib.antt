@@ -1,2 +1,4 @@
 pub mod NearestLemmas
 pub mod PlaceLemmas
+pub mod CodeLemmas
+pub mod HelpLemmas

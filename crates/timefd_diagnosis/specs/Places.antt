@@ -1,5 +1,5 @@
 -- What a word of a head was to be, by what stands in front of it.
-use Rattle.std.specs.Prelude.{ℕ, ◌≡◌, ◌≢◌, ◌≤◌, ◌-◌, ◌<◌, Bool, List, [], ◌∷◌, ◌++◌, length, drop, slice_index, Some, IsTrue, IsFalse}
+use Rattle.std.specs.Prelude.{ℕ, ◌≡◌, ◌≢◌, ◌≤◌, ◌-◌, ◌<◌, Bool, List, [], ◌∷◌, ◌++◌, length, drop, slice_index, Option, Some, None, IsTrue, IsFalse}
 use Rattle.timefd_component.specs.Tree.{Text}
 use Rattle.timefd_language.specs.declared.name.Name.{Name}
 use Rattle.timefd_language.specs.Bytes.{left, colon, is_white, is_word_byte}
@@ -43,15 +43,24 @@ pub record IsHeadIn (front name between : Text) : Type 0 where
   pub spaces : IsCut is_white head white named
   pub word : IsCut is_word_byte named name between
 
--- Behind the head of a bracket with this name stands a key, or behind one of its keys and a colon a
--- value.
-abbrev pub IsPlaceIn : Bool → Text → Place → Type 0
-IsPlaceIn strict front places.Name = ⊥
-IsPlaceIn strict front (places.Key name) =
-    (word : Text) × (between : Text) × IsHeadIn front word between
-    × IsNameOf strict word (Some name)
-IsPlaceIn strict front (places.Value key) =
-    (word : Text) × (between : Text) × (before : Text) × (key_word : Text) × (name : Name)
-    × IsHeadIn front word between × IsNameOf strict word (Some name)
+-- What a word is that stands behind this name and this rest of its head: a key, or where the rest
+-- ends with one of the bracket's keys and a colon a value.
+abbrev pub IsPlaceAt : Bool → Text → Text → Place → Type 0
+IsPlaceAt strict word between places.Name = ⊥
+IsPlaceAt strict word between (places.Key name) =
+    IsNameOf strict word (Some name) × ((before : Text) → between ≢ before ++ colon ∷ [])
+IsPlaceAt strict word between (places.Value key) =
+    (before : Text) × (key_word : Text) × (name : Name) × IsNameOf strict word (Some name)
     × (between ≡ before ++ colon ∷ []) × IsLastWord before key_word
     × (key_in strict key_word (keys_for name) ≡ Some (key_for key))
+
+-- The same of a text in a bracket.
+abbrev pub IsPlaceIn : Bool → Text → Place → Type 0
+IsPlaceIn strict front place =
+    (word : Text) × (between : Text) × IsHeadIn front word between
+    × IsPlaceAt strict word between place
+
+-- It is the place where there is one, and there is none where it is none.
+abbrev pub IsPlaceBehind : Bool → Text → Option Place → Type 0
+IsPlaceBehind strict front None = (place : Place) → ¬ IsPlaceIn strict front place
+IsPlaceBehind strict front (Some place) = IsPlaceIn strict front place

@@ -1,40 +1,115 @@
 //! The stable names of faults.
 
+ghost use Rattle.std.specs.Prelude.{◌≡◌};
+ghost use Rattle.timefd_fault.specs.Faults.{fault_of};
+ghost use Rattle.timefd_diagnosis.specs.Codes as spec;
+
 use timefd_parse::InvalidFormatDescription;
 
-/// The name of a fault, which stays the same whatever its sentence says.
-pub fn code_of(fault: &InvalidFormatDescription) -> &'static str {
-    match fault {
-        InvalidFormatDescription::UnclosedOpeningBracket { .. } => "unclosed-bracket",
-        InvalidFormatDescription::InvalidComponentName { .. } => "unknown-name",
-        InvalidFormatDescription::InvalidModifier { .. } => "invalid-modifier",
-        InvalidFormatDescription::MissingComponentName { .. } => "missing-name",
-        InvalidFormatDescription::MissingRequiredModifier { .. } => "missing-modifier",
-        InvalidFormatDescription::Expected { what, .. } => expected(what),
-        InvalidFormatDescription::NotSupported { what, .. } => not_supported(what),
-        InvalidFormatDescription::DuplicateModifier { .. } => "duplicate-modifier",
-        InvalidFormatDescription::InvalidModifierCombination { .. } => "refused-modifier",
+/// What a fault is, whatever word of the text it is about.
+#[derive(Clone, Copy)]
+pub enum Code {
+    UnclosedBracket,
+    UnknownName,
+    InvalidModifier,
+    MissingName,
+    MissingModifier,
+    InvalidEscape,
+    UnescapedBracket,
+    MissingSpace,
+    MissingDescription,
+    MissingAlternative,
+    NestedTooDeep,
+    SeveralDescriptions,
+    OptionalItem,
+    FirstItem,
+    UnsupportedFlag,
+    UnsupportedLetter,
+    NestedInComponent,
+    DuplicateModifier,
+    RefusedModifier,
+}
+
+impl Code {
+    /// That of a fault.
+    pub fn of(fault: &InvalidFormatDescription) -> Code
+        ensures { result ≡ spec.code_of (fault_of fault.now).kind }
+    {
+        match fault {
+            InvalidFormatDescription::UnclosedOpeningBracket { .. } => Code::UnclosedBracket,
+            InvalidFormatDescription::InvalidComponentName { .. } => Code::UnknownName,
+            InvalidFormatDescription::InvalidModifier { .. } => Code::InvalidModifier,
+            InvalidFormatDescription::MissingComponentName { .. } => Code::MissingName,
+            InvalidFormatDescription::MissingRequiredModifier { .. } => Code::MissingModifier,
+            InvalidFormatDescription::Expected { what, .. } => expected(what),
+            InvalidFormatDescription::NotSupported { what, .. } => unsupported(what),
+            InvalidFormatDescription::DuplicateModifier { .. } => Code::DuplicateModifier,
+            InvalidFormatDescription::InvalidModifierCombination { .. } => Code::RefusedModifier,
+        }
+    }
+
+    /// Its name, which stays the same whatever the fault's sentence says.
+    pub fn name(self) -> &'static str
+        ensures { result.now ≡ spec.name_of self }
+    {
+        match self {
+            Code::UnclosedBracket => "unclosed-bracket",
+            Code::UnknownName => "unknown-name",
+            Code::InvalidModifier => "invalid-modifier",
+            Code::MissingName => "missing-name",
+            Code::MissingModifier => "missing-modifier",
+            Code::InvalidEscape => "invalid-escape",
+            Code::UnescapedBracket => "unescaped-bracket",
+            Code::MissingSpace => "missing-space",
+            Code::MissingDescription => "missing-description",
+            Code::MissingAlternative => "missing-alternative",
+            Code::NestedTooDeep => "nested-too-deep",
+            Code::SeveralDescriptions => "several-descriptions",
+            Code::OptionalItem => "optional-item",
+            Code::FirstItem => "first-item",
+            Code::UnsupportedFlag => "unsupported-flag",
+            Code::UnsupportedLetter => "unsupported-letter",
+            Code::NestedInComponent => "nested-in-component",
+            Code::DuplicateModifier => "duplicate-modifier",
+            Code::RefusedModifier => "refused-modifier",
+        }
     }
 }
 
-fn expected(what: &str) -> &'static str {
+/// No two codes have one name.
+pub fn names_differ()
+    ensures { spec.NamesDiffer }
+{}
+
+/// The name of a fault.
+pub fn code_of(fault: &InvalidFormatDescription) -> &'static str
+    ensures code { result.now ≡ spec.name_of (spec.code_of (fault_of fault.now).kind) }
+{
+    Code::of(fault).name()
+}
+
+fn expected(what: &str) -> Code
+    ensures { result ≡ spec.expected_code what.now }
+{
     match what {
-        "valid escape sequence" => "invalid-escape",
-        "right bracket to be escaped" => "unescaped-bracket",
-        "whitespace before nested format description" => "missing-space",
-        "nested format description" => "missing-description",
-        _ => "missing-alternative",
+        "valid escape sequence" => Code::InvalidEscape,
+        "right bracket to be escaped" => Code::UnescapedBracket,
+        "whitespace before nested format description" => Code::MissingSpace,
+        "nested format description" => Code::MissingDescription,
+        _ => Code::MissingAlternative,
     }
 }
 
-fn not_supported(what: &str) -> &'static str {
+fn unsupported(what: &str) -> Code
+    ensures { result ≡ spec.unsupported_code what.now }
+{
     match what {
-        "highly-nested format description" => "nested-too-deep",
-        "more than one nested format description" => "several-descriptions",
-        "optional item" => "optional-item",
-        "'first' item" => "first-item",
-        "modifier" => "unsupported-flag",
-        "component" => "unsupported-letter",
-        _ => "nested-in-component",
+        "highly-nested format description" => Code::NestedTooDeep,
+        "more than one nested format description" => Code::SeveralDescriptions,
+        "optional item" => Code::OptionalItem,
+        "'first' item" => Code::FirstItem,
+        "modifier" => Code::UnsupportedFlag,
+        "component" => Code::UnsupportedLetter,
+        _ => Code::NestedInComponent,
     }
 }

@@ -3,6 +3,7 @@
 #![tactic(auto)]
 
 mod code;
+mod cure;
 mod diagnostic;
 mod help;
 mod nearest;
@@ -10,7 +11,7 @@ pub mod place;
 mod span;
 pub mod words;
 
-pub use code::code_of;
+pub use code::{Code, code_of, names_differ};
 pub use diagnostic::{Diagnostic, diagnose};
 pub use help::Help;
 pub use span::{Extent, Span, span_of};

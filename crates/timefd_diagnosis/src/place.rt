@@ -1,10 +1,12 @@
 //! What stands where a fault is: a name, a key or a value.
 
-ghost use Rattle.std.specs.Prelude.{◌≡◌, IfSome};
+ghost use Rattle.std.specs.Prelude.{◌≡◌, MatchOption};
+ghost use Rattle.timefd_component.specs.Tree.{Text};
 ghost use Rattle.timefd_language.specs.Bytes as bytes;
 ghost use Rattle.timefd_diagnosis.specs.Places as spec;
-ghost use Rattle.timefd_diagnosis.specs.Places.{IsBehindWhite, IsInside, IsLastWord, IsPlaceIn};
+ghost use Rattle.timefd_diagnosis.specs.Places.{IsBehindWhite, IsHeadIn, IsInside, IsLastWord, IsPlaceAt, IsPlaceBehind};
 ghost use Rattle.timefd_diagnosis.specs.Words.{texts};
+ghost use Rattle.timefd_diagnosis.specs.declared.place.Place.{Place};
 
 use crate::words::{keys, names, values};
 use timefd_language::key::{Key, key_of};
@@ -37,17 +39,21 @@ impl Place {
 
 /// What stands behind the last `[` of a text, if it has one.
 fn inside(front: &str) -> Option<&str>
-    ensures { IfSome result (λ rest. IsInside front.now rest.now) }
+    ensures { MatchOption result ((rest : Text) → ¬ IsInside front.now rest)
+        (λ rest. IsInside front.now rest.now) }
 {
-    let (_, rest) = front.rsplit_once('[')?;
-    Some(rest)
+    match front.rsplit_once('[') {
+        Some((_, rest)) => Some(rest),
+        None => None,
+    }
 }
 
 // What stands behind the last white byte of a text.
-fn last_word(text: &str) -> Option<&str>
-    ensures { IfSome result (λ word. IsLastWord text.now word.now) }
+fn last_word(text: &str) -> &str
+    ensures { IsLastWord text.now result.now }
 {
-    text.get(behind_white(text.as_bytes())..)
+    let (_, word) = text.split_at(behind_white(text.as_bytes()));
+    word
 }
 
 // Where the last word begins.
@@ -72,13 +78,35 @@ fn is_white(byte: u8) -> bool
 /// What a modifier's word was to be that stands behind this text: a key, or the value of one.
 /// `None` where that can't be told, as no name or no key stands there.
 pub fn place_behind(strict: bool, front: &str) -> Option<Place>
-    ensures { IfSome result (IsPlaceIn strict front.now) }
+    ensures place { IsPlaceBehind strict front.now result }
 {
-    let (_, rest) = cut(inside(front)?, Class::White);
-    let (word, between) = cut(rest, Class::Word);
+    let (word, between) = head_in(front)?;
+    place_at(strict, word, between)
+}
+
+// The name of the bracket that a text ends in, and what stands behind the name.
+fn head_in(front: &str) -> Option<(&str, &str)>
+    ensures { MatchOption result
+        ((name : Text) (between : Text) → ¬ IsHeadIn front.now name between)
+        (λ head. IsHeadIn front.now head.0.now head.1.now) }
+{
+    let head = inside(front)?;
+    let (_, rest) = cut(head, Class::White);
+    Some(cut(rest, Class::Word))
+}
+
+// What stands behind a name and the rest of its head.
+fn place_at(strict: bool, word: &str, between: &str) -> Option<Place>
+    ensures { MatchOption result
+        ((place : Place) → ¬ IsPlaceAt strict word.now between.now place)
+        (IsPlaceAt strict word.now between.now) }
+{
     let name = name_of(strict, word)?;
     match between.strip_suffix(':') {
         None => Some(Place::Key(name)),
-        Some(before) => Some(Place::Value(key_of(name, strict, last_word(before)?)?)),
+        Some(before) => {
+            let key = key_of(name, strict, last_word(before))?;
+            Some(Place::Value(key))
+        }
     }
 }

@@ -1,0 +1,52 @@
+-- What to do against a fault, in words.
+use Rattle.std.specs.Prelude.{codes}
+use Rattle.timefd_component.specs.Tree.{Text}
+use Rattle.timefd_language.specs.declared.description_version.DescriptionVersion.{DescriptionVersion}
+use Rattle.timefd_language.specs.declared.description_version.DescriptionVersion.TheVariants.{One, Two, Three}
+use Rattle.timefd_diagnosis.specs.declared.code.Code.{Code}
+use Rattle.timefd_diagnosis.specs.declared.code.Code.TheVariants.{UnclosedBracket, UnknownName, InvalidModifier, MissingName, MissingModifier, InvalidEscape, UnescapedBracket, MissingSpace, MissingDescription, MissingAlternative, NestedTooDeep, SeveralDescriptions, OptionalItem, FirstItem, UnsupportedFlag, UnsupportedLetter, NestedInComponent, DuplicateModifier, RefusedModifier}
+
+-- how a literal bracket is written
+
+abbrev pub unclosed : DescriptionVersion → Text
+unclosed One = codes "close it with `]`, or write `[[` for a literal bracket"
+unclosed Two = codes "close it with `]`, or write `\\[` for a literal bracket"
+unclosed Three = codes "close it with `]`, or write `\\[` for a literal bracket"
+
+abbrev pub nameless : DescriptionVersion → Text
+nameless One = codes "name a component, or write `[[` for a literal bracket"
+nameless Two = codes "name a component, or write `\\[` for a literal bracket"
+nameless Three = codes "name a component, or write `\\[` for a literal bracket"
+
+-- Against a fault of a version. Two of strftime's don't come there, and where another word has to be
+-- written words are named instead.
+abbrev pub advice : DescriptionVersion → Code → Text
+advice v UnclosedBracket = unclosed v
+advice v UnknownName = codes "write another word"
+advice v InvalidModifier = codes "a modifier is a key, a colon and a value, with no white space"
+advice v MissingName = nameless v
+advice v MissingModifier = codes "say how many bytes are ignored, from 1 to 65535, as in `[ignore count:2]`"
+advice v InvalidEscape = codes "a backslash stands before `[`, `]` or a backslash alone: write two for a literal one"
+advice v UnescapedBracket = codes "write `\\]` for a literal bracket"
+advice v MissingSpace = codes "put a space before this bracket"
+advice v MissingDescription = codes "put what is optional into brackets, as in `[optional [:[second]]]`"
+advice v MissingAlternative = codes "put each alternative into brackets, as in `[first [[day]] [[ordinal]]]`"
+advice v NestedTooDeep = codes "at most 127 descriptions stand around one another"
+advice v SeveralDescriptions = codes "put all that is optional into one description"
+advice v OptionalItem = codes "only version 3 takes optional items: see `--language 3`"
+advice v FirstItem = codes "only version 3 takes alternatives: see `--language 3`"
+advice v UnsupportedFlag = codes "only `optional` and `first` take nested descriptions"
+advice v UnsupportedLetter = codes "only `optional` and `first` take nested descriptions"
+advice v NestedInComponent = codes "only `optional` and `first` take nested descriptions"
+advice v DuplicateModifier = codes "leave out one of the two"
+advice v RefusedModifier = codes "write another word"
+
+abbrev pub strftime_advice : Code → Text
+strftime_advice InvalidEscape =
+    codes "a letter has to follow, or write `%%` for a literal percent sign"
+strftime_advice UnsupportedFlag =
+    codes "leave out the `O`: the letter behind it is read without it"
+strftime_advice UnsupportedLetter =
+    codes "names of time zones aren't known: `%z` writes the offset from UTC"
+strftime_advice _ =
+    codes "the letters are aAbBcCdDeFgGhHIjklmMnpPrRsStTuUVwWxXyYz, and `%%` is a percent sign"

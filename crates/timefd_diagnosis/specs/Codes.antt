@@ -1,0 +1,62 @@
+-- The stable names of faults.
+use Rattle.std.specs.Prelude.{◌≡◌, codes, bytes_eq, if◌then◌else◌}
+use Rattle.timefd_component.specs.Tree.{Text}
+use Rattle.timefd_fault.specs.Faults.{Kind, unclosed_bracket, invalid_name, invalid_modifier, missing_name, missing_modifier, expected, not_supported, duplicate_modifier, invalid_combination}
+use Rattle.timefd_diagnosis.specs.declared.code.Code.{Code}
+use Rattle.timefd_diagnosis.specs.declared.code.Code.TheVariants.{UnclosedBracket, UnknownName, InvalidModifier, MissingName, MissingModifier, InvalidEscape, UnescapedBracket, MissingSpace, MissingDescription, MissingAlternative, NestedTooDeep, SeveralDescriptions, OptionalItem, FirstItem, UnsupportedFlag, UnsupportedLetter, NestedInComponent, DuplicateModifier, RefusedModifier}
+
+abbrev pub name_of : Code → Text
+name_of UnclosedBracket = codes "unclosed-bracket"
+name_of UnknownName = codes "unknown-name"
+name_of InvalidModifier = codes "invalid-modifier"
+name_of MissingName = codes "missing-name"
+name_of MissingModifier = codes "missing-modifier"
+name_of InvalidEscape = codes "invalid-escape"
+name_of UnescapedBracket = codes "unescaped-bracket"
+name_of MissingSpace = codes "missing-space"
+name_of MissingDescription = codes "missing-description"
+name_of MissingAlternative = codes "missing-alternative"
+name_of NestedTooDeep = codes "nested-too-deep"
+name_of SeveralDescriptions = codes "several-descriptions"
+name_of OptionalItem = codes "optional-item"
+name_of FirstItem = codes "first-item"
+name_of UnsupportedFlag = codes "unsupported-flag"
+name_of UnsupportedLetter = codes "unsupported-letter"
+name_of NestedInComponent = codes "nested-in-component"
+name_of DuplicateModifier = codes "duplicate-modifier"
+name_of RefusedModifier = codes "refused-modifier"
+
+-- of what is expected, and of what is not supported
+
+abbrev pub expected_code : Text → Code
+expected_code what =
+    if bytes_eq what (codes "valid escape sequence") then InvalidEscape
+    else if bytes_eq what (codes "right bracket to be escaped") then UnescapedBracket
+    else if bytes_eq what (codes "whitespace before nested format description") then MissingSpace
+    else if bytes_eq what (codes "nested format description") then MissingDescription
+    else MissingAlternative
+
+abbrev pub unsupported_code : Text → Code
+unsupported_code what =
+    if bytes_eq what (codes "highly-nested format description") then NestedTooDeep
+    else if bytes_eq what (codes "more than one nested format description") then SeveralDescriptions
+    else if bytes_eq what (codes "optional item") then OptionalItem
+    else if bytes_eq what (codes "'first' item") then FirstItem
+    else if bytes_eq what (codes "modifier") then UnsupportedFlag
+    else if bytes_eq what (codes "component") then UnsupportedLetter
+    else NestedInComponent
+
+abbrev pub code_of : Kind → Code
+code_of unclosed_bracket = UnclosedBracket
+code_of (invalid_name name) = UnknownName
+code_of (invalid_modifier word) = InvalidModifier
+code_of missing_name = MissingName
+code_of (missing_modifier key) = MissingModifier
+code_of (expected what) = expected_code what
+code_of (not_supported what context) = unsupported_code what
+code_of (duplicate_modifier key) = DuplicateModifier
+code_of (invalid_combination key context) = RefusedModifier
+
+-- No two codes have one name.
+abbrev pub NamesDiffer : Type 0
+NamesDiffer = (a b : Code) → name_of a ≡ name_of b → a ≡ b
