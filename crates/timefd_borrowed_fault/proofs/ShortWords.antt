@@ -1,5 +1,5 @@
 -- The faults of a text have short words, so that a `usize` counts their sentences.
-use Rattle.std.proofs.Common.{ℕ, suc, ◌≡◌, ◌++◌, ◌+◌, ◌≤◌, ◌==◌, ◌&&◌, not, is_some, map, Bool, true, false, if◌then◌else◌, List, [], ◌∷◌, length, Option, Some, None, Result, Ok, Err, sym, subst, arith, codes}
+use Rattle.std.proofs.Common.{ℕ, suc, ◌++◌, ◌+◌, ◌≤◌, ◌==◌, ◌&&◌, not, is_some, map, Bool, true, false, if◌then◌else◌, List, [], ◌∷◌, length, Option, Some, None, Result, Ok, Err, sym, subst, arith, codes}
 use Rattle.std.specs.Prelude.{⊤}
 use Rattle.std.specs.declared.num.NonZeroU16.{NonZeroU16}
 use Rattle.timefd_component.specs.declared.component.Component.{Component}
@@ -17,7 +17,7 @@ use Rattle.timefd_language.specs.Fault.{enclosed, expected_white, expected_neste
 use Rattle.timefd_language.specs.Head.{Head, Placed, head_text, placed}
 use Rattle.timefd_language.specs.Grammar.{spelling, nested_text, parts_from}
 use Rattle.timefd_language.specs.Names.{Row, ignore, ignored, row_for, row_of, rows, component_names}
-use Rattle.timefd_language.specs.Strftime.{StrftimeFaultOf, IllDirective, cut_short, unknown, ill_fault, unknown_kind, name_of}
+use Rattle.timefd_language.specs.Strftime.{StrftimeFaultOf, IllDirective, cut_short, unknown, ill_fault, name_of}
 use Rattle.timefd_language.specs.Values.{Key, format, key_in, setting_in}
 use Rattle.timefd_language.specs.Verdict.{PlacedDescription, ◌or◌, refuse, unless, is_set, bad_value, bad_modifier, is_formatted, only, bad_modifiers, misplaced, combined, combination, made, behind, component_verdict, touching, too_many, nested_refused, nested_wanted, any_modifier, optional_verdict, first_verdict, settings, verdict}
 use Rattle.timefd_language.proofs.Lookup.{Each, each-map}

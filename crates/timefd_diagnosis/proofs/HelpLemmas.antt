@@ -1,5 +1,5 @@
 -- What a modifier's word was to be, of the text in front of it.
-use Rattle.std.proofs.Common.{ℕ, ◌≡◌, take, Option, Some, None, subst}
+use Rattle.std.proofs.Common.{◌≡◌, take, Option, Some, None, subst}
 use Rattle.std.specs.Prelude.{Bool, MatchOption}
 use Rattle.timefd_component.specs.Tree.{Text}
 use Rattle.timefd_diagnosis.specs.declared.place.Place.{Place}

@@ -1,5 +1,5 @@
 -- What stands behind the last `[`, and what that makes of a word: there is one answer.
-use Rattle.std.proofs.Common.{ℕ, ◌≡◌, ◌≢◌, ◌≤◌, ◌<◌, ◌+◌, ◌-◌, zero, suc, List, [], ◌∷◌, ◌++◌, length, length-append, get_or, take, drop, Option, Some, None, ◌==◌, refl, sym, ap, subst, ◌∙◌, arith, inl, inr, IsUtf8}
+use Rattle.std.proofs.Common.{ℕ, ◌≡◌, ◌≢◌, ◌<◌, ◌-◌, [], ◌∷◌, ◌++◌, length, length-append, get_or, take, drop, Option, Some, None, ◌==◌, refl, sym, ap, subst, ◌∙◌, arith, inl, inr, IsUtf8}
 use Rattle.std.specs.Prelude.{Bool, true, MatchOption}
 use Rattle.std.specs.Str.{NoCharPasses, IsCharBoundary}
 use Rattle.std.specs.Str.Pattern.{RFindsChar, SplitsAroundMatch}

@@ -1,6 +1,6 @@
 -- What is told of texts, one after another.
 use Rattle.std.proofs.Common.{◌≡◌, ◌≢◌, Bool, true, false, ◌||◌, List, [], ◌∷◌, ◌++◌, Option, Some, None, refl, sym, ap, subst, ◌∙◌, append-nil, arith, ◌<◌, length}
-use Rattle.std.specs.Prelude.{All, IsFalse, IfSome, flat_map}
+use Rattle.std.specs.Prelude.{All, IsFalse, IfSome}
 use Rattle.std.specs.Io.KnownBytes.{Appends, Keeps, IsAtEnd}
 use Rattle.std.specs.Io.BufRead.{take_through, drop_through, DropsThrough}
 use Rattle.std.proofs.KnownBytes.{Appends-nil, Appends-trans}

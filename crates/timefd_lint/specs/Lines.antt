@@ -1,5 +1,5 @@
 -- What a text of a file is.
-use Rattle.std.specs.Prelude.{◌≡◌, Bool, true, false, ◌||◌, List, [], Option, Some, None, IsUtf8, IsTrue, IsFalse, nat_eq, if◌then◌else◌}
+use Rattle.std.specs.Prelude.{Bool, ◌||◌, List, Option, Some, None, IsUtf8, IsTrue, IsFalse, nat_eq, if◌then◌else◌}
 use Rattle.std.specs.Io.BufRead.{ends_with_byte, strip_last}
 use Rattle.std.specs.List.{starts_with}
 use denote.Ref.{Bor}

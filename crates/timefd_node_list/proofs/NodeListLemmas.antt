@@ -7,7 +7,7 @@ use Rattle.timefd_node_list.specs.declared.tally.Tally.{Tally}
 use Rattle.timefd_node_list.specs.Nodes.{part, perhaps, ending, kept_bytes, last_kept, Fits}
 use Rattle.timefd_component.specs.Reserved.{reserve, reserve_first}
 use Rattle.timefd_node_list.specs.Tallies.{IsTally, kept_of}
-use Rattle.timefd_component.specs.Tree.{Tree, first, optional, trees, pack}
+use Rattle.timefd_component.specs.Tree.{Tree, optional, trees, pack}
 use Rattle.timefd_node_list.proofs.NodeLemmas.{length-ending}
 use Rattle.timefd_node_list.proofs.TallyLemmas.{kept_of_all}
 

@@ -1,4 +1,4 @@
-use Rattle.std.proofs.Common.{◌≡◌, subst, string_bytes, ap, ◌∙◌, sym}
+use Rattle.std.proofs.Common.{subst, string_bytes, ap, sym}
 use Rattle.timefd_fault.specs.Faults.{fault_of}
 use Rattle.timefd_diagnosis.specs.declared.help.Help.TheVariants.{Advice}
 use Rattle.timefd_diagnosis.specs.Helps as spec

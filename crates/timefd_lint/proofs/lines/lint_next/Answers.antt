@@ -1,4 +1,4 @@
-use Rattle.std.proofs.Common.{rules, ◌≡◌, ◌<◌, length, ap, ◌∙◌, arith}
+use Rattle.std.proofs.Common.{rules, ◌<◌, length, ap, ◌∙◌}
 use Rattle.timefd_lint.specs.Lines.{without_newline}
 use Rattle.timefd_lint.proofs.ToldLemmas.{next_told}
 use Rattle.timefd_lint.proofs.lines.lint_next.Goals as goal
