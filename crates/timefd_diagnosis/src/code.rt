@@ -9,24 +9,43 @@ use timefd_parse::InvalidFormatDescription;
 /// What a fault is, whatever word of the text it is about.
 #[derive(Clone, Copy)]
 pub enum Code {
+    /// A bracket has no end.
     UnclosedBracket,
+    /// A bracket has the name of no component, or no letter of strftime is this one.
     UnknownName,
+    /// A word is no modifier of its component, or no key and value.
     InvalidModifier,
+    /// A bracket has no name.
     MissingName,
+    /// A component lacks a modifier that it has to have.
     MissingModifier,
+    /// A backslash, or a percent sign of strftime, stands before nothing that it takes.
     InvalidEscape,
+    /// A `]` stands alone, where version 3 wants a backslash before it.
     UnescapedBracket,
+    /// A nested description touches the word in front of it.
     MissingSpace,
+    /// `optional` has no nested description.
     MissingDescription,
+    /// `first` has none.
     MissingAlternative,
+    /// A nested description stands inside of too many.
     NestedTooDeep,
+    /// `optional` has more than one nested description.
     SeveralDescriptions,
+    /// `optional` stands in a version without it.
     OptionalItem,
+    /// `first` stands in a version without it.
     FirstItem,
+    /// A flag of strftime that is not read.
     UnsupportedFlag,
+    /// A letter of strftime that is not read.
     UnsupportedLetter,
+    /// A component has a nested description, and takes none.
     NestedInComponent,
+    /// A bracket has a key twice, where version 3 takes it once.
     DuplicateModifier,
+    /// A key stands with a value of another that refuses it.
     RefusedModifier,
 }
 

@@ -14,8 +14,11 @@ use timefd_parse::{DescriptionVersion, Language, ParseError};
 /// From which version to which descriptions are rewritten.
 #[derive(Clone, Copy)]
 pub enum Conversion {
+    /// By `v1_to_v2`.
     OneToTwo,
+    /// By `v2_to_v3`.
     TwoToThree,
+    /// By both, one behind the other.
     OneToThree,
 }
 
