@@ -1,6 +1,6 @@
 //! The pieces of a description, as they stand in its text.
 
-ghost use Rattle.std.specs.Prelude.{◌≡◌, ◌<◌, ◌++◌, length, IfSome};
+ghost use Rattle.std.specs.Prelude.{◌≡◌, ◌<◌, ◌++◌, [], length, IfSome, MatchOption, ⊤};
 
 use timefd_parse::{DescriptionVersion, Language};
 
@@ -9,6 +9,7 @@ use timefd_parse::{DescriptionVersion, Language};
 pub fn next_piece(language: Language, text: &str) -> Option<(&str, &str)>
     ensures joined { IfSome result (λ parts. parts.0.now ++ parts.1.now ≡ text.now) }
     ensures shorter { IfSome result (λ parts. length parts.1.now < length text.now) }
+    ensures end { MatchOption result (text.now ≡ []) (λ _. ⊤) }
 {
     let len = piece_len(language, text.as_bytes());
     match text.split_at_checked(len) {

@@ -1,5 +1,11 @@
 //! An accepted description as its tree, a line a node.
 
+ghost use Rattle.std.specs.Prelude.{◌≡◌, List, IfOk};
+ghost use Rattle.timefd_component.specs.Reserved.{reserve};
+ghost use Rattle.timefd_component.specs.Tree.{Tree, pack};
+ghost use Rattle.timefd_language.specs.Grammar.{Spells, nesting_limit};
+ghost use Rattle.timefd_language.specs.declared.description_version.DescriptionVersion.TheVariants.{Three};
+
 use crate::cut::next_piece;
 use crate::node::{push_item, push_leaf, push_nested, push_plain, reserved};
 use crate::step::{Step, next_step};
@@ -36,7 +42,11 @@ fn push_version(
     out: &mut String,
     version: DescriptionVersion,
     text: &str,
-) -> Result<usize, AllocError> {
+) -> Result<usize, AllocError>
+    ensures bytes { (list : List Tree) → version ≡ Three
+        → Spells Three nesting_limit 0 text.now list
+        → IfOk result (λ bytes. bytes ≡ reserve (pack list)) }
+{
     let (mut rest, mut depth, mut sum) = (text, 0usize, 0usize);
     'steps: while let Some((step, behind)) = next_step(version, depth, rest) {
         rest = behind;

@@ -1,12 +1,19 @@
 //! A node of a description as it is shown.
 
+ghost use Rattle.std.specs.Prelude.{◌≡◌, List, IfOk};
+ghost use Rattle.timefd_component.specs.Reserved.{reserve};
+ghost use Rattle.timefd_component.specs.Tree.{Tree, pack};
+ghost use Rattle.timefd_language.specs.Grammar.{Spells, nesting_limit};
+ghost use Rattle.timefd_language.specs.declared.description_version.DescriptionVersion.TheVariants.{Three};
+
 use std::alloc::{AllocError, Global};
 use timefd_component::Component;
 use timefd_component::reserved::reserved_bytes;
 use timefd_drawing::shown::safe;
 use timefd_items::{Shape, View};
 use timefd_parse::{
-    BorrowedFormatItem, BorrowedOutput, DescriptionVersion, ParseError, parse_borrowed,
+    BorrowedFormatItem, BorrowedOutput, DescriptionVersion, Language, NESTING_LIMIT, ParseError,
+    amount_within, parse_borrowed,
 };
 use timefd_sample::{sample, words_of};
 
@@ -90,10 +97,13 @@ pub fn push_nested(
 }
 
 /// How many bytes a description of version 3 reserves: 0 where the text is none.
-pub fn reserved(alloc: Global, text: &str) -> Result<usize, AllocError> {
-    match parse_borrowed(alloc, DescriptionVersion::Three, text) {
-        Ok(BorrowedOutput::Description(description)) => Ok(description.max_bytes_needed()),
-        Ok(BorrowedOutput::Items(_)) => Ok(0),
+pub fn reserved(alloc: Global, text: &str) -> Result<usize, AllocError>
+    ensures bytes { (list : List Tree) → Spells Three nesting_limit 0 text.now list
+        → IfOk result (λ bytes. bytes ≡ reserve (pack list)) }
+{
+    let language = Language::Version(DescriptionVersion::Three);
+    match amount_within(alloc, language, NESTING_LIMIT, text) {
+        Ok(bytes) => Ok(bytes),
         Err(ParseError::Invalid(_)) => Ok(0),
         Err(ParseError::Memory(error)) => Err(error),
     }

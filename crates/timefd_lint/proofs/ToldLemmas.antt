@@ -15,7 +15,7 @@ use Rattle.timefd_lint.specs.declared.line.TextEnd.{TextEnd}
 use Rattle.timefd_lint.specs.declared.line.TextEnd.TheVariants.{PassedOver, Accepted, Refused, NotText, Failed}
 use Rattle.timefd_lint.specs.declared.tally.Tally.{Tally}
 use Rattle.timefd_lint.specs.Lines.{IsEndOf, IsLineEnd, without_newline}
-use Rattle.timefd_lint.specs.Told.{IsMessageOn, Says, Told, is_refused, is_not_text, is_failed, IsEndIn, IsTold, tally_of_one, tally_of, both, messages, lines_in, lines_of, AreLines, AreLinesUpTo, AreLinesOf, IsRun, IsRunOver, IsNextLine, IsNext}
+use Rattle.timefd_lint.specs.Told.{IsMessageOn, Says, Told, is_refused, is_not_text, is_failed, IsEndIn, IsTold, tally_of_one, tally_of, both, messages, lines_in, lines_of, AreLines, AreLinesUpTo, AreLinesOf, IsRun, IsRunOver, IsRunOfAll, IsNextLine, IsNext}
 
 -- Of a text that is passed over, or accepted, nothing is written.
 pub says_nothing : (explains : Bool) (end : TextEnd) (known : Option Text)
@@ -298,13 +298,42 @@ line_fails language comment explains bytes rest next before between behind tally
     (subst (λ e. Says explains e between behind) is more.2))
 
 -- One text, one file that can't be read, and a reader, as runs.
-pub text_run : (language : Language) (comment : Option (Bor Text)) (explains : Bool) (text : Text)
-    (before behind : Option Text) (end : TextEnd) (tally : Tally)
+whole_text : (bytes : Option Text) (old read text : Text) → IfSome bytes (λ all. read ≡ old ++ all)
+    → old ≡ [] → text ≡ read → IfSome bytes (λ all. text ≡ all)
+whole_text None old read text all none same = tt
+whole_text (Some xs) old read text all none same =
+    same ∙ all ∙ ap (λ front. front ++ xs) none
+
+-- all bytes of a reader, which stand behind none in a buffer
+pub text_of_all : (language : Language) (comment : Option (Bor Text)) (explains : Bool)
+    (bytes : Option Text) (old read text : Text) (before behind : Option Text) (end : TextEnd)
+    (tally : Tally)
+    → IfSome bytes (λ all. read ≡ old ++ all) → old ≡ [] → text ≡ read
     → IsEndOf language text end → Says explains end before behind → tally ≡ tally_of_one end
-    → IsRun true language comment explains before behind tally
-text_run language comment explains text before behind end tally ended said is =
-    subst (λ t. IsRun true language comment explains before behind t) (sym is)
-    (one_text true language comment explains text end before behind (λ _. ended) said)
+    → IsRunOfAll language comment explains bytes before behind tally
+text_of_all language comment explains bytes old read text before behind end tally all none same ended
+    said is = record {
+      told = record { line = text; end = end; message = said.0 };
+      is_told = record { end = λ _. ended; message = said.1 };
+      whole = λ _. whole_text bytes old read text all none same;
+      found = is;
+      written = said.2;
+    }
+
+pub none_of_all : (language : Language) (comment : Option (Bor Text)) (explains : Bool)
+    (bytes before behind : Option Text) (end : TextEnd) (tally : Tally)
+    → end ≡ Failed → Says explains end before behind → tally ≡ tally_of_one end
+    → IsRunOfAll language comment explains bytes before behind tally
+none_of_all language comment explains bytes before behind end tally failed said is =
+    let says_failed : Says explains Failed before behind =
+    subst (λ e. Says explains e before behind) failed said in
+    record {
+      told = record { line = []; end = Failed; message = says_failed.0 };
+      is_told = record { end = λ e. absurd (true≢false e); message = says_failed.1 };
+      whole = λ e. absurd (true≢false e);
+      found = is ∙ ap tally_of_one failed;
+      written = says_failed.2;
+    }
 
 pub failed_run : (is_whole : Bool) (language : Language) (comment : Option (Bor Text))
     (explains : Bool) (before behind : Option Text) (end : TextEnd) (tally : Tally)
@@ -317,11 +346,16 @@ failed_run is_whole language comment explains before behind end tally failed sai
     (λ e. absurd (true≢false e)) (subst (λ e. Says explains e before behind) failed said))
 
 pub whole_run : (is_whole : Bool) (language : Language) (comment : Option (Bor Text))
-    (explains : Bool) (before behind : Option Text) (tally : Tally)
-    → is_whole ≡ true → IsRun true language comment explains before behind tally
+    (explains : Bool) (bytes before behind : Option Text) (tally : Tally)
+    → is_whole ≡ true → IsRunOfAll language comment explains bytes before behind tally
     → IsRun is_whole language comment explains before behind tally
-whole_run is_whole language comment explains before behind tally is run =
-    subst (λ w. IsRun w language comment explains before behind tally) (sym is) run
+whole_run is_whole language comment explains bytes before behind tally is run =
+    subst (λ w. IsRun w language comment explains before behind tally) (sym is) (record {
+      told = run.told ∷ [];
+      each = only run.told (IsTold true language comment explains) run.is_told;
+      found = run.found ∙ sym (tally_one run.told);
+      written = subst (λ m. Appends before behind m) (sym (append-nil run.told.message)) run.written;
+    })
 
 pub lines_run : (is_whole : Bool) (language : Language) (comment : Option (Bor Text))
     (explains : Bool) (bytes before behind : Option Text) (tally : Tally)

@@ -1,5 +1,5 @@
 -- What a run says of texts, each in turn.
-use Rattle.std.specs.Prelude.{◌≡◌, ◌≢◌, Bool, true, false, ◌||◌, List, [], ◌∷◌, Option, Some, None, All, IsFalse, ⊤, flat_map, if◌then◌else◌}
+use Rattle.std.specs.Prelude.{◌≡◌, ◌≢◌, Bool, true, false, ◌||◌, List, [], ◌∷◌, Option, Some, None, All, IfSome, IsFalse, ⊤, flat_map, if◌then◌else◌}
 use Rattle.std.specs.List.{list_any}
 use Rattle.std.specs.Io.KnownBytes.{Appends, Keeps, IsAtEnd}
 use Rattle.std.specs.Io.BufRead.{take_through, drop_through}
@@ -133,6 +133,16 @@ pub record IsRunOver (language : Language) (comment : Option (Bor Text)) (explai
     (bytes before behind : Option Text) (tally : Tally) : Type 0 where
   pub run : IsRun false language comment explains before behind tally
   pub lines : AreLinesOf bytes (lines_of run.told) tally.failed
+
+-- The same of all bytes of a reader as one text. Where they are known, that text is what is told of,
+-- unless it can't be read.
+pub record IsRunOfAll (language : Language) (comment : Option (Bor Text)) (explains : Bool)
+    (bytes before behind : Option Text) (tally : Tally) : Type 0 where
+  pub told : Told
+  pub is_told : IsTold true language comment explains told
+  pub whole : IsFalse (is_failed told.end) → IfSome bytes (λ all. told.line ≡ all)
+  pub found : tally ≡ tally_of_one told.end
+  pub written : Appends before behind told.message
 
 -- a line that is read off the front of the bytes
 abbrev pub IsNextLine : Option Text → Text → Option Text → Type 0

@@ -1,7 +1,7 @@
 //! The lines of a reader, one after another.
 
 ghost use Rattle.std.specs.Prelude.{◌≡◌, true, IfOk};
-ghost use Rattle.timefd_lint.specs.Told.{IsNext, IsRun, IsRunOver, Says};
+ghost use Rattle.timefd_lint.specs.Told.{IsNext, IsRunOfAll, IsRunOver, Says};
 ghost use Rattle.timefd_lint.specs.declared.line.TextEnd.TheVariants as ends;
 
 use crate::line::{RunError, TextEnd, lint_line, lint_text, without_newline, write};
@@ -67,7 +67,7 @@ fn lint_next<R: BufRead, W: Write>(
 }
 
 /// Looks at all bytes of a reader as one text, and writes what is wrong.
-#[tactic(auto, using(crate::proofs::ToldLemmas::text_run, crate::proofs::ToldLemmas::failed_run))]
+#[tactic(auto, using(crate::proofs::ToldLemmas::text_of_all, crate::proofs::ToldLemmas::none_of_all))]
 pub fn lint_whole<R: Read, W: Write>(
     alloc: Global,
     options: Options<'_>,
@@ -75,19 +75,25 @@ pub fn lint_whole<R: Read, W: Write>(
     reader: &mut R,
     writer: &mut W,
 ) -> Result<Tally, RunError>
-    ensures { IfOk result (IsRun true options.entry.language options.entry.comment
-        options.entry.explains (W.contents writer.old) (W.contents writer.new)) }
+    ensures { IfOk result (IsRunOfAll options.entry.language options.entry.comment
+        options.entry.explains (R.remaining reader.old)
+        (W.contents writer.old) (W.contents writer.new)) }
 {
     let origin = Origin {
         file: name,
         line: 1,
     };
     let mut bytes = Vec::new(alloc);
-    let end = match reader.read_to_end(&mut bytes) {
-        Ok(_) => lint_text(alloc, options, origin, &bytes, writer)?,
-        Err(error) => read_error(alloc, options, name, error, writer)?,
-    };
-    Ok(Tally::of(end))
+    match reader.read_to_end(&mut bytes) {
+        Ok(_) => {
+            let end = lint_text(alloc, options, origin, &bytes, writer)?;
+            Ok(Tally::of(end))
+        }
+        Err(error) => {
+            let end = read_error(alloc, options, name, error, writer)?;
+            Ok(Tally::of(end))
+        }
+    }
 }
 
 // Memory that runs out in a read ends the run; any other error is noted.
