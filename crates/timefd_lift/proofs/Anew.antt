@@ -1,4 +1,4 @@
--- What version 2 spells, written anew, version 3 spells.
+-- What version 2 spells, written anew, version 3 spells, and version 2 too.
 use Rattle.std.proofs.Common.{ℕ, ◌≡◌, cond, true, false, [], ◌∷◌, ◌++◌, Ok, refl, sym, ◌∙◌, ap, append_assoc, append-nil, arith}
 use Rattle.std.proofs.lemmas.Bool.{and_parts}
 use Rattle.std.proofs.lemmas.Bool.Decides.{nat_tests}
@@ -8,9 +8,10 @@ use Rattle.timefd_language.specs.declared.description_version.DescriptionVersion
 use Rattle.timefd_language.specs.Bytes.{right, backslash, is_special, is_run_byte, OneOrMore}
 use Rattle.timefd_language.specs.Head.{Head, head_text}
 use Rattle.timefd_language.specs.Grammar.{Pieces, no_pieces, run, escape, closing, bracket, no_nested, nested, spelling, items, ArePieces, BeginsNoRun}
-use Rattle.timefd_lift.specs.Laws.{ComponentsRead, Writing}
+use Rattle.timefd_lift.specs.Laws.{ComponentsRead, Writing, ReadAlike, WrittenOnce}
 use Rattle.timefd_lift.specs.Written.{component_text, escape_before, tree_text, written}
 use Rattle.timefd_language.proofs.Lift.{bracket_refuses}
+use Rattle.timefd_language.proofs.LawLemmas.{one_answer_law}
 use Rattle.timefd_lift.proofs.Heads.{IsShown}
 use Rattle.timefd_lift.proofs.ComponentHeads.{component-shown}
 use Rattle.timefd_lift.proofs.Leaves.{IsLeaf, bracket-leaf}
@@ -31,10 +32,11 @@ run_escape (b ∷ c ∷ bytes) some = refl
 special_escape : (b : ℕ) → is_special b ≡ true → escape_before (b ∷ []) ≡ backslash ∷ []
 special_escape b e = ap (λ t. cond t (backslash ∷ []) []) e
 
--- Pieces of version 3 with the same items, which spell what is written of them.
+-- Pieces of versions 2 and 3 with the same items, which spell what is written of them.
 
 record IsAnew (limit : ℕ) (ps qs : Pieces) : Type 0 where
   are : ArePieces Three limit 0 qs
+  are_two : ArePieces Two limit 0 qs
   spelled : spelling qs ≡ written (items ps)
   same : items qs ≡ items ps
   begins : BeginsNoRun ps → BeginsNoRun qs
@@ -59,6 +61,13 @@ leaf_anew limit h white tree ps qs l shown rest = (
   bracket shown.head no_nested [] tree qs,
   record {
     are = (shown.is, tt, refl, shown.read _ ∙ ap Ok (ap component l.modern ∙ l.is), rest.are);
+    are_two = (
+      shown.is,
+      tt,
+      refl,
+      shown.read_two _ ∙ ap Ok (ap component l.modern ∙ l.is),
+      rest.are_two,
+    );
     spelled = bracket_spelling (component_text (modern l.leaf)) (head_text shown.head) (spelling qs)
         shown.spelled
         ∙ ap (λ x. x ++ spelling qs) (leaf_spelling tree l) ∙
@@ -73,6 +82,7 @@ anew limit no_pieces are = (
   no_pieces,
   record {
     are = tt;
+    are_two = tt;
     spelled = refl;
     same = refl;
     begins =
@@ -84,6 +94,7 @@ anew limit (run bytes rest) are =
       run bytes more.0,
       record {
         are = (are.0, more.1.begins are.1, more.1.are);
+        are_two = (are.0, more.1.begins are.1, more.1.are_two);
         spelled = ap (λ x. bytes ++ x) more.1.spelled ∙
             ap (λ x. (x ++ bytes) ++ written (items rest)) (sym (run_escape bytes are.0));
         same = ap (λ x. literal bytes ∷ x) more.1.same;
@@ -95,6 +106,7 @@ anew limit (escape a b rest) are =
       escape backslash b more.0,
       record {
         are = ((refl, are.0.1), more.1.are);
+        are_two = ((refl, are.0.1), more.1.are_two);
         spelled = ap (λ x. backslash ∷ b ∷ x) more.1.spelled ∙
             ap (λ x. (x ++ b ∷ []) ++ written (items rest)) (sym (special_escape b are.0.1));
         same = ap (λ x. literal (b ∷ []) ∷ x) more.1.same;
@@ -106,6 +118,7 @@ anew limit (closing rest) are =
       escape backslash right more.0,
       record {
         are = ((refl, refl), more.1.are);
+        are_two = ((refl, refl), more.1.are_two);
         spelled = ap (λ x. backslash ∷ right ∷ x) more.1.spelled;
         same = ap (λ x. literal (right ∷ []) ∷ x) more.1.same;
         begins = λ b. tt;
@@ -122,6 +135,17 @@ pub writing_law : Writing
 writing_law limit text list s =
     let a = anew limit s.0 s.1 in
     (a.0, a.1.are, ap written s.3 ∙ sym a.1.spelled, s.3 ∙ sym a.1.same)
+
+pub read_alike_law : ReadAlike
+read_alike_law limit text list s =
+    let a = anew limit s.0 s.1 in
+    (a.0, a.1.are_two, ap written s.3 ∙ sym a.1.spelled, s.3 ∙ sym a.1.same)
+
+-- version 2 reads one list in what was written, that which it was written of
+pub twice_law : WrittenOnce
+twice_law limit text list other s again =
+    ap written ((one_answer_law Two limit (written list)).1.one_list other list again
+    (read_alike_law limit text list s))
 
 pub components_read_law : ComponentsRead
 components_read_law limit c counted =

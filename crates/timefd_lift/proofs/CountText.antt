@@ -1,5 +1,5 @@
 -- A count, written in decimal, is read as that count.
-use Rattle.std.proofs.Common.{ℕ, ◌≡◌, ◌<◌, ◌≤◌, ◌^◌, ◌≢◌, true, [], ◌∷◌, ◌++◌, get_or, Some, Ok, codes, decimal, refl, sym, subst, arith}
+use Rattle.std.proofs.Common.{ℕ, ◌≡◌, ◌<◌, ◌≤◌, ◌^◌, ◌≢◌, true, false, [], ◌∷◌, ◌++◌, get_or, Some, Ok, codes, decimal, refl, sym, subst, arith}
 use Rattle.std.specs.List.{list_all}
 use Rattle.std.specs.Bool.{⊤}
 use Rattle.std.specs.Str.Parse.{AllDigits, IsNumeral, digits_value, without_leading_plus, ParsesUnsigned}
@@ -55,6 +55,12 @@ ignore_read : (x : NonZeroU16) (close : ℕ) → count_of (decimal x.value) ≡ 
     close ≡ Ok (component (Ignore (record { count = x })))
 ignore_read x close e = rw e refl
 
+ignore_read_two : (x : NonZeroU16) (close : ℕ)
+    → count_of (decimal x.value) ≡ Some (Setting.Count x)
+    → verdict false (plain_head (codes "ignore") (codes "count" set_to decimal x.value ∷ [])) []
+    close ≡ Ok (component (Ignore (record { count = x })))
+ignore_read_two x close e = rw e refl
+
 ignore_spelled : (digits : Text) → in_brackets (codes "ignore count:") digits [] ≡ head_text
     (plain_head (codes "ignore") (codes "count" set_to digits ∷ [])) ++ right ∷ []
 ignore_spelled digits = refl
@@ -75,4 +81,5 @@ ignore x small =
       };
       spelled = ignore_spelled (decimal x.value);
       read = λ close. ignore_read x close (count_read x small);
+      read_two = λ close. ignore_read_two x close (count_read x small);
     }

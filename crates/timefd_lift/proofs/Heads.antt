@@ -1,4 +1,4 @@
--- A text as one bracket that version 3 reads as a component.
+-- A text as one bracket that versions 2 and 3 read as a component.
 use Rattle.std.proofs.Common.{ℕ, ◌≡◌, ◌-◌, ◌==◌, ◌&&◌, Bool, true, false, List, [], ◌∷◌, ◌++◌, map, length, take, drop, Ok, codes}
 use Rattle.std.specs.List.{list_all, slice_split}
 use Rattle.std.proofs.lemmas.Bool.{and_parts, false≢true}
@@ -76,24 +76,27 @@ head_is h e =
       modifiers = modifiers_are h.modifiers q.1;
     }
 
--- the text is a bracket, which version 3 reads as the component
+-- the text is a bracket, which versions 2 and 3 read as the component
 pub record IsShown (text : Text) (c : Component) : Type 0 where
   pub head : Head
   pub is : IsHead head
   pub spelled : text ≡ head_text head ++ right ∷ []
   pub read : (close : ℕ) → verdict true head [] close ≡ Ok (component c)
+  pub read_two : (close : ℕ) → verdict false head [] close ≡ Ok (component c)
 
 abbrev pub IsShownAs : Component → Type 0
 IsShownAs c = IsShown (component_text c) c
 
--- where the modifiers have values, each of the three is computed
+-- where the modifiers have values, each of the four is computed
 pub shown : {c : Component} → is_head (head_in (component_text c)) ≡ true
     → component_text c ≡ head_text (head_in (component_text c)) ++ right ∷ []
     → ((close : ℕ) → verdict true (head_in (component_text c)) [] close ≡ Ok (component c))
+    → ((close : ℕ) → verdict false (head_in (component_text c)) [] close ≡ Ok (component c))
     → IsShownAs c
-shown {c} is spelled read = record {
+shown {c} is spelled read read_two = record {
   head = head_in (component_text c);
   is = head_is (head_in (component_text c)) is;
   spelled = spelled;
   read = read;
+  read_two = read_two;
 }

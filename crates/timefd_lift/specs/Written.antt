@@ -1,5 +1,5 @@
 -- The text of version 3 of a list of literals and components. A modifier is written where it isn't
--- version 3's default.
+-- version 3's default, and the range of a year wherever there is one: version 2's default is another.
 use Rattle.std.specs.Prelude.{Bool, true, false, codes, decimal, if◌then◌else◌, List, [], ◌∷◌, ◌++◌}
 use Rattle.timefd_modifier.specs.declared.enums.Padding.{Padding}
 use Rattle.timefd_modifier.specs.declared.enums.SubsecondDigits.{SubsecondDigits}
@@ -71,14 +71,15 @@ bracket_name (WeekNumberIso m) = codes "week_number"
 bracket_name (WeekNumberSunday m) = codes "week_number repr:sunday"
 bracket_name (WeekNumberMonday m) = codes "week_number repr:monday"
 bracket_name (CalendarYearFullExtendedRange m) = codes "year range:extended"
-bracket_name (CalendarYearFullStandardRange m) = codes "year"
+bracket_name (CalendarYearFullStandardRange m) = codes "year range:standard"
 bracket_name (CalendarYearCenturyExtendedRange m) = codes "year repr:century range:extended"
-bracket_name (CalendarYearCenturyStandardRange m) = codes "year repr:century"
+bracket_name (CalendarYearCenturyStandardRange m) = codes "year repr:century range:standard"
 bracket_name (IsoYearFullExtendedRange m) = codes "year range:extended base:iso_week"
-bracket_name (IsoYearFullStandardRange m) = codes "year base:iso_week"
+bracket_name (IsoYearFullStandardRange m) = codes "year range:standard base:iso_week"
 bracket_name (IsoYearCenturyExtendedRange m) =
     codes "year repr:century range:extended base:iso_week"
-bracket_name (IsoYearCenturyStandardRange m) = codes "year repr:century base:iso_week"
+bracket_name (IsoYearCenturyStandardRange m) =
+    codes "year repr:century range:standard base:iso_week"
 bracket_name (CalendarYearLastTwo m) = codes "year repr:last_two"
 bracket_name (IsoYearLastTwo m) = codes "year repr:last_two base:iso_week"
 bracket_name (Hour12 m) = codes "hour repr:12"

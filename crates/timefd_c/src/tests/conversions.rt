@@ -66,7 +66,7 @@ const MODERN: &[(&str, &str)] = &[
     ("a]b", "a\\]b"),
     ("[YEAR]", "[year range:extended]"),
     ("[hour repr:12 repr:24]", "[hour]"),
-    ("[year range:standard]", "[year]"),
+    ("[year range:standard]", "[year range:standard]"),
 ];
 
 // In a buffer of just its room, in one that is a byte shorter, in none, and in a long one.

@@ -25,15 +25,18 @@ const ACCEPTED: &[(&str, &str)] = &[
         "[year]-[month]-[day]",
         "[year range:extended]-[month]-[day]",
     ),
-    ("[year range:standard]", "[year]"),
+    ("[year range:standard]", "[year range:standard]"),
     (
         "[YEAR Repr:Century Base:ISO_Week]",
         "[year repr:century range:extended base:iso_week]",
     ),
-    ("[year repr:century range:standard]", "[year repr:century]"),
+    (
+        "[year repr:century range:standard]",
+        "[year repr:century range:standard]",
+    ),
     (
         "[year base:iso_week range:standard]",
-        "[year base:iso_week]",
+        "[year range:standard base:iso_week]",
     ),
     (
         "[year repr:last_two range:standard sign:mandatory]",
