@@ -7,3 +7,16 @@ pub(crate) fn filled<T: Clone>(len: usize, value: T) -> Option<Vec<T>> {
     buffer.resize(len, value);
     Some(buffer)
 }
+
+/// These values in a buffer of their own, with no room to spare. `None` where there is no memory.
+pub(crate) fn copied<T: Copy>(values: &[T]) -> Option<Vec<T>> {
+    let mut buffer = Vec::new();
+    buffer.try_reserve_exact(values.len()).ok()?;
+    buffer.extend_from_slice(values);
+    Some(buffer)
+}
+
+/// A text of these bytes, with no room to spare. `None` where there is no memory for it.
+pub(crate) fn string(bytes: &[u8]) -> Option<String> {
+    Some(String::from_utf8(copied(bytes)?).expect("the library writes text"))
+}

@@ -16,9 +16,7 @@ use crate::version::Version;
 /// assert_eq!(timefd::v1_to_v2("[[[day]]"), Ok(r"\[[day]\]".to_owned()));
 /// ```
 pub fn v1_to_v2(text: &str) -> Result<String, ParseError> {
-    // The library says that twice the text's length is always enough.
-    let room = text.len().checked_mul(2).ok_or(ParseError::OutOfMemory)?;
-    converted(Version::One, text, room, sys::v1_to_v2)
+    converted(Version::One, text, sys::v1_to_v2)
 }
 
 /// Writes a description of version 2 anew as one of version 3 that has the same items: in small
@@ -32,23 +30,35 @@ pub fn v1_to_v2(text: &str) -> Result<String, ParseError> {
 /// assert_eq!(timefd::v2_to_v3("[YEAR]]"), Ok(r"[year range:extended]\]".to_owned()));
 /// ```
 pub fn v2_to_v3(text: &str) -> Result<String, ParseError> {
-    // The library says how long the text is, also where it has no room for it.
-    let room = sys::v2_to_v3(text, &mut []).value;
-    converted(Version::Two, text, room, sys::v2_to_v3)
+    converted(Version::Two, text, sys::v2_to_v3)
 }
 
-/// What a call of the library writes for a text of a version, into so much room.
+/// Room on the stack for what most texts become.
+const SHORT: usize = 256;
+
+/// What a call of the library writes for a text of a version. Where that is long the library is
+/// asked twice, as it says how much room it wants.
 fn converted(
     version: Version,
     text: &str,
-    room: usize,
     call: fn(&str, &mut [u8]) -> sys::Answer,
 ) -> Result<String, ParseError> {
-    let mut buffer = buffer::filled(room, 0).ok_or(ParseError::OutOfMemory)?;
-    let answer = call(text, &mut buffer);
-    if answer.status != sys::ACCEPTED {
-        return Err(ParseError::of(version.number(), text, answer.status));
+    let mut short = [0; SHORT];
+    let first = accepted(version, text, call(text, &mut short))?;
+    if first.value <= SHORT {
+        return buffer::string(&short[..first.value]).ok_or(ParseError::OutOfMemory);
     }
-    buffer.truncate(answer.written);
-    Ok(String::from_utf8(buffer).expect("a description is text"))
+    let mut long = buffer::filled(first.value, 0).ok_or(ParseError::OutOfMemory)?;
+    let second = accepted(version, text, call(text, &mut long))?;
+    assert_eq!(second.written, long.len(), "there was room for what the library told");
+    Ok(String::from_utf8(long).expect("a description is text"))
+}
+
+/// The answer where the text is accepted, else the error.
+fn accepted(version: Version, text: &str, answer: sys::Answer) -> Result<sys::Answer, ParseError> {
+    if answer.status == sys::ACCEPTED {
+        Ok(answer)
+    } else {
+        Err(ParseError::of(version.number(), text, answer.status))
+    }
 }

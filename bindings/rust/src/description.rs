@@ -3,7 +3,7 @@
 use std::fmt;
 
 use crate::buffer;
-use crate::entry::{self, Entry};
+use crate::entry::{self, Entry, FillError};
 use crate::error::ParseError;
 use crate::node::Members;
 use crate::sys::{self, COMPOUND, RawNode, ReadAnswer};
@@ -81,7 +81,11 @@ impl FormatDescription {
         let literals = String::from_utf8(raw.literals).expect("literals are text");
         let mut entries =
             buffer::filled(nodes.len(), entry::VACANT).ok_or(ParseError::OutOfMemory)?;
-        entry::fill(&mut entries, nodes, &literals).expect("the nodes are as the header says");
+        match entry::fill(&mut entries, nodes, &literals) {
+            Ok(()) => {}
+            Err(FillError::OutOfMemory) => return Err(ParseError::OutOfMemory),
+            Err(FillError::Malformed) => unreachable!("the nodes are as the header says"),
+        }
         let mut description = Self { entries, literals, max_bytes: raw.value };
         if !is_one_tree {
             let bytes = description.items().map(|item| item.max_bytes_needed());
@@ -149,34 +153,37 @@ struct Raw {
     literals: Vec<u8>,
 }
 
-impl Raw {
-    /// Reads with room for what most texts have, and where that is too little once more with room
-    /// for all.
-    fn read(kind: u32, text: &str) -> Result<Self, ParseError> {
-        let (raw, answer) = Self::read_with_room(kind, text, 2 + text.len() / 4, text.len())?;
-        if answer.written {
-            return Ok(raw);
-        }
-        let (raw, answer) = Self::read_with_room(kind, text, answer.nodes, answer.literals)?;
-        assert!(answer.written, "there was room for what the library told");
-        Ok(raw)
-    }
+/// Room on the stack for what most texts have.
+const SHORT_NODES: usize = 32;
+const SHORT_LITERALS: usize = 128;
 
-    fn read_with_room(
-        kind: u32,
-        text: &str,
-        node_room: usize,
-        literal_room: usize,
-    ) -> Result<(Self, ReadAnswer), ParseError> {
-        let nodes = buffer::filled(node_room, RawNode::default());
-        let literals = buffer::filled(literal_room, 0);
-        let (mut nodes, mut literals) = nodes.zip(literals).ok_or(ParseError::OutOfMemory)?;
-        let answer = sys::read(kind, text, &mut nodes, &mut literals);
-        if answer.status != sys::ACCEPTED {
-            return Err(ParseError::of(kind, text, answer.status));
+impl Raw {
+    /// Reads with room on the stack, and where that is too little once more with room for all: what
+    /// is held is what the text has, however long it is.
+    fn read(kind: u32, text: &str) -> Result<Self, ParseError> {
+        let mut nodes = [RawNode::default(); SHORT_NODES];
+        let mut literals = [0; SHORT_LITERALS];
+        let answer = accepted(kind, text, sys::read(kind, text, &mut nodes, &mut literals))?;
+        if answer.written {
+            let nodes = buffer::copied(&nodes[..answer.nodes]).ok_or(ParseError::OutOfMemory)?;
+            let literals =
+                buffer::copied(&literals[..answer.literals]).ok_or(ParseError::OutOfMemory)?;
+            return Ok(Self { value: answer.value, nodes, literals });
         }
-        nodes.truncate(answer.nodes);
-        literals.truncate(answer.literals);
-        Ok((Self { value: answer.value, nodes, literals }, answer))
+        let nodes = buffer::filled(answer.nodes, RawNode::default());
+        let literals = buffer::filled(answer.literals, 0);
+        let (mut nodes, mut literals) = nodes.zip(literals).ok_or(ParseError::OutOfMemory)?;
+        let answer = accepted(kind, text, sys::read(kind, text, &mut nodes, &mut literals))?;
+        assert!(answer.written, "there was room for what the library told");
+        Ok(Self { value: answer.value, nodes, literals })
+    }
+}
+
+/// The answer where the text is accepted, else the error.
+fn accepted(kind: u32, text: &str, answer: ReadAnswer) -> Result<ReadAnswer, ParseError> {
+    if answer.status == sys::ACCEPTED {
+        Ok(answer)
+    } else {
+        Err(ParseError::of(kind, text, answer.status))
     }
 }

@@ -46,30 +46,59 @@ struct Open {
 /// What a list of entries holds before it is filled.
 pub(crate) const VACANT: Entry = Entry { kind: Kind::Compound, size: 0, after: 0, bytes: 0 };
 
+/// Why entries are not filled.
+#[derive(Debug, PartialEq, Eq)]
+pub(crate) enum FillError {
+    /// It is no list of nodes as the header has them, which the library never answers.
+    Malformed,
+    /// There is no memory for the nodes that are gone through at once.
+    OutOfMemory,
+}
+
 /// Fills the entries, as many as there are nodes, with the library's list, in which each node
-/// stands behind its members: here each stands before them. `None` where it is no such list, which
-/// the library never answers.
-pub(crate) fn fill(entries: &mut [Entry], nodes: &[RawNode], literals: &str) -> Option<()> {
+/// stands behind its members: here each stands before them.
+pub(crate) fn fill(
+    entries: &mut [Entry],
+    nodes: &[RawNode],
+    literals: &str,
+) -> Result<(), FillError> {
     let mut open: Vec<Open> = Vec::new();
     for (index, node) in nodes.iter().enumerate().rev() {
         while open.pop_if(|above| index < above.begin).is_some() {}
-        let kind = kind(node, literals)?;
-        let begin = begin(index, node);
-        let size = (index + 1).checked_sub(begin)?;
-        if matches!(kind, Kind::Optional { .. }) && size == 1 {
-            return None; // Its one member is missing.
+        let (place, entry, begin) =
+            entry(index, node, literals, &open).ok_or(FillError::Malformed)?;
+        *entries.get_mut(place).ok_or(FillError::Malformed)? = entry;
+        if begin < index {
+            // Only a node with members is looked at again.
+            open.try_reserve(1).map_err(|_| FillError::OutOfMemory)?;
+            let is_first = entry.kind == Kind::First;
+            open.push(Open { index, begin, is_first, after: entry.after });
         }
-        // Each node around this one has moved from behind it to before it.
-        let place = begin + open.len();
-        let after = match open.last() {
-            Some(above) if begin < above.begin => return None,
-            Some(above) if above.is_first || index + 1 == above.index => above.after,
-            _ => place + size,
-        };
-        *entries.get_mut(place)? = Entry { kind, size, after, bytes: node.bytes };
-        open.push(Open { index, begin, is_first: kind == Kind::First, after });
     }
-    Some(())
+    Ok(())
+}
+
+/// The entry of a node, its place, and the index of the first node below it.
+fn entry(
+    index: usize,
+    node: &RawNode,
+    literals: &str,
+    open: &[Open],
+) -> Option<(usize, Entry, usize)> {
+    let kind = kind(node, literals)?;
+    let begin = begin(index, node);
+    let size = (index + 1).checked_sub(begin)?;
+    if matches!(kind, Kind::Optional { .. }) && size == 1 {
+        return None; // Its one member is missing.
+    }
+    // Each node around this one has moved from behind it to before it.
+    let place = begin + open.len();
+    let after = match open.last() {
+        Some(above) if begin < above.begin => return None,
+        Some(above) if above.is_first || index + 1 == above.index => above.after,
+        _ => place + size,
+    };
+    Some((place, Entry { kind, size, after, bytes: node.bytes }, begin))
 }
 
 /// The index of the first node of all below a node, or its own where there is none.

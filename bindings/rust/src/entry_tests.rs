@@ -1,6 +1,6 @@
 //! Lists of nodes made by hand, as the library would answer them.
 
-use super::{VACANT, fill};
+use super::{FillError, VACANT, fill};
 use crate::node::Members;
 use crate::sys::RawNode;
 use crate::walks::{Nodes, Part, Parts};
@@ -135,6 +135,6 @@ const BROKEN: &[&[RawNode]] = &[
 fn what_is_no_list_is_not_taken() {
     for nodes in BROKEN {
         let mut entries = vec![VACANT; nodes.len()];
-        assert_eq!(fill(&mut entries, nodes, LITERALS), None, "{nodes:?}");
+        assert_eq!(fill(&mut entries, nodes, LITERALS), Err(FillError::Malformed), "{nodes:?}");
     }
 }

@@ -53,23 +53,24 @@ impl ParseError {
 
     /// The fault of a text that is refused. `None` where there is no memory for its sentence.
     fn fault(kind: u32, text: &str) -> Option<Self> {
-        let mut sentence = buffer::filled(SENTENCE_ROOM, 0)?;
-        let mut answer = sys::check(kind, text, &mut sentence);
-        if answer.status == sys::REFUSED && answer.written < answer.sentence_len {
-            sentence = buffer::filled(answer.sentence_len, 0)?;
-            answer = sys::check(kind, text, &mut sentence);
-        }
-        if answer.status != sys::REFUSED {
-            return None; // It was refused before, so it is again: this is not reached.
-        }
-        sentence.truncate(answer.written);
-        let sentence = String::from_utf8(sentence).expect("a sentence is text");
-        Some(Self::Invalid { index: answer.value, sentence: sentence.into_boxed_str() })
+        let mut short = [0; SHORT];
+        let first = sys::check(kind, text, &mut short);
+        let sentence = if first.sentence_len <= SHORT {
+            buffer::string(&short[..first.sentence_len])?
+        } else {
+            let mut long = buffer::filled(first.sentence_len, 0)?;
+            let second = sys::check(kind, text, &mut long);
+            assert_eq!(second.written, long.len(), "there was room for what the library told");
+            String::from_utf8(long).expect("a sentence is text")
+        };
+        // There is no room to spare, so this moves nothing and takes no memory.
+        debug_assert_eq!(sentence.capacity(), sentence.len());
+        Some(Self::Invalid { index: first.value, sentence: sentence.into_boxed_str() })
     }
 }
 
-/// Room for each sentence that names nothing long.
-const SENTENCE_ROOM: usize = 128;
+/// Room on the stack for each sentence that names nothing long.
+const SHORT: usize = 128;
 
 impl fmt::Display for ParseError {
     fn fmt(&self, f: &mut fmt::Formatter<'_>) -> fmt::Result {
