@@ -29,3 +29,7 @@ pub mod Words
 pub mod Named
 pub mod Counts
 pub mod StringLemmas
+pub mod Settle
+pub mod PlacesWithin
+pub mod VerdictPlaces
+pub mod PlacesBetween

@@ -23,3 +23,5 @@ pub mod FaultMeaning
 pub mod Invalid
 pub mod Laws
 pub mod Told
+pub mod Settled
+pub mod Places

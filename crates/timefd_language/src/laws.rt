@@ -1,5 +1,7 @@
 //! What holds of the languages: each law is the contract of a function with an empty body.
 
+ghost use Rattle.timefd_language.specs.Settled.{Settled};
+ghost use Rattle.timefd_language.specs.Places.{PlacedWithin, PlacedBetween, StrftimePlacedBetween};
 ghost use Rattle.timefd_language.specs.Laws.{OneAnswer, OneCut, OneReading, Joining, Shift, OneStrftimeAnswer, OneStrftimeCut, StrftimeJoining, StrftimeShift, GreaterLimit, Lifting, ReservesWithin, Recasing, Relaxing, Modernity, StrftimeModernity};
 
 /// A text has exactly one of a spelled list and an assigned fault, and one of it.
@@ -81,4 +83,24 @@ pub fn modernity()
 /// All components of a text of strftime are modern.
 pub fn strftime_modernity()
     ensures { StrftimeModernity }
+{}
+
+/// A fault behind whose construct text stands is that of every text that goes on from there.
+pub fn settled()
+    ensures { Settled }
+{}
+
+/// A fault stands in its text, or at its end.
+pub fn placed_within()
+    ensures { PlacedWithin }
+{}
+
+/// A fault stands between two characters of its text.
+pub fn placed_between()
+    ensures { PlacedBetween }
+{}
+
+/// A fault of strftime stands between two characters of its text.
+pub fn strftime_placed_between()
+    ensures { StrftimePlacedBetween }
 {}

@@ -1,0 +1,5 @@
+use Rattle.timefd_language.proofs.PlacesBetween.{placed_between_law}
+use Rattle.timefd_language.proofs.laws.placed_between.Goals as goal
+
+pub returns : goal.returns
+returns c = placed_between_law

@@ -1,0 +1,5 @@
+use Rattle.timefd_language.proofs.PlacesWithin.{placed_within_law}
+use Rattle.timefd_language.proofs.laws.placed_within.Goals as goal
+
+pub returns : goal.returns
+returns c = placed_within_law
