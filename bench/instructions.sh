@@ -6,7 +6,7 @@ cd "$(dirname "$0")"
 libc=$(dirname "$(rt doc)")/c/liblibc_c.a
 mkdir -p out
 
-(cd ../crates/timefd_c && rt lib > /dev/null)
+(cd ../crates/timefd_c && rt lib --cpu x86-64 > /dev/null)
 cc -std=gnu11 -Wall -Wextra -Werror -O2 -o out/instructions instructions.c ../crates/timefd_c/out/libtimefd_c.a "$libc"
 
 # count CALL KIND TIMES TEXT

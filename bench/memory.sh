@@ -8,7 +8,7 @@ libc=$(dirname "$(rt doc)")/c/liblibc_c.a
 registry=/usr/share/cargo/registry
 mkdir -p out
 
-(cd ../crates/timefd_c && rt lib > /dev/null)
+(cd ../crates/timefd_c && rt lib --cpu x86-64 > /dev/null)
 set --
 if [ -d "$registry/time-0.3.9" ] && [ -d "$registry/chrono-0.4.23" ]; then
     (cd beside && cargo build --release --offline --locked --quiet --lib)

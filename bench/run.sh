@@ -4,7 +4,7 @@
 set -eu
 cd "$(dirname "$0")/.."
 
-(cd crates/timefd_c && rt lib)
+(cd crates/timefd_c && rt lib --cpu x86-64)
 
 registry=/usr/share/cargo/registry
 folder=bench

@@ -21,7 +21,7 @@ read_by_the_program() {
     cat out/line
 }
 
-(cd ../crates/timefd_c && rt lib > /dev/null)
+(cd ../crates/timefd_c && rt lib --cpu x86-64 > /dev/null)
 cc -std=gnu11 -Wall -Wextra -Werror -O2 -o out/sizes sizes.c texts.c ../crates/timefd_c/out/libtimefd_c.a "$libc"
 [ $# -gt 0 ] || set -- 1000000 10000000
 out/sizes "$@"

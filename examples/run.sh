@@ -35,7 +35,10 @@ compare() {
     echo "run.sh: out/$1 printed what is expected"
 }
 
-(cd ../crates/timefd_c && rt lib) || fail "the library was not built"
+# The gate has built it over what it proved, by gate/c-library. It is for every processor of x86-64.
+[ -n "${TIMEFD_LIBRARY_IS_BUILT:-}" ] || (cd ../crates/timefd_c && rt lib --cpu x86-64) || fail "the library was not built"
+newer='pshufb|palignr|pabs[bwd]|phadd[wd]|pmulhrsw|ptest|p(ins|ext)r[bdq]|pblend|pm(in|ax)[us][bdw]|pcmpeqq|pcmpgtq|round[ps][sd]|popcnt|crc32'
+objdump -d "$library" | grep -qE "[[:space:]]($newer)[[:space:]]" && fail "the library wants more than plain x86-64"
 
 build_and_compare first expected_first.txt
 build_and_compare check expected.txt

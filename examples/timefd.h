@@ -60,8 +60,8 @@ typedef struct timefd_answer {
 
 /* Says what the `len` bytes at `text` are in the language `kind`.
 
-   Here and below a pointer is never null, not even where its length is 0; a length is at most PTRDIFF_MAX; nobody writes
-   to the text while the call runs. The text is not kept, and needs no 0 at its end. All memory that a call takes by
+   Here and below a pointer may be null where its length is 0, and nowhere else; a length is at most PTRDIFF_MAX; nobody
+   writes to the text while the call runs. The text is not kept, and needs no 0 at its end. All memory that a call takes by
    malloc is freed when it returns. A call may not come from a signal handler, nor from the forked child of a process with
    threads. It has 112 KiB of stack at least: a text that is nested 127 deep takes some 65 of them. */
 timefd_answer timefd_judge(uint32_t kind, const uint8_t *text, size_t len);
@@ -84,9 +84,10 @@ timefd_answer timefd_check(uint32_t kind, const uint8_t *text, size_t len, uint8
 timefd_answer timefd_v1_to_v2(const uint8_t *text, size_t len, uint8_t *buffer, size_t room);
 
 /* Writes the `len` bytes at `text`, a description of version 2, anew as one of version 3 that has the same items: small
-   letters, the modifiers in one order, those alone that aren't version 3's default, and `[`, `]` and `\` of literals behind
-   a `\`. What it answers and writes is as for timefd_v1_to_v2, with the faults of version 2; but no room is always enough: a
-   buffer that is too short is as it was, and the value tells how long the text is. */
+   letters, the modifiers in one order, those alone that aren't version 3's default and the range of each year that has one,
+   and `[`, `]` and `\` of literals behind a `\`. Versions 2 and 3 read the answer alike, and a second conversion changes
+   nothing. What it answers and writes is as for timefd_v1_to_v2, with the faults of version 2; but no room is always enough:
+   a buffer that is too short is as it was, and the value tells how long the text is. */
 timefd_answer timefd_v2_to_v3(const uint8_t *text, size_t len, uint8_t *buffer, size_t room);
 
 /* What a node is. */
@@ -188,9 +189,8 @@ typedef struct timefd_read_answer {
    Of versions 1 and 2 and of strftime the nodes are those of the items in turn; versions 1 and 2 have literals and
    components alone, and strftime has compounds of these.
 
-   The buffers have been set to something before, and neither pointer is null, not even where there is no room: a buffer of
-   one node and one byte is enough then, with the lengths 0. They overlap neither one another nor the text, and while the
-   call runs nobody else reads or writes them. There are at most PTRDIFF_MAX / sizeof(timefd_node) nodes. It takes the stack
+   The buffers have been set to something before. They overlap neither one another nor the text, and while the call runs
+   nobody else reads or writes them. There are at most PTRDIFF_MAX / sizeof(timefd_node) nodes. It takes the stack
    that timefd_judge takes, and calls on several threads share malloc alone. */
 timefd_read_answer timefd_read(uint32_t kind, const uint8_t *text, size_t len, timefd_node *nodes, size_t node_room,
                                uint8_t *literals, size_t literal_room);

@@ -20,7 +20,7 @@ if [ "${1:-}" = --valgrind ]; then
     }
 fi
 mkdir -p out
-[ -e "$library" ] || (cd ../crates/timefd_c && rt lib > /dev/null)
+[ -e "$library" ] || (cd ../crates/timefd_c && rt lib --cpu x86-64 > /dev/null)
 cc -std=c11 -Wall -Wextra -Werror -g -O2 -Wl,--wrap=malloc,--wrap=realloc,--wrap=free \
     -o out/fuzz ./*.c "$library" "$libc"
 $checker out/fuzz "${1:-$count}" "${2:-1}"

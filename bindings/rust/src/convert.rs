@@ -20,7 +20,8 @@ pub fn v1_to_v2(text: &str) -> Result<String, ParseError> {
 }
 
 /// Writes a description of version 2 anew as one of version 3 that has the same items: in small
-/// letters, with those modifiers alone that aren't version 3's default.
+/// letters, with those modifiers alone that aren't version 3's default, and the range of each year
+/// that has one. Versions 2 and 3 read the answer alike, and writing it anew changes nothing.
 ///
 /// # Errors
 ///

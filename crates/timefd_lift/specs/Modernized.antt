@@ -14,3 +14,8 @@ IsWrittenOf text answer = (list : List Tree) × Spells Two nesting_limit 0 text 
 abbrev pub KeepsItemsOf : Text → Text → Type 0
 KeepsItemsOf text answer = (list : List Tree) → Spells Two nesting_limit 0 text list
     → Spells Three nesting_limit 0 answer list
+
+-- version 2 spells the answer as it spells the text
+abbrev pub IsReadAlike : Text → Text → Type 0
+IsReadAlike text answer = (list : List Tree) → Spells Two nesting_limit 0 text list
+    → Spells Two nesting_limit 0 answer list

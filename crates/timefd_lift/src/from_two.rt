@@ -11,19 +11,20 @@ ghost use Rattle.timefd_language.specs.Broken.{FaultOf};
 ghost use Rattle.timefd_parse.specs.Answers.{IsAssigned};
 ghost use Rattle.timefd_language.specs.Told.{IsFaultOrMemory};
 ghost use Rattle.timefd_lift.specs.Answers.{IsTextOrMemory};
-ghost use Rattle.timefd_lift.specs.Modernized.{IsWrittenOf, KeepsItemsOf};
+ghost use Rattle.timefd_lift.specs.Modernized.{IsReadAlike, IsWrittenOf, KeepsItemsOf};
 ghost use Rattle.timefd_lift.specs.Plain.{ArePlainItems};
 ghost use Rattle.timefd_lift.specs.Written as text;
 
 use crate::item::push_item;
-use crate::laws::writing;
+use crate::laws::{read_alike, writing};
 use std::alloc::{AllocError, Global};
 use timefd_items::BorrowedFormatItem;
 use timefd_parse::{BorrowedOutput, DescriptionVersion, ParseError, parse_borrowed};
 
 /// The text of version 3 that means what a text of version 2 means, written anew: each component in
-/// small letters with its modifiers in one order, those alone that aren't version 3's default, and
-/// `[`, `]` and `\` of literals behind a `\`.
+/// small letters with its modifiers in one order, those alone that aren't version 3's default and
+/// the range of each year that has one, and `[`, `]` and `\` of literals behind a `\`. Versions 2
+/// and 3 read the answer alike, and the answer written anew is the answer.
 ///
 /// The error is the fault that version 2 finds in the text, or `Memory` where memory ran out. A fault
 /// that quotes nothing of the text is answered even then. This call is this port's own.
@@ -32,6 +33,10 @@ pub fn v2_to_v3(alloc: Global, s: &str) -> Result<String, ParseError>
     // refused for the fault that the rules of version 2 assign.
     ensures rewritten { IfOk result (λ answer. IsWrittenOf s.now (string_bytes answer)) }
     ensures same_items { IfOk result (λ answer. KeepsItemsOf s.now (string_bytes answer)) }
+    // Version 2 reads the answer alike, and of the answer itself the answer is written.
+    ensures alike { IfOk result (λ answer. IsReadAlike s.now (string_bytes answer)) }
+    ensures again { IfOk result (λ answer.
+        IsWrittenOf (string_bytes answer) (string_bytes answer)) }
     ensures fault { IfErr result (IsAssigned Two nesting_limit s.now) }
 
     // What version 2 spells is written anew, unless memory runs out. What has a fault is refused for it,
@@ -44,8 +49,9 @@ pub fn v2_to_v3(alloc: Global, s: &str) -> Result<String, ParseError>
     // The empty text takes no memory.
     ensures empty { s.now ≡ [] → IsOk result }
 {
-    // The law by which version 3 spells the same items.
+    // The laws by which version 3 spells the same items, and version 2 too.
     writing();
+    read_alike();
     match parse_borrowed(alloc, DescriptionVersion::Two, s) {
         Ok(BorrowedOutput::Items(items)) => match written(alloc, s.len(), &items) {
             Ok(answer) => Ok(answer),

@@ -32,6 +32,29 @@ returns-in-Ok-clause-same_items c = λ list s.
     subst (λ answer. Spells Three nesting_limit 0 answer list) (sym is)
     (c.writing.ensures nesting_limit c.args.s.now list s)
 
+pub returns-in-Ok-clause-alike : goal.returns-in-Ok-clause-alike
+returns-in-Ok-clause-alike c = λ list s.
+    let is = c.in-Ok.ensures.written ∙
+    ap (λ items. written (item_trees items)) c.deref.ensures.value
+    ∙ ap written (subst (IsOutput Two list) c.in-Ok-Items.field-0-is
+    (c.in-Ok-Items.ensures.spelled list s)) in
+    subst (λ answer. Spells Two nesting_limit 0 answer list) (sym is)
+    (c.read_alike.ensures nesting_limit c.args.s.now list s)
+
+pub returns-in-Ok-clause-again : goal.returns-in-Ok-clause-again
+returns-in-Ok-clause-again c =
+    let list = c.in-Ok-Items.ensures.found.0 in
+    let s = c.in-Ok-Items.ensures.found.1 in
+    let is = c.in-Ok.ensures.written ∙
+    ap (λ items. written (item_trees items)) c.deref.ensures.value
+    ∙ ap written (subst (IsOutput Two list) c.in-Ok-Items.field-0-is
+    (c.in-Ok-Items.ensures.spelled list s)) in (
+      list,
+      subst (λ answer. Spells Two nesting_limit 0 answer list) (sym is)
+          (c.read_alike.ensures nesting_limit c.args.s.now list s),
+      is,
+    )
+
 pub returns-in-Ok-Items-clause-empty : goal.returns-in-Ok-Items-clause-empty
 returns-in-Ok-Items-clause-empty c = λ nil.
     let none : c.deref.result.now ≡ [] =
