@@ -195,6 +195,47 @@ typedef struct timefd_read_answer {
 timefd_read_answer timefd_read(uint32_t kind, const uint8_t *text, size_t len, timefd_node *nodes, size_t node_room,
                                uint8_t *literals, size_t literal_room);
 
+/* Where each field stands, as the library and this compiler have to agree on it. */
+#ifdef __cplusplus
+#define TIMEFD_IS(what) static_assert(what, #what)
+#else
+#define TIMEFD_IS(what) _Static_assert(what, #what)
+#endif
+#define TIMEFD_FIELD(type, field, start, bytes) \
+    TIMEFD_IS(offsetof(type, field) == (start) && sizeof(((type *)0)->field) == (bytes))
+
+TIMEFD_FIELD(timefd_answer, status, 0, 4);
+TIMEFD_FIELD(timefd_answer, value, 8, 8);
+TIMEFD_FIELD(timefd_answer, sentence_len, 16, 8);
+TIMEFD_FIELD(timefd_answer, written, 24, 8);
+TIMEFD_IS(sizeof(timefd_answer) == 32);
+
+TIMEFD_FIELD(timefd_node, what, 0, 4);
+TIMEFD_FIELD(timefd_node, component, 4, 4);
+TIMEFD_FIELD(timefd_node, padding, 8, 1);
+TIMEFD_FIELD(timefd_node, sign_is_mandatory, 9, 1);
+TIMEFD_FIELD(timefd_node, case_sensitive, 10, 1);
+TIMEFD_FIELD(timefd_node, one_indexed, 11, 1);
+TIMEFD_FIELD(timefd_node, is_uppercase, 12, 1);
+TIMEFD_FIELD(timefd_node, digits, 13, 1);
+TIMEFD_FIELD(timefd_node, trailing_input, 14, 1);
+TIMEFD_FIELD(timefd_node, format, 15, 1);
+TIMEFD_FIELD(timefd_node, ignored, 16, 4);
+TIMEFD_FIELD(timefd_node, start, 24, 8);
+TIMEFD_FIELD(timefd_node, count, 32, 8);
+TIMEFD_FIELD(timefd_node, bytes, 40, 8);
+TIMEFD_IS(sizeof(timefd_node) == 48);
+
+TIMEFD_FIELD(timefd_read_answer, status, 0, 4);
+TIMEFD_FIELD(timefd_read_answer, value, 8, 8);
+TIMEFD_FIELD(timefd_read_answer, nodes, 16, 8);
+TIMEFD_FIELD(timefd_read_answer, literals, 24, 8);
+TIMEFD_FIELD(timefd_read_answer, written, 32, 1);
+TIMEFD_IS(sizeof(timefd_read_answer) == 40);
+
+#undef TIMEFD_FIELD
+#undef TIMEFD_IS
+
 #ifdef __cplusplus
 }
 #endif

@@ -2,8 +2,8 @@
 //! of strftime (`%Y-%m-%d`) into their nodes, or answers the one fault that the rules assign, with
 //! its byte index.
 //!
-//! The reading is done by a static library whose every function is proved; this crate gives it a
-//! face in Rust, and is itself only tested. [`FormatDescription`] is where to begin:
+//! The reading is done by a static library that is proved; this crate gives it a face in Rust, and
+//! is itself only tested. [`FormatDescription`] is where to begin:
 //!
 //! ```
 //! use timefd::{FormatDescription, Part, Version};

@@ -68,6 +68,23 @@ pub(crate) struct ReadAnswer {
     pub(crate) written: bool,
 }
 
+/// Where each field stands, as the header has it.
+const _: () = {
+    use core::mem::{offset_of, size_of};
+    assert!(size_of::<Answer>() == 32 && size_of::<RawNode>() == 48);
+    assert!(size_of::<ReadAnswer>() == 40 && offset_of!(ReadAnswer, written) == 32);
+    assert!(offset_of!(Answer, value) == 8 && offset_of!(Answer, sentence_len) == 16);
+    assert!(offset_of!(Answer, written) == 24 && offset_of!(ReadAnswer, value) == 8);
+    assert!(offset_of!(ReadAnswer, nodes) == 16 && offset_of!(ReadAnswer, literals) == 24);
+    assert!(offset_of!(RawNode, what) == 0 && offset_of!(RawNode, component) == 4);
+    assert!(offset_of!(RawNode, padding) == 8 && offset_of!(RawNode, sign_is_mandatory) == 9);
+    assert!(offset_of!(RawNode, case_sensitive) == 10 && offset_of!(RawNode, one_indexed) == 11);
+    assert!(offset_of!(RawNode, is_uppercase) == 12 && offset_of!(RawNode, digits) == 13);
+    assert!(offset_of!(RawNode, trailing_input) == 14 && offset_of!(RawNode, format) == 15);
+    assert!(offset_of!(RawNode, ignored) == 16 && offset_of!(RawNode, start) == 24);
+    assert!(offset_of!(RawNode, count) == 32 && offset_of!(RawNode, bytes) == 40);
+};
+
 unsafe extern "C" {
     safe fn timefd_version() -> u32;
     fn timefd_read(
