@@ -3,3 +3,4 @@ pub mod PartLemmas
 pub mod OwnedLemmas
 pub mod LentLemmas
 pub mod ShortWords
+pub mod PlacedLemmas

@@ -1,3 +1,4 @@
 pub mod Excerpts
 pub mod Parts
 pub mod BorrowedFaults
+pub mod Placed

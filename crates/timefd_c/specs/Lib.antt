@@ -4,3 +4,4 @@ pub mod Answers
 pub mod Conversions
 pub mod Reports
 pub mod Reading
+pub mod Numbers

@@ -6,6 +6,7 @@
 
 mod answer;
 mod exports;
+pub mod laws;
 mod nodes;
 mod numbers;
 mod read;

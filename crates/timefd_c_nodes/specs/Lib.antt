@@ -3,3 +3,4 @@ pub mod Writing
 pub mod Sizes
 pub mod Decoding
 pub mod Laws
+pub mod Numbers

@@ -1,5 +1,5 @@
 -- What the outputs of the readers count, and what their errors say, in terms of the language.
-use Rattle.std.proofs.Common.{◌≡◌, ℕ, Result, Ok, Err, IfErr, IsFalse, List, length, refl}
+use Rattle.std.proofs.Common.{◌≡◌, ℕ, Result, Ok, Err, IfErr, IsFalse, IsUtf8, List, length, refl}
 use Rattle.std.proofs.lemmas.Bool.{true≢false}
 use Rattle.timefd_language.specs.Bytes.{is_version_three}
 use Rattle.timefd_component.specs.Tree.{Text, Tree}
@@ -13,6 +13,8 @@ use Rattle.timefd_language.specs.Strftime.{StrftimeFaultOf}
 use Rattle.timefd_borrowed_fault.specs.declared.borrowed_parse_error.BorrowedParseError.{BorrowedParseError}
 use Rattle.timefd_borrowed_fault.specs.declared.borrowed_parse_error.BorrowedParseError.TheVariants.{Invalid, Memory}
 use Rattle.timefd_borrowed_fault.specs.BorrowedFaults.{HasShortWords, IsLentOf, IsOwned}
+use Rattle.timefd_borrowed_fault.specs.Placed.{IsPlaced}
+use Rattle.timefd_borrowed_fault.proofs.PlacedLemmas.{is_placed, is_strftime_placed}
 use Rattle.timefd_borrowed_fault.proofs.ShortWords.{short_fault, short_strftime_fault}
 use Rattle.timefd_fault.specs.Faults.{Fault}
 use Rattle.timefd_borrowed_fault.proofs.OwnedLemmas.{owned_of}
@@ -40,6 +42,11 @@ pub short_in : (language : Language) (limit : ℕ) (text : Text) (f : Fault)
     → FaultIn language limit text f → HasShortWords f.kind
 short_in (Version v) limit text f is = short_fault v limit text f is
 short_in Strftime limit text f is = short_strftime_fault text f is
+
+pub placed_in : (language : Language) (limit : ℕ) (text : Text) → IsUtf8 text → (f : Fault)
+    → FaultIn language limit text f → IsPlaced text f
+placed_in (Version v) limit text utf8 f is = is_placed v limit text utf8 f is
+placed_in Strftime limit text utf8 f is = is_strftime_placed text utf8 f is
 
 pub if_err_more : {T E : Type 0} (P Q : E → Type 0) → ((e : E) → P e → Q e) → (r : Result T E)
     → IfErr r P → IfErr r Q

@@ -12,6 +12,7 @@ ghost use Rattle.timefd_language.specs.Grammar.{Spells, nesting_limit};
 ghost use Rattle.timefd_language.specs.Broken.{FaultOf};
 ghost use Rattle.timefd_language.specs.Strings.{AreItems};
 ghost use Rattle.timefd_borrowed_fault.specs.BorrowedFaults.{HasShortFault, IsLent, IsLentOf, IsMemory};
+ghost use Rattle.timefd_borrowed_fault.specs.Placed.{IsPlaced};
 ghost use Rattle.timefd_parse.specs.Answers.{IsOutput, ReservesAtMost, HasStrings};
 
 use crate::counting::error_of;
@@ -48,7 +49,9 @@ pub fn parse_all_borrowed<'a>(
     ensures refused { (f : spec.Fault) → FaultOf version limit s.now f
         → MatchResult result (λ _. ⊥) (IsLent f) }
 
-    // The words of a fault are short, so that its sentence can be written.
+    // The fault's index lies in the text or at its end, between two characters. Its words are short,
+    // so that its sentence can be written.
+    ensures place { IfErr result (IsLentOf (IsPlaced s.now)) }
     ensures words { IfErr result HasShortFault }
 
     // No literal of an item is one of bytes, and a description reserves no more bytes than the

@@ -5,6 +5,7 @@ ghost use Rattle.std.specs.Result.{IfErr};
 ghost use Rattle.timefd_component.specs.Tree.{Tree};
 ghost use Rattle.timefd_fault.specs.Faults as spec;
 ghost use Rattle.timefd_borrowed_fault.specs.BorrowedFaults.{HasShortFault, IsLent, IsLentOf, IsMemory, IsRefusal};
+ghost use Rattle.timefd_borrowed_fault.specs.Placed.{HasPlacedFault, IsPlaced};
 ghost use Rattle.timefd_language.specs.Told.{IsFaultOrMemory, MemoryAlone};
 ghost use Rattle.timefd_language.specs.Bytes.{is_version_three};
 ghost use Rattle.timefd_language.specs.Grammar.{nesting_limit};
@@ -53,6 +54,9 @@ pub fn amount_within(
     ensures refused { (f : spec.Fault) → FaultIn language limit text.now f
         → MatchResult result (λ _. ⊥) (IsFaultOrMemory f) }
 
+    // The fault's index lies in the text or at its end, between two characters.
+    ensures place { IfErr result (HasPlacedFault text.now) }
+
     // The empty text takes no memory.
     ensures empty { text.now ≡ [] → IsOk result }
 {
@@ -87,7 +91,9 @@ pub fn amount_all_borrowed(
     ensures refused { (f : spec.Fault) → FaultIn language limit text.now f
         → MatchResult result (λ _. ⊥) (IsLent f) }
 
-    // The words of a fault are short, so that its sentence can be written.
+    // The fault's index lies in the text or at its end, between two characters. Its words are short,
+    // so that its sentence can be written.
+    ensures place { IfErr result (IsLentOf (IsPlaced text.now)) }
     ensures words { IfErr result HasShortFault }
 
     // Versions 1 and 2 and strftime take no memory, and the empty text takes none in version 3.

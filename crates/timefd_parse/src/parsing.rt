@@ -10,6 +10,7 @@ ghost use Rattle.timefd_language.specs.declared.description_version.DescriptionV
 ghost use Rattle.timefd_language.specs.Bytes.{is_version_three};
 ghost use Rattle.timefd_language.specs.Grammar.{Spells, nesting_limit};
 ghost use Rattle.timefd_language.specs.Broken.{FaultOf};
+ghost use Rattle.timefd_borrowed_fault.specs.Placed.{HasPlacedFault};
 ghost use Rattle.timefd_parse.specs.Answers.{IsOutput, IsAssigned, ReservesAtMost, HasStrings};
 ghost use Rattle.timefd_language.specs.Told.{IsFaultOrMemory, MemoryAlone, Tells};
 ghost use Rattle.timefd_language.specs.FaultMeaning.{IsFault, MemoryOr};
@@ -56,6 +57,9 @@ pub fn parse_borrowed<'a>(
     ensures refused { (f : spec.Fault) → FaultOf version nesting_limit s.now f
         → MatchResult result (λ _. ⊥) (IsFaultOrMemory f) }
 
+    // The fault's index lies in the text or at its end, between two characters.
+    ensures place { IfErr result (HasPlacedFault s.now) }
+
     // No literal of an item is one of bytes, and a description reserves no more bytes than the
     // text has.
     ensures strings { IfOk result HasStrings }
@@ -93,6 +97,9 @@ pub fn parse_borrowed_within<'a>(
     ensures refused { (f : spec.Fault) → FaultOf version limit s.now f
         → MatchResult result (λ _. ⊥) (IsFaultOrMemory f) }
 
+    // The fault's index lies in the text or at its end, between two characters.
+    ensures place { IfErr result (HasPlacedFault s.now) }
+
     // No literal of an item is one of bytes, and a description reserves no more bytes than the
     // text has.
     ensures strings { IfOk result HasStrings }
@@ -124,6 +131,9 @@ pub fn parse<'a>(alloc: Global, s: &'a str) -> Result<Vec<BorrowedFormatItem<'a>
         → MatchResult result (λ items. AreItems items.items list) MemoryAlone }
     ensures refused { (f : spec.Fault) → FaultOf One nesting_limit s.now f
         → MatchResult result (λ _. ⊥) (IsFaultOrMemory f) }
+
+    // The fault's index lies in the text or at its end, between two characters.
+    ensures place { IfErr result (HasPlacedFault s.now) }
 
     // The empty text takes no memory.
     ensures empty { s.now ≡ [] → IsOk result }

@@ -5,7 +5,9 @@ ghost use Rattle.std.specs.Result.{IfErr};
 ghost use Rattle.timefd_component.specs.Tree.{Tree};
 ghost use Rattle.timefd_strftime.specs.declared.text.PieceStart.TheVariants.{Literal};
 ghost use Rattle.timefd_language.specs.Strftime.{SpellsStrftime, StrftimeFaultOf, percent};
-ghost use Rattle.timefd_borrowed_fault.specs.BorrowedFaults.{lent_fault};
+ghost use Rattle.timefd_language.specs.FaultMeaning.{kind_of};
+ghost use Rattle.timefd_borrowed_fault.specs.BorrowedFaults.{HasShortWords, lent_fault};
+ghost use Rattle.timefd_borrowed_fault.specs.Placed.{IsPlaced};
 ghost use Rattle.timefd_strftime.specs.StrftimeReading.{BeginsPiece, HasItems, IsStrftimeFaultAt, IsStrftimeFaultIn, LeadsTo};
 
 use crate::directive::{cut_short, unknown};
@@ -22,6 +24,11 @@ pub fn count_strftime<'a>(s: &'a str) -> Result<usize, BorrowedFault<'a>>
     ensures found { IfOk result (λ n. (list : List Tree) × SpellsStrftime s.now list
         × (n ≡ length list)) }
     ensures fault { IfErr result (λ f. StrftimeFaultOf s.now (lent_fault f)) }
+
+    // The fault's index lies in the text or at its end, between two characters. Its words are short,
+    // so that its sentence can be written.
+    ensures place { IfErr result (λ f. IsPlaced s.now (lent_fault f)) }
+    ensures words { IfErr result (λ f. HasShortWords (kind_of f.kind)) }
 {
     match count_of(s) {
         Ok(count) => Ok(count),

@@ -6,7 +6,8 @@ ghost use Rattle.timefd_fault.specs.Faults as spec;
 ghost use Rattle.timefd_format_item.specs.Meaning.{item_tree, item_trees};
 ghost use Rattle.timefd_component.specs.Tree.{Tree};
 ghost use Rattle.timefd_strftime.specs.declared.text.PieceStart.TheVariants.{Literal};
-ghost use Rattle.timefd_borrowed_fault.specs.BorrowedFaults.{IsLent, IsLentOf, IsMemory};
+ghost use Rattle.timefd_borrowed_fault.specs.BorrowedFaults.{HasShortFault, IsLent, IsLentOf, IsMemory};
+ghost use Rattle.timefd_borrowed_fault.specs.Placed.{HasPlacedFault, IsPlaced};
 ghost use Rattle.timefd_language.specs.Told.{IsFaultOrMemory, MemoryAlone};
 ghost use Rattle.timefd_language.specs.Strftime.{SpellsStrftime, StrftimeFaultOf};
 ghost use Rattle.timefd_strftime.specs.StrftimeAnswers.{IsStrftimeFault};
@@ -47,6 +48,9 @@ pub fn parse_strftime_borrowed<'a>(
     ensures refused { (f : spec.Fault) → StrftimeFaultOf s.now f
         → MatchResult result (λ _. ⊥) (IsFaultOrMemory f) }
 
+    // The fault's index lies in the text or at its end, between two characters.
+    ensures place { IfErr result (HasPlacedFault s.now) }
+
     // No literal is one of bytes, not even in a composite letter's list.
     ensures strings { IfOk result (λ items. IsTrue (are_of_strings items.items)) }
 
@@ -78,6 +82,11 @@ pub fn parse_strftime_all_borrowed<'a>(
         → MatchResult result (λ items. item_trees items.items ≡ list) IsMemory }
     ensures refused { (f : spec.Fault) → StrftimeFaultOf s.now f
         → MatchResult result (λ _. ⊥) (IsLent f) }
+
+    // The fault's index lies in the text or at its end, between two characters. Its words are short,
+    // so that its sentence can be written.
+    ensures place { IfErr result (IsLentOf (IsPlaced s.now)) }
+    ensures words { IfErr result HasShortFault }
 
     // No literal is one of bytes, not even in a composite letter's list.
     ensures strings { IfOk result (λ items. IsTrue (are_of_strings items.items)) }

@@ -2,6 +2,8 @@ use Rattle.std.proofs.Common.{List, refl, sym, subst}
 use Rattle.timefd_fault.specs.Faults.{Fault}
 use Rattle.timefd_component.specs.Tree.{Tree}
 use Rattle.timefd_borrowed_fault.specs.BorrowedFaults.{IsLent, IsMemory}
+use Rattle.timefd_borrowed_fault.specs.Placed.{IsPlaced}
+use Rattle.timefd_borrowed_fault.proofs.PlacedLemmas.{is_placed, lent_more}
 use Rattle.timefd_borrowed_fault.proofs.ShortWords.{short_fault, short_lent}
 use Rattle.timefd_language.specs.declared.description_version.DescriptionVersion.TheVariants.{Three}
 use Rattle.timefd_language.specs.Broken.{FaultOf}
@@ -34,6 +36,18 @@ returns-in-Err-parse_items-clause-words c =
     short_lent (FaultOf c.args.version c.args.limit c.args.s.now)
     (short_fault c.args.version c.args.limit c.args.s.now) _ c.in-Err-parse_items.ensures.fault
 
+pub returns-in-Err-clause-place : goal.returns-in-Err-clause-place
+returns-in-Err-clause-place c =
+    lent_more (FaultOf Three c.args.limit c.args.s.now) (IsPlaced c.args.s.now)
+    (is_placed Three c.args.limit c.args.s.now c.utf8.s)
+    c.in-Err.error c.in-Err.ensures.fault
+
+pub returns-in-Err-parse_items-clause-place : goal.returns-in-Err-parse_items-clause-place
+returns-in-Err-parse_items-clause-place c =
+    lent_more (FaultOf c.args.version c.args.limit c.args.s.now) (IsPlaced c.args.s.now)
+    (is_placed c.args.version c.args.limit c.args.s.now c.utf8.s) _
+    c.in-Err-parse_items.ensures.fault
+
 pub returns-in-Ok-parse_items : goal.returns-in-Ok-parse_items
 returns-in-Ok-parse_items c =
     let lax = not_three _ c.in_default.not-Three in
@@ -43,6 +57,7 @@ returns-in-Ok-parse_items c =
       fault = tt;
       spelled = λ list s. items_output _ _ list lax (c.in-Ok-parse_items.ensures.spelled list s);
       refused = c.in-Ok-parse_items.ensures.refused;
+      place = tt;
       words = tt;
       strings = found.2.1;
       reserved = tt;

@@ -3,8 +3,10 @@ use Rattle.timefd_fault.specs.Faults.{Fault}
 use Rattle.timefd_component.specs.Tree.{Tree}
 use Rattle.timefd_borrowed_fault.specs.BorrowedFaults.{HasShortFault, IsLent, IsLentOf, IsMemory}
 use Rattle.timefd_parse.specs.Language.{SpellsIn, FaultIn, amount, takes_memory}
+use Rattle.timefd_borrowed_fault.specs.Placed.{IsPlaced}
+use Rattle.timefd_borrowed_fault.proofs.PlacedLemmas.{lent_more}
 use Rattle.timefd_borrowed_fault.proofs.ShortWords.{short_lent}
-use Rattle.timefd_parse.proofs.AmountLemmas.{builds_nothing, if_err_more, short_in}
+use Rattle.timefd_parse.proofs.AmountLemmas.{builds_nothing, if_err_more, placed_in, short_in}
 use Rattle.timefd_parse.proofs.language.amount_all_borrowed.Goals as goal
 
 pub returns-in-Version-clause-found : goal.returns-in-Version-clause-found
@@ -72,3 +74,21 @@ returns-in-Strftime-clause-words c =
 pub returns-in-Version-clause-memory : goal.returns-in-Version-clause-memory
 returns-in-Version-clause-memory c = λ lax. c.version_amount.ensures.memory
     (builds_nothing _ (subst (λ l. IsFalse (takes_memory l)) c.in-Version.is lax))
+
+pub returns-in-Version-clause-place : goal.returns-in-Version-clause-place
+returns-in-Version-clause-place c =
+    if_err_more (IsLentOf (FaultIn c.args.language c.args.limit c.args.text.now))
+    (IsLentOf (IsPlaced c.args.text.now))
+    (lent_more (FaultIn c.args.language c.args.limit c.args.text.now) (IsPlaced c.args.text.now)
+    (placed_in c.args.language c.args.limit c.args.text.now c.utf8.text)) c.version_amount.result
+    (subst (λ l. IfErr c.version_amount.result (IsLentOf (FaultIn l c.args.limit c.args.text.now)))
+    (sym c.in-Version.is) c.version_amount.ensures.fault)
+
+pub returns-in-Strftime-clause-place : goal.returns-in-Strftime-clause-place
+returns-in-Strftime-clause-place c =
+    if_err_more (IsLentOf (FaultIn c.args.language c.args.limit c.args.text.now))
+    (IsLentOf (IsPlaced c.args.text.now))
+    (lent_more (FaultIn c.args.language c.args.limit c.args.text.now) (IsPlaced c.args.text.now)
+    (placed_in c.args.language c.args.limit c.args.text.now c.utf8.text)) c.strftime_amount.result
+    (subst (λ l. IfErr c.strftime_amount.result (IsLentOf (FaultIn l c.args.limit c.args.text.now)))
+    (sym c.in-Strftime.is) c.strftime_amount.ensures.fault)

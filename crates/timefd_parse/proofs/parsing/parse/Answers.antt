@@ -1,4 +1,9 @@
+use Rattle.timefd_language.specs.declared.description_version.DescriptionVersion.TheVariants.{One}
+use Rattle.timefd_language.specs.Broken.{FaultOf}
+use Rattle.timefd_language.specs.Grammar.{nesting_limit}
+use Rattle.timefd_borrowed_fault.specs.Placed.{IsPlaced}
 use Rattle.timefd_borrowed_fault.proofs.OwnedLemmas.{owned_fault, owned_memory}
+use Rattle.timefd_borrowed_fault.proofs.PlacedLemmas.{is_placed, lent_more, owned_placed}
 use Rattle.timefd_parse.proofs.ParseLemmas.{owned_assigned}
 use Rattle.timefd_parse.proofs.parsing.parse.Goals as goal
 
@@ -13,3 +18,10 @@ returns-in-Err-clause-spelled c = λ list s.
 pub returns-in-Err-clause-refused : goal.returns-in-Err-clause-refused
 returns-in-Err-clause-refused c = λ f h.
     owned_fault f _ _ (c.in-Err.ensures.refused f h) c.into_owned.ensures
+
+pub returns-in-Err-clause-place : goal.returns-in-Err-clause-place
+returns-in-Err-clause-place c =
+    owned_placed c.args.s.now _ _
+    (lent_more (FaultOf One nesting_limit c.args.s.now) (IsPlaced c.args.s.now)
+    (is_placed One nesting_limit c.args.s.now c.utf8.s) _ c.in-Err.ensures.fault)
+    c.into_owned.ensures

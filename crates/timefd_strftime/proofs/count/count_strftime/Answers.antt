@@ -1,6 +1,19 @@
+use Rattle.timefd_borrowed_fault.specs.BorrowedFaults.{lent_fault}
+use Rattle.timefd_borrowed_fault.proofs.PlacedLemmas.{is_strftime_placed}
+use Rattle.timefd_borrowed_fault.proofs.ShortWords.{short_strftime_fault}
 use Rattle.timefd_strftime.proofs.DirectiveLemmas.{lent_strftime_fault}
 use Rattle.timefd_strftime.proofs.count.count_strftime.Goals as goal
 
 pub returns-in-Err-clause-fault : goal.returns-in-Err-clause-fault
 returns-in-Err-clause-fault c =
     lent_strftime_fault c.args.s.now c.in-Err.fault c.of.result c.in-Err.ensures c.of.ensures
+
+pub returns-in-Err-clause-place : goal.returns-in-Err-clause-place
+returns-in-Err-clause-place c =
+    is_strftime_placed c.args.s.now c.utf8.s (lent_fault c.of.result)
+    (lent_strftime_fault c.args.s.now c.in-Err.fault c.of.result c.in-Err.ensures c.of.ensures)
+
+pub returns-in-Err-clause-words : goal.returns-in-Err-clause-words
+returns-in-Err-clause-words c =
+    short_strftime_fault c.args.s.now (lent_fault c.of.result)
+    (lent_strftime_fault c.args.s.now c.in-Err.fault c.of.result c.in-Err.ensures c.of.ensures)

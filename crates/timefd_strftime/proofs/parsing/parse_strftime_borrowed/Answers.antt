@@ -1,4 +1,5 @@
 use Rattle.timefd_borrowed_fault.proofs.OwnedLemmas.{owned_fault, owned_memory}
+use Rattle.timefd_borrowed_fault.proofs.PlacedLemmas.{owned_placed}
 use Rattle.timefd_strftime.proofs.DirectiveLemmas.{owned_strftime}
 use Rattle.timefd_strftime.proofs.parsing.parse_strftime_borrowed.Goals as goal
 
@@ -13,3 +14,7 @@ returns-in-Err-clause-spelled c = λ list s.
 pub returns-in-Err-clause-refused : goal.returns-in-Err-clause-refused
 returns-in-Err-clause-refused c = λ f h.
     owned_fault f _ _ (c.in-Err.ensures.refused f h) c.into_owned.ensures
+
+pub returns-in-Err-clause-place : goal.returns-in-Err-clause-place
+returns-in-Err-clause-place c =
+    owned_placed c.args.s.now _ _ c.in-Err.ensures.place c.into_owned.ensures

@@ -1,0 +1,16 @@
+use Rattle.std.proofs.Common.{refl}
+use Rattle.timefd_c.proofs.laws.numbers.Goals as goal
+
+pub returns : goal.returns
+returns c = record {
+  version = refl;
+  accepted = refl;
+  refused = refl;
+  not_utf8 = refl;
+  no_memory = refl;
+  unknown_kind = refl;
+  version_1 = refl;
+  version_2 = refl;
+  version_3 = refl;
+  strftime = refl;
+}

@@ -1,0 +1,21 @@
+-- The numbers of `examples/timefd.h`, but those of nodes.
+use Rattle.std.specs.Prelude.{◌≡◌, Some}
+use Rattle.timefd_language.specs.declared.description_version.DescriptionVersion.TheVariants.{One, Two, Three}
+use Rattle.timefd_parse.specs.declared.language.Language.TheVariants.{Version, Strftime}
+use Rattle.timefd_c.specs.declared.answer.TheConstants.{ACCEPTED, REFUSED, NOT_UTF8, NO_MEMORY, UNKNOWN_KIND}
+use Rattle.timefd_c.specs.declared.nodes.TheConstants.{VERSION}
+use Rattle.timefd_c.specs.Languages.{language_of}
+
+pub record Numbers : Type 0 where
+  pub version : VERSION ≡ 1000
+  -- the statuses
+  pub accepted : ACCEPTED ≡ 0
+  pub refused : REFUSED ≡ 1
+  pub not_utf8 : NOT_UTF8 ≡ 2
+  pub no_memory : NO_MEMORY ≡ 3
+  pub unknown_kind : UNKNOWN_KIND ≡ 4
+  -- the languages
+  pub version_1 : language_of 1 ≡ Some (Version One)
+  pub version_2 : language_of 2 ≡ Some (Version Two)
+  pub version_3 : language_of 3 ≡ Some (Version Three)
+  pub strftime : language_of 4 ≡ Some Strftime

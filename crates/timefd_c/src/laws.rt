@@ -1,0 +1,8 @@
+//! What is known of the numbers that C sees.
+
+ghost use Rattle.timefd_c.specs.Numbers.{Numbers};
+
+/// The version, the statuses and the languages have the numbers of `examples/timefd.h`.
+pub fn numbers()
+    ensures { Numbers }
+{}
