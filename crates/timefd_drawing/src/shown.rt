@@ -14,22 +14,28 @@ pub struct Shown {
     pub behind: String,
 }
 
-// What stands for a character that a terminal would obey: the picture of a control character, and
-// the replacement character for those that turn the direction of text.
+// What stands for a character that a terminal would obey or show nothing of: the picture of a
+// control character of ASCII, and the replacement character for other control characters, for those
+// that turn the direction of text, and for invisible ones.
 fn safe_char(c: char) -> char {
     match c {
         '\u{0}'..='\u{1F}' => char::from_u32(0x2400 | c as u32).unwrap_or('\u{FFFD}'),
         '\u{7F}' => '\u{2421}',
         '\u{80}'..='\u{9F}'
-        | '\u{200E}'
-        | '\u{200F}'
+        | '\u{AD}'
+        | '\u{61C}'
+        | '\u{180E}'
+        | '\u{200B}'..='\u{200F}'
         | '\u{2028}'..='\u{202E}'
-        | '\u{2066}'..='\u{2069}' => '\u{FFFD}',
+        | '\u{2060}'..='\u{206F}'
+        | '\u{FEFF}'
+        | '\u{FFF9}'..='\u{FFFB}'
+        | '\u{E0000}'..='\u{E007F}' => '\u{FFFD}',
         _ => c,
     }
 }
 
-/// The text with no character that a terminal would obey.
+/// The text with no character that a terminal would obey or show nothing of.
 pub fn safe(alloc: Global, text: &str) -> Result<String, AllocError> {
     let mut out = String::with_capacity(alloc, text.len())?;
     for c in text.chars() {

@@ -7,7 +7,7 @@ ghost use Rattle.timefd_language.specs.Grammar.{Spells, nesting_limit};
 ghost use Rattle.timefd_language.specs.declared.description_version.DescriptionVersion.TheVariants.{Three};
 
 use crate::cut::next_piece;
-use crate::node::{push_item, push_leaf, push_nested, push_plain, reserved};
+use crate::node::{bytes_of_all, push_item, push_leaf, push_nested, push_plain, reserved};
 use crate::step::{Step, next_step};
 use std::alloc::{AllocError, Global};
 use timefd_drawing::Origin;
@@ -103,7 +103,7 @@ fn push_items(
     };
     match item {
         &BorrowedFormatItem::Compound(members) => {
-            push_plain(alloc, out, 0, piece, 0, "these in turn")?;
+            push_plain(alloc, out, 0, piece, bytes_of_all(members), "these in turn")?;
             push_members(alloc, out, members)
         }
         _ => push_item(alloc, out, 0, piece, item),

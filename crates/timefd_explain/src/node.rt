@@ -162,6 +162,28 @@ pub fn push_item(
     }
 }
 
+/// How many bytes a literal or a component reserves: 0 of any other item, as strftime nests none in
+/// a composite letter.
+fn bytes_of(item: &BorrowedFormatItem<'_>) -> usize {
+    match item {
+        BorrowedFormatItem::Component(component) => reserved_bytes(*component),
+        BorrowedFormatItem::StringLiteral(literal) => literal.len(),
+        BorrowedFormatItem::Literal(bytes) => bytes.len(),
+        BorrowedFormatItem::Compound(_)
+        | BorrowedFormatItem::Optional(_)
+        | BorrowedFormatItem::First(_) => 0,
+    }
+}
+
+/// How many bytes the literals and components of a list reserve together.
+pub fn bytes_of_all(items: &[BorrowedFormatItem<'_>]) -> usize {
+    let mut sum = 0usize;
+    for item in items {
+        sum = sum.saturating_add(bytes_of(item));
+    }
+    sum
+}
+
 /// Appends the line of a node that has no example, and answers how many bytes it reserves.
 pub fn push_plain(
     alloc: Global,
@@ -241,7 +263,7 @@ pub fn push_component(
 fn modifiers_in(text: &str) -> Option<&str> {
     if let Some(rest) = text.strip_prefix('[') {
         let inside = rest.strip_suffix(']')?.trim();
-        return match inside.find([' ', '\t', '\n', '\r']) {
+        return match inside.find(['\t', '\n', '\u{C}', '\r', ' ']) {
             Some(at) => Some(inside.get(at..)?.trim()),
             None => Some(""),
         };
