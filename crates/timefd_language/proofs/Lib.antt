@@ -33,3 +33,4 @@ pub mod Settle
 pub mod PlacesWithin
 pub mod VerdictPlaces
 pub mod PlacesBetween
+pub mod DistinctLemmas

@@ -25,3 +25,4 @@ pub mod Laws
 pub mod Told
 pub mod Settled
 pub mod Places
+pub mod Distinct

@@ -1,5 +1,6 @@
 //! What holds of the languages: each law is the contract of a function with an empty body.
 
+ghost use Rattle.timefd_language.specs.Distinct.{DistinctLetters, DistinctWords};
 ghost use Rattle.timefd_language.specs.Settled.{Settled};
 ghost use Rattle.timefd_language.specs.Places.{PlacedWithin, PlacedBetween, StrftimePlacedBetween};
 ghost use Rattle.timefd_language.specs.Laws.{OneAnswer, OneCut, OneReading, Joining, Shift, OneStrftimeAnswer, OneStrftimeCut, StrftimeJoining, StrftimeShift, GreaterLimit, Lifting, ReservesWithin, Recasing, Relaxing, Modernity, StrftimeModernity};
@@ -103,4 +104,14 @@ pub fn placed_between()
 /// A fault of strftime stands between two characters of its text.
 pub fn strftime_placed_between()
     ensures { StrftimePlacedBetween }
+{}
+
+/// No two names, keys of a name or values of a key are the same, not even without regard to case.
+pub fn distinct_words()
+    ensures { DistinctWords }
+{}
+
+/// Each letter of strftime stands for one item.
+pub fn distinct_letters()
+    ensures { DistinctLetters }
 {}
