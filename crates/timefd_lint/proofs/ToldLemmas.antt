@@ -15,7 +15,7 @@ use Rattle.timefd_lint.specs.declared.line.TextEnd.{TextEnd}
 use Rattle.timefd_lint.specs.declared.line.TextEnd.TheVariants.{PassedOver, Accepted, Refused, NotText, Failed}
 use Rattle.timefd_lint.specs.declared.tally.Tally.{Tally}
 use Rattle.timefd_lint.specs.Lines.{IsEndOf, IsLineEnd, without_newline}
-use Rattle.timefd_lint.specs.Told.{IsMessageOn, Says, Told, is_refused, is_not_text, is_failed, IsEndIn, IsTold, tally_of_one, tally_of, both, messages, lines_in, lines_of, AreLines, AreLinesUpTo, AreLinesOf, IsRun, IsRunOver, IsRunOfAll, IsNextLine, IsNext}
+use Rattle.timefd_lint.specs.Told.{IsMessageOn, Says, Told, is_refused, is_not_text, is_failed, IsEndIn, IsTold, tally_of_one, tally_of, both, messages, lines_in, lines_of, AreLines, AreLinesUpTo, AreLinesOf, IsRun, IsRunOver, IsRunOfAll, IsRunOn, IsNextLine, IsNext}
 
 -- Of a text that is passed over, or accepted, nothing is written.
 pub says_nothing : (explains : Bool) (end : TextEnd) (known : Option Text)
@@ -420,3 +420,26 @@ fails_last language comment explains bytes rest before between behind tally one 
     (sym (tally_is tally one all end is_one sum ∙ ap (λ e. both tally (tally_of_one e)) failed))
     (run_fails language comment explains bytes rest before between behind tally so_far
     (subst (λ e. Says explains e between behind) failed said))
+
+pub whole_on : (is_whole : Bool) (language : Language) (comment : Option (Bor Text))
+    (explains : Bool) (bytes before behind : Option Text) (tally : Tally)
+    → is_whole ≡ true → IsRunOfAll language comment explains bytes before behind tally
+    → IsRunOn is_whole language comment explains bytes before behind tally
+whole_on is_whole language comment explains bytes before behind tally is run =
+    subst (λ w. IsRunOn w language comment explains bytes before behind tally) (sym is) run
+
+pub lines_on : (is_whole : Bool) (language : Language) (comment : Option (Bor Text))
+    (explains : Bool) (bytes before behind : Option Text) (tally : Tally)
+    → is_whole ≡ false → IsRunOver language comment explains bytes before behind tally
+    → IsRunOn is_whole language comment explains bytes before behind tally
+lines_on is_whole language comment explains bytes before behind tally is over =
+    subst (λ w. IsRunOn w language comment explains bytes before behind tally) (sym is) over
+
+pub run_on : (is_whole : Bool) (language : Language) (comment : Option (Bor Text))
+    (explains : Bool) (bytes before behind : Option Text) (tally : Tally)
+    → IsRunOn is_whole language comment explains bytes before behind tally
+    → IsRun is_whole language comment explains before behind tally
+run_on true language comment explains bytes before behind tally run =
+    whole_run true language comment explains bytes before behind tally refl run
+run_on false language comment explains bytes before behind tally run =
+    lines_run false language comment explains bytes before behind tally refl run

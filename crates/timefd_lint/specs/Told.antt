@@ -144,6 +144,14 @@ pub record IsRunOfAll (language : Language) (comment : Option (Bor Text)) (expla
   pub found : tally ≡ tally_of_one told.end
   pub written : Appends before behind told.message
 
+-- The same of all that a reader has: as one text, or line by line.
+abbrev pub IsRunOn : Bool → Language → Option (Bor Text) → Bool → Option Text → Option Text
+    → Option Text → Tally → Type 0
+IsRunOn true language comment explains bytes before behind tally =
+    IsRunOfAll language comment explains bytes before behind tally
+IsRunOn false language comment explains bytes before behind tally =
+    IsRunOver language comment explains bytes before behind tally
+
 -- a line that is read off the front of the bytes
 abbrev pub IsNextLine : Option Text → Text → Option Text → Type 0
 IsNextLine None line rest = ⊤

@@ -1,7 +1,7 @@
 //! A run over files.
 
-ghost use Rattle.std.specs.Prelude.{IfOk};
-ghost use Rattle.timefd_lint.specs.Told.{IsRun};
+ghost use Rattle.std.specs.Prelude.{◌≡◌, [], IfOk};
+ghost use Rattle.timefd_lint.specs.Told.{IsRun, IsRunOn};
 
 use crate::convert::Conversion;
 use crate::fix::{FixError, fix_file};
@@ -19,7 +19,7 @@ const BUFFER: usize = 65_536;
 
 /// Looks at each file, or at the input where there is none, in order, and writes what is wrong. A
 /// file that can't be read is noted, and the others are still looked at.
-#[tactic(auto, using(crate::proofs::ToldLemmas::no_text, crate::proofs::ToldLemmas::run_behind))]
+#[tactic(auto, using(crate::proofs::ToldLemmas::no_text, crate::proofs::ToldLemmas::run_behind, crate::proofs::ToldLemmas::run_on))]
 pub fn run<R: Files, I: Read + Drop, W: Write>(
     rt: &R,
     alloc: Global,
@@ -27,8 +27,14 @@ pub fn run<R: Files, I: Read + Drop, W: Write>(
     input: I,
     writer: &mut W,
 ) -> Result<Tally, RunError>
-    ensures { IfOk result (IsRun options.entry.is_whole options.entry.language options.entry.comment
-        options.entry.explains (W.contents writer.old) (W.contents writer.new)) }
+    ensures told { IfOk result (IsRun options.entry.is_whole options.entry.language
+        options.entry.comment options.entry.explains (W.contents writer.old)
+        (W.contents writer.new)) }
+
+    // Where no file is named, what is told is all that the input has.
+    ensures input { options.entry.files.now ≡ [] → IfOk result (IsRunOn options.entry.is_whole
+        options.entry.language options.entry.comment options.entry.explains
+        (I.remaining input) (W.contents writer.old) (W.contents writer.new)) }
 {
     if options.files.is_empty() {
         return lint_reader(alloc, options, "<stdin>", input, writer);
@@ -85,7 +91,7 @@ fn fix<R: Files, W: Write>(
 }
 
 // Looks at all texts of a file.
-#[tactic(auto, using(crate::proofs::ToldLemmas::failed_run))]
+#[tactic(auto, using(crate::proofs::ToldLemmas::failed_run, crate::proofs::ToldLemmas::run_on))]
 fn lint_file<R: Files, W: Write>(
     rt: &R,
     alloc: Global,
@@ -103,7 +109,7 @@ fn lint_file<R: Files, W: Write>(
 }
 
 // Looks at all texts of a reader.
-#[tactic(auto, using(crate::proofs::ToldLemmas::whole_run, crate::proofs::ToldLemmas::lines_run))]
+#[tactic(auto, using(crate::proofs::ToldLemmas::whole_on, crate::proofs::ToldLemmas::lines_on))]
 fn lint_reader<R: Read + Drop, W: Write>(
     alloc: Global,
     options: Options<'_>,
@@ -111,8 +117,9 @@ fn lint_reader<R: Read + Drop, W: Write>(
     reader: R,
     writer: &mut W,
 ) -> Result<Tally, RunError>
-    ensures { IfOk result (IsRun options.entry.is_whole options.entry.language options.entry.comment
-        options.entry.explains (W.contents writer.old) (W.contents writer.new)) }
+    ensures { IfOk result (IsRunOn options.entry.is_whole options.entry.language
+        options.entry.comment options.entry.explains (R.remaining reader)
+        (W.contents writer.old) (W.contents writer.new)) }
 {
     let Ok(mut reader) = BufReader::with_capacity(alloc, BUFFER, reader) else {
         return Err(RunError::Memory);
