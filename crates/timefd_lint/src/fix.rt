@@ -19,6 +19,8 @@ pub enum FixError {
     Memory,
     /// The file can't be read, or the new one not be written or not take its place.
     Failed,
+    /// The standard output can't be written.
+    Output,
 }
 
 impl From<AllocError> for FixError {
@@ -96,32 +98,51 @@ pub fn rewrite_lines<R: BufRead, W: Write>(
         }
         let line = without_newline(&bytes);
         match rewritten(alloc, comment, conversion, line)? {
-            Some(text) => {
+            Line::Rewritten(text) => {
                 writer.write_all(text.as_bytes())?;
                 writer.write_all(&bytes[line.len()..])?;
             }
-            None => writer.write_all(&bytes)?,
+            Line::Kept | Line::Refused => writer.write_all(&bytes)?,
         }
     }
     Err(FixError::Failed)
 }
 
-// A line rewritten: `None` where it is passed over or refused, and stays as it is.
-fn rewritten(
+/// What a line is in the later version.
+#[derive(Drop)]
+pub enum Line {
+    /// The same, or it is passed over.
+    Kept,
+    /// Another text.
+    Rewritten(String),
+    /// None: it is refused, or no UTF-8.
+    Refused,
+}
+
+/// What a line is in the later version. An `Err` says that memory ran out.
+pub fn rewritten(
     alloc: Global,
     comment: Option<&str>,
     conversion: Conversion,
     line: &[u8],
-) -> Result<Option<String>, AllocError> {
+) -> Result<Line, AllocError> {
     if is_passed_over(comment, line) {
-        return Ok(None);
+        return Ok(Line::Kept);
     }
     let Ok(text) = str::from_utf8(line) else {
-        return Ok(None);
+        return Ok(Line::Refused);
     };
     match converted(alloc, conversion, text) {
-        Ok(answer) => Ok(Some(answer)),
-        Err(ParseError::Invalid(_)) => Ok(None),
+        Ok(answer) => Ok(changed(text, answer)),
+        Err(ParseError::Invalid(_)) => Ok(Line::Refused),
         Err(ParseError::Memory(error)) => Err(error),
     }
+}
+
+// The answer, if it is another text.
+fn changed(text: &str, answer: String) -> Line {
+    if answer.as_str() == text {
+        return Line::Kept;
+    }
+    Line::Rewritten(answer)
 }

@@ -2,6 +2,7 @@
 
 ghost use Rattle.std.specs.Prelude.{◌≡◌, true, IfOk};
 ghost use Rattle.timefd_lint.specs.Told.{IsNext, IsRunOfAll, IsRunOver, Says};
+ghost use Rattle.timefd_lint.specs.Failures as spec;
 ghost use Rattle.timefd_lint.specs.declared.line.TextEnd.TheVariants as ends;
 
 use crate::line::{RunError, TextEnd, lint_line, lint_text, without_newline, write};
@@ -111,24 +112,56 @@ fn read_error<W: Write>(
     if error.kind() == ErrorKind::OutOfMemory {
         return Err(RunError::Memory);
     }
-    failed(alloc, options, name, Failure::Unread, writer)
+    failed(alloc, options, name, unread(error.kind()), writer)
 }
 
 /// What fails of a file.
 #[derive(Clone, Copy)]
 pub enum Failure {
-    /// It can't be read.
+    /// There is none of the name.
+    Absent,
+    /// It is a folder.
+    Folder,
+    /// The system doesn't permit it.
+    Forbidden,
+    /// It can't be read for another reason.
     Unread,
     /// It can't be written back.
     Unwritten,
 }
 
+/// What fails where a file can't be read.
+pub fn unread(kind: ErrorKind) -> Failure {
+    match kind {
+        ErrorKind::NotFound => Failure::Absent,
+        ErrorKind::IsADirectory => Failure::Folder,
+        ErrorKind::PermissionDenied => Failure::Forbidden,
+        _ => Failure::Unread,
+    }
+}
+
 impl Failure {
-    // Its name and its sentence.
-    fn words(self) -> (&'static str, &'static str) {
+    // Its name.
+    fn code(self) -> &'static str
+        ensures { result.now ≡ spec.code self }
+    {
         match self {
-            Failure::Unread => ("unreadable", "the file can't be read"),
-            Failure::Unwritten => ("unwritable", "the file can't be written back"),
+            Failure::Absent | Failure::Folder | Failure::Forbidden | Failure::Unread =>
+                "unreadable",
+            Failure::Unwritten => "unwritable",
+        }
+    }
+
+    // Its sentence.
+    fn sentence(self) -> &'static str
+        ensures { result.now ≡ spec.sentence self }
+    {
+        match self {
+            Failure::Absent => "the file can't be read: no such file",
+            Failure::Folder => "the file can't be read: it is a folder",
+            Failure::Forbidden => "the file can't be read: permission denied",
+            Failure::Unread => "the file can't be read",
+            Failure::Unwritten => "the file can't be written back",
         }
     }
 }
@@ -149,8 +182,13 @@ pub fn failed<W: Write>(
         file: name,
         line: 1,
     };
-    let (code, message) = failure.words();
-    let message = note(alloc, options.style, origin, code, message)?;
+    let message = note(
+        alloc,
+        options.style,
+        origin,
+        failure.code(),
+        failure.sentence(),
+    )?;
     write(writer, &message)?;
     Ok(TextEnd::Failed)
 }

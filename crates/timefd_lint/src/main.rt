@@ -8,52 +8,182 @@ mod fix;
 mod line;
 mod lines;
 mod options;
+mod rewriting;
 mod run;
 mod tally;
+mod usage;
 
+use convert::conversion_between;
 use line::RunError;
-use options::options_of;
+use options::{Options, run_options};
+use rewriting::{Rewriting, rewrite_files};
 use run::run;
+use std::alloc::{AllocError, Global};
 use std::env;
-use std::io::{BufWriter, Write};
+use std::io::{BufWriter, ErrorKind, IsTerminal, Write};
 use std::process::ExitCode;
+use timefd_lint_options::{Asked, Color, OptionError, Settings, options_of};
 
 // The statuses of runs that did not come to their end.
 const WRONG_ARGUMENTS: u8 = 2;
 
 const NO_MEMORY: u8 = 3;
 
-const WRITE_FAILED: u8 = 4;
+const FAILED: u8 = 4;
 
-// All arguments, of which the first is the program's name.
-fn args(rt: &HostRuntime) -> Option<Vec<String>> {
-    env::args(rt).ok()?.collect(rt.alloc()).ok()
+const NOT_TEXT: u8 = 5;
+
+// Says on the standard error why the status is no verdict, and answers the status.
+fn told(rt: &HostRuntime, status: u8, sentence: &str) -> u8 {
+    let _ = eprintln!(rt; "timefd_lint: {sentence}");
+    status
 }
 
-// Runs with the words behind the program's name, and answers the exit status.
-fn status(rt: &HostRuntime, words: &[String]) -> u8 {
-    let Some(options) = options_of(words) else {
-        return WRONG_ARGUMENTS;
-    };
-    let Ok(mut writer) = BufWriter::new(rt.alloc(), rt.stdout()) else {
-        return NO_MEMORY;
-    };
-    match run(rt, rt.alloc(), options, rt.stdin(), &mut writer) {
-        Ok(tally) => match writer.flush() {
-            Ok(()) => tally.status(),
-            Err(_) => WRITE_FAILED,
-        },
-        Err(RunError::Memory) => NO_MEMORY,
-        Err(RunError::Write) => WRITE_FAILED,
+fn no_memory(rt: &HostRuntime) -> u8 {
+    told(rt, NO_MEMORY, "memory ran out")
+}
+
+fn write_failed(rt: &HostRuntime) -> u8 {
+    told(rt, FAILED, "the standard output can't be written")
+}
+
+fn wrong_arguments(rt: &HostRuntime, error: OptionError<'_>) -> u8 {
+    match usage::sentence(rt.alloc(), error) {
+        Ok(sentence) => told(rt, WRONG_ARGUMENTS, &sentence),
+        Err(AllocError) => no_memory(rt),
     }
 }
 
+// The words, each lent.
+fn lent<'a>(alloc: Global, words: &'a [String]) -> Result<Vec<&'a str>, AllocError> {
+    let mut all = Vec::new(alloc);
+    for word in words {
+        all.push(word.as_str())?;
+    }
+    Ok(all)
+}
+
+fn is_set(rt: &HostRuntime, name: &str) -> bool {
+    match env::var(rt, name) {
+        Ok(value) => !value.is_empty(),
+        Err(env::VarError::NotPresent) => false,
+        Err(_) => true,
+    }
+}
+
+fn is_dumb(rt: &HostRuntime) -> bool {
+    match env::var(rt, "TERM") {
+        Ok(value) => value.as_str() == "dumb",
+        Err(_) => false,
+    }
+}
+
+fn is_colored(rt: &HostRuntime, color: Color) -> bool {
+    match color {
+        Color::Always => true,
+        Color::Never => false,
+        Color::Auto => rt.stdout().is_terminal() && !is_set(rt, "NO_COLOR") && !is_dumb(rt),
+    }
+}
+
+// Writes a text to the standard output, and answers the status.
+fn written(rt: &HostRuntime, text: &str) -> u8 {
+    match rt.stdout().write_all(text.as_bytes()) {
+        Ok(()) => 0,
+        Err(_) => write_failed(rt),
+    }
+}
+
+// The status of what the words behind the program's name ask for.
+fn status(rt: &HostRuntime, words: &[&str]) -> u8 {
+    match options_of(words) {
+        Ok(Asked::Help) => written(rt, usage::USAGE),
+        Ok(Asked::Version) => written(rt, usage::VERSION),
+        Ok(Asked::Run(asked)) => {
+            let from = words.len().saturating_sub(asked.file_count);
+            let files = words.get(from..).unwrap_or(words);
+            let colored = is_colored(rt, asked.settings.color);
+            run_status(
+                rt,
+                asked.settings,
+                run_options(asked.settings, colored, files),
+            )
+        }
+        Err(error) => wrong_arguments(rt, error),
+    }
+}
+
+// How files are rewritten, where they are.
+fn rewriting_of(settings: Settings<'_>) -> Option<Rewriting> {
+    Some(Rewriting {
+        conversion: conversion_between(settings.language, settings.to?)?,
+        writes: settings.writes,
+        is_partial: settings.is_partial,
+    })
+}
+
+fn run_status(rt: &HostRuntime, settings: Settings<'_>, options: Options<'_>) -> u8 {
+    let Ok(mut writer) = BufWriter::new(rt.alloc(), rt.stdout()) else {
+        return no_memory(rt);
+    };
+    let end = run_and_rewrite(rt, settings, options, &mut writer);
+    match (end, writer.flush()) {
+        (Ok(status), Ok(())) => end_of(rt, status),
+        (Err(RunError::Memory), _) => no_memory(rt),
+        (Err(RunError::Write), _) | (Ok(_), Err(_)) => write_failed(rt),
+    }
+}
+
+fn run_and_rewrite<W: Write>(
+    rt: &HostRuntime,
+    settings: Settings<'_>,
+    options: Options<'_>,
+    writer: &mut W,
+) -> Result<u8, RunError> {
+    let status = run(rt, rt.alloc(), options, rt.stdin(), writer)?.status();
+    let Some(rewriting) = rewriting_of(settings) else {
+        return Ok(status);
+    };
+    if rewrite_files(rt, rt.alloc(), options, rewriting, writer)? {
+        Ok(FAILED)
+    } else {
+        Ok(status)
+    }
+}
+
+// Says why the status of a run that came to its end is no verdict.
+fn end_of(rt: &HostRuntime, status: u8) -> u8 {
+    match status {
+        FAILED => told(rt, status, "a file can't be read, or not be written back"),
+        NOT_TEXT => told(rt, status, "a line is no UTF-8"),
+        _ => status,
+    }
+}
+
+fn args_status(rt: &HostRuntime, args: &[String]) -> u8 {
+    let [_, words @ ..] = args else {
+        return status(rt, &[]);
+    };
+    match lent(rt.alloc(), words) {
+        Ok(words) => status(rt, &words),
+        Err(AllocError) => no_memory(rt),
+    }
+}
+
+fn collected(rt: &HostRuntime, args: env::Args) -> Option<Vec<String>> {
+    args.collect(rt.alloc()).ok()
+}
+
 fn main(rt: HostRuntime) -> ExitCode {
-    let Some(args) = args(&rt) else {
-        return ExitCode::from(NO_MEMORY);
+    let args = match env::args(&rt) {
+        Ok(args) => collected(&rt, args),
+        Err(error) if error.kind() == ErrorKind::OutOfMemory => None,
+        Err(_) => {
+            return ExitCode::from(told(&rt, WRONG_ARGUMENTS, "an argument is no UTF-8"));
+        }
     };
-    let [_, words @ ..] = args.as_slice() else {
-        return ExitCode::from(WRONG_ARGUMENTS);
-    };
-    ExitCode::from(status(&rt, words))
+    match args {
+        Some(args) => ExitCode::from(args_status(&rt, &args)),
+        None => ExitCode::from(no_memory(&rt)),
+    }
 }

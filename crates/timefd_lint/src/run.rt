@@ -3,10 +3,8 @@
 ghost use Rattle.std.specs.Prelude.{◌≡◌, [], IfOk};
 ghost use Rattle.timefd_lint.specs.Told.{IsRun, IsRunOn};
 
-use crate::convert::Conversion;
-use crate::fix::{FixError, fix_file};
 use crate::line::RunError;
-use crate::lines::{Failure, failed, lint_lines, lint_whole};
+use crate::lines::{failed, lint_lines, lint_whole, unread};
 use crate::options::Options;
 use crate::tally::Tally;
 use std::alloc::Global;
@@ -41,53 +39,9 @@ pub fn run<R: Files, I: Read + Drop, W: Write>(
     }
     let mut tally = Tally::new();
     'files: for name in options.files {
-        tally = tally.and(lint_and_fix(rt, alloc, options, name, writer)?);
+        tally = tally.and(lint_file(rt, alloc, options, name, writer)?);
     }
     Ok(tally)
-}
-
-// Looks at all texts of a file, and writes it back where that is asked for.
-#[tactic(auto, using(crate::proofs::ToldLemmas::run_behind))]
-fn lint_and_fix<R: Files, W: Write>(
-    rt: &R,
-    alloc: Global,
-    options: Options<'_>,
-    name: &str,
-    writer: &mut W,
-) -> Result<Tally, RunError>
-    ensures { IfOk result (IsRun options.entry.is_whole options.entry.language options.entry.comment
-        options.entry.explains (W.contents writer.old) (W.contents writer.new)) }
-{
-    let tally = lint_file(rt, alloc, options, name, writer)?;
-    match options.conversion() {
-        Some(conversion) if !tally.failed => {
-            Ok(tally.and(fix(rt, alloc, options, conversion, name, writer)?))
-        }
-        _ => Ok(tally),
-    }
-}
-
-// Writes a file back. Where that fails it is noted, and the file is as it was.
-#[tactic(auto, using(crate::proofs::ToldLemmas::no_text, crate::proofs::ToldLemmas::failed_run))]
-fn fix<R: Files, W: Write>(
-    rt: &R,
-    alloc: Global,
-    options: Options<'_>,
-    conversion: Conversion,
-    name: &str,
-    writer: &mut W,
-) -> Result<Tally, RunError>
-    ensures { IfOk result (IsRun options.entry.is_whole options.entry.language options.entry.comment
-        options.entry.explains (W.contents writer.old) (W.contents writer.new)) }
-{
-    match fix_file(rt, alloc, options.comment, conversion, name) {
-        Ok(()) => Ok(Tally::new()),
-        Err(FixError::Memory) => Err(RunError::Memory),
-        Err(FixError::Failed) => {
-            let end = failed(alloc, options, name, Failure::Unwritten, writer)?;
-            Ok(Tally::of(end))
-        }
-    }
 }
 
 // Looks at all texts of a file.
@@ -104,7 +58,10 @@ fn lint_file<R: Files, W: Write>(
 {
     match File::open(rt, name) {
         Ok(file) => lint_reader(alloc, options, name, file, writer),
-        Err(_) => Ok(Tally::of(failed(alloc, options, name, Failure::Unread, writer)?)),
+        Err(error) => {
+            let end = failed(alloc, options, name, unread(error.kind()), writer)?;
+            Ok(Tally::of(end))
+        }
     }
 }
 

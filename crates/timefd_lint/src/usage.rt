@@ -1,0 +1,86 @@
+//! What the program says of itself, and of arguments that are none of its.
+
+use std::alloc::{AllocError, Global};
+use timefd_drawing::shown::safe;
+use timefd_lint_options::{Conflict, OptionError, Valued};
+
+/// What `--version` writes.
+pub const VERSION: &str = "timefd_lint 0.1.0\n";
+
+/// What `--help` writes.
+pub const USAGE: &str = "usage: timefd_lint [OPTION].. [--] [FILE]..
+
+Reads format descriptions, one a line, from the files or from the standard input, and shows which
+are none, where, why, and what to write in their place.
+
+  --language 1|2|3|strftime    the language of all lines; version 3 if it isn't given
+  --format human|json|short    drawn, an object of JSON on a line, or FILE:LINE:COLUMN: MESSAGE
+  --color always|never|auto    whether the drawing is coloured; auto asks the terminal
+  --comment MARK               passes over the lines that begin with the mark
+  --whole                      takes a file as one text, each newline in it counted
+  --explain                    shows each accepted text as its tree
+  --to 2|3                     shows what would change in a later version; writes no file
+  --to 2|3 --write             writes the named files back in it
+  --partial                    with --write: also files some of whose lines are refused
+  --help, -h                   writes this
+  --version, -V                writes the program's version
+  --                           ends the options
+
+The status is 0 where all is accepted, 1 where a text is refused, 2 at wrong arguments, 3 where
+memory ran out, 4 where a file can't be read or written, 5 where a line is no UTF-8.
+";
+
+/// What is wrong with the arguments, in a sentence.
+pub fn sentence(alloc: Global, error: OptionError<'_>) -> Result<String, AllocError> {
+    match error {
+        OptionError::Unknown(word) => {
+            let word = safe(alloc, word)?;
+            format!(in alloc; "there is no option `{word}`; --help lists them")
+        }
+        OptionError::Fix => String::from_str(
+            alloc,
+            "there is no option `--fix`: `--to 3` shows a diff, `--to 3 --write` writes the files",
+        ),
+        OptionError::MissingValue(option) => {
+            let (name, values) = names(option);
+            format!(in alloc; "`{name}` wants a value: {values}")
+        }
+        OptionError::NotAValue(option, word) => {
+            let (name, values) = names(option);
+            let word = safe(alloc, word)?;
+            format!(in alloc; "`{word}` is no value of `{name}`: {values}")
+        }
+        OptionError::BehindFile(word) => {
+            let word = safe(alloc, word)?;
+            format!(in alloc;
+                "`{word}` stands behind a file: options stand before the names of files; `--` ends them"
+            )
+        }
+        OptionError::Conflict(conflict) => String::from_str(alloc, conflict_sentence(conflict)),
+    }
+}
+
+// An option, and the values that it takes.
+fn names(option: Valued) -> (&'static str, &'static str) {
+    match option {
+        Valued::Language => ("--language", "one of 1, 2, 3, strftime"),
+        Valued::Format => ("--format", "one of human, json, short"),
+        Valued::Color => ("--color", "one of always, never, auto"),
+        Valued::Comment => ("--comment", "a mark that is not empty"),
+        Valued::To => ("--to", "one of 2, 3"),
+    }
+}
+
+fn conflict_sentence(conflict: Conflict) -> &'static str {
+    match conflict {
+        Conflict::ExplainUndrawn =>
+            "`--explain` draws trees, and doesn't go with `--format json` or `short`",
+        Conflict::WriteWithoutVersion => "`--write` wants the version: `--to 2` or `--to 3`",
+        Conflict::PartialWithoutWrite => "`--partial` goes with `--write` alone",
+        Conflict::NoConversion => {
+            "no rewriting leads there: `--language 1` goes `--to 2` or `3`, `--language 2` goes `--to 3`"
+        }
+        Conflict::RewritesWhole => "`--to` rewrites line by line, and doesn't go with `--whole`",
+        Conflict::RewritesNoFile => "`--to` wants the name of a file",
+    }
+}

@@ -1,0 +1,66 @@
+-- What each option sets.
+use Rattle.std.specs.Prelude.{true, false, Option, Some, None, option_map, Result, Ok, Err, if◌then◌else◌}
+use denote.Ref.{Bor}
+use Rattle.timefd_component.specs.Tree.{Text}
+use Rattle.timefd_drawing.specs.declared.draw.Format.TheVariants as formats
+use Rattle.timefd_language.specs.declared.description_version.DescriptionVersion.TheVariants.{Three}
+use Rattle.timefd_language.specs.Grammar.{is_empty}
+use Rattle.timefd_parse.specs.declared.language.Language.TheVariants as languages
+use Rattle.timefd_lint_options.specs.declared.error.OptionError.{OptionError}
+use Rattle.timefd_lint_options.specs.declared.error.OptionError.TheVariants.{NotAValue}
+use Rattle.timefd_lint_options.specs.declared.settings.Color.TheVariants as colors
+use Rattle.timefd_lint_options.specs.declared.settings.Settings.{Settings}
+use Rattle.timefd_lint_options.specs.declared.word.Flag.{Flag}
+use Rattle.timefd_lint_options.specs.declared.word.Flag.TheVariants.{Whole, Explain, Write, Partial}
+use Rattle.timefd_lint_options.specs.declared.word.Valued.{Valued}
+use Rattle.timefd_lint_options.specs.declared.word.Valued.TheVariants.{Language, Format, Color, Comment, To}
+use Rattle.timefd_lint_options.specs.Values.{language_named, format_named, color_named, version_named}
+
+abbrev pub initial : Settings
+initial = record {
+  language = languages.Version Three;
+  format = formats.Human;
+  color = colors.Auto;
+  comment = None;
+  is_whole = false;
+  explains = false;
+  to = None;
+  writes = false;
+  is_partial = false;
+}
+
+abbrev pub with_flag : Settings → Flag → Settings
+with_flag s Whole = record s { is_whole = true }
+with_flag s Explain = record s { explains = true }
+with_flag s Write = record s { writes = true }
+with_flag s Partial = record s { is_partial = true }
+
+abbrev pub with_language : Settings → Text → Option Settings
+with_language s word = option_map (λ l. record s { language = l }) (language_named word)
+
+abbrev pub with_format : Settings → Text → Option Settings
+with_format s word = option_map (λ f. record s { format = f }) (format_named word)
+
+abbrev pub with_color : Settings → Text → Option Settings
+with_color s word = option_map (λ c. record s { color = c }) (color_named word)
+
+-- an empty mark is none
+abbrev pub with_comment : Settings → Bor Text → Option Settings
+with_comment s word = if is_empty word.now then None else Some (record s { comment = Some word })
+
+abbrev pub with_version : Settings → Text → Option Settings
+with_version s word = option_map (λ v. record s { to = Some v }) (version_named word)
+
+abbrev pub set : Settings → Valued → Bor Text → Option Settings
+set s Language word = with_language s word.now
+set s Format word = with_format s word.now
+set s Color word = with_color s word.now
+set s Comment word = with_comment s word
+set s To word = with_version s word.now
+
+abbrev pub or_error : OptionError → Option Settings → Result Settings OptionError
+or_error e (Some s) = Ok s
+or_error e None = Err e
+
+abbrev pub with_value : Settings → Valued → Bor Text → Result Settings OptionError
+with_value s option word = or_error (NotAValue option word) (set s option word)

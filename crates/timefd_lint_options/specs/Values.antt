@@ -1,0 +1,39 @@
+-- What the values of options name.
+use Rattle.std.specs.Prelude.{Option, Some, None, codes, bytes_eq, if◌then◌else◌}
+use Rattle.timefd_component.specs.Tree.{Text}
+use Rattle.timefd_drawing.specs.declared.draw.Format.{Format}
+use Rattle.timefd_drawing.specs.declared.draw.Format.TheVariants.{Human, Json, Short}
+use Rattle.timefd_language.specs.declared.description_version.DescriptionVersion.{DescriptionVersion}
+use Rattle.timefd_language.specs.declared.description_version.DescriptionVersion.TheVariants.{One, Two, Three}
+use Rattle.timefd_parse.specs.declared.language.Language.{Language}
+use Rattle.timefd_parse.specs.declared.language.Language.TheVariants.{Version, Strftime}
+use Rattle.timefd_lint_options.specs.declared.settings.Color.{Color}
+use Rattle.timefd_lint_options.specs.declared.settings.Color.TheVariants.{Always, Never, Auto}
+
+abbrev pub language_named : Text → Option Language
+language_named word =
+    if bytes_eq word (codes "1") then Some (Version One)
+    else if bytes_eq word (codes "2") then Some (Version Two)
+    else if bytes_eq word (codes "3") then Some (Version Three)
+    else if bytes_eq word (codes "strftime") then Some Strftime
+    else None
+
+abbrev pub format_named : Text → Option Format
+format_named word =
+    if bytes_eq word (codes "human") then Some Human
+    else if bytes_eq word (codes "json") then Some Json
+    else if bytes_eq word (codes "short") then Some Short
+    else None
+
+abbrev pub color_named : Text → Option Color
+color_named word =
+    if bytes_eq word (codes "always") then Some Always
+    else if bytes_eq word (codes "never") then Some Never
+    else if bytes_eq word (codes "auto") then Some Auto
+    else None
+
+abbrev pub version_named : Text → Option DescriptionVersion
+version_named word =
+    if bytes_eq word (codes "2") then Some Two
+    else if bytes_eq word (codes "3") then Some Three
+    else None

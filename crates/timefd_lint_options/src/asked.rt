@@ -1,0 +1,215 @@
+//! What the words behind the program's name ask for.
+
+ghost use Rattle.std.specs.Prelude.{◌≡◌, length};
+ghost use Rattle.timefd_lint_options.specs.Asked as spec;
+
+use crate::error::{Conflict, OptionError};
+use crate::settings::{Settings, with_flag, with_value};
+use crate::word::{Valued, Word, is_option, word_of};
+use timefd_drawing::Format;
+use timefd_parse::{DescriptionVersion, Language};
+
+/// The options of a run, and the names of its files.
+#[derive(Clone, Copy)]
+pub struct Options<'a> {
+    pub settings: Settings<'a>,
+    /// How many of the last words are names of files: none, where the standard input is read.
+    pub file_count: usize,
+}
+
+/// What the words ask for.
+#[derive(Clone, Copy)]
+pub enum Asked<'a> {
+    /// How the program is used.
+    Help,
+    /// The program's version.
+    Version,
+    /// A run.
+    Run(Options<'a>),
+}
+
+// What is known in front of a word: the settings so far, and the option whose value it is.
+#[derive(Clone, Copy)]
+struct State<'a> {
+    settings: Settings<'a>,
+    pending: Option<Valued>,
+}
+
+// What a word makes of that.
+#[derive(Clone, Copy)]
+enum Step<'a> {
+    Next(State<'a>),
+    Done(Result<Asked<'a>, OptionError<'a>>),
+}
+
+/// What the words behind the program's name ask for; or what is wrong with them.
+#[tactic(auto, using(crate::proofs::AskedLemmas::goes_on, crate::proofs::AskedLemmas::is_done))]
+pub fn options_of<'a>(words: &'a [&'a str]) -> Result<Asked<'a>, OptionError<'a>>
+    ensures { result ≡ spec.options_of words.now }
+{
+    let mut state = State {
+        settings: Settings::initial(),
+        pending: None,
+    };
+    let mut rest = words;
+    'words: while let [word, behind @ ..] = rest {
+        match one_more(state, word, behind) {
+            Step::Next(next) => state = next,
+            Step::Done(asked) => return asked,
+        }
+        rest = behind;
+    }
+    at_end(state)
+}
+
+// What is asked for where no word is left.
+fn at_end<'a>(state: State<'a>) -> Result<Asked<'a>, OptionError<'a>>
+    ensures { result ≡ spec.at_end state.entry }
+{
+    match state.pending {
+        Some(option) => Err(OptionError::MissingValue(option)),
+        None => run(state.settings, 0),
+    }
+}
+
+// What one more word comes to, with the words behind it.
+fn one_more<'a>(state: State<'a>, word: &'a str, behind: &'a [&'a str]) -> Step<'a>
+    ensures { result ≡ spec.one_more state.entry word.entry behind.now }
+{
+    match state.pending {
+        Some(option) => valued(state.settings, option, word),
+        None => first(state.settings, word, behind),
+    }
+}
+
+// A word that is the value of an option.
+fn valued<'a>(settings: Settings<'a>, option: Valued, word: &'a str) -> Step<'a>
+    ensures { result ≡ spec.valued settings.entry option word.entry }
+{
+    match with_value(settings, option, word) {
+        Ok(settings) => Step::Next(State {
+            settings,
+            pending: None,
+        }),
+        Err(error) => Step::Done(Err(error)),
+    }
+}
+
+// A word that may be an option.
+fn first<'a>(settings: Settings<'a>, word: &'a str, behind: &'a [&'a str]) -> Step<'a>
+    ensures { result ≡ spec.first settings.entry word.entry behind.now }
+{
+    match word_of(word) {
+        Word::Flag(flag) => Step::Next(State {
+            settings: with_flag(settings, flag),
+            pending: None,
+        }),
+        Word::Valued(option) => Step::Next(State {
+            settings,
+            pending: Some(option),
+        }),
+        Word::Help => Step::Done(Ok(Asked::Help)),
+        Word::Version => Step::Done(Ok(Asked::Version)),
+        Word::Fix => Step::Done(Err(OptionError::Fix)),
+        Word::Unknown => Step::Done(Err(OptionError::Unknown(word))),
+        Word::End => Step::Done(run(settings, behind.len())),
+        Word::File => Step::Done(named(settings, behind)),
+    }
+}
+
+// A run over a file, and those that the words behind it name.
+fn named<'a>(settings: Settings<'a>, behind: &'a [&'a str]) -> Result<Asked<'a>, OptionError<'a>>
+    ensures { result ≡ spec.named settings.entry behind.now }
+{
+    match first_option(behind) {
+        Some(option) => Err(OptionError::BehindFile(option)),
+        None => run(settings, behind.len().saturating_add(1)),
+    }
+}
+
+// The first of the words that looks like an option.
+fn first_option<'a>(words: &'a [&'a str]) -> Option<&'a str>
+    ensures { result ≡ spec.first_option words.now }
+{
+    let mut rest = words;
+    'options: while let [word, behind @ ..] = rest {
+        if is_option(word) {
+            return Some(word);
+        }
+        rest = behind;
+    }
+    None
+}
+
+// A run with these settings, unless they don't go together.
+fn run<'a>(settings: Settings<'a>, file_count: usize) -> Result<Asked<'a>, OptionError<'a>>
+    ensures { result ≡ spec.run settings.entry file_count }
+{
+    match conflict(settings, file_count) {
+        Some(conflict) => Err(OptionError::Conflict(conflict)),
+        None => Ok(Asked::Run(Options {
+            settings,
+            file_count,
+        })),
+    }
+}
+
+// What doesn't go together in the settings.
+fn conflict(settings: Settings<'_>, file_count: usize) -> Option<Conflict>
+    ensures { result ≡ spec.conflict settings.entry file_count }
+{
+    if settings.explains && !is_drawn(settings.format) {
+        return Some(Conflict::ExplainUndrawn);
+    }
+    if settings.is_partial && !settings.writes {
+        return Some(Conflict::PartialWithoutWrite);
+    }
+    match settings.to {
+        Some(version) => rewriting_conflict(settings, version, file_count),
+        None if settings.writes => Some(Conflict::WriteWithoutVersion),
+        None => None,
+    }
+}
+
+// What is in the way of rewriting files in a version.
+fn rewriting_conflict(
+    settings: Settings<'_>,
+    version: DescriptionVersion,
+    file_count: usize,
+) -> Option<Conflict>
+    ensures { result ≡ spec.rewriting_conflict settings.entry version file_count }
+{
+    if !is_rewritten(settings.language, version) {
+        return Some(Conflict::NoConversion);
+    }
+    if settings.is_whole {
+        return Some(Conflict::RewritesWhole);
+    }
+    if file_count == 0 {
+        return Some(Conflict::RewritesNoFile);
+    }
+    None
+}
+
+fn is_drawn(format: Format) -> bool
+    ensures { result ≡ spec.is_drawn format }
+{
+    match format {
+        Format::Human => true,
+        Format::Json | Format::Short => false,
+    }
+}
+
+// Whether descriptions of a language are rewritten in a version.
+fn is_rewritten(language: Language, version: DescriptionVersion) -> bool
+    ensures { result ≡ spec.is_rewritten language version }
+{
+    match version {
+        DescriptionVersion::One => false,
+        DescriptionVersion::Two => matches!(language, Language::Version(DescriptionVersion::One)),
+        DescriptionVersion::Three => matches!(
+            language,
+            Language::Version(DescriptionVersion::One | DescriptionVersion::Two)
+        ),
+    }
+}

@@ -1,0 +1,37 @@
+//! What is wrong with words that are no arguments of the program.
+
+use crate::word::Valued;
+
+/// Why words are no arguments of the program.
+#[derive(Clone, Copy)]
+pub enum OptionError<'a> {
+    /// The word looks like an option, and is none.
+    Unknown(&'a str),
+    /// `--fix`, in whose place `--to` and `--write` stand.
+    Fix,
+    /// No word stands behind an option that has a value.
+    MissingValue(Valued),
+    /// The option doesn't take the word as its value.
+    NotAValue(Valued, &'a str),
+    /// The option stands behind the name of a file.
+    BehindFile(&'a str),
+    /// Options that don't go together.
+    Conflict(Conflict),
+}
+
+/// Options that don't go together, or want something that isn't there.
+#[derive(Clone, Copy)]
+pub enum Conflict {
+    /// Trees are drawn, and are neither objects of JSON nor short.
+    ExplainUndrawn,
+    /// `--write` without `--to`.
+    WriteWithoutVersion,
+    /// `--partial` without `--write`.
+    PartialWithoutWrite,
+    /// No rewriting leads from the language to the version.
+    NoConversion,
+    /// A file is rewritten line by line.
+    RewritesWhole,
+    /// No file is named that could be rewritten.
+    RewritesNoFile,
+}

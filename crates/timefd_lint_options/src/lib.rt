@@ -1,0 +1,13 @@
+//! The options of the linter: what the words behind the program's name ask for.
+#![tactic(auto)]
+
+mod asked;
+mod error;
+mod settings;
+mod values;
+mod word;
+
+pub use asked::{Asked, Options, options_of};
+pub use error::{Conflict, OptionError};
+pub use settings::{Color, Settings};
+pub use word::{Flag, Valued};

@@ -1,0 +1,161 @@
+//! What is set of a run.
+
+ghost use Rattle.std.specs.Prelude.{◌≡◌};
+ghost use Rattle.timefd_lint_options.specs.Settings as spec;
+
+use crate::error::OptionError;
+use crate::values::{color_named, format_named, language_named, version_named};
+use crate::word::{Flag, Valued};
+use timefd_drawing::Format;
+use timefd_parse::{DescriptionVersion, Language};
+
+/// Whether what is drawn is coloured.
+#[derive(Clone, Copy)]
+pub enum Color {
+    Always,
+    Never,
+    /// Where the standard output is a terminal that shows colours.
+    Auto,
+}
+
+/// What a run does.
+#[derive(Clone, Copy)]
+pub struct Settings<'a> {
+    /// The language of the texts.
+    pub language: Language,
+    /// How diagnostics are written.
+    pub format: Format,
+    /// Whether they are coloured.
+    pub color: Color,
+    /// What lines begin with that are passed over.
+    pub comment: Option<&'a str>,
+    /// Whether a file is one text.
+    pub is_whole: bool,
+    /// Whether what is accepted is shown as its tree.
+    pub explains: bool,
+    /// The version that descriptions are rewritten in.
+    pub to: Option<DescriptionVersion>,
+    /// Whether files are written back.
+    pub writes: bool,
+    /// Whether a file is also written back where some of its lines are refused.
+    pub is_partial: bool,
+}
+
+impl Settings<'_> {
+    /// Those of a run without options.
+    pub fn initial() -> Settings<'static>
+        ensures { result ≡ spec.initial }
+    {
+        Settings {
+            language: Language::Version(DescriptionVersion::Three),
+            format: Format::Human,
+            color: Color::Auto,
+            comment: None,
+            is_whole: false,
+            explains: false,
+            to: None,
+            writes: false,
+            is_partial: false,
+        }
+    }
+}
+
+/// The settings with one more option that has no value.
+pub fn with_flag<'a>(settings: Settings<'a>, flag: Flag) -> Settings<'a>
+    ensures { result ≡ spec.with_flag settings.entry flag }
+{
+    match flag {
+        Flag::Whole => Settings {
+            is_whole: true,
+            ..settings
+        },
+        Flag::Explain => Settings {
+            explains: true,
+            ..settings
+        },
+        Flag::Write => Settings {
+            writes: true,
+            ..settings
+        },
+        Flag::Partial => Settings {
+            is_partial: true,
+            ..settings
+        },
+    }
+}
+
+/// The settings with the value of an option; `NotAValue` where the option doesn't take it.
+pub fn with_value<'a>(
+    settings: Settings<'a>,
+    option: Valued,
+    value: &'a str,
+) -> Result<Settings<'a>, OptionError<'a>>
+    ensures { result ≡ spec.with_value settings.entry option value.entry }
+{
+    let set = match option {
+        Valued::Language => with_language(settings, value),
+        Valued::Format => with_format(settings, value),
+        Valued::Color => with_color(settings, value),
+        Valued::Comment => with_comment(settings, value),
+        Valued::To => with_version(settings, value),
+    };
+    match set {
+        Some(settings) => Ok(settings),
+        None => Err(OptionError::NotAValue(option, value)),
+    }
+}
+
+fn with_language<'a>(settings: Settings<'a>, value: &str) -> Option<Settings<'a>>
+    ensures { result ≡ spec.with_language settings.entry value.now }
+{
+    match language_named(value) {
+        Some(language) => Some(Settings {
+            language,
+            ..settings
+        }),
+        None => None,
+    }
+}
+
+fn with_format<'a>(settings: Settings<'a>, value: &str) -> Option<Settings<'a>>
+    ensures { result ≡ spec.with_format settings.entry value.now }
+{
+    match format_named(value) {
+        Some(format) => Some(Settings { format, ..settings }),
+        None => None,
+    }
+}
+
+fn with_color<'a>(settings: Settings<'a>, value: &str) -> Option<Settings<'a>>
+    ensures { result ≡ spec.with_color settings.entry value.now }
+{
+    match color_named(value) {
+        Some(color) => Some(Settings { color, ..settings }),
+        None => None,
+    }
+}
+
+// An empty mark would pass over every line.
+fn with_comment<'a>(settings: Settings<'a>, value: &'a str) -> Option<Settings<'a>>
+    ensures { result ≡ spec.with_comment settings.entry value.entry }
+{
+    if value.is_empty() {
+        return None;
+    }
+    Some(Settings {
+        comment: Some(value),
+        ..settings
+    })
+}
+
+fn with_version<'a>(settings: Settings<'a>, value: &str) -> Option<Settings<'a>>
+    ensures { result ≡ spec.with_version settings.entry value.now }
+{
+    match version_named(value) {
+        Some(version) => Some(Settings {
+            to: Some(version),
+            ..settings
+        }),
+        None => None,
+    }
+}

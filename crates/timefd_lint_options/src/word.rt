@@ -1,0 +1,92 @@
+//! What a word is where an option may stand.
+
+ghost use Rattle.std.specs.Prelude.{◌≡◌};
+ghost use Rattle.timefd_lint_options.specs.Words as spec;
+
+/// An option without a value.
+#[derive(Clone, Copy)]
+pub enum Flag {
+    Whole,
+    Explain,
+    Write,
+    Partial,
+}
+
+/// An option whose value is the word behind it.
+#[derive(Clone, Copy)]
+pub enum Valued {
+    Language,
+    Format,
+    Color,
+    Comment,
+    To,
+}
+
+/// What a word is where an option may stand.
+#[derive(Clone, Copy)]
+pub enum Word {
+    Flag(Flag),
+    Valued(Valued),
+    /// `--help` or `-h`.
+    Help,
+    /// `--version` or `-V`.
+    Version,
+    /// `--fix`, which was an option once.
+    Fix,
+    /// `--`, behind which all words are names of files.
+    End,
+    /// What looks like an option and is none.
+    Unknown,
+    /// The name of a file, or `-` for the standard input.
+    File,
+}
+
+/// What a word is where an option may stand.
+pub fn word_of(word: &str) -> Word
+    ensures { result ≡ spec.word_of word.now }
+{
+    match word {
+        "--whole" => Word::Flag(Flag::Whole),
+        "--explain" => Word::Flag(Flag::Explain),
+        "--write" => Word::Flag(Flag::Write),
+        "--partial" => Word::Flag(Flag::Partial),
+        "--language" => Word::Valued(Valued::Language),
+        "--format" => Word::Valued(Valued::Format),
+        "--color" => Word::Valued(Valued::Color),
+        "--comment" => Word::Valued(Valued::Comment),
+        "--to" => Word::Valued(Valued::To),
+        "--help" | "-h" => Word::Help,
+        "--version" | "-V" => Word::Version,
+        "--fix" => Word::Fix,
+        "--" => Word::End,
+        "-" => Word::File,
+        _ => other_word(word),
+    }
+}
+
+// What a word is that is no option.
+fn other_word(word: &str) -> Word
+    ensures { result ≡ spec.other_word word.now }
+{
+    if word.as_bytes().starts_with(b"-") {
+        Word::Unknown
+    } else {
+        Word::File
+    }
+}
+
+/// Whether a word looks like an option.
+pub fn is_option(word: &str) -> bool
+    ensures { result ≡ spec.is_option word.now }
+{
+    match word_of(word) {
+        Word::File => false,
+        Word::Flag(_)
+        | Word::Valued(_)
+        | Word::Help
+        | Word::Version
+        | Word::Fix
+        | Word::End
+        | Word::Unknown => true,
+    }
+}
