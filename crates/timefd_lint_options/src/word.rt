@@ -37,7 +37,7 @@ pub enum Word {
     End,
     /// What looks like an option and is none.
     Unknown,
-    /// The name of a file, or `-` for the standard input.
+    /// The name of a file.
     File,
 }
 
