@@ -158,3 +158,7 @@ pub(crate) fn v2_to_v3(text: &str, buffer: &mut [u8]) -> Answer {
     // SAFETY: as in `check`.
     unsafe { timefd_v2_to_v3(text.as_ptr(), text.len(), buffer.as_mut_ptr(), buffer.len()) }
 }
+
+#[cfg(test)]
+#[path = "sys_tests.rs"]
+mod tests;

@@ -1,0 +1,94 @@
+//! The numbers of the header `timefd.h`, each beside what this crate takes it for. The header stands
+//! in the repository, so this runs there alone.
+
+use std::collections::BTreeMap;
+use std::fmt::Debug;
+use std::fs;
+
+use super::{ACCEPTED, COMPONENT, COMPOUND, FIRST, LITERAL, NO_MEMORY, OPTIONAL, REFUSED};
+use super::{RawNode, STRFTIME, VERSION};
+use crate::decode;
+use crate::modifier::{Padding, SubsecondDigits, TrailingInput, boolean};
+use crate::version::Version;
+
+const HEADER: &str = concat!(env!("CARGO_MANIFEST_DIR"), "/../../examples/timefd.h");
+
+/// The statuses that no call of this crate answers: its texts are UTF-8, and its languages known.
+const UNUSED: [&str; 2] = ["NOT_UTF8", "UNKNOWN_KIND"];
+
+/// Each `#define TIMEFD_NAME 12u` of the header, by its name.
+fn defined(header: &str) -> BTreeMap<String, u32> {
+    let lines = header.lines().filter_map(|line| line.strip_prefix("#define TIMEFD_"));
+    let words = lines.filter_map(|line| {
+        let mut words = line.split_whitespace();
+        Some((words.next()?, words.next()?.strip_suffix('u')?.parse().ok()?))
+    });
+    words.map(|(name, number)| (name.to_owned(), number)).collect()
+}
+
+/// The name that a variant has in the header: `Hour12 { .. }` is `HOUR_12`.
+fn header_name(variant: impl Debug) -> String {
+    let shown = format!("{variant:?}");
+    let word = shown.split(' ').next().unwrap_or_default();
+    let mut name = String::new();
+    for (at, c) in word.char_indices() {
+        let begins_number = c.is_ascii_digit() && !name.ends_with(|it: char| it.is_ascii_digit());
+        if at > 0 && (c.is_ascii_uppercase() || begins_number) {
+            name.push('_');
+        }
+        name.push(c.to_ascii_uppercase());
+    }
+    name
+}
+
+/// What a number of a component is taken for.
+fn component_name(number: u32) -> Option<String> {
+    let mut node = RawNode { what: COMPONENT, component: number, ignored: 1, ..RawNode::default() };
+    (node.padding, node.sign_is_mandatory, node.case_sensitive) = (1, 1, 1);
+    (node.one_indexed, node.is_uppercase, node.digits, node.trailing_input) = (1, 1, 1, 1);
+    decode::component(&node).map(header_name)
+}
+
+/// What a number of a modifier is taken for, in each of them.
+fn modifier_names(number: u8) -> Vec<String> {
+    let padding = Padding::from_number(number).map(|it| format!("PADDING_{}", header_name(it)));
+    let digits = SubsecondDigits::from_number(number);
+    let digits = digits.filter(|it| *it == SubsecondDigits::OneOrMore).map(header_name);
+    let trailing = TrailingInput::from_number(number).map(header_name);
+    [padding, digits, trailing, boolean(number).map(header_name)].into_iter().flatten().collect()
+}
+
+/// What this crate takes the numbers for, by the header's names.
+fn taken() -> BTreeMap<String, u32> {
+    let named = [
+        ("VERSION", VERSION),
+        ("VERSION_1", Version::One.number()),
+        ("VERSION_2", Version::Two.number()),
+        ("VERSION_3", Version::Three.number()),
+        ("STRFTIME", STRFTIME),
+        ("ACCEPTED", ACCEPTED),
+        ("REFUSED", REFUSED),
+        ("NO_MEMORY", NO_MEMORY),
+        ("LITERAL", LITERAL),
+        ("COMPONENT", COMPONENT),
+        ("COMPOUND", COMPOUND),
+        ("OPTIONAL", OPTIONAL),
+        ("FIRST", FIRST),
+    ];
+    let named = named.map(|(name, number)| (name.to_owned(), number));
+    let components = (0..=255).filter_map(|number| Some((component_name(number)?, number)));
+    let modifiers = (0..=u8::MAX).flat_map(|number| {
+        modifier_names(number).into_iter().map(move |name| (name, number.into()))
+    });
+    named.into_iter().chain(components).chain(modifiers).collect()
+}
+
+#[test]
+fn each_number_is_that_of_the_header() {
+    let header = fs::read_to_string(HEADER).expect("the header stands in the repository");
+    let mut defined = defined(&header);
+    for name in UNUSED {
+        assert!(defined.remove(name).is_some(), "the header has no {name}");
+    }
+    assert_eq!(taken(), defined);
+}
