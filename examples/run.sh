@@ -37,8 +37,11 @@ compare() {
 
 # The gate has built it over what it proved, by gate/c-library. It is for every processor of x86-64.
 [ -n "${TIMEFD_LIBRARY_IS_BUILT:-}" ] || (cd ../crates/timefd_c && rt lib --cpu x86-64) || fail "the library was not built"
-newer='pshufb|palignr|pabs[bwd]|phadd[wd]|pmulhrsw|ptest|p(ins|ext)r[bdq]|pblend|pm(in|ax)[us][bdw]|pcmpeqq|pcmpgtq|round[ps][sd]|popcnt|crc32'
-objdump -d "$library" | grep -qE "[[:space:]]($newer)[[:space:]]" && fail "the library wants more than plain x86-64"
+newer='pshufb|palignr|pabs[bwd]|phadd[wd]|pmaddubsw|psign[bwd]|pmulhrsw|pmulld|ptest|p(ins|ext)r[bdq]|pblend|pm(in|ax)(s[bd]|u[wd])|pmov[sz]x'
+newer="$newer|packusdw|insertps|pcmpeqq|pcmp[ei]str|pcmpgtq|round[ps][sd]|popcnt|crc32|v[a-z]*[ps][sdb]"
+objdump -d "$library" > out/library.txt || fail "objdump does not read the library"
+[ "$(wc -l < out/library.txt)" -gt 1000 ] || fail "the library has no code"
+grep -qE "[[:space:]]($newer)[[:space:]]" out/library.txt && fail "the library wants more than plain x86-64"
 
 build_and_compare first expected_first.txt
 build_and_compare check expected.txt
