@@ -2,9 +2,11 @@
 
 use crate::convert::{Conversion, converted};
 use crate::line::{is_passed_over, without_newline};
+use crate::stamp::Stamp;
 use std::alloc::{AllocError, Global};
-use std::fs::{self, File, OpenFile};
+use std::fs::{self, File, Metadata, OpenFile, OpenOptions};
 use std::io::{self, BufRead, BufReader, BufWriter, ErrorKind, Write};
+use std::os::unix::fs::{MetadataExt, OpenOptionsExt};
 use std::rt::Files;
 use std::str;
 use timefd_parse::ParseError;
@@ -39,24 +41,24 @@ impl From<io::Error> for FixError {
     }
 }
 
-/// Rewrites the lines of a file, into a new one beside it that takes its place once it is whole.
+/// Rewrites the lines of a file, into a new one beside it that takes its place once it is whole. The
+/// file is left as it was where it is no longer the one that was looked at.
 pub fn fix_file<R: Files>(
     rt: &R,
     alloc: Global,
     comment: Option<&str>,
     conversion: Conversion,
     name: &str,
+    found: &Metadata,
 ) -> Result<(), FixError> {
     let beside = format!(in alloc; "{name}{BESIDE}")?;
     let old = File::open(rt, name)?;
-    let permissions = old.metadata()?.permissions();
-    let new = File::create_new(rt, beside.as_str())?;
-    let written = match new.set_permissions(permissions) {
-        Ok(()) => rewrite(alloc, comment, conversion, old, new),
-        Err(_) => Err(FixError::Failed),
-    };
-    let replaced = match written {
-        Ok(()) => fs::rename(rt, beside.as_str(), name).map_err(FixError::from),
+    if !Stamp::of(&old.metadata()?).is(Stamp::of(found)) {
+        return Err(FixError::Failed);
+    }
+    let new = created(rt, &beside)?;
+    let replaced = match rewrite(alloc, comment, conversion, old, new, found) {
+        Ok(()) => replace(rt, name, &beside, found),
         Err(error) => Err(error),
     };
     if replaced.is_err() {
@@ -66,19 +68,54 @@ pub fn fix_file<R: Files>(
     replaced
 }
 
-// Writes all lines of one file into another, which is on the disk then.
+// A new file, which nobody else may read while it is written.
+fn created<R: Files>(rt: &R, name: &str) -> Result<R::File, FixError> {
+    let mut options = OpenOptions::new();
+    options.write(true);
+    options.create_new(true);
+    options.mode(0o600);
+    Ok(options.open(rt, name)?)
+}
+
+// Writes all lines of one file into another of the same owner, which is on the disk then and has
+// the old one's permissions.
 fn rewrite<F: io::Read + io::Write + OpenFile + Drop>(
     alloc: Global,
     comment: Option<&str>,
     conversion: Conversion,
     old: F,
     new: F,
+    found: &Metadata,
 ) -> Result<(), FixError> {
+    if new.metadata()?.uid() != found.uid() {
+        return Err(FixError::Failed);
+    }
     let mut reader = BufReader::new(alloc, old)?;
     let mut writer = BufWriter::new(alloc, new)?;
     rewrite_lines(alloc, comment, conversion, &mut reader, &mut writer)?;
     writer.flush()?;
+    writer.get_ref().set_permissions(found.permissions())?;
     writer.get_ref().sync_all()?;
+    Ok(())
+}
+
+// Gives a new file the name of the old one, unless that has changed meanwhile, and has the folder
+// written to the disk.
+fn replace<R: Files>(rt: &R, name: &str, beside: &str, found: &Metadata) -> Result<(), FixError> {
+    if !Stamp::of(&fs::metadata(rt, name)?).is(Stamp::of(found)) {
+        return Err(FixError::Failed);
+    }
+    fs::rename(rt, beside, name)?;
+    let folder = match name.rsplit_once('/') {
+        Some(("", _)) => "/",
+        Some((folder, _)) => folder,
+        None => ".",
+    };
+    // The new file stands already. Where the folder can't be written to the disk, either file is
+    // there after a crash, and whole.
+    if let Ok(folder) = File::open(rt, folder) {
+        let _ = folder.sync_all();
+    }
     Ok(())
 }
 

@@ -10,6 +10,7 @@ mod lines;
 mod options;
 mod rewriting;
 mod run;
+mod stamp;
 mod tally;
 mod usage;
 

@@ -5,6 +5,7 @@ use crate::fix::{FixError, Line, fix_file, rewritten};
 use crate::line::{RunError, without_newline, write};
 use crate::lines::{Failure, failed};
 use crate::options::Options;
+use crate::stamp::may_be_replaced;
 use std::alloc::{AllocError, Global};
 use std::fs::{self, File};
 use std::io::{BufRead, BufReader, Eprint, Write};
@@ -121,6 +122,10 @@ fn shown_or_written<R: Files + Eprint, W: Write>(
     name: &str,
     writer: &mut W,
 ) -> Result<(), FixError> {
+    let found = fs::metadata(rt, name)?;
+    if !found.is_file() || (rewriting.writes && !may_be_replaced(&found)) {
+        return Err(FixError::Failed);
+    }
     let mut reader = BufReader::new(alloc, File::open(rt, name)?)?;
     let counts = changes(alloc, options, rewriting, name, &mut reader, writer)?;
     let Counts {
@@ -139,7 +144,14 @@ fn shown_or_written<R: Files + Eprint, W: Write>(
         ));
         return Ok(());
     }
-    fix_file(rt, alloc, options.comment, rewriting.conversion, name)?;
+    fix_file(
+        rt,
+        alloc,
+        options.comment,
+        rewriting.conversion,
+        name,
+        &found,
+    )?;
     let noun = if lines == 1 { "line" } else { "lines" };
     let _ = rt.eprintln(format_args!("rewrote {file}: {rewritten} of {lines} {noun}"));
     Ok(())
