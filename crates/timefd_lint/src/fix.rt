@@ -77,8 +77,8 @@ fn created<R: Files>(rt: &R, name: &str) -> Result<R::File, FixError> {
     Ok(options.open(rt, name)?)
 }
 
-// Writes all lines of one file into another of the same owner, which is on the disk then and has
-// the old one's permissions.
+// Writes all lines of one file into another of the same owner and group, which is on the disk then
+// and has the old one's permissions.
 fn rewrite<F: io::Read + io::Write + OpenFile + Drop>(
     alloc: Global,
     comment: Option<&str>,
@@ -87,7 +87,8 @@ fn rewrite<F: io::Read + io::Write + OpenFile + Drop>(
     new: F,
     found: &Metadata,
 ) -> Result<(), FixError> {
-    if new.metadata()?.uid() != found.uid() {
+    let made = new.metadata()?;
+    if made.uid() != found.uid() || made.gid() != found.gid() {
         return Err(FixError::Failed);
     }
     let mut reader = BufReader::new(alloc, old)?;
