@@ -1,6 +1,9 @@
 //! What is answered to C.
 
 ghost use Rattle.std.specs.Prelude.{◌≡◌, false};
+ghost use Rattle.timefd_c.specs.Answers.{error_answer};
+
+use timefd_parse::BorrowedParseError;
 
 /// The status of a text that is a description. The value counts its items, or in version 3 the
 /// bytes that it reserves.
@@ -13,8 +16,7 @@ pub const REFUSED: u32 = 1;
 /// The status of bytes that are no UTF-8. The value is 0.
 pub const NOT_UTF8: u32 = 2;
 
-/// The status where memory ran out. The text has no fault then, or for a conversion may have one that
-/// quotes it. The value is 0.
+/// The status where memory ran out. The text has no fault then. The value is 0.
 pub const NO_MEMORY: u32 = 3;
 
 /// The status where the number is that of no language. The value is 0.
@@ -45,6 +47,16 @@ impl Answer {
             value,
             sentence_len: 0,
             written: 0,
+        }
+    }
+
+    /// The answer where a text was not converted, for this error.
+    pub(crate) fn of_error(error: BorrowedParseError) -> Answer
+        ensures { result ≡ error_answer error.entry }
+    {
+        match error {
+            BorrowedParseError::Invalid(fault) => Answer::plain(REFUSED, fault.index),
+            BorrowedParseError::Memory(_) => Answer::plain(NO_MEMORY, 0),
         }
     }
 }
