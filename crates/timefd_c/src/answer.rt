@@ -36,6 +36,11 @@ pub struct Answer {
     pub written: usize,
 }
 
+// So large is it in `examples/timefd.h`.
+const _: () = prove!(size_of::<Answer>() == 32);
+
+const _: () = prove!(align_of::<Answer>() == 8);
+
 impl Answer {
     /// The answer with this status and value, and with no sentence.
     #[inline(always)]
@@ -76,6 +81,11 @@ pub struct ReadAnswer {
     /// Whether both buffers had room for all of them, and were written.
     pub written: bool,
 }
+
+// So large is it in `examples/timefd.h`.
+const _: () = prove!(size_of::<ReadAnswer>() == 40);
+
+const _: () = prove!(align_of::<ReadAnswer>() == 8);
 
 impl ReadAnswer {
     /// The answer with this status and value, where nothing was written.
