@@ -11,7 +11,7 @@ use Rattle.timefd_borrowed_fault.specs.declared.borrowed_parse_error.BorrowedPar
 use Rattle.timefd_borrowed_fault.specs.BorrowedFaults.{lent_fault, IsLent, IsLentOf, IsMemory}
 use Rattle.timefd_c.specs.Answers.{IsAnswer, error_answer, plain}
 use Rattle.timefd_c.specs.Conversions.{ConvertsBy, FitsTwice, IsConverted, IsToldOf}
-use Rattle.timefd_c.specs.declared.answer.TheConstants.{ACCEPTED, NO_MEMORY, NOT_UTF8, REFUSED}
+use Rattle.timefd_c.specs.declared.answer.TheConstants.{ACCEPTED, NO_MEMORY, REFUSED}
 use Rattle.timefd_c.proofs.AnswerLemmas as answers
 
 module _ (v : DescriptionVersion) (IsOne HasItems : Text → Text → Type 0) (bytes : Text) where
@@ -96,14 +96,6 @@ module _ (v : DescriptionVersion) (IsOne HasItems : Text → Text → Type 0) (b
       (answers.unread (Some (Version v)) bytes Text (IsConverted IsOne bytes)
       (IsToldOf HasItems bytes (plain NO_MEMORY 0)) (answers.some_not_none (Version v))
       (λ some invalid. invalid utf8) (λ f h. one f h.1) (λ some nil. not_empty nil))
-
-  pub no_text : (buffer : Text) → ¬ (IsUtf8 bytes)
-      → ConvertsBy v IsOne HasItems bytes buffer buffer (plain NOT_UTF8 0)
-  no_text buffer invalid =
-      silent buffer NOT_UTF8 0 (λ e. omega (arith, e)) (omega arith)
-      (answers.no_text (Some (Version v)) bytes Text (IsConverted IsOne bytes)
-      (IsToldOf HasItems bytes (plain NOT_UTF8 0)) (answers.some_not_none (Version v)) refl
-      invalid (λ other other_is. other_is.0))
 
 -- nothing is too long that is not accepted
 pub error_fits : (bytes : Text) (e : BorrowedParseError) → FitsTwice bytes (error_answer e)

@@ -1,5 +1,5 @@
 -- What is answered of a text that was read as nodes, and of one that has a fault.
-use Rattle.std.proofs.Common.{◌∙◌, ◌++◌, ◌∷◌, [], IsTrue, take, drop, sym, ℕ, ◌≡◌, ◌+◌, ◌≤◌, length, List, Option, Some, None, IsUtf8, false, refl, ap, arith}
+use Rattle.std.proofs.Common.{◌∙◌, ◌++◌, ◌∷◌, [], IsTrue, take, drop, sym, ℕ, ◌≡◌, ◌+◌, ◌≤◌, length, List, Option, Some, IsUtf8, false, refl, ap, arith}
 use Rattle.std.proofs.Math.Seq.{take-append_seam}
 use Rattle.timefd_component.specs.Tree.{Text, Tree, pack}
 use Rattle.timefd_language.proofs.ModernPieces.{pack_modern, modernity_law, strftime_modernity_law}
@@ -11,7 +11,7 @@ use Rattle.timefd_parse.specs.declared.language.Language.{Language}
 use Rattle.timefd_language.specs.Grammar.{nesting_limit}
 use Rattle.timefd_parse.specs.Language.{SpellsIn, FaultIn}
 use Rattle.timefd_c_nodes.specs.declared.node.Node.{Node}
-use Rattle.timefd_c.specs.declared.answer.TheConstants.{ACCEPTED, REFUSED, NOT_UTF8, NO_MEMORY, UNKNOWN_KIND}
+use Rattle.timefd_c.specs.declared.answer.TheConstants.{ACCEPTED, REFUSED}
 use Rattle.timefd_c.specs.declared.answer.ReadAnswer.{ReadAnswer}
 use Rattle.timefd_c.specs.declared.read.Report.{Report}
 use Rattle.timefd_language.specs.declared.description_version.DescriptionVersion.TheVariants.{One, Two, Three}
@@ -151,28 +151,3 @@ faulted language bytes ns a f utf8 has not_spelled one not_empty =
     (λ list. Tells (Some language) list ns ns a a (silent REFUSED f.index))
     (answers.some_not_none language) f (utf8, has) (λ list d. not_spelled list d.1)
     (λ g h. one g h.1) (λ some nil. not_empty nil))
-
-pub unread : (language : Language) (bytes : Text) (ns : List Node) (a : Text) → IsUtf8 bytes
-    → (bytes ≡ [] → ⊥) → ((f : Fault) → FaultIn language nesting_limit bytes f → ⊥)
-    → Reads (Some language) bytes ns ns a a (silent NO_MEMORY 0)
-unread language bytes ns a utf8 not_empty no_fault =
-    silent_reads (Some language) bytes ns a NO_MEMORY 0 (λ e. omega (arith, e))
-    (answers.unread (Some language) bytes (List Tree) (Describes (Some language) bytes)
-    (λ list. Tells (Some language) list ns ns a a (silent NO_MEMORY 0))
-    (answers.some_not_none language) (λ some invalid. invalid utf8) (λ f h. no_fault f h.1)
-    (λ some nil. not_empty nil))
-
-pub no_text : (language : Language) (bytes : Text) (ns : List Node) (a : Text) → ¬ (IsUtf8 bytes)
-    → Reads (Some language) bytes ns ns a a (silent NOT_UTF8 0)
-no_text language bytes ns a invalid =
-    silent_reads (Some language) bytes ns a NOT_UTF8 0 (λ e. omega (arith, e))
-    (answers.no_text (Some language) bytes (List Tree) (Describes (Some language) bytes)
-    (λ list. Tells (Some language) list ns ns a a (silent NOT_UTF8 0))
-    (answers.some_not_none language) refl invalid (λ list d. d.0))
-
-pub no_language : (bytes : Text) (ns : List Node) (a : Text)
-    → Reads None bytes ns ns a a (silent UNKNOWN_KIND 0)
-no_language bytes ns a =
-    silent_reads None bytes ns a UNKNOWN_KIND 0 (λ e. omega (arith, e))
-    (answers.no_language None bytes (List Tree) (Describes None bytes)
-    (λ list. Tells None list ns ns a a (silent UNKNOWN_KIND 0)) refl (λ list d. d.1))
