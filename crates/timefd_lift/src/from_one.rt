@@ -2,6 +2,7 @@
 
 ghost use Rattle.std.specs.Prelude.{◌≡◌, ◌≤◌, ◌*◌, [], length, IfOk, IsOk, MatchResult, string_bytes};
 ghost use Rattle.std.specs.Result.{IfErr};
+ghost use Rattle.std.specs.String.{string_capacity};
 ghost use Rattle.timefd_fault.specs.Faults as spec;
 ghost use Rattle.timefd_language.specs.declared.description_version.DescriptionVersion.TheVariants.{One};
 ghost use Rattle.timefd_language.specs.Grammar.{Pieces, nesting_limit};
@@ -103,7 +104,7 @@ fn escaped(alloc: Global, text: &str) -> Result<String, AllocError>
     ensures written { IfOk result (λ answer. string_bytes answer ≡ outside text.now) }
     ensures empty { text.now ≡ [] → IsOk result }
 {
-    let mut answer = String::with_capacity(alloc, text.len())?;
+    let mut answer = first_room(alloc, text)?;
     let (kept, mut rest) = text.split_at(kept_len(text.as_bytes()));
     answer.push_str(kept)?;
     while let Some((escape, behind)) = escape_of(rest) {
@@ -113,4 +114,14 @@ fn escaped(alloc: Global, text: &str) -> Result<String, AllocError>
         rest = behind;
     }
     Ok(answer)
+}
+
+/// The empty text with room for as many bytes as this one has, which is enough where nothing is
+/// escaped.
+fn first_room(alloc: Global, text: &str) -> Result<String, AllocError>
+    ensures bytes { IfOk result (λ answer. string_bytes answer ≡ []) }
+    ensures most { IfOk result (λ answer. string_capacity answer ≤ length text.now) }
+    ensures empty { text.now ≡ [] → IsOk result }
+{
+    String::with_capacity(alloc, text.len())
 }
