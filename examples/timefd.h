@@ -29,16 +29,15 @@ uint32_t timefd_version(void);
    timefd_v2_to_v3 it is the length of the text that is written, in bytes. */
 #define TIMEFD_ACCEPTED 0u
 
-/* The text is no description. The value is the index of the fault: how many bytes of the text stand before it. */
+/* The text is no description. The value is the index of the fault: how many bytes of the text stand before it, at most as many as
+   it has, and whole characters. */
 #define TIMEFD_REFUSED 1u
 
 /* The bytes are no UTF-8. The value is 0. */
 #define TIMEFD_NOT_UTF8 2u
 
-/* malloc or realloc gave no memory. The value is 0. From timefd_judge, timefd_check and timefd_read it comes only of a text
-   without a fault: these find a fault without memory, and write its sentence without it. The first two answer it of texts
-   of version 3 alone. From timefd_v1_to_v2 and timefd_v2_to_v3 it may also come of a text with one of the two faults that
-   quote it, an invalid component name and an invalid modifier. */
+/* malloc or realloc gave no memory. The value is 0. It comes only of a text without a fault: each call finds a fault without
+   memory, and its sentence is written without it. timefd_judge and timefd_check answer it of texts of version 3 alone. */
 #define TIMEFD_NO_MEMORY 3u
 
 /* The kind is none of the four numbers above, whatever the bytes are. The value is 0. */

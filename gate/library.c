@@ -1,5 +1,5 @@
-/* Refuses each allocation of each call of the static library in turn. gate/library builds it, with malloc, realloc and
-   free of the library led to the functions below, and runs it. */
+/* Refuses each allocation of each call of the static library in turn, and compares nodes byte by byte. gate/library builds it,
+   with malloc, realloc and free of the library led to the functions below, and runs it. */
 
 #include "../examples/timefd.h"
 
@@ -132,20 +132,22 @@ static struct outcome out_of_memory(enum call call) {
     return out;
 }
 
-/* Whether a refused text takes no memory for its fault and its sentence: none but room for nodes in version 3. */
+/* Whether a refused text takes no memory for its fault and its sentence: none but room for nodes in version 3, and for the
+   items of a text of version 2 that is converted. */
 static bool takes_little(const struct sample *sample) {
     struct outcome ample = outcome_of(CHECK_OR_CONVERT, sample, 0);
-    bool is_text = sample->kind < LIFT && ample.answer.status == TIMEFD_REFUSED;
-    return !is_text || asked <= (sample->kind == TIMEFD_VERSION_3 ? 1 : 0);
+    bool is_refused = ample.answer.status == TIMEFD_REFUSED;
+    bool has_room = sample->kind == TIMEFD_VERSION_3 || sample->kind == MODERN;
+    return !is_refused || asked <= (has_room ? 1 : 0);
 }
 
-/* Whether each outcome is the ample one, or, where the text is no refused one of a language, that memory ran out and
-   nothing else; and how many were refused. */
+/* Whether each outcome is the ample one, or, where the text is not refused, that memory ran out and nothing else; and how
+   many were refused. */
 static bool holds(enum call call, const struct sample *sample, size_t *count) {
     struct outcome ample = outcome_of(call, sample, 0);
     struct outcome out = out_of_memory(call);
     uint32_t status = call == READ ? ample.read.status : ample.answer.status;
-    bool may_run_out = sample->kind >= LIFT || status != TIMEFD_REFUSED;
+    bool may_run_out = status != TIMEFD_REFUSED;
     if (is_same(&ample, &out) || held != 0) {
         return false;
     }
@@ -164,6 +166,47 @@ static bool holds(enum call call, const struct sample *sample, size_t *count) {
     }
 }
 
+/* One node of a text, as its bytes: those of each field in turn, the lowest first. `U` are bytes between two fields. */
+struct layout {
+    uint32_t kind;
+    const char *text;
+    size_t index;
+    const char *bytes;
+};
+
+#define U "...."
+#define ONE(a) a "\0\0\0\0\0\0\0"
+#define NO_MODIFIER "\0\0\0\0\0\0\0\0"
+#define NONE "\0\0\0\0"
+
+/* Each field has a value in one of them that none beside it has. */
+static const struct layout LAYOUTS[] = {
+    {TIMEFD_VERSION_2, "ab[day]cde", 2, "\1\0\0\0" NONE NO_MODIFIER NONE U ONE("\2") ONE("\3") ONE("\3")},
+    {TIMEFD_VERSION_3, "ab[day]cde", 3, "\3\0\0\0" NONE NO_MODIFIER NONE U ONE("\0") ONE("\3") ONE("\7")},
+    {TIMEFD_VERSION_3, "x[optional [ab]]", 2, "\4\0\0\0" NONE "\0\0\0\0\0\0\0\2" NONE U ONE("\1") ONE("\1") ONE("\2")},
+    {TIMEFD_VERSION_2, "x[day padding:none]", 1, "\2\0\0\0\1\0\0\0\3\0\0\0\0\0\0\0" NONE U ONE("\1") ONE("\0") ONE("\2")},
+    {TIMEFD_VERSION_2, "[unix_timestamp sign:mandatory]", 0,
+     "\2\0\0\0\41\0\0\0\0\2\0\0\0\0\0\0" NONE U ONE("\0") ONE("\0") ONE("\17")},
+    {TIMEFD_VERSION_2, "[month repr:short case_sensitive:false]", 0,
+     "\2\0\0\0\2\0\0\0\0\0\1\0\0\0\0\0" NONE U ONE("\0") ONE("\0") ONE("\3")},
+    {TIMEFD_VERSION_2, "[weekday repr:sunday one_indexed:false]", 0,
+     "\2\0\0\0\10\0\0\0\0\0\0\1\0\0\0\0" NONE U ONE("\0") ONE("\0") ONE("\1")},
+    {TIMEFD_VERSION_2, "[period case:lower]", 0, "\2\0\0\0\32\0\0\0\0\0\2\0\1\0\0\0" NONE U ONE("\0") ONE("\0") ONE("\2")},
+    {TIMEFD_VERSION_2, "[subsecond digits:7]", 0, "\2\0\0\0\34\0\0\0\0\0\0\0\0\7\0\0" NONE U ONE("\0") ONE("\0") ONE("\7")},
+    {TIMEFD_VERSION_2, "[end trailing_input:discard]", 0,
+     "\2\0\0\0\45\0\0\0\0\0\0\0\0\0\2\0" NONE U ONE("\0") ONE("\0") ONE("\0")},
+    {TIMEFD_VERSION_2, "[ignore count:772]", 0, "\2\0\0\0\40\0\0\0" NO_MODIFIER "\4\3\0\0" U ONE("\0") ONE("\0") ONE("\0")},
+};
+
+/* Whether the node has these bytes, but for those between two fields. */
+static bool is_laid_out(const struct layout *layout) {
+    struct sample sample = {layout->kind, layout->text};
+    struct outcome outcome = outcome_of(READ, &sample, 0);
+    const uint8_t *node = (const uint8_t *)&outcome.nodes[layout->index];
+    return outcome.read.written && outcome.read.nodes > layout->index && memcmp(node, layout->bytes, 20) == 0 &&
+           memcmp(node + 24, layout->bytes + 24, 24) == 0;
+}
+
 int main(void) {
     size_t failed = 0;
     size_t count = 0;
@@ -172,6 +215,12 @@ int main(void) {
         if (!holds(CHECK_OR_CONVERT, &SAMPLES[i], &count) || !is_read || !takes_little(&SAMPLES[i])) {
             failed++;
             fprintf(stderr, "gate/library: %" PRIu32 ": %s\n", SAMPLES[i].kind, SAMPLES[i].text);
+        }
+    }
+    for (size_t i = 0; i < sizeof LAYOUTS / sizeof LAYOUTS[0]; i++) {
+        if (!is_laid_out(&LAYOUTS[i])) {
+            failed++;
+            fprintf(stderr, "gate/library: node %zu of %s\n", LAYOUTS[i].index, LAYOUTS[i].text);
         }
     }
     printf("gate/library: %zu refused allocations, %zu texts failed\n", count, failed);

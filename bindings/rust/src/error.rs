@@ -20,7 +20,9 @@ use crate::sys;
 pub enum ParseError {
     /// The text is no description.
     Invalid {
-        /// The index of the byte at fault: how many bytes of the text stand before it.
+        /// The index of the byte at fault: how many bytes of the text stand before it. It is at
+        /// most the text's length, and stands between two characters, so that both parts of the
+        /// text can be sliced.
         index: usize,
         /// What is wrong there. The library writes it, and it is proved to be the sentence of the
         /// fault that the rules assign to the text.

@@ -73,6 +73,7 @@ const _: () = {
     use core::mem::{offset_of, size_of};
     assert!(size_of::<Answer>() == 32 && size_of::<RawNode>() == 48);
     assert!(size_of::<ReadAnswer>() == 40 && offset_of!(ReadAnswer, written) == 32);
+    assert!(offset_of!(Answer, status) == 0 && offset_of!(ReadAnswer, status) == 0);
     assert!(offset_of!(Answer, value) == 8 && offset_of!(Answer, sentence_len) == 16);
     assert!(offset_of!(Answer, written) == 24 && offset_of!(ReadAnswer, value) == 8);
     assert!(offset_of!(ReadAnswer, nodes) == 16 && offset_of!(ReadAnswer, literals) == 24);

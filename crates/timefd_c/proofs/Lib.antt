@@ -1,3 +1,4 @@
+pub mod AnswerLemmas
 pub mod VerdictLemmas
 pub mod ConversionLemmas
 pub mod RoomLemmas

@@ -1,5 +1,5 @@
 -- What is answered of a text that was read as nodes, and of one that has a fault.
-use Rattle.std.proofs.Common.{◌∙◌, ◌++◌, ◌∷◌, [], IsTrue, take, drop, sym, ℕ, ◌≡◌, ◌+◌, ◌≤◌, length, List, Option, Some, None, IsSome, IsUtf8, false, true, refl, ap, subst, arith}
+use Rattle.std.proofs.Common.{◌∙◌, ◌++◌, ◌∷◌, [], IsTrue, take, drop, sym, ℕ, ◌≡◌, ◌+◌, ◌≤◌, length, List, Option, Some, IsUtf8, false, refl, ap, arith}
 use Rattle.std.proofs.Math.Seq.{take-append_seam}
 use Rattle.timefd_component.specs.Tree.{Text, Tree, pack}
 use Rattle.timefd_language.proofs.ModernPieces.{pack_modern, modernity_law, strftime_modernity_law}
@@ -11,7 +11,7 @@ use Rattle.timefd_parse.specs.declared.language.Language.{Language}
 use Rattle.timefd_language.specs.Grammar.{nesting_limit}
 use Rattle.timefd_parse.specs.Language.{SpellsIn, FaultIn}
 use Rattle.timefd_c_nodes.specs.declared.node.Node.{Node}
-use Rattle.timefd_c.specs.declared.answer.TheConstants.{ACCEPTED, REFUSED, NOT_UTF8, NO_MEMORY, UNKNOWN_KIND}
+use Rattle.timefd_c.specs.declared.answer.TheConstants.{ACCEPTED, REFUSED}
 use Rattle.timefd_c.specs.declared.answer.ReadAnswer.{ReadAnswer}
 use Rattle.timefd_c.specs.declared.read.Report.{Report}
 use Rattle.timefd_language.specs.declared.description_version.DescriptionVersion.TheVariants.{One, Two, Three}
@@ -19,10 +19,10 @@ use Rattle.timefd_parse.specs.declared.language.Language.TheVariants.{Version, S
 use Rattle.timefd_language.proofs.Reserved.{reserves_within_law}
 use Rattle.timefd_c_nodes.proofs.TreeLemmas.{walked_length}
 use Rattle.timefd_c.proofs.RoomLemmas.{nodes_within, literals_within}
-use Rattle.std.proofs.lemmas.Str.{IsUtf8-nil}
-use Rattle.timefd_c.specs.Answers.{HasFault}
+use Rattle.timefd_c.specs.Answers.{Describes, IsAnswer}
 use Rattle.timefd_c.specs.Reports.{IsReport, parts, tops}
-use Rattle.timefd_c.specs.Reading.{Reads}
+use Rattle.timefd_c.specs.Reading.{Reads, Tells}
+use Rattle.timefd_c.proofs.AnswerLemmas as answers
 
 abbrev pub told : Report → ReadAnswer
 told r = record {
@@ -109,19 +109,10 @@ pub reported : (language : Language) (bytes : Text) (ns ms : List Node) (a b : T
     → ((f : Fault) → FaultIn language nesting_limit bytes f → ⊥)
     → Reads (Some language) bytes ns ms a b (told r)
 reported language bytes ns ms a b r utf8 found spelled no_fault = record {
-  accepted = λ e. (found.0, (utf8, found.1), found.2);
-  refused = λ e. absurd (omega (arith, e));
-  spelled = λ list d more. (refl, spelled list d.1);
-  faulty = λ f h. absurd (no_fault f h.1);
-  unknown_kind = (
-    λ e. absurd (omega (arith, e)),
-    λ none. let is : Some language ≡ None = none in
-        absurd cc,
-  );
-  not_utf8 = (λ e. absurd (omega (arith, e)), λ x. absurd (x.1 utf8));
-  empty = λ some nil. refl;
-  status = omega arith;
-  no_value = λ accepted refused. absurd (accepted refl);
+  answers = answers.accepting (Some language) bytes (List Tree) (Describes (Some language) bytes)
+      (λ list. Tells (Some language) list ns ms a b (told r)) (answers.some_not_none language)
+      r.value utf8 found.0 (utf8, found.1) (λ list d. spelled list d.1)
+      (λ f h. no_fault f h.1);
   read = λ e written list d. read_back_of language bytes list ns ms a b r d.1 (spelled list d.1)
       written;
   within = λ e three. three_within language bytes found.0 r.nodes found.1 three found.2.nodes;
@@ -132,103 +123,31 @@ reported language bytes ns ms a b r utf8 found spelled no_fault = record {
   none_counted = λ accepted. absurd (accepted refl);
 }
 
+-- where nothing was written, the status and the value are all that is answered
+silent_reads : (language : Option Language) (bytes : Text) (ns : List Node) (a : Text)
+    (status value : ℕ) → (status ≡ ACCEPTED → ⊥)
+    → IsAnswer language bytes (List Tree) (Describes language bytes)
+    (λ list. Tells language list ns ns a a (silent status value)) status value
+    → Reads language bytes ns ns a a (silent status value)
+silent_reads language bytes ns a status value not_accepted is = record {
+  answers = is;
+  read = λ e. absurd (not_accepted e);
+  within = λ e. absurd (not_accepted e);
+  nodes_within = omega arith;
+  literals_within = omega arith;
+  nodes_kept = λ accepted. refl;
+  literals_kept = λ accepted. refl;
+  none_counted = λ accepted. (refl, refl, refl);
+}
+
 pub faulted : (language : Language) (bytes : Text) (ns : List Node) (a : Text) (f : Fault)
     → IsUtf8 bytes → FaultIn language nesting_limit bytes f
     → ((list : List Tree) → SpellsIn language nesting_limit bytes list → ⊥)
     → ((g : Fault) → FaultIn language nesting_limit bytes g → f ≡ g) → (bytes ≡ [] → ⊥)
     → Reads (Some language) bytes ns ns a a (silent REFUSED f.index)
-faulted language bytes ns a f utf8 has not_spelled one not_empty = record {
-  accepted = λ e. absurd (omega (arith, e));
-  refused = λ e. (f, (utf8, has), refl);
-  spelled = λ list d more. absurd (not_spelled list d.1);
-  faulty = λ g h. (refl, ap (λ x. x.index) (one g h.1));
-  unknown_kind = (
-    λ e. absurd (omega (arith, e)),
-    λ none. let is : Some language ≡ None = none in
-        absurd cc,
-  );
-  not_utf8 = (λ e. absurd (omega (arith, e)), λ x. absurd (x.1 utf8));
-  empty = λ some nil. absurd (not_empty nil);
-  status = omega arith;
-  no_value = λ accepted refused. absurd (refused refl);
-  read = λ e. absurd (omega (arith, e));
-  within = λ e. absurd (omega (arith, e));
-  nodes_within = omega arith;
-  literals_within = omega arith;
-  nodes_kept = λ accepted. refl;
-  literals_kept = λ accepted. refl;
-  none_counted = λ accepted. (refl, refl, refl);
-}
-
-pub unread : (language : Option Language) (bytes : Text) (ns : List Node) (a : Text)
-    → IsSome language → IsUtf8 bytes → (bytes ≡ [] → ⊥)
-    → ((f : Fault) → HasFault language bytes f → ⊥)
-    → Reads language bytes ns ns a a (silent NO_MEMORY 0)
-unread language bytes ns a some utf8 not_empty no_fault = record {
-  accepted = λ e. absurd (omega (arith, e));
-  refused = λ e. absurd (omega (arith, e));
-  spelled = λ list d more. absurd (more refl);
-  faulty = λ f h. absurd (no_fault f h);
-  unknown_kind = (
-    λ e. absurd (omega (arith, e)),
-    λ none. let no : false ≡ true =
-        subst IsSome none some in absurd cc,
-  );
-  not_utf8 = (λ e. absurd (omega (arith, e)), λ x. absurd (x.1 utf8));
-  empty = λ some nil. absurd (not_empty nil);
-  status = omega arith;
-  no_value = λ accepted refused. refl;
-  read = λ e. absurd (omega (arith, e));
-  within = λ e. absurd (omega (arith, e));
-  nodes_within = omega arith;
-  literals_within = omega arith;
-  nodes_kept = λ accepted. refl;
-  literals_kept = λ accepted. refl;
-  none_counted = λ accepted. (refl, refl, refl);
-}
-
-pub no_text : (language : Language) (bytes : Text) (ns : List Node) (a : Text) → ¬ (IsUtf8 bytes)
-    → Reads (Some language) bytes ns ns a a (silent NOT_UTF8 0)
-no_text language bytes ns a invalid = record {
-  accepted = λ e. absurd (omega (arith, e));
-  refused = λ e. absurd (omega (arith, e));
-  spelled = λ list d more. absurd (invalid d.0);
-  faulty = λ f h. absurd (invalid h.0);
-  unknown_kind = (
-    λ e. absurd (omega (arith, e)),
-    λ none. let is : Some language ≡ None = none in
-        absurd cc,
-  );
-  not_utf8 = (λ e. (refl, invalid), λ x. refl);
-  empty = λ some nil. absurd (invalid (subst IsUtf8 (sym nil) IsUtf8-nil));
-  status = omega arith;
-  no_value = λ accepted refused. refl;
-  read = λ e. absurd (omega (arith, e));
-  within = λ e. absurd (omega (arith, e));
-  nodes_within = omega arith;
-  literals_within = omega arith;
-  nodes_kept = λ accepted. refl;
-  literals_kept = λ accepted. refl;
-  none_counted = λ accepted. (refl, refl, refl);
-}
-
-pub no_language : (bytes : Text) (ns : List Node) (a : Text)
-    → Reads None bytes ns ns a a (silent UNKNOWN_KIND 0)
-no_language bytes ns a = record {
-  accepted = λ e. absurd (omega (arith, e));
-  refused = λ e. absurd (omega (arith, e));
-  spelled = λ list d more. absurd d.1;
-  faulty = λ f h. absurd h.1;
-  unknown_kind = (λ e. refl, λ none. refl);
-  not_utf8 = (λ e. absurd (omega (arith, e)), λ x. let no : false ≡ true = x.0 in absurd cc);
-  empty = λ some nil. let no : false ≡ true = some in absurd cc;
-  status = omega arith;
-  no_value = λ accepted refused. refl;
-  read = λ e. absurd (omega (arith, e));
-  within = λ e. absurd (omega (arith, e));
-  nodes_within = omega arith;
-  literals_within = omega arith;
-  nodes_kept = λ accepted. refl;
-  literals_kept = λ accepted. refl;
-  none_counted = λ accepted. (refl, refl, refl);
-}
+faulted language bytes ns a f utf8 has not_spelled one not_empty =
+    silent_reads (Some language) bytes ns a REFUSED f.index (λ e. omega (arith, e))
+    (answers.refusing (Some language) bytes (List Tree) (Describes (Some language) bytes)
+    (λ list. Tells (Some language) list ns ns a a (silent REFUSED f.index))
+    (answers.some_not_none language) f (utf8, has) (λ list d. not_spelled list d.1)
+    (λ g h. one g h.1) (λ some nil. not_empty nil))

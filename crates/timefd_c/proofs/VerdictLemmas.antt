@@ -1,5 +1,5 @@
 -- What a verdict says, its answer says.
-use Rattle.std.proofs.Common.{◌≡◌, ◌≢◌, List, [], Option, Some, None, IsFalse, IsSome, IsUtf8, refl, ap, subst, arith}
+use Rattle.std.proofs.Common.{ℕ, ◌≡◌, ◌≢◌, List, [], Option, Some, None, IsFalse, IsSome, IsUtf8, refl, subst, arith}
 use Rattle.timefd_fault.specs.Faults.{Fault}
 use Rattle.timefd_borrowed_fault.specs.BorrowedFaults.{HasShortWords, lent_fault}
 use Rattle.timefd_borrowed_fault.specs.declared.borrowed_fault.BorrowedFault.{BorrowedFault}
@@ -11,9 +11,29 @@ use Rattle.timefd_parse.specs.declared.language.Language.{Language}
 use Rattle.timefd_parse.specs.Language.{takes_memory}
 use Rattle.timefd_c.specs.declared.verdict.Verdict.{Verdict}
 use Rattle.timefd_c.specs.declared.verdict.Verdict.TheVariants.{Accepted, Refused, NotUtf8, NoMemory, UnknownKind}
-use Rattle.timefd_c.specs.Answers.{Judges, answer_of}
+use Rattle.timefd_c.specs.Answers.{Judges, Describes, Counts, answer_of, plain}
+use Rattle.timefd_c.specs.declared.answer.TheConstants.{ACCEPTED, REFUSED, NOT_UTF8, NO_MEMORY, UNKNOWN_KIND}
+use Rattle.timefd_c.proofs.AnswerLemmas as answers
 use Rattle.timefd_c.specs.Languages.{SpellsIn, FaultIn, amount}
 use Rattle.timefd_c.specs.Verdicts.{Says, Accepts, Refuses, IsAccepted}
+
+-- of a refused text, whatever was written of its sentence
+pub refusal : (language : Option Language) (bytes : Text) (f : BorrowedFault) (len written : ℕ)
+    → Says language bytes (Refused f)
+    → ((list : List Tree) → IsUtf8 bytes → SpellsIn language bytes list → ⊥)
+    → ((g : Fault) → IsUtf8 bytes → FaultIn language bytes g → lent_fault f ≡ g)
+    → (language ≡ None → ◌≡◌ {A = Verdict} (Refused f) UnknownKind)
+    → (IsSome language → bytes ≡ [] → ⊥)
+    → Judges language bytes
+    (record { status = REFUSED; value = f.index; sentence_len = len; written = written })
+refusal language bytes f len written says spelled faulty no_language empty = record {
+  answers = answers.refusing language bytes (List Tree) (Describes language bytes)
+      (Counts language
+      (record { status = REFUSED; value = f.index; sentence_len = len; written = written }))
+      (λ none. let is : Refused f ≡ UnknownKind = no_language none in absurd cc)
+      (lent_fault f) says (λ list d. spelled list d.0 d.1) (λ g h. faulty g h.0 h.1) empty;
+  memory = λ l is lax status. omega (arith, status);
+}
 
 pub judged : (language : Option Language) (bytes : Text) (v : Verdict) → Says language bytes v
     → ((list : List Tree) → IsUtf8 bytes → SpellsIn language bytes list
@@ -25,88 +45,34 @@ pub judged : (language : Option Language) (bytes : Text) (v : Verdict) → Says 
     → Judges language bytes (answer_of v)
 judged language bytes (Accepted value) says spelled faulty no_text no_language empty memory =
     record {
-      accepted = λ e. (says.1.0, (says.0, says.1.1), says.1.2);
-      refused = λ e. absurd (omega (arith, e));
-      spelled = λ list d more. (refl, spelled list d.0 d.1);
-      faulty = λ f h. absurd (faulty f h.0 h.1);
-      unknown_kind = (
-        λ e. absurd (omega (arith, e)),
-        λ none. let is : Accepted value ≡ UnknownKind =
-            no_language none in absurd cc,
-      );
-      not_utf8 = (λ e. absurd (omega (arith, e)), λ x. absurd (x.1 says.0));
-      empty = λ some nil. refl;
+      answers = answers.accepting language bytes (List Tree) (Describes language bytes)
+          (Counts language (plain ACCEPTED value))
+          (λ none. let is : Accepted value ≡ UnknownKind = no_language none in absurd cc)
+          value says.0 says.1.0 (says.0, says.1.1) (λ list d. spelled list d.0 d.1)
+          (λ f h. faulty f h.0 h.1);
       memory = λ l is lax status. omega (arith, status);
-      status = omega arith;
-      no_value = λ accepted refused. absurd (accepted refl);
     }
-judged language bytes (Refused f) says spelled faulty no_text no_language empty memory = record {
-  accepted = λ e. absurd (omega (arith, e));
-  refused = λ e. (lent_fault f, (says.0, says.1), refl);
-  spelled = λ list d more. absurd (spelled list d.0 d.1);
-  faulty = λ g h. (refl, ap (λ x. x.index) (faulty g h.0 h.1));
-  unknown_kind = (
-    λ e. absurd (omega (arith, e)),
-    λ none. let is : Refused f ≡ UnknownKind =
-        no_language none in absurd cc,
-  );
-  not_utf8 = (λ e. absurd (omega (arith, e)), λ x. absurd (x.1 says.0));
-  empty = λ some nil. absurd (empty some nil);
-  memory = λ l is lax status. omega (arith, status);
-  status = omega arith;
-  no_value = λ accepted refused. absurd (refused refl);
-}
+judged language bytes (Refused f) says spelled faulty no_text no_language empty memory =
+    refusal language bytes f 0 0 says spelled faulty no_language empty
 judged language bytes NotUtf8 says spelled faulty no_text no_language empty memory = record {
-  accepted = λ e. absurd (omega (arith, e));
-  refused = λ e. absurd (omega (arith, e));
-  spelled = λ list d more. absurd (spelled list d.0 d.1);
-  faulty = λ f h. absurd (faulty f h.0 h.1);
-  unknown_kind = (
-    λ e. absurd (omega (arith, e)),
-    λ none. let is : NotUtf8 ≡ UnknownKind =
-        no_language none in absurd cc,
-  );
-  not_utf8 = (λ e. says, λ x. refl);
-  empty = λ some nil. absurd (empty some nil);
+  answers = answers.no_text language bytes (List Tree) (Describes language bytes)
+      (Counts language (plain NOT_UTF8 0))
+      (λ none. let is : NotUtf8 ≡ UnknownKind = no_language none in absurd cc)
+      says.0 says.1 (λ list d. d.0);
   memory = λ l is lax status. omega (arith, status);
-  status = omega arith;
-  no_value = λ accepted refused. refl;
 }
 judged language bytes NoMemory says spelled faulty no_text no_language empty memory = record {
-  accepted = λ e. absurd (omega (arith, e));
-  refused = λ e. absurd (omega (arith, e));
-  spelled = λ list d more. absurd (more refl);
-  faulty = λ f h. absurd (faulty f h.0 h.1);
-  unknown_kind = (
-    λ e. absurd (omega (arith, e)),
-    λ none. let is : NoMemory ≡ UnknownKind =
-        no_language none in absurd cc,
-  );
-  not_utf8 = (
-    λ e. absurd (omega (arith, e)),
-    λ x. let is : NoMemory ≡ NotUtf8 = no_text x.0 x.1 in
-        absurd cc,
-  );
-  empty = λ some nil. absurd (empty some nil);
+  answers = answers.unread language bytes (List Tree) (Describes language bytes)
+      (Counts language (plain NO_MEMORY 0))
+      (λ none. let is : NoMemory ≡ UnknownKind = no_language none in absurd cc)
+      (λ some invalid. let is : NoMemory ≡ NotUtf8 = no_text some invalid in absurd cc)
+      (λ f h. faulty f h.0 h.1) empty;
   memory = λ l is lax status. memory l is lax refl;
-  status = omega arith;
-  no_value = λ accepted refused. refl;
 }
 judged language bytes UnknownKind says spelled faulty no_text no_language empty memory = record {
-  accepted = λ e. absurd (omega (arith, e));
-  refused = λ e. absurd (omega (arith, e));
-  spelled = λ list d more. absurd (spelled list d.0 d.1);
-  faulty = λ f h. absurd (faulty f h.0 h.1);
-  unknown_kind = (λ e. says, λ none. refl);
-  not_utf8 = (
-    λ e. absurd (omega (arith, e)),
-    λ x. let is : UnknownKind ≡ NotUtf8 =
-        no_text x.0 x.1 in absurd cc,
-  );
-  empty = λ some nil. absurd (empty some nil);
+  answers = answers.no_language language bytes (List Tree) (Describes language bytes)
+      (Counts language (plain UNKNOWN_KIND 0)) says (λ list d. spelled list d.0 d.1);
   memory = λ l is lax status. omega (arith, status);
-  status = omega arith;
-  no_value = λ accepted refused. refl;
 }
 
 refused_same : (f g : BorrowedFault) → ◌≡◌ {A = Verdict} (Refused f) (Refused g) → f ≡ g

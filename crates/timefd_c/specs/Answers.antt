@@ -1,7 +1,10 @@
 -- What is answered to C.
 use Rattle.std.specs.Prelude.{ℕ, ◌≡◌, ◌≢◌, ◌≤◌, ◌↔◌, [], List, Option, Some, None, IsFalse, IsSome, IsUtf8}
+use Rattle.std.specs.Str.{IsCharBoundary}
 use Rattle.timefd_component.specs.Tree.{Text, Tree}
 use Rattle.timefd_fault.specs.Faults.{Fault}
+use Rattle.timefd_borrowed_fault.specs.declared.borrowed_parse_error.BorrowedParseError.{BorrowedParseError}
+use Rattle.timefd_borrowed_fault.specs.declared.borrowed_parse_error.BorrowedParseError.TheVariants as errors
 use Rattle.timefd_parse.specs.declared.language.Language.{Language}
 use Rattle.timefd_parse.specs.Language.{takes_memory}
 use Rattle.timefd_fault.specs.Sentences.{sentence}
@@ -19,27 +22,37 @@ Describes language bytes list = IsUtf8 bytes × SpellsIn language bytes list
 abbrev pub HasFault : Option Language → Text → Fault → Type 0
 HasFault language bytes f = IsUtf8 bytes × FaultIn language bytes f
 
--- The answer says what the bytes are in the language, where there is one.
-pub record Judges (language : Option Language) (bytes : Text) (answer : Answer) : Type 0 where
+-- The status and the value say what the bytes are in the language, where there is one: `Is x` that
+-- they are a text without a fault and mean `x`, and `Told x` that this is what is answered.
+pub record IsAnswer (language : Option Language) (bytes : Text) (X : Type 0) (Is Told : X → Type 0)
+    (status value : ℕ) : Type 0 where
   -- What is answered is so.
-  pub accepted : answer.status ≡ ACCEPTED
-      → (list : List Tree) × Describes language bytes list × (answer.value ≡ amount language list)
-  pub refused : answer.status ≡ REFUSED
-      → (f : Fault) × HasFault language bytes f × (answer.value ≡ f.index)
-  -- What is so is answered: a description unless memory runs out, and a fault always.
-  pub spelled : (list : List Tree) → Describes language bytes list → answer.status ≢ NO_MEMORY
-      → (answer.status ≡ ACCEPTED) × (answer.value ≡ amount language list)
-  pub faulty : (f : Fault) → HasFault language bytes f
-      → (answer.status ≡ REFUSED) × (answer.value ≡ f.index)
+  pub accepted : status ≡ ACCEPTED → (x : X) × Is x × Told x
+  pub refused : status ≡ REFUSED → (f : Fault) × HasFault language bytes f × (value ≡ f.index)
+  -- What is so is answered: a text without a fault unless memory runs out, and a fault always.
+  pub spelled : (x : X) → Is x → status ≢ NO_MEMORY → (status ≡ ACCEPTED) × Told x
+  pub faulty : (f : Fault) → HasFault language bytes f → (status ≡ REFUSED) × (value ≡ f.index)
+  -- The index of a fault is at most the length of the text, and stands between two characters.
+  pub place : status ≡ REFUSED → IsCharBoundary bytes value
   -- These take no memory.
-  pub unknown_kind : answer.status ≡ UNKNOWN_KIND ↔ (language ≡ None)
-  pub not_utf8 : answer.status ≡ NOT_UTF8 ↔ (IsSome language × ¬ (IsUtf8 bytes))
-  pub empty : IsSome language → bytes ≡ [] → answer.status ≡ ACCEPTED
+  pub unknown_kind : status ≡ UNKNOWN_KIND ↔ (language ≡ None)
+  pub not_utf8 : status ≡ NOT_UTF8 ↔ (IsSome language × ¬ (IsUtf8 bytes))
+  pub empty : IsSome language → bytes ≡ [] → status ≡ ACCEPTED
+  -- There are no other statuses, and where nothing is counted the number is 0.
+  pub known : status ≤ UNKNOWN_KIND
+  pub no_value : status ≢ ACCEPTED → status ≢ REFUSED → value ≡ 0
+
+-- The value counts what the list has.
+abbrev pub Counts : Option Language → Answer → List Tree → Type 0
+Counts language answer list = answer.value ≡ amount language list
+
+-- The answer says what the bytes are in the language, where there is one, and how much they hold.
+pub record Judges (language : Option Language) (bytes : Text) (answer : Answer) : Type 0 where
+  pub answers : IsAnswer language bytes (List Tree) (Describes language bytes)
+      (Counts language answer) answer.status answer.value
+  -- Versions 1 and 2 and strftime take no memory.
   pub memory : (l : Language) → language ≡ Some l → IsFalse (takes_memory l)
       → answer.status ≢ NO_MEMORY
-  -- There are no other statuses, and where nothing is counted the number is 0.
-  pub status : answer.status ≤ UNKNOWN_KIND
-  pub no_value : answer.status ≢ ACCEPTED → answer.status ≢ REFUSED → answer.value ≡ 0
 
 -- If the answer is a refusal, this holds of the sentence of the fault.
 abbrev pub IfRefused : Option Language → Text → Answer → (Text → Type 0) → Type 0
@@ -56,3 +69,8 @@ answer_of (Refused f) = plain REFUSED f.index
 answer_of NotUtf8 = plain NOT_UTF8 0
 answer_of NoMemory = plain NO_MEMORY 0
 answer_of UnknownKind = plain UNKNOWN_KIND 0
+
+-- the answer where a text was not converted, for this error
+abbrev pub error_answer : BorrowedParseError → Answer
+error_answer (errors.Invalid f) = plain REFUSED f.index
+error_answer (errors.Memory e) = plain NO_MEMORY 0

@@ -1,50 +1,34 @@
 -- What is answered to C of a text of one version that is rewritten as one of the next.
-use Rattle.std.specs.Prelude.{◌≡◌, ◌≢◌, ◌≤◌, ◌<◌, ◌*◌, ◌++◌, ◌↔◌, [], IsTrue, Some, length, drop, IsUtf8}
+use Rattle.std.specs.Prelude.{◌≡◌, ◌≢◌, ◌≤◌, ◌<◌, ◌*◌, ◌++◌, Some, length, drop, IsUtf8}
 use Rattle.timefd_component.specs.Tree.{Text}
-use Rattle.timefd_fault.specs.Faults.{Fault, quotes}
 use Rattle.timefd_language.specs.declared.description_version.DescriptionVersion.{DescriptionVersion}
 use Rattle.timefd_language.specs.declared.description_version.DescriptionVersion.TheVariants.{One, Two}
 use Rattle.timefd_parse.specs.declared.language.Language.TheVariants.{Version}
 use Rattle.timefd_lift.specs.Answers.{IsRewritten, HasItemsOf}
 use Rattle.timefd_lift.specs.Modernized.{IsWrittenOf, KeepsItemsOf}
-use Rattle.timefd_c.specs.declared.answer.TheConstants.{ACCEPTED, REFUSED, NOT_UTF8, NO_MEMORY}
+use Rattle.timefd_c.specs.declared.answer.TheConstants.{ACCEPTED, NO_MEMORY}
 use Rattle.timefd_c.specs.declared.answer.Answer.{Answer}
-use Rattle.timefd_c.specs.Answers.{HasFault}
+use Rattle.timefd_c.specs.Answers.{IsAnswer}
 
 -- The bytes are a text, and this is the one that it is rewritten to.
 abbrev pub IsConverted : (Text → Text → Type 0) → Text → Text → Type 0
 IsConverted IsOne bytes converted = IsUtf8 bytes × IsOne bytes converted
 
--- The rules of the version assign the fault to the bytes.
-abbrev pub HasFaultIn : DescriptionVersion → Text → Fault → Type 0
-HasFaultIn version bytes f = HasFault (Some (Version version)) bytes f
+-- The next version spells this text with the items that this one spells the bytes with, and the
+-- value is its length.
+abbrev pub IsToldOf : (Text → Text → Type 0) → Text → Answer → Text → Type 0
+IsToldOf HasItems bytes answer converted =
+    HasItems bytes converted × (answer.value ≡ length converted)
 
 -- The answer says what the bytes, a text of the version, are rewritten to, or why they are not, and
 -- of the buffer, which held `before` and holds `after`, how much of it that is. `IsOne` says which
 -- text it is, and `HasItems` that it means the same.
 pub record ConvertsBy (version : DescriptionVersion) (IsOne HasItems : Text → Text
     → Type 0) (bytes before after : Text) (answer : Answer) : Type 0 where
-  -- What is answered is so, and the next version spells it with the items that this one spells the
-  -- bytes with.
-  pub accepted : answer.status ≡ ACCEPTED
-      → (converted : Text) × IsConverted IsOne bytes converted × HasItems bytes converted
-      × (answer.value ≡ length converted)
-  pub refused : answer.status ≡ REFUSED
-      → (f : Fault) × HasFaultIn version bytes f × (answer.value ≡ f.index)
-  -- What is so is answered, unless memory runs out.
-  pub spelled : (converted : Text) → IsConverted IsOne bytes converted → answer.status ≢ NO_MEMORY
-      → (answer.status ≡ ACCEPTED) × (answer.value ≡ length converted)
-  pub faulty : (f : Fault) → HasFaultIn version bytes f → answer.status ≢ NO_MEMORY
-      → (answer.status ≡ REFUSED) × (answer.value ≡ f.index)
-  -- A fault that quotes nothing of the text is answered whatever memory there is.
-  pub unquoted : (f : Fault) → HasFaultIn version bytes f → answer.status ≡ NO_MEMORY
-      → IsTrue (quotes f.kind)
-  -- These take no memory.
-  pub not_utf8 : answer.status ≡ NOT_UTF8 ↔ ¬ (IsUtf8 bytes)
-  pub empty : bytes ≡ [] → answer.status ≡ ACCEPTED
-  -- There are no other statuses, and where nothing is counted the number is 0.
+  pub answers : IsAnswer (Some (Version version)) bytes Text (IsConverted IsOne bytes)
+      (IsToldOf HasItems bytes answer) answer.status answer.value
+  -- Each version has a kind, so that there are four statuses.
   pub status : answer.status ≤ NO_MEMORY
-  pub no_value : answer.status ≢ ACCEPTED → answer.status ≢ REFUSED → answer.value ≡ 0
   -- A buffer with room for the whole text begins with it, and keeps its other bytes.
   pub whole : answer.status ≡ ACCEPTED → answer.value ≤ length before
       → (converted : Text) → IsConverted IsOne bytes converted

@@ -1,15 +1,14 @@
 -- What is answered to C of a text that is read as nodes.
-use Rattle.std.specs.Prelude.{ℕ, ◌≡◌, ◌≢◌, ◌+◌, ◌*◌, ◌≤◌, ◌↔◌, IsFalse, IsTrue, [], List, Option, Some, None, IsSome, IsUtf8, length, take}
+use Rattle.std.specs.Prelude.{ℕ, ◌≡◌, ◌≢◌, ◌+◌, ◌*◌, ◌≤◌, IsFalse, IsTrue, List, Option, Some, None, length, take}
 use Rattle.timefd_component.specs.Tree.{Text, Tree}
-use Rattle.timefd_fault.specs.Faults.{Fault}
 use Rattle.timefd_language.specs.declared.description_version.DescriptionVersion.TheVariants.{One, Two, Three}
 use Rattle.timefd_parse.specs.declared.language.Language.{Language}
 use Rattle.timefd_parse.specs.declared.language.Language.TheVariants.{Version, Strftime}
 use Rattle.timefd_c_nodes.specs.declared.node.Node.{Node}
-use Rattle.timefd_c.specs.declared.answer.TheConstants.{ACCEPTED, REFUSED, NOT_UTF8, NO_MEMORY, UNKNOWN_KIND}
+use Rattle.timefd_c.specs.declared.answer.TheConstants.{ACCEPTED}
 use Rattle.timefd_c.specs.declared.answer.ReadAnswer.{ReadAnswer}
 use Rattle.timefd_c.specs.declared.read.Report.{Report}
-use Rattle.timefd_c.specs.Answers.{Describes, HasFault}
+use Rattle.timefd_c.specs.Answers.{Describes, IsAnswer}
 use Rattle.timefd_c_nodes.specs.Decoding.{read_nodes}
 use Rattle.timefd_c.specs.Reports.{IsReport, tops}
 
@@ -56,25 +55,9 @@ most_literals (Some Strftime) len = 3 * len
 -- held `nodes_before` and `before` and hold `nodes_after` and `after`, what was written.
 pub record Reads (language : Option Language) (bytes : Text) (nodes_before nodes_after : List Node)
     (before after : Text) (answer : ReadAnswer) : Type 0 where
-  -- What is answered is so.
-  pub accepted : answer.status ≡ ACCEPTED
-      → (list : List Tree) × Describes language bytes list
-      × Tells language list nodes_before nodes_after before after answer
-  pub refused : answer.status ≡ REFUSED
-      → (f : Fault) × HasFault language bytes f × (answer.value ≡ f.index)
-  -- What is so is answered: a description unless memory runs out, and a fault always.
-  pub spelled : (list : List Tree) → Describes language bytes list → answer.status ≢ NO_MEMORY
-      → (answer.status ≡ ACCEPTED) × Tells language list nodes_before nodes_after before after
-      answer
-  pub faulty : (f : Fault) → HasFault language bytes f
-      → (answer.status ≡ REFUSED) × (answer.value ≡ f.index)
-  -- These take no memory.
-  pub unknown_kind : answer.status ≡ UNKNOWN_KIND ↔ (language ≡ None)
-  pub not_utf8 : answer.status ≡ NOT_UTF8 ↔ (IsSome language × ¬ (IsUtf8 bytes))
-  pub empty : IsSome language → bytes ≡ [] → answer.status ≡ ACCEPTED
-  -- There are no other statuses, and where nothing is counted the number is 0.
-  pub status : answer.status ≤ UNKNOWN_KIND
-  pub no_value : answer.status ≢ ACCEPTED → answer.status ≢ REFUSED → answer.value ≡ 0
+  pub answers : IsAnswer language bytes (List Tree) (Describes language bytes)
+      (λ list. Tells language list nodes_before nodes_after before after answer)
+      answer.status answer.value
   -- What is written reads as what the text spells.
   pub read : answer.status ≡ ACCEPTED → IsTrue answer.written → (list : List Tree)
       → Describes language bytes list

@@ -1,6 +1,9 @@
 //! What is answered to C.
 
 ghost use Rattle.std.specs.Prelude.{◌≡◌, false};
+ghost use Rattle.timefd_c.specs.Answers.{error_answer};
+
+use timefd_parse::BorrowedParseError;
 
 /// The status of a text that is a description. The value counts its items, or in version 3 the
 /// bytes that it reserves.
@@ -13,8 +16,7 @@ pub const REFUSED: u32 = 1;
 /// The status of bytes that are no UTF-8. The value is 0.
 pub const NOT_UTF8: u32 = 2;
 
-/// The status where memory ran out. The text has no fault then, or for a conversion may have one that
-/// quotes it. The value is 0.
+/// The status where memory ran out. The text has no fault then. The value is 0.
 pub const NO_MEMORY: u32 = 3;
 
 /// The status where the number is that of no language. The value is 0.
@@ -34,6 +36,11 @@ pub struct Answer {
     pub written: usize,
 }
 
+// So large is it in `examples/timefd.h`.
+const _: () = prove!(size_of::<Answer>() == 32);
+
+const _: () = prove!(align_of::<Answer>() == 8);
+
 impl Answer {
     /// The answer with this status and value, and with no sentence.
     #[inline(always)]
@@ -45,6 +52,16 @@ impl Answer {
             value,
             sentence_len: 0,
             written: 0,
+        }
+    }
+
+    /// The answer where a text was not converted, for this error.
+    pub(crate) fn of_error(error: BorrowedParseError) -> Answer
+        ensures { result ≡ error_answer error.entry }
+    {
+        match error {
+            BorrowedParseError::Invalid(fault) => Answer::plain(REFUSED, fault.index),
+            BorrowedParseError::Memory(_) => Answer::plain(NO_MEMORY, 0),
         }
     }
 }
@@ -64,6 +81,11 @@ pub struct ReadAnswer {
     /// Whether both buffers had room for all of them, and were written.
     pub written: bool,
 }
+
+// So large is it in `examples/timefd.h`.
+const _: () = prove!(size_of::<ReadAnswer>() == 40);
+
+const _: () = prove!(align_of::<ReadAnswer>() == 8);
 
 impl ReadAnswer {
     /// The answer with this status and value, where nothing was written.

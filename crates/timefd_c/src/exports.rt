@@ -6,13 +6,12 @@ ghost use Rattle.timefd_c.specs.Answers.{Judges, IfRefused};
 ghost use Rattle.timefd_c.specs.Languages.{language_of};
 ghost use Rattle.timefd_c.specs.Conversions.{Converts, Modernizes};
 
-use crate::answer::{ACCEPTED, Answer, NO_MEMORY, NOT_UTF8, REFUSED};
+use crate::answer::{ACCEPTED, Answer, NOT_UTF8, REFUSED};
 use crate::numbers::from_number;
 use crate::verdict::{Verdict, verdict_on};
 use crate::whole::write_whole;
 use std::alloc::Global;
-use timefd_lift::{v1_to_v2, v2_to_v3};
-use timefd_parse::ParseError;
+use timefd_lift::{v1_to_v2_borrowed, v2_to_v3_borrowed};
 
 /// Says what the bytes are as a text of the language with this number: 1, 2 and 3 are the versions
 /// of the format descriptions, and 4 is strftime.
@@ -70,15 +69,14 @@ pub extern "C" fn timefd_v1_to_v2(alloc: Global, text: &[u8], buffer: &mut [u8])
     let Ok(text) = str::from_utf8(text) else {
         return Answer::plain(NOT_UTF8, 0);
     };
-    match v1_to_v2(alloc, text) {
+    match v1_to_v2_borrowed(alloc, text) {
         Ok(converted) => Answer {
             status: ACCEPTED,
             value: converted.len(),
             sentence_len: 0,
             written: write_whole(&converted, buffer),
         },
-        Err(ParseError::Invalid(fault)) => Answer::plain(REFUSED, fault.index()),
-        Err(ParseError::Memory(_)) => Answer::plain(NO_MEMORY, 0),
+        Err(error) => Answer::of_error(error),
     }
 }
 
@@ -91,14 +89,13 @@ pub extern "C" fn timefd_v2_to_v3(alloc: Global, text: &[u8], buffer: &mut [u8])
     let Ok(text) = str::from_utf8(text) else {
         return Answer::plain(NOT_UTF8, 0);
     };
-    match v2_to_v3(alloc, text) {
+    match v2_to_v3_borrowed(alloc, text) {
         Ok(modern) => Answer {
             status: ACCEPTED,
             value: modern.len(),
             sentence_len: 0,
             written: write_whole(&modern, buffer),
         },
-        Err(ParseError::Invalid(fault)) => Answer::plain(REFUSED, fault.index()),
-        Err(ParseError::Memory(_)) => Answer::plain(NO_MEMORY, 0),
+        Err(error) => Answer::of_error(error),
     }
 }

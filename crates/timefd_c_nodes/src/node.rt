@@ -53,6 +53,11 @@ pub struct Node {
     pub bytes: usize,
 }
 
+// So large is it in `examples/timefd.h`.
+const _: () = prove!(size_of::<Node>() == 48);
+
+const _: () = prove!(align_of::<Node>() == 8);
+
 impl Node {
     /// The node of which nothing is known but what it is.
     #[inline(always)]

@@ -2,10 +2,13 @@
 
 ghost use Rattle.std.specs.Prelude.{◌≡◌, ◌≤◌, ◌*◌, [], length, IfOk, IsOk, MatchResult, string_bytes};
 ghost use Rattle.std.specs.Result.{IfErr};
+ghost use Rattle.std.specs.String.{string_capacity};
 ghost use Rattle.timefd_fault.specs.Faults as spec;
 ghost use Rattle.timefd_language.specs.declared.description_version.DescriptionVersion.TheVariants.{One};
 ghost use Rattle.timefd_language.specs.Grammar.{Pieces, nesting_limit};
 ghost use Rattle.timefd_language.specs.Broken.{FaultOf};
+ghost use Rattle.timefd_borrowed_fault.specs.BorrowedFaults.{HasShortFault, IsLent, IsLentOf, IsMemory};
+ghost use Rattle.timefd_borrowed_fault.specs.Placed.{HasPlacedFault, IsPlaced};
 ghost use Rattle.timefd_parse.specs.Answers.{IsAssigned};
 ghost use Rattle.timefd_language.specs.Told.{IsFaultOrMemory};
 ghost use Rattle.timefd_language.specs.Rewritten.{rewritten};
@@ -15,7 +18,10 @@ ghost use Rattle.timefd_lift.specs.Answers.{IsSpelledBy, IsRewritten, HasItemsOf
 use crate::escape::{escape_of, kept_len};
 use std::alloc::{AllocError, Global};
 use timefd_parse::laws::lifting;
-use timefd_parse::{ParseError, parse};
+use timefd_parse::{
+    BorrowedParseError, DescriptionVersion, Language, NESTING_LIMIT, ParseError,
+    amount_all_borrowed,
+};
 
 /// The text of version 2 that means what a text of version 1 means: components as they are, and
 /// outside of them `[[` as `\[`, `]` as `\]`, `\` as `\\`, and all else as it is.
@@ -35,6 +41,45 @@ pub fn v1_to_v2(alloc: Global, s: &str) -> Result<String, ParseError>
     ensures refused { (f : spec.Fault) → FaultOf One nesting_limit s.now f
         → MatchResult result (λ _. ⊥) (IsFaultOrMemory f) }
 
+    // The fault's index lies in the text or at its end, between two characters.
+    ensures place { IfErr result (HasPlacedFault s.now) }
+
+    // It is at most twice as long.
+    ensures within { IfOk result (λ answer. length (string_bytes answer) ≤ 2 * length s.now) }
+
+    // The empty text takes no memory.
+    ensures empty { s.now ≡ [] → IsOk result }
+{
+    match v1_to_v2_borrowed(alloc, s) {
+        Ok(answer) => Ok(answer),
+        Err(error) => Err(error.into_owned(alloc)),
+    }
+}
+
+/// Rewrites a text of version 1 as `v1_to_v2` does, with a fault that borrows what it quotes. This
+/// call is this port's own.
+///
+/// The error is `Invalid` with the fault of the text, or `Memory` where memory ran out. A text that
+/// has a fault is refused for it even then.
+pub fn v1_to_v2_borrowed(alloc: Global, s: &str) -> Result<String, BorrowedParseError<'_>>
+    // What is answered is the text rewritten, which has the same items. What is refused is refused
+    // for the fault that the rules of version 1 assign.
+    ensures rewritten { IfOk result (λ answer. IsRewritten s.now (string_bytes answer)) }
+    ensures same_items { IfOk result (λ answer. HasItemsOf s.now (string_bytes answer)) }
+    ensures fault { IfErr result (IsLentOf (FaultOf One nesting_limit s.now)) }
+
+    // What version 1 spells is rewritten, unless memory runs out, and what has a fault is refused
+    // for it.
+    ensures spelled { (ps : Pieces) → IsSpelledBy ps s.now
+        → MatchResult result (λ answer. string_bytes answer ≡ rewritten ps) IsMemory }
+    ensures refused { (f : spec.Fault) → FaultOf One nesting_limit s.now f
+        → MatchResult result (λ _. ⊥) (IsLent f) }
+
+    // The fault's index lies in the text or at its end, between two characters. Its words are short,
+    // so that its sentence can be written.
+    ensures place { IfErr result (IsLentOf (IsPlaced s.now)) }
+    ensures words { IfErr result HasShortFault }
+
     // It is at most twice as long.
     ensures within { IfOk result (λ answer. length (string_bytes answer) ≤ 2 * length s.now) }
 
@@ -43,10 +88,12 @@ pub fn v1_to_v2(alloc: Global, s: &str) -> Result<String, ParseError>
 {
     // The law by which version 2 spells the same items.
     lifting();
-    match parse(alloc, s) {
+    // Version 1 is counted without memory.
+    let language = Language::Version(DescriptionVersion::One);
+    match amount_all_borrowed(alloc, language, NESTING_LIMIT, s) {
         Ok(_) => match escaped(alloc, s) {
             Ok(answer) => Ok(answer),
-            Err(error) => Err(ParseError::Memory(error)),
+            Err(error) => Err(BorrowedParseError::Memory(error)),
         },
         Err(error) => Err(error),
     }
@@ -57,7 +104,7 @@ fn escaped(alloc: Global, text: &str) -> Result<String, AllocError>
     ensures written { IfOk result (λ answer. string_bytes answer ≡ outside text.now) }
     ensures empty { text.now ≡ [] → IsOk result }
 {
-    let mut answer = String::with_capacity(alloc, text.len())?;
+    let mut answer = first_room(alloc, text)?;
     let (kept, mut rest) = text.split_at(kept_len(text.as_bytes()));
     answer.push_str(kept)?;
     while let Some((escape, behind)) = escape_of(rest) {
@@ -67,4 +114,14 @@ fn escaped(alloc: Global, text: &str) -> Result<String, AllocError>
         rest = behind;
     }
     Ok(answer)
+}
+
+/// The empty text with room for as many bytes as this one has, which is enough where nothing is
+/// escaped.
+fn first_room(alloc: Global, text: &str) -> Result<String, AllocError>
+    ensures bytes { IfOk result (λ answer. string_bytes answer ≡ []) }
+    ensures most { IfOk result (λ answer. string_capacity answer ≤ length text.now) }
+    ensures empty { text.now ≡ [] → IsOk result }
+{
+    String::with_capacity(alloc, text.len())
 }

@@ -8,6 +8,8 @@ ghost use Rattle.timefd_component.specs.Tree.{Tree};
 ghost use Rattle.timefd_language.specs.declared.description_version.DescriptionVersion.TheVariants.{Two};
 ghost use Rattle.timefd_language.specs.Grammar.{Spells, nesting_limit};
 ghost use Rattle.timefd_language.specs.Broken.{FaultOf};
+ghost use Rattle.timefd_borrowed_fault.specs.BorrowedFaults.{HasShortFault, IsLent, IsLentOf, IsMemory};
+ghost use Rattle.timefd_borrowed_fault.specs.Placed.{HasPlacedFault, IsPlaced};
 ghost use Rattle.timefd_parse.specs.Answers.{IsAssigned};
 ghost use Rattle.timefd_language.specs.Told.{IsFaultOrMemory};
 ghost use Rattle.timefd_lift.specs.Answers.{IsTextOrMemory};
@@ -19,7 +21,10 @@ use crate::item::push_item;
 use crate::laws::{read_alike, writing};
 use std::alloc::{AllocError, Global};
 use timefd_items::BorrowedFormatItem;
-use timefd_parse::{BorrowedOutput, DescriptionVersion, ParseError, parse_borrowed};
+use timefd_parse::{
+    BorrowedOutput, BorrowedParseError, DescriptionVersion, NESTING_LIMIT, ParseError,
+    parse_all_borrowed,
+};
 
 /// The text of version 3 that means what a text of version 2 means, written anew: each component in
 /// small letters with its modifiers in one order, those alone that aren't version 3's default and
@@ -46,16 +51,56 @@ pub fn v2_to_v3(alloc: Global, s: &str) -> Result<String, ParseError>
     ensures refused { (f : spec.Fault) → FaultOf Two nesting_limit s.now f
         → MatchResult result (λ _. ⊥) (IsFaultOrMemory f) }
 
+    // The fault's index lies in the text or at its end, between two characters.
+    ensures place { IfErr result (HasPlacedFault s.now) }
+
+    // The empty text takes no memory.
+    ensures empty { s.now ≡ [] → IsOk result }
+{
+    match v2_to_v3_borrowed(alloc, s) {
+        Ok(answer) => Ok(answer),
+        Err(error) => Err(error.into_owned(alloc)),
+    }
+}
+
+/// Writes a text of version 2 anew as `v2_to_v3` does, with a fault that borrows what it quotes. This
+/// call is this port's own.
+///
+/// The error is `Invalid` with the fault of the text, or `Memory` where memory ran out. A text that
+/// has a fault is refused for it even then.
+pub fn v2_to_v3_borrowed(alloc: Global, s: &str) -> Result<String, BorrowedParseError<'_>>
+    // What is answered is the text written anew, which has the same items. What is refused is
+    // refused for the fault that the rules of version 2 assign.
+    ensures rewritten { IfOk result (λ answer. IsWrittenOf s.now (string_bytes answer)) }
+    ensures same_items { IfOk result (λ answer. KeepsItemsOf s.now (string_bytes answer)) }
+    // Version 2 reads the answer alike, and of the answer itself the answer is written.
+    ensures alike { IfOk result (λ answer. IsReadAlike s.now (string_bytes answer)) }
+    ensures again { IfOk result (λ answer.
+        IsWrittenOf (string_bytes answer) (string_bytes answer)) }
+    ensures fault { IfErr result (IsLentOf (FaultOf Two nesting_limit s.now)) }
+
+    // What version 2 spells is written anew, unless memory runs out, and what has a fault is refused
+    // for it.
+    ensures spelled { (list : List Tree) → Spells Two nesting_limit 0 s.now list
+        → MatchResult result (λ answer. string_bytes answer ≡ text.written list) IsMemory }
+    ensures refused { (f : spec.Fault) → FaultOf Two nesting_limit s.now f
+        → MatchResult result (λ _. ⊥) (IsLent f) }
+
+    // The fault's index lies in the text or at its end, between two characters. Its words are short,
+    // so that its sentence can be written.
+    ensures place { IfErr result (IsLentOf (IsPlaced s.now)) }
+    ensures words { IfErr result HasShortFault }
+
     // The empty text takes no memory.
     ensures empty { s.now ≡ [] → IsOk result }
 {
     // The laws by which version 3 spells the same items, and version 2 too.
     writing();
     read_alike();
-    match parse_borrowed(alloc, DescriptionVersion::Two, s) {
+    match parse_all_borrowed(alloc, DescriptionVersion::Two, NESTING_LIMIT, s) {
         Ok(BorrowedOutput::Items(items)) => match written(alloc, s.len(), &items) {
             Ok(answer) => Ok(answer),
-            Err(error) => Err(ParseError::Memory(error)),
+            Err(error) => Err(BorrowedParseError::Memory(error)),
         },
         Ok(BorrowedOutput::Description(_)) => unreachable!(),
         Err(error) => Err(error),

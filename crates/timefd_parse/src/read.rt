@@ -1,6 +1,6 @@
 //! The pieces of a text, one after another.
 
-ghost use Rattle.std.specs.Prelude.{ℕ, ◌≡◌, ◌≤◌, ◌<◌, ◌∷◌, [], length, IsFalse, IsTrue, MatchOption};
+ghost use Rattle.std.specs.Prelude.{ℕ, ◌≡◌, ◌+◌, ◌*◌, ◌≤◌, ◌<◌, ◌∷◌, [], length, IsFalse, IsTrue, MatchOption};
 ghost use Rattle.std.specs.Result.{IfErr};
 ghost use Rattle.std.specs.Str.{IsUtf8};
 ghost use Rattle.timefd_language.specs.declared.description_version.DescriptionVersion as spec_version;
@@ -279,7 +279,8 @@ fn bracket<'a, const BUILDS: bool>(
 /// Room for the items of a text of usual length, of which one has three bytes or more on average.
 #[inline(always)]
 fn first_room(text: &str) -> usize
-    ensures { text.now ≡ [] → result ≡ 0 }
+    ensures empty { text.now ≡ [] → result ≡ 0 }
+    ensures most { (result ≤ 16) × (4 * result ≤ length text.now + 3) }
 {
     text.len().div_ceil(4).min(16)
 }
@@ -287,7 +288,8 @@ fn first_room(text: &str) -> usize
 /// The same for the nodes of a description, which has one more where it has several pieces.
 #[inline(always)]
 pub fn node_room(text: &str) -> usize
-    ensures { text.now ≡ [] → result ≡ 0 }
+    ensures empty { text.now ≡ [] → result ≡ 0 }
+    ensures most { (result ≤ 16) × (3 * result ≤ length text.now + 2) }
 {
     text.len().div_ceil(3).min(16)
 }

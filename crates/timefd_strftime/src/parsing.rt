@@ -1,6 +1,6 @@
 //! The texts of strftime.
 
-ghost use Rattle.std.specs.Prelude.{◌≡◌, ◌<◌, [], List, IfOk, IsOk, IsTrue, MatchResult, length};
+ghost use Rattle.std.specs.Prelude.{◌≡◌, ◌<◌, ◌≤◌, [], List, IfOk, IsOk, IsTrue, MatchResult, length};
 ghost use Rattle.std.specs.Result.{IfErr};
 ghost use Rattle.timefd_fault.specs.Faults as spec;
 ghost use Rattle.timefd_format_item.specs.Meaning.{item_tree, item_trees};
@@ -143,7 +143,8 @@ fn items<'a>(
 /// Room for the items of a text of usual length, of which one has a byte or two.
 #[inline(always)]
 fn first_room(text: &str) -> usize
-    ensures { text.now ≡ [] → result ≡ 0 }
+    ensures empty { text.now ≡ [] → result ≡ 0 }
+    ensures most { (result ≤ 16) × (result ≤ length text.now) }
 {
     text.len().min(16)
 }

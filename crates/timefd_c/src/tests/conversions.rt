@@ -122,6 +122,8 @@ const REFUSED_TEXTS: &[(&str, usize)] = &[
     ("a[day", 1),
     ("[foo bar", 5),
     ("[day[x]]", 4),
+    ("é[foo]", 3),
+    ("é[day é]", 7),
 ];
 
 #[test]

@@ -1,21 +1,16 @@
 use Rattle.std.proofs.Common.{◌≡◌, ◌∙◌, true, false, IsUtf8, string_bytes, sym, subst, arith}
-use Rattle.timefd_fault.specs.Faults.{fault_of}
 use Rattle.timefd_language.specs.declared.description_version.DescriptionVersion.TheVariants.{One}
-use Rattle.timefd_parse.specs.Answers.{IsAssigned}
-use Rattle.timefd_language.specs.Told.{IsFaultOrMemory, MemoryAlone}
-use Rattle.timefd_language.specs.Grammar.{nesting_limit}
 use Rattle.timefd_lift.specs.Answers.{IsRewritten, HasItemsOf}
-use Rattle.timefd_c.specs.Answers.{plain}
 use Rattle.timefd_c.specs.Conversions.{Converts}
-use Rattle.timefd_c.specs.declared.answer.TheConstants.{ACCEPTED, REFUSED}
-use Rattle.timefd_c.proofs.ConversionLemmas.{converted, refused, unread}
+use Rattle.timefd_c.specs.declared.answer.TheConstants.{ACCEPTED}
+use Rattle.timefd_c.proofs.ConversionLemmas.{converted, error_fits, unconverted}
 use Rattle.timefd_c.proofs.exports.timefd_v1_to_v2.Goals as goal
 
-pub returns-in-Ok-v1_to_v2 : goal.returns-in-Ok-v1_to_v2
-returns-in-Ok-v1_to_v2 c =
+pub returns-in-Ok-v1_to_v2_borrowed : goal.returns-in-Ok-v1_to_v2_borrowed
+returns-in-Ok-v1_to_v2_borrowed c =
     let read = c.in-Ok.ensures.cases in
-    let v = c.in-Ok-v1_to_v2.ensures in
-    let answer = c.in-Ok-v1_to_v2.converted in
+    let v = c.in-Ok-v1_to_v2_borrowed.ensures in
+    let answer = c.in-Ok-v1_to_v2_borrowed.converted in
     record {
       converts = subst (λ bytes. Converts bytes c.args.buffer.now c.write_whole.new.buffer
           (record {
@@ -36,40 +31,18 @@ returns-in-Ok-v1_to_v2 c =
           );
     }
 
-pub returns-in-Err-Invalid : goal.returns-in-Err-Invalid
-returns-in-Err-Invalid c =
+pub returns-in-Err : goal.returns-in-Err
+returns-in-Err c =
     let read = c.in-Ok.ensures.cases in
-    let v = c.in-Err-Invalid.ensures in
-    let is = c.in-Err-Invalid.field-0-is in
+    let v = c.in-Err.ensures in
     let text = c.in-Ok.text.now in
     let buffer = c.args.buffer.now in
     record {
-      converts = subst (λ bytes. Converts bytes buffer buffer c.plain-in-Err-Invalid.result) read.0
-          (subst (Converts text buffer buffer) (sym c.plain-in-Err-Invalid.ensures)
-          (subst (λ i. Converts text buffer buffer (plain REFUSED i)) (sym c.index.ensures) (
-            refused One IsRewritten HasItemsOf text buffer (fault_of c.in-Err-Invalid.fault)
-                (subst IsUtf8 (sym read.0) read.1)
-                (subst (IsAssigned One nesting_limit text) is v.fault)
-                (λ other other_is. subst MemoryAlone is (v.spelled other_is.0 other_is.1))
-                (λ f has. subst (IsFaultOrMemory f) is (v.refused f has))
+      converts = subst (λ bytes. Converts bytes buffer buffer c.of_error.result) read.0
+          (subst (Converts text buffer buffer) (sym c.of_error.ensures) (
+            unconverted One IsRewritten HasItemsOf text buffer c.in-Err.error (subst IsUtf8 (sym read.0) read.1) v.fault
+                (λ other other_is. v.spelled other_is.0 other_is.1) v.refused
                 (λ nil. let no : false ≡ true = v.empty nil in absurd cc),
-            λ e. absurd (omega (arith, e)),
-          )));
-    }
-
-pub returns-in-Err-Memory : goal.returns-in-Err-Memory
-returns-in-Err-Memory c =
-    let read = c.in-Ok.ensures.cases in
-    let v = c.in-Err-Memory.ensures in
-    let is = c.in-Err-Memory.field-0-is in
-    let text = c.in-Ok.text.now in
-    let buffer = c.args.buffer.now in
-    record {
-      converts = subst (λ bytes. Converts bytes buffer buffer c.plain-in-Err-Memory.result) read.0
-          (subst (Converts text buffer buffer) (sym c.plain-in-Err-Memory.ensures) (
-            unread One IsRewritten HasItemsOf text buffer (subst IsUtf8 (sym read.0) read.1)
-                (λ f has. subst (IsFaultOrMemory f) is (v.refused f has))
-                (λ nil. let no : false ≡ true = v.empty nil in absurd cc),
-            λ e. absurd (omega (arith, e)),
+            error_fits text c.in-Err.error,
           ));
     }

@@ -1,30 +1,22 @@
-use Rattle.std.proofs.Common.{◌≤◌, ◌*◌, length, refl, sym, subst}
-use Rattle.timefd_language.specs.Grammar.{items}
-use Rattle.timefd_lift.proofs.Answering.{writes-rewritten, is-rewritten, has-items}
-use Rattle.timefd_lift.proofs.Lengths.{outside-length}
+use Rattle.timefd_language.specs.declared.description_version.DescriptionVersion.TheVariants.{One}
+use Rattle.timefd_language.specs.Grammar.{nesting_limit}
+use Rattle.timefd_borrowed_fault.proofs.OwnedLemmas.{owned_fault, owned_memory}
+use Rattle.timefd_borrowed_fault.proofs.PlacedLemmas.{owned_placed}
+use Rattle.timefd_parse.proofs.ParseLemmas.{owned_assigned}
 use Rattle.timefd_lift.proofs.from_one.v1_to_v2.Goals as goal
 
-pub returns-in-Ok-escaped-clause-rewritten : goal.returns-in-Ok-escaped-clause-rewritten
-returns-in-Ok-escaped-clause-rewritten c =
-    is-rewritten c.args.s.now _ c.in-Ok.ensures.found.0 c.in-Ok-escaped.ensures.written
-    c.in-Ok.ensures.found.1
+pub returns-in-Err-clause-fault : goal.returns-in-Err-clause-fault
+returns-in-Err-clause-fault c =
+    owned_assigned One nesting_limit c.args.s.now _ _ c.in-Err.ensures.fault c.into_owned.ensures
 
-pub returns-in-Ok-escaped-clause-same_items : goal.returns-in-Ok-escaped-clause-same_items
-returns-in-Ok-escaped-clause-same_items c =
-    has-items c.lifting.ensures c.args.s.now _ c.in-Ok-escaped.ensures.written
+pub returns-in-Err-clause-spelled : goal.returns-in-Err-clause-spelled
+returns-in-Err-clause-spelled c = λ ps s.
+    owned_memory _ _ (c.in-Err.ensures.spelled ps s) c.into_owned.ensures
 
-pub returns-in-Ok-escaped-clause-spelled : goal.returns-in-Ok-escaped-clause-spelled
-returns-in-Ok-escaped-clause-spelled c = λ ps spelled.
-    writes-rewritten c.args.s.now _ ps c.in-Ok-escaped.ensures.written spelled
+pub returns-in-Err-clause-refused : goal.returns-in-Err-clause-refused
+returns-in-Err-clause-refused c = λ f h.
+    owned_fault f _ _ (c.in-Err.ensures.refused f h) c.into_owned.ensures
 
-pub returns-clause-spelled : goal.returns-clause-spelled
-returns-clause-spelled c = λ ps spelled. c.in-Err.ensures.spelled (items ps)
-    (ps, spelled.0, spelled.1, refl)
-
-pub returns-in-Ok-escaped-clause-within : goal.returns-in-Ok-escaped-clause-within
-returns-in-Ok-escaped-clause-within c =
-    subst (λ answer. length answer ≤ 2 * length c.args.s.now) (sym c.in-Ok-escaped.ensures.written)
-    (outside-length c.args.s.now)
-
-pub returns-in-Ok-clause-refused : goal.returns-in-Ok-clause-refused
-returns-in-Ok-clause-refused c = λ f has. absurd (c.in-Ok.ensures.refused f has)
+pub returns-in-Err-clause-place : goal.returns-in-Err-clause-place
+returns-in-Err-clause-place c =
+    owned_placed c.args.s.now _ _ c.in-Err.ensures.place c.into_owned.ensures
