@@ -1,0 +1,16 @@
+use Rattle.timefd_parse.proofs.BracketLemmas.{modified, modifier_found, never_misfit}
+use Rattle.timefd_parse.proofs.bracket.first_modifier.Goals as goal
+
+pub returns-in-Ok-clause-found : goal.returns-in-Ok-clause-found
+returns-in-Ok-clause-found c =
+    modified _ _ _ c.in-Ok.modifier c.cut.ensures.parts c.if-is_empty.false c.in-Ok.ensures
+
+pub returns-in-Ok-clause-modifiers : goal.returns-in-Ok-clause-modifiers
+returns-in-Ok-clause-modifiers c = λ m behind is stops whole.
+    modifier_found _ _ _ m behind c.in-Ok.modifier c.cut.ensures.parts is stops whole
+    c.in-Ok.ensures
+
+pub returns-in-Err-clause-modifiers : goal.returns-in-Err-clause-modifiers
+returns-in-Err-clause-modifiers c = λ m behind is stops whole.
+    never_misfit _ _ _ m behind c.in-Err.ensures.0 c.in-Err.ensures.1 _ _ c.cut.ensures.parts is
+    stops whole c.in-Err.ensures.2 c.in-Err.ensures.3
