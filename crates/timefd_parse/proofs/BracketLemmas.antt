@@ -1,5 +1,5 @@
 -- The parts of a bracket: each is found, and is the only one.
-use Rattle.std.proofs.Common.{◌≡◌, ◌∙◌, ℕ, suc, ◌+◌, ◌<◌, Bool, List, [], ◌∷◌, ◌++◌, length, drop, Option, Some, None, Result, Ok, Err, MatchOption, IfSome, IsTrue, refl, sym, ap, subst, arith, append_assoc, append-nil, length-append}
+use Rattle.std.proofs.Common.{◌≡◌, ◌∙◌, ℕ, suc, Bool, List, [], ◌∷◌, ◌++◌, length, drop, Option, Some, None, MatchOption, IfSome, IsTrue, refl, sym, ap, subst, arith, append_assoc, length-append}
 use Rattle.std.proofs.lemmas.Bool.{and_parts, both_ways, true≢false}
 use Rattle.std.proofs.lemmas.List.{append_cancel_right, append_cancel_left}
 use Rattle.std.specs.Borrow.{Bor}
@@ -7,7 +7,6 @@ use Rattle.std.specs.Prelude.{⊤}
 use Rattle.timefd_component.specs.Tree.{Text, Tree}
 use Rattle.timefd_language.specs.declared.description_version.DescriptionVersion.{DescriptionVersion}
 use Rattle.timefd_language.specs.declared.fault.Fault as code_fault
-use Rattle.timefd_language.specs.Broken.{Broken, Misfit, no_colon, no_key, no_value, misfit_text, IsMisfit, IsBroken, broken_text}
 use Rattle.timefd_language.specs.Bytes.{left, backslash, right, colon, is_white, is_word_byte, is_key_byte, is_run_byte, ZeroOrMore, OneOrMore, StopsBefore}
 use Rattle.timefd_language.specs.Cut.{BeginsWith, IsCut}
 use Rattle.timefd_language.specs.FaultMeaning.{MemoryOr}
@@ -17,17 +16,17 @@ use Rattle.timefd_language.specs.declared.fault.ReadError.{ReadError}
 use Rattle.timefd_language.specs.declared.fault.ReadError.TheVariants as errors
 use Rattle.timefd_language.specs.declared.text.Start.{Start}
 use Rattle.timefd_language.specs.declared.text.Start.TheVariants as starts
-use Rattle.timefd_language.specs.Front.{Stop, ended, closed, broke, Reading, Reads, text_behind}
-use Rattle.timefd_language.specs.Grammar.{Pieces, no_pieces, run, escape, closing, bracket, Nested, no_nested, nested, ArePieces, AreNested, spelling, items, Spells, nesting_limit}
+use Rattle.timefd_language.specs.Front.{Stop, ended, closed, broke, Reads}
+use Rattle.timefd_language.specs.Grammar.{Pieces, no_pieces, run, escape, closing, bracket, Nested, no_nested, nested, ArePieces, AreNested, spelling, Spells, nesting_limit}
 use Rattle.timefd_language.specs.Head.{Head, IsHead, Modifier, IsModifier, AreModifiers, head_text, modifiers_text, modifier_text}
-use Rattle.timefd_language.proofs.Before.{modifiers_before, modifiers_before-is, head_before, head_before-is}
+use Rattle.timefd_language.proofs.Before.{modifiers_before, modifiers_before-is, head_before-is}
 use Rattle.timefd_language.proofs.HeadExact.{word_of-fits, word_of-misfits}
 use Rattle.timefd_language.proofs.LawLemmas.{one_read}
-use Rattle.timefd_language.proofs.Reader.{Cut, cut, span, reading, WordRead, fits, misfits, word_of}
+use Rattle.timefd_language.proofs.Reader.{cut, span, reading, WordRead, fits, misfits, word_of}
 use Rattle.timefd_language.proofs.Spans.{span-exact, stops_one, zero_from_one, all-append, all-implied, key-word, word-not_white, white-not_word}
 use Rattle.timefd_parse.specs.declared.modifier.Modifier as code
-use Rattle.timefd_parse.specs.BracketParts.{BeginsNamed, BeginsModified, BeginsNested}
-use Rattle.timefd_parse.specs.ReadModifiers.{BeginsWithWord, IsWord, IsNoWord, ReadsModifier, ReadsWord}
+use Rattle.timefd_parse.specs.BracketParts.{BeginsModified, BeginsNested}
+use Rattle.timefd_parse.specs.ReadModifiers.{BeginsWithWord, IsWord, IsNoWord, ReadsWord}
 use Rattle.timefd_parse.specs.Read.{PiecesToEnd, IsEnd, IsFaultIn}
 
 -- Cuts.
@@ -246,7 +245,7 @@ modifier_found text white word m behind (Some x) w is stops e read =
 -- Nested descriptions.
 
 no_run_byte : (b : ℕ) → IsTrue (is_run_byte Three b) → b ≡ left → ⊥
-no_run_byte b run e = true≢false (sym run ∙ ap (is_run_byte Three) e)
+no_run_byte b passes e = true≢false (sym passes ∙ ap (is_run_byte Three) e)
 
 first_byte : (a b : ℕ) (x y : Text) → a ∷ x ≡ b ∷ y → a ≡ b
 first_byte a b x y e = cc
@@ -408,9 +407,9 @@ pub nested_found : (v : DescriptionVersion) (inside inner behind : Text) (list r
     → ((rest : List ℕ) → end ≡ right ∷ rest → MatchOption found ⊥
     (λ parts. (parts.0.now ++ end ≡ inside) × (parts.1.now ≡ rest)))
     → MatchOption found ⊥ (λ parts. (parts.0.now ≡ inner) × (parts.1.now ≡ behind))
-nested_found v inside inner behind list read end found s e are open =
+nested_found v inside inner behind list read end found s e are finds =
     let same = same_nested v inside inner behind list read end s e are in
-    told found same.inner_is (open behind same.end_is)
+    told found same.inner_is (finds behind same.end_is)
   where
     told : (found : Option (Bor (List ℕ) × Bor (List ℕ)))
         → ((front : Text) → front ++ end ≡ inside → front ≡ inner)

@@ -1,5 +1,5 @@
 -- The first piece of a text, and what the text spells.
-use Rattle.std.proofs.Common.{◌≡◌, ◌∙◌, ℕ, ◌+◌, ◌-◌, ◌<◌, ◌≤◌, List, [], ◌∷◌, ◌++◌, length, take, drop, refl, sym, ap, subst, arith, inl, inr, append-nil, length-append, IsUtf8}
+use Rattle.std.proofs.Common.{◌≡◌, ◌∙◌, ℕ, ◌-◌, List, [], ◌∷◌, ◌++◌, length, take, refl, sym, ap, subst, arith, inl, inr, append-nil, length-append, IsUtf8}
 use Rattle.std.proofs.lemmas.List.{append_cancel_right}
 use Rattle.std.proofs.lemmas.Str.{IsCharBoundary-at_seam}
 use Rattle.std.specs.Str.{IsCharBoundary}
@@ -12,9 +12,9 @@ use Rattle.timefd_language.specs.declared.description_version.DescriptionVersion
 use Rattle.timefd_language.specs.declared.fault.ReadError.{ReadError}
 use Rattle.timefd_language.specs.FaultMeaning.{IsFaultAt, MemoryOr}
 use Rattle.timefd_language.specs.Fault.{raised}
-use Rattle.timefd_language.specs.Broken.{FaultOf, broken_text, broken_fault}
+use Rattle.timefd_language.specs.Broken.{broken_text, broken_fault}
 use Rattle.timefd_language.specs.Grammar.{Spells, nesting_limit, no_pieces, spelling}
-use Rattle.timefd_language.specs.Strftime.{SpellsStrftime, StrftimeFaultOf, no_directives, directives_text, ill_text, ill_fault}
+use Rattle.timefd_language.specs.Strftime.{SpellsStrftime, no_directives, directives_text, ill_text, ill_fault}
 use Rattle.timefd_language.proofs.LawLemmas.{one_answer_law}
 use Rattle.timefd_language.proofs.StrftimeReader.{strftime_one_answer_law}
 use Rattle.timefd_strftime.specs.StrftimeReading as strftime

@@ -3,7 +3,7 @@ use Rattle.std.specs.Prelude.{ℕ, ◌≡◌, ◌+◌, List, ◌∷◌, ◌++◌
 use Rattle.std.specs.Borrow.{Bor}
 use Rattle.timefd_component.specs.Tree.{Text, Tree}
 use Rattle.timefd_language.specs.declared.description_version.DescriptionVersion.{DescriptionVersion}
-use Rattle.timefd_language.specs.Bytes.{left, right, colon, is_white, is_word_byte, ZeroOrMore, OneOrMore, StopsBefore}
+use Rattle.timefd_language.specs.Bytes.{left, right, is_white, is_word_byte, ZeroOrMore, OneOrMore, StopsBefore}
 use Rattle.timefd_language.specs.Grammar.{Spells, nesting_limit}
 use Rattle.timefd_language.specs.Head.{Head, IsHead, Modifier, IsModifier, head_text, modifiers_text, modifier_text}
 use Rattle.timefd_parse.specs.declared.modifier.Modifier as code

@@ -76,7 +76,7 @@ fn closed<'a>(text: &'a str, end: &'a str) -> Option<(&'a str, &'a str)>
     requires { EndsWith text.now end.now }
     ensures closed { IfSome result (λ parts. (parts.0.now ++ end.now ≡ text.now)
         × (end.now ≡ right ∷ parts.1.now)) }
-    ensures open { (rest : List ℕ) → end.now ≡ right ∷ rest → MatchOption result ⊥
+    ensures found { (rest : List ℕ) → end.now ≡ right ∷ rest → MatchOption result ⊥
         (λ parts. (parts.0.now ++ end.now ≡ text.now) × (parts.1.now ≡ rest)) }
 {
     match start_of(end) {

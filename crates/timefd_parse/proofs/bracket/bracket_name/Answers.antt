@@ -1,9 +1,10 @@
+use Rattle.std.proofs.Common.{eqb-true, sym}
 use Rattle.timefd_parse.proofs.BracketLemmas.{never_nameless, same_name}
 use Rattle.timefd_parse.proofs.bracket.bracket_name.Goals as goal
 
 pub returns-then-is_empty-clause-heads : goal.returns-then-is_empty-clause-heads
 returns-then-is_empty-clause-heads c = λ h behind is stops whole.
-    never_nameless _ _ _ _ _ _ h behind c.if-is_empty.true c.in-Opening.ensures
+    never_nameless _ _ _ _ _ _ h behind (eqb-true _ 0 (sym c.if-is_empty.ensures)) c.in-Opening.ensures
     c.cut.ensures.parts c.cut-2.ensures.parts is stops whole
 
 pub returns-clause-heads : goal.returns-clause-heads

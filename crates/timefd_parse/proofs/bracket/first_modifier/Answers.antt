@@ -1,9 +1,10 @@
+use Rattle.std.proofs.Common.{false-eqb}
 use Rattle.timefd_parse.proofs.BracketLemmas.{modified, modifier_found, never_misfit}
 use Rattle.timefd_parse.proofs.bracket.first_modifier.Goals as goal
 
 pub returns-in-Ok-clause-found : goal.returns-in-Ok-clause-found
 returns-in-Ok-clause-found c =
-    modified _ _ _ c.in-Ok.modifier c.cut.ensures.parts c.if-is_empty.false c.in-Ok.ensures
+    modified _ _ _ c.in-Ok.modifier c.cut.ensures.parts (false-eqb _ 0 c.if-is_empty.ensures) c.in-Ok.ensures
 
 pub returns-in-Ok-clause-modifiers : goal.returns-in-Ok-clause-modifiers
 returns-in-Ok-clause-modifiers c = λ m behind is stops whole.

@@ -20,7 +20,7 @@ returns-in-Ok-clause-nested c = λ white inner behind list all s whole.
     nested_found c.args.version _ inner behind list c.in-Ok.ensures.members.0 _ c.closed.result s
     (inside_is _ _ inner behind c.in-Opening.ensures
     (cut_nested _ _ _ white inner behind c.cut.ensures.parts all whole))
-    c.in-Ok.ensures.members.1 c.closed.ensures.open
+    c.in-Ok.ensures.members.1 c.closed.ensures.found
 
 pub returns-clause-nested : goal.returns-clause-nested
 returns-clause-nested c = λ white inner behind list all s whole.
