@@ -1,5 +1,5 @@
 -- The parts of a bracket: each is found, and is the only one.
-use Rattle.std.proofs.Common.{◌≡◌, ◌∙◌, ℕ, suc, Bool, List, [], ◌∷◌, ◌++◌, length, drop, Option, Some, None, MatchOption, IfSome, IsTrue, refl, sym, ap, subst, arith, append_assoc, length-append}
+use Rattle.std.proofs.Common.{◌≡◌, ◌∙◌, ℕ, suc, ◌<◌, Bool, List, [], ◌∷◌, ◌++◌, length, drop, Option, Some, None, MatchOption, IfSome, IsTrue, refl, sym, ap, subst, arith, append_assoc, length-append}
 use Rattle.std.proofs.lemmas.Bool.{and_parts, both_ways, true≢false}
 use Rattle.std.proofs.lemmas.List.{append_cancel_right, append_cancel_left}
 use Rattle.std.specs.Borrow.{Bor}
@@ -417,3 +417,31 @@ nested_found v inside inner behind list read end found s e are finds =
         → MatchOption found ⊥ (λ parts. (parts.0.now ≡ inner) × (parts.1.now ≡ behind))
     told None inner_is is = is
     told (Some x) inner_is is = (inner_is x.0.now is.0, is.1)
+
+-- Less of the text is left behind each part.
+
+pub modified_shorter : (text : Text) (found : Option (code.Modifier × Bor (List ℕ)))
+    → IfSome found (λ parts. BeginsModified text parts.0 parts.1.now)
+    → IfSome found (λ parts. length parts.1.now < length text)
+modified_shorter text None is = tt
+modified_shorter text (Some x) is =
+    let m = is.modifier in
+    omega (
+      arith,
+      ap length is.whole,
+      length-append (modifier_text m) x.1.now,
+      length-append (m.white ++ m.key) (colon ∷ m.value),
+    )
+
+pub nested_shorter : (v : DescriptionVersion) (text : Text)
+    (found : Option (Bor (List ℕ) × Bor (List ℕ)))
+    → IfSome found (λ parts. BeginsNested v text parts.0.now parts.1.now)
+    → IfSome found (λ parts. length parts.1.now < length text)
+nested_shorter v text None is = tt
+nested_shorter v text (Some x) is =
+    omega (
+      arith,
+      ap length is.whole,
+      length-append is.white (left ∷ (x.0.now ++ right ∷ x.1.now)),
+      length-append x.0.now (right ∷ x.1.now),
+    )

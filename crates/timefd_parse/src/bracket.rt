@@ -1,7 +1,7 @@
 //! What stands in a bracket, one part after another: its name, its modifiers, its nested
 //! descriptions.
 
-ghost use Rattle.std.specs.Prelude.{ℕ, ◌≡◌, ◌∷◌, ◌++◌, List, IfSome, MatchOption};
+ghost use Rattle.std.specs.Prelude.{ℕ, ◌≡◌, ◌∷◌, ◌++◌, List, IfSome, MatchOption, ◌<◌, length};
 ghost use Rattle.timefd_component.specs.Tree.{Tree};
 ghost use Rattle.timefd_language.specs.Bytes.{right};
 ghost use Rattle.timefd_language.specs.Grammar.{Spells, nesting_limit};
@@ -21,6 +21,7 @@ use timefd_language::text::{Class, Start, cut, start_of};
 /// begins with no `[`, or with no word behind that and white bytes.
 pub fn bracket_name(text: &str) -> Option<(&str, &str)>
     ensures found { IfSome result (λ parts. BeginsNamed text.now parts.0.now parts.1.now) }
+    ensures shorter { IfSome result (λ parts. length parts.1.now < length text.now) }
     ensures heads { NamesHeads text.now result }
 {
     let Start::Opening(inside) = start_of(text) else {
@@ -38,6 +39,7 @@ pub fn bracket_name(text: &str) -> Option<(&str, &str)>
 /// text begins with none, as behind the last modifier of a bracket.
 pub fn first_modifier(text: &str) -> Option<(Modifier<'_>, &str)>
     ensures found { IfSome result (λ parts. BeginsModified text.now parts.0 parts.1.now) }
+    ensures shorter { IfSome result (λ parts. length parts.1.now < length text.now) }
     ensures modifiers { FindsModifiers text.now result }
 {
     let (white, word) = cut(text, Class::White);
@@ -58,6 +60,7 @@ pub fn first_nested<'a>(
     text: &'a str,
 ) -> Option<(&'a str, &'a str)>
     ensures found { IfSome result (λ parts. BeginsNested version text.now parts.0.now parts.1.now) }
+    ensures shorter { IfSome result (λ parts. length parts.1.now < length text.now) }
     ensures nested { FindsNested version text.now result }
 {
     let (_, behind) = cut(text, Class::White);

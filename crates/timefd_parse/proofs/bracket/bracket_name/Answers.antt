@@ -1,5 +1,6 @@
-use Rattle.std.proofs.Common.{eqb-true, sym}
+use Rattle.std.proofs.Common.{ap, arith, eqb-true, length, sym}
 use Rattle.timefd_parse.proofs.BracketLemmas.{never_nameless, same_name}
+use Rattle.timefd_parse.proofs.ReadLemmas.{cut_shorter}
 use Rattle.timefd_parse.proofs.bracket.bracket_name.Goals as goal
 
 pub returns-then-is_empty-clause-heads : goal.returns-then-is_empty-clause-heads
@@ -12,3 +13,12 @@ returns-clause-heads c = λ h behind is stops whole.
     let same = same_name _ _ _ _ _ _ h behind c.in-Opening.ensures c.cut.ensures.parts
     c.cut-2.ensures.parts is stops whole in
     (same.front, same.rest)
+
+pub returns-clause-shorter : goal.returns-clause-shorter
+returns-clause-shorter c =
+    omega (
+      arith,
+      ap length c.in-Opening.ensures,
+      cut_shorter _ _ _ _ c.cut.ensures.parts,
+      cut_shorter _ _ _ _ c.cut-2.ensures.parts,
+    )
