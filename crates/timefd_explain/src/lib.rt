@@ -1,9 +1,10 @@
 //! An accepted description as its tree, a line a node.
 #![tactic(auto)]
 
-mod cut;
 mod explain;
 mod node;
-mod step;
+mod piece;
+mod pieces;
+mod tree;
 
 pub use explain::explained;

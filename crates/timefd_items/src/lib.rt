@@ -5,11 +5,13 @@
 
 mod format_description_v3;
 pub mod laws;
+mod most_bytes;
 
 pub use format_description_v3::FormatDescriptionV3;
 pub use format_description_v3::builder::DescriptionBuilder;
 pub use format_description_v3::inner::FormatDescriptionV3Inner;
 pub use format_description_v3::opaque::{NotOpaque, OpaqueCause};
+pub use most_bytes::{item_bytes, items_bytes};
 pub use timefd_component::Component;
 pub use timefd_fault::InvalidFormatDescription;
 pub use timefd_format_item::{

@@ -10,3 +10,5 @@ pub mod NestedLemmas
 pub mod ParseLemmas
 pub mod AmountLemmas
 pub mod CountingLemmas
+pub mod FirstPieceLemmas
+pub mod BracketLemmas

@@ -9,3 +9,5 @@ pub mod Quick
 pub mod Read
 pub mod Answers
 pub mod Language
+pub mod FirstPiece
+pub mod BracketParts

@@ -5,11 +5,13 @@
 
 mod bare;
 mod borrowing;
+mod bracket;
 mod building;
 mod counting;
 mod head;
 mod head_verdict;
 mod language;
+mod leading;
 mod modifier;
 mod modifiers;
 mod one_modifier;
@@ -20,7 +22,10 @@ mod read;
 mod verdict;
 
 pub use borrowing::parse_all_borrowed;
+pub use bracket::{bracket_name, first_modifier, first_nested};
 pub use language::{Language, amount_all_borrowed, amount_within};
+pub use leading::first_piece;
+pub use modifier::Modifier;
 pub use parsing::{BorrowedOutput, NESTING_LIMIT, parse, parse_borrowed, parse_borrowed_within};
 pub use timefd_borrowed_fault::{BorrowedFault, BorrowedParseError, Excerpt};
 pub use timefd_items::{BorrowedFormatItem, FormatDescriptionV3, InvalidFormatDescription};

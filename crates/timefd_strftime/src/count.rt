@@ -55,7 +55,7 @@ fn count_of<'a>(text: &'a str) -> Result<usize, Fault<'a>>
 
 /// What follows the directive that has this behind its `%`.
 #[inline(always)]
-fn behind_directive<'a>(behind: &'a str) -> Result<&'a str, Fault<'a>>
+pub fn behind_directive<'a>(behind: &'a str) -> Result<&'a str, Fault<'a>>
     ensures { MatchResult result (λ rest. LeadsTo (percent ∷ behind.now) rest.now)
         (IsStrftimeFaultAt (percent ∷ behind.now)) }
 {
@@ -74,7 +74,7 @@ fn behind_directive<'a>(behind: &'a str) -> Result<&'a str, Fault<'a>>
 
 /// What follows the literal before the first `%`.
 #[inline(always)]
-fn behind_run(text: &str) -> &str
+pub fn behind_run(text: &str) -> &str
     requires { BeginsPiece Literal text.now }
     ensures { LeadsTo text.now result.now }
 {

@@ -3,6 +3,7 @@
 
 mod count;
 mod directive;
+mod first;
 mod item;
 mod letter;
 mod parsing;
@@ -10,6 +11,7 @@ mod tables;
 mod text;
 
 pub use count::count_strftime;
+pub use first::behind_first_directive;
 pub use parsing::{parse_strftime_all_borrowed, parse_strftime_borrowed};
 pub use tables::StrftimeTables;
 pub use timefd_format_item::BorrowedFormatItem;

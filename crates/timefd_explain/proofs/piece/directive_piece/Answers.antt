@@ -1,0 +1,22 @@
+use Rattle.std.proofs.Common.{◌∙◌, ◌∷◌, [], ap, subst}
+use Rattle.timefd_format_item.specs.Meaning.{item_trees}
+use Rattle.timefd_language.specs.Told.{MemoryAlone}
+use Rattle.timefd_explain.proofs.piece.directive_piece.Goals as goal
+
+pub item_piece-requires : goal.item_piece-requires
+item_piece-requires c = (
+  c.requires.0,
+  ap item_trees c.deref.ensures.value ∙
+      c.in-Ok.ensures.spelled (c.requires.0 ∷ []) c.requires.1,
+)
+
+pub returns-in-Ok : goal.returns-in-Ok
+returns-in-Ok c = λ tree s.
+    c.item_piece.ensures tree (ap item_trees c.deref.ensures.value ∙
+    c.in-Ok.ensures.spelled (tree ∷ []) s)
+
+-- a text that is spelled has no fault
+pub unreachable-requires : goal.unreachable-requires
+unreachable-requires c =
+    subst MemoryAlone c.in-Err-Invalid.field-0-is
+    (c.in-Err-Invalid.ensures.spelled (c.requires.0 ∷ []) c.requires.1)

@@ -1,0 +1,16 @@
+use Rattle.std.proofs.Common.{◌∙◌, ap}
+use Rattle.timefd_format_item.specs.Meaning.{item_tree}
+use Rattle.timefd_explain.proofs.ShownLemmas.{bytes_tree, compound_tree, first_tree, optional_tree}
+use Rattle.timefd_explain.proofs.piece.item_what.Goals as goal
+
+pub returns-in-Literal : goal.returns-in-Literal
+returns-in-Literal c = (_, ap item_tree c.in-Literal.is ∙ bytes_tree c.in-Literal.field-0)
+
+pub returns-in-Compound : goal.returns-in-Compound
+returns-in-Compound c = (_, ap item_tree c.in-Compound.is ∙ compound_tree c.in-Compound.field-0)
+
+pub returns-in-Optional : goal.returns-in-Optional
+returns-in-Optional c = (_, ap item_tree c.in-Optional.is ∙ optional_tree c.in-Optional.field-0)
+
+pub returns-in-First : goal.returns-in-First
+returns-in-First c = (_, ap item_tree c.in-First.is ∙ first_tree c.in-First.field-0)

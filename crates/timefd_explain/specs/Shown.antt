@@ -1,0 +1,50 @@
+-- How the pieces that are shown stand to what a text spells.
+use Rattle.std.specs.Prelude.{ℕ, ◌≡◌, ◌+◌, List, [], ◌∷◌, ◌++◌, string_bytes, ⊤}
+use Rattle.timefd_component.specs.Reserved.{reserve}
+use Rattle.timefd_component.specs.Tree.{Text, Tree, Trees, component, literal, compound, optional, first}
+use Rattle.timefd_language.specs.Grammar.{nesting_limit}
+use Rattle.timefd_node_list.specs.Nodes.{kept_bytes}
+use Rattle.timefd_parse.specs.Language.{SpellsIn}
+use Rattle.timefd_parse.specs.declared.language.Language.{Language}
+use Rattle.timefd_explain.specs.declared.piece.Shown.{Shown}
+use Rattle.timefd_explain.specs.declared.piece.What.{What}
+use Rattle.timefd_explain.specs.declared.piece.What.TheVariants as what
+
+-- what is told of a tree
+abbrev pub IsWhat : What → Tree → Type 0
+IsWhat (what.Literal text) tree = tree ≡ literal (string_bytes text)
+IsWhat what.Bytes tree = (bytes : Text) × (tree ≡ literal bytes)
+IsWhat (what.Component c) tree = tree ≡ component c
+IsWhat (what.Optional format) tree = (member : Tree) × (tree ≡ optional format member)
+IsWhat what.First tree = (members : Trees) × (tree ≡ first members)
+IsWhat what.Several tree = (members : Trees) × (tree ≡ compound members)
+
+-- the piece is shown as what its tree is, with the bytes that the tree reserves
+pub record IsShown (s : Shown) (tree : Tree) : Type 0 where
+  pub what : IsWhat s.what tree
+  pub bytes : s.bytes ≡ kept_bytes (reserve tree)
+
+-- one for each tree, in turn
+abbrev pub AreShown : List Shown → List Tree → Type 0
+AreShown [] [] = ⊤
+AreShown [] (t ∷ ts) = ⊥
+AreShown (s ∷ ss) [] = ⊥
+AreShown (s ∷ ss) (t ∷ ts) = IsShown s t × AreShown ss ts
+
+-- the texts of pieces, joined
+abbrev pub texts : List Shown → Text
+texts [] = []
+texts (s ∷ ss) = s.text.now ++ texts ss
+
+-- The pieces are those of the text, in turn, and each is shown as the tree that it spells.
+pub record Shows (text : Text) (list : List Tree) (shown : List Shown) : Type 0 where
+  pub whole : texts shown ≡ text
+  pub each : AreShown shown list
+
+-- the text spells one tree
+abbrev pub SpellsOne : Language → Text → Type 0
+SpellsOne language text = (tree : Tree) × SpellsIn language nesting_limit text (tree ∷ [])
+
+-- The piece is this text, shown as the one tree that it spells.
+abbrev pub ShowsOne : Text → Shown → Tree → Type 0
+ShowsOne text s tree = (s.text.now ≡ text) × IsShown s tree

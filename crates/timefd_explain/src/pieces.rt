@@ -1,0 +1,60 @@
+//! The pieces of an accepted text, each with what it is.
+
+ghost use Rattle.std.specs.Prelude.{◌≡◌, ◌<◌, ◌++◌, [], List, length, IfOk, IfSome, MatchOption};
+ghost use Rattle.timefd_component.specs.Reserved.{reserve_all};
+ghost use Rattle.timefd_component.specs.Tree.{Tree, trees};
+ghost use Rattle.timefd_language.specs.Grammar.{nesting_limit};
+ghost use Rattle.timefd_node_list.specs.Nodes.{kept_bytes};
+ghost use Rattle.timefd_parse.specs.FirstPiece.{BeginsList};
+ghost use Rattle.timefd_parse.specs.Language.{SpellsIn};
+ghost use Rattle.timefd_explain.specs.Shown.{AreShown, Shows, SpellsOne};
+
+use crate::piece::{Shown, piece_of};
+use std::alloc::{AllocError, Global};
+use timefd_parse::{Language, first_piece};
+
+/// The pieces of a text that a language accepts, in turn.
+pub fn pieces_of<'a>(
+    alloc: Global,
+    language: Language,
+    text: &'a str,
+) -> Result<Vec<Shown<'a>>, AllocError>
+    // They are those of the items that the text spells: each stands for one, and shows it.
+    ensures { (list : List Tree) → SpellsIn language nesting_limit text.now list
+        → IfOk result (λ shown. Shows text.now list shown.items) }
+{
+    let mut shown = Vec::new(alloc);
+    let mut rest = text;
+    'pieces: while let Some((piece, behind)) = first_of(alloc, language, rest) {
+        shown.push(piece_of(alloc, language, piece)?)?;
+        rest = behind;
+    }
+    Ok(shown)
+}
+
+// The first piece of a text, and what follows it. `None` where the text begins with none.
+fn first_of<'a>(alloc: Global, language: Language, text: &'a str) -> Option<(&'a str, &'a str)>
+    ensures joined { IfSome result (λ parts. parts.0.now ++ parts.1.now ≡ text.now) }
+    ensures shorter { IfSome result (λ parts. length parts.1.now < length text.now) }
+    ensures one { IfSome result (λ parts. SpellsOne language parts.0.now) }
+    ensures spelled { (list : List Tree) → SpellsIn language nesting_limit text.now list
+        → MatchOption result ((list ≡ []) × (text.now ≡ []))
+        (λ parts. BeginsList language parts.0.now parts.1.now list) }
+{
+    match first_piece(alloc, language, text) {
+        Ok(first) => first,
+        Err(_) => None,
+    }
+}
+
+/// How many bytes the pieces reserve together.
+pub fn bytes_of(pieces: &[Shown<'_>]) -> usize
+    ensures { (list : List Tree) → AreShown pieces.now list
+        → result ≡ kept_bytes (reserve_all (trees list)) }
+{
+    let mut bytes: usize = 0;
+    'pieces: for at in 0..pieces.len() {
+        bytes = bytes.saturating_add(pieces[at].bytes);
+    }
+    bytes
+}

@@ -1,0 +1,60 @@
+//! How many bytes items take at most.
+
+ghost use Rattle.std.specs.Prelude.{◌≡◌, ◌+◌};
+ghost use Rattle.timefd_component.specs.Reserved as spec;
+ghost use Rattle.timefd_component.specs.Reserved.{reserve, reserve_all};
+ghost use Rattle.timefd_component.specs.Tree.{trees};
+ghost use Rattle.timefd_format_item.specs.Meaning.{item_tree, item_trees};
+ghost use Rattle.timefd_node_list.specs.Nodes.{kept_bytes};
+
+use timefd_component::Component;
+use timefd_component::reserved::reserved_bytes;
+use timefd_format_item::BorrowedFormatItem;
+
+/// The greatest length of what items of versions 1 and 2 and of strftime are written as in turn, at
+/// most `usize::MAX`: what `max_bytes_needed` answers of a description of version 3. A deprecated
+/// component, which no text has, counts as none. This is this port's own.
+#[cycle(bytes)]
+pub fn items_bytes(items: &[BorrowedFormatItem<'_>]) -> usize
+    ensures { result ≡ kept_bytes (reserve_all (trees (item_trees items.now))) }
+{
+    let mut bytes: usize = 0;
+    'items: for at in 0..items.len() {
+        bytes = capped_sum(bytes, item_bytes(&items[at]));
+    }
+    bytes
+}
+
+/// The same of one item.
+#[cycle(bytes)]
+pub fn item_bytes(item: &BorrowedFormatItem<'_>) -> usize
+    ensures { result ≡ kept_bytes (reserve (item_tree item.now)) }
+{
+    match *item {
+        BorrowedFormatItem::Literal(bytes) => capped_sum(bytes.len(), 0),
+        BorrowedFormatItem::StringLiteral(text) => capped_sum(text.len(), 0),
+        BorrowedFormatItem::Component(component) => capped_sum(component_bytes(component), 0),
+        BorrowedFormatItem::Compound(members) => items_bytes(members),
+        BorrowedFormatItem::Optional(member) => item_bytes(member),
+        BorrowedFormatItem::First(members) => match members {
+            [] => 0,
+            [first, ..] => item_bytes(first),
+        },
+    }
+}
+
+fn component_bytes(component: Component) -> usize
+    ensures { result ≡ spec.reserved component }
+{
+    if component.modern() == component {
+        reserved_bytes(component)
+    } else {
+        0
+    }
+}
+
+fn capped_sum(a: usize, b: usize) -> usize
+    ensures { result ≡ kept_bytes (a + b) }
+{
+    a.saturating_add(b)
+}
