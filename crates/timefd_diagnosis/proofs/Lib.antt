@@ -5,3 +5,5 @@ pub mod HelpLemmas
 pub mod TableLemmas
 pub mod AlignLemmas
 pub mod WayLemmas
+pub mod EditLemmas
+pub mod DistanceLemmas

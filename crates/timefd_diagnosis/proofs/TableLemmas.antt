@@ -222,7 +222,7 @@ next_of : (xs ys : List ℕ) (i j m n : ℕ) → i < length xs → j < length ys
     (last_column xs ys i j)
 next_of xs ys i j m n in_xs in_ys m_is n_is = rw (m_is, n_is) (cell_next xs ys i j in_xs in_ys)
 
-left_of : (xs ys : List ℕ) (i : ℕ) → i ≤ length xs → cell (whole xs ys) i 0 ≡ i
+pub left_of : (xs ys : List ℕ) (i : ℕ) → i ≤ length xs → cell (whole xs ys) i 0 ≡ i
 left_of xs ys zero within = cell_first xs ys 0 (omega arith)
 left_of xs ys (suc i) within =
     let e : suc i ≡ i + 1 = omega arith in

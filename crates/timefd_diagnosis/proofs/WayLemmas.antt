@@ -3,20 +3,20 @@ use Rattle.std.proofs.Common.{◌≡◌, ◌∙◌, ℕ, zero, suc, ◌+◌, ◌
 use Rattle.timefd_diagnosis.specs.Edits.{IsChange, put_in, taken_away, replaced, swapped}
 use Rattle.timefd_diagnosis.proofs.AlignLemmas.{Align, ends, puts, takes, keeps, turns, swaps, more, head_is, tail_is, not_empty}
 
-take_all : (s p q : List ℕ) (n m : ℕ) → Align p q n → n + length s ≤ m → Align (s ++ p) q m
+pub take_all : (s p q : List ℕ) (n m : ℕ) → Align p q n → n + length s ≤ m → Align (s ++ p) q m
 take_all [] p q n m way le = more p q n m way (omega (arith, le))
 take_all (x ∷ s) p q n m way le =
     takes (s ++ p) q x (n + length s) m (take_all s p q n (n + length s) way (omega arith))
     (omega (arith, le))
 
-put_all : (t p q : List ℕ) (n m : ℕ) → Align p q n → n + length t ≤ m → Align p (t ++ q) m
+pub put_all : (t p q : List ℕ) (n m : ℕ) → Align p q n → n + length t ≤ m → Align p (t ++ q) m
 put_all [] p q n m way le = more p q n m way (omega (arith, le))
 put_all (x ∷ t) p q n m way le =
     puts p (t ++ q) x (n + length t) m (put_all t p q n (n + length t) way (omega arith))
     (omega (arith, le))
 
 -- two letters in turn, with what stands between them taken away, and something put between them
-drop_between : (s t p q : List ℕ) (d n m : ℕ) → Align p q n → n + length s + length t ≤ m
+pub drop_between : (s t p q : List ℕ) (d n m : ℕ) → Align p q n → n + length s + length t ≤ m
     → Align (s ++ d ∷ p) (d ∷ t ++ q) m
 drop_between s t p q d n m way le =
     take_all s (d ∷ p) (d ∷ t ++ q) (n + length t) m
@@ -24,7 +24,7 @@ drop_between s t p q d n m way le =
     (omega (arith, le))
 
 -- The same head on the way, and then a way without it.
-keep_second : (c d : ℕ) (s t p q : List ℕ) (n m : ℕ) → Align p q n → n + length s + length t + 1 ≤ m
+pub keep_second : (c d : ℕ) (s t p q : List ℕ) (n m : ℕ) → Align p q n → n + length s + length t + 1 ≤ m
     → Align (c ∷ s ++ p) (d ∷ t ++ c ∷ q) m
 keep_second c d s t p q n m way le =
     puts (c ∷ s ++ p) (t ++ c ∷ q) d (n + length s + length t) m
@@ -48,7 +48,7 @@ without_head _ _ _ (swaps r q s t x y k n way less) c p e =
     (drop_between s t r (x ∷ q) y (suc k) (suc n) (puts r q x k (suc k) way (omega arith))
     (omega (arith, less)))
 
-other_head : (r b : List ℕ) (n : ℕ) → Align r b n → (c d : ℕ) (p : List ℕ) → r ≡ d ∷ p
+pub other_head : (r b : List ℕ) (n : ℕ) → Align r b n → (c d : ℕ) (p : List ℕ) → r ≡ d ∷ p
     → Align (c ∷ p) b (suc n)
 other_head _ _ _ (ends n) c d p e = absurd (not_empty d p e)
 other_head _ _ _ (puts r q x k n way less) c d p e =
@@ -121,7 +121,7 @@ second_first _ _ _ (swaps r q u v x y k n way less) c d p t m e le =
     (tail_is x c (u ++ y ∷ r) p e) rest) (omega arith)) (omega (arith, less, le))
 
 -- Two letters at the head have changed places.
-swapped_head : (r b : List ℕ) (n : ℕ) → Align r b n → (c d : ℕ) (p : List ℕ) → r ≡ d ∷ c ∷ p
+pub swapped_head : (r b : List ℕ) (n : ℕ) → Align r b n → (c d : ℕ) (p : List ℕ) → r ≡ d ∷ c ∷ p
     → Align (c ∷ d ∷ p) b (suc n)
 swapped_head _ _ _ (ends n) c d p e = absurd (not_empty d (c ∷ p) e)
 swapped_head _ _ _ (puts r q x k n way less) c d p e =
