@@ -249,8 +249,13 @@ module _ (xs ys : List ℕ) (f : ℕ → ℕ → ℕ) (table : IsTable xs ys f) 
       (tail_is c (get_or xs i 0) p (back xs i) is_p) (tail_is c (get_or ys j 0) q (back ys j) is_q) in
       let same = sym (head_is c (get_or xs i 0) p (back xs i) is_p)
       ∙ head_is c (get_or ys j 0) q (back ys j) is_q in
-      omega (arith, less, rest, by_keep i j (omega arith) (omega arith),
-      cost_none (get_or xs i 0) (get_or ys j 0) same)
+      omega (
+        arith,
+        less,
+        rest,
+        by_keep i j (omega arith) (omega arith),
+        cost_none (get_or xs i 0) (get_or ys j 0) same,
+      )
   at_least _ _ _ zero j (turns p q c d n m way less) in_xs in_ys is_p is_q =
       absurd (not_empty c p (sym is_p))
   at_least _ _ _ (suc i) zero (turns p q c d n m way less) in_xs in_ys is_p is_q =
@@ -258,8 +263,13 @@ module _ (xs ys : List ℕ) (f : ℕ → ℕ → ℕ) (table : IsTable xs ys f) 
   at_least _ _ _ (suc i) (suc j) (turns p q c d n m way less) in_xs in_ys is_p is_q =
       let rest = at_least p q n i j way (omega arith) (omega arith)
       (tail_is c (get_or xs i 0) p (back xs i) is_p) (tail_is d (get_or ys j 0) q (back ys j) is_q) in
-      omega (arith, less, rest, by_keep i j (omega arith) (omega arith),
-      cost_small nat_eq (get_or xs i 0) (get_or ys j 0))
+      omega (
+        arith,
+        less,
+        rest,
+        by_keep i j (omega arith) (omega arith),
+        cost_small nat_eq (get_or xs i 0) (get_or ys j 0),
+      )
   at_least _ _ _ zero j (swaps p q s t c d n m way less) in_xs in_ys is_p is_q =
       absurd (not_empty c (s ++ d ∷ p) (sym is_p))
   at_least _ _ _ (suc i) zero (swaps p q s t c d n m way less) in_xs in_ys is_p is_q =

@@ -125,13 +125,12 @@ as_many : (a b : List ℕ) → MadeIn (damerau nat_eq a b) a b
 as_many a b =
     let way = attained a b _ (is_table a b) (length a) (length b) (omega arith) (omega arith) in
     let made = made_of (back a (length a)) (back b (length b)) (damerau nat_eq a b) way in
-    let turned = made_reversed made.0 (back a (length a)) (back b (length b)) made.2 in
-    (
+    let turned = made_reversed made.0 (back a (length a)) (back b (length b)) made.2 in (
       made.0,
       made.1,
       subst (λ l. IsMadeBy made.0 l b) (ap reverse (back_whole a) ∙ reverse-reverse a)
           (subst (λ l. IsMadeBy made.0 (reverse (back a (length a))) l)
-              (ap reverse (back_whole b) ∙ reverse-reverse b) turned),
+          (ap reverse (back_whole b) ∙ reverse-reverse b) turned),
     )
 
 pub is_distance : (a b : List ℕ) → IsDistance a b (damerau nat_eq a b)

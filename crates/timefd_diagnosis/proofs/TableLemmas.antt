@@ -51,7 +51,7 @@ module _ (xs ys : List ℕ) where
   row_kept table x i (y ∷ rest) j row p len within =
       let c = damerau_cell nat_eq xs ys table row x i y j in
       row_kept table x i rest (j + 1) (row ++ c ∷ []) p (omega (arith, length-append row (c ∷ [])))
-          (omega arith)
+      (omega arith)
       ∙ get_front row (c ∷ []) p 0 (omega arith)
 
   -- the cell behind another one of its row
@@ -91,7 +91,7 @@ module _ (xs ys : List ℕ) where
   table_kept (x ∷ rest) i table p len within =
       let row = row_at table x i in
       table_kept rest (i + 1) (table ++ row ∷ []) p
-          (omega (arith, length-append table (row ∷ []))) (omega arith)
+      (omega (arith, length-append table (row ∷ []))) (omega arith)
       ∙ get_front table (row ∷ []) p [] (omega arith)
 
   -- Each row is made of those in front of it.
