@@ -2,3 +2,8 @@ pub mod NearestLemmas
 pub mod PlaceLemmas
 pub mod CodeLemmas
 pub mod HelpLemmas
+pub mod TableLemmas
+pub mod AlignLemmas
+pub mod WayLemmas
+pub mod EditLemmas
+pub mod DistanceLemmas

@@ -1,105 +1,166 @@
--- The nearest of some words, found by taking one more each time.
-use Rattle.std.proofs.Common.{ℕ, suc, ◌≡◌, ◌≤◌, ◌<◌, ◌+◌, ◌⊎◌, inl, inr, Bool, true, false, List, [], ◌∷◌, length, Option, Some, option_map, nat_lt, drop, get_or, drop-cons, add-one, refl, sym, ap, subst, ◌∙◌, arith, if◌then◌else◌}
+-- The nearest of some words, a word at a time.
+use Rattle.std.proofs.Common.{ℕ, zero, suc, ◌≡◌, ◌≤◌, ◌<◌, ◌+◌, ◌⊎◌, inl, inr, List, [], ◌∷◌, ◌++◌, append_assoc, length, length-append, Option, Some, None, option_map, take, get_or, Result, Ok, Err, refl, sym, ap, subst, ◌∙◌, arith}
 use denote.Ref.{Bor}
-use Rattle.std.specs.Prelude.{All, Contains}
-use Rattle.std.proofs.lemmas.Bool.Decides.{nat_tests}
-use Rattle.std.proofs.lemmas.List.Elements.{All-cons}
+use Rattle.std.specs.Int.{abs_diff}
+use Rattle.std.specs.Prelude.{All, IfOk, chars, nat_eq, ◌≢◌}
+use Rattle.std.proofs.lemmas.Bool.{cases_eq}
+use Rattle.std.proofs.lemmas.List.{take_all, map-append}
+use Rattle.std.proofs.lemmas.Grind.{take_at_read}
+use Rattle.timefd_diagnosis.specs.Words.{texts}
+use Rattle.std.proofs.lemmas.List.Elements.{All-append, All-cons, All-push, All-weaker, All-nil}
+use Rattle.strsim.specs.Edits.{damerau}
 use Rattle.timefd_component.specs.Tree.{Text}
 use Rattle.timefd_diagnosis.specs.declared.nearest.Best.{Best}
-use Rattle.timefd_diagnosis.specs.Nearest.{distance, best_of, best_from, better, start, IsNearest}
-use Rattle.timefd_diagnosis.specs.Words.{texts}
+use Rattle.timefd_diagnosis.specs.Edits.{IsChange, put_in, taken_away, replaced, swapped, IsEdit, IsMadeBy, IsDistance}
+use Rattle.timefd_diagnosis.specs.Nearest.{reach, IsAsFarAs, IsFirstNearest, IsNearest, IsSoFar, IsNext}
+use Rattle.timefd_diagnosis.proofs.DistanceLemmas.{is_distance, from_nothing, no_fewer, to_nothing}
 
--- It is what was there before, or one of the words with fewer edits.
-abbrev pub IsFrom : Text → List (Bor Text) → Best → Best → Type 0
-IsFrom word ws before r =
-    (r ≡ before)
-    ⊎ ((w : Bor Text) × Contains (texts ws) w.now × (r.found ≡ Some w)
-    × (r.edits ≡ distance w.now word) × (r.edits < before.edits))
+-- An edit changes a word's length by at most one.
+change_length : (old new : List ℕ) → IsChange old new → (length old ≤ length new + 1)
+    × (length new ≤ length old + 1)
+change_length _ _ (put_in c) = (omega arith, omega arith)
+change_length _ _ (taken_away c) = (omega arith, omega arith)
+change_length _ _ (replaced c d) = (omega arith, omega arith)
+change_length _ _ (swapped c d) = (omega arith, omega arith)
 
-pub record Chosen (word : Text) (ws : List (Bor Text)) (before r : Best) : Type 0 where
-  pub least : r.edits ≤ before.edits
-  pub below : All (λ w. r.edits ≤ distance w word) (texts ws)
-  pub one : IsFrom word ws before r
+edit_length : (a b : List ℕ) → IsEdit a b → (length a ≤ length b + 1) × (length b ≤ length a + 1)
+edit_length a b e =
+    let change = change_length e.2 e.3 e.4 in
+    let in_a = length-append e.0 (e.2 ++ e.1) in
+    let in_b = length-append e.0 (e.3 ++ e.1) in
+    let mid_a = length-append e.2 e.1 in
+    let mid_b = length-append e.3 e.1 in
+    let first = ap length e.5 in
+    let second = ap length e.6 in (
+      omega (arith, change.0, in_a, in_b, mid_a, mid_b, first, second),
+      omega (arith, change.1, in_a, in_b, mid_a, mid_b, first, second),
+    )
 
-lt_true : (a b : ℕ) → nat_lt a b ≡ true → a < b
-lt_true a b e = grind (arith, nat_tests)
+pub made_length : (n : ℕ) (a b : List ℕ) → IsMadeBy n a b → (length a ≤ length b + n)
+    × (length b ≤ length a + n)
+made_length zero a b e = let same = ap length e in (omega (arith, same), omega (arith, same))
+made_length (suc n) a b (c, edit, rest) =
+    let first = edit_length a c edit in
+    let others = made_length n c b rest in
+    (omega (arith, first.0, others.0), omega (arith, first.1, others.1))
 
-lt_false : (a b : ℕ) → nat_lt a b ≡ false → b ≤ a
-lt_false a b e = grind (arith, nat_tests)
+-- What is said of a distance at words without characters and at equal ones, and else, makes it the
+-- least.
+one_distance : (a b : Text) (d : ℕ) → (a ≡ b → d ≡ 0) → (chars a ≡ [] → d ≡ length (chars b))
+    → (chars b ≡ [] → d ≡ length (chars a))
+    → (a ≢ b → chars a ≢ [] → chars b ≢ [] → d ≡ damerau nat_eq (chars a) (chars b))
+    → (d ≡ damerau nat_eq (chars a) (chars b))
+    ⊎ (d ≡ damerau nat_eq (chars a) (chars b) → ⊥)
+    → d ≡ damerau nat_eq (chars a) (chars b)
+one_distance a b d same first second value (inl e) = e
+one_distance a b d same first second value (inr differs) =
+    let least = is_distance (chars a) (chars b) in
+    let not_same : a ≢ b = λ e. differs
+    (omega (arith, same e, least.least 0 (ap chars e))) in
+    let not_first : chars a ≢ [] = λ e. differs (first e ∙ only_one (chars a) (chars b)
+    (length (chars b)) (subst (λ l. IsDistance l (chars b) (length (chars b))) (sym e) (from_nothing (chars b)))) in
+    let not_second : chars b ≢ [] = λ e. differs (second e ∙ only_one (chars a) (chars b)
+    (length (chars a)) (subst (λ l. IsDistance (chars a) l (length (chars a))) (sym e) (to_nothing (chars a)))) in
+    value not_same not_first not_second
+  where
+    only_one : (x y : List ℕ) (n : ℕ) → IsDistance x y n → n ≡ damerau nat_eq x y
+    only_one x y n is =
+        let table = is_distance x y in
+        omega (arith, is.least (damerau nat_eq x y) table.made, table.least n is.made)
 
-behind : (x y : Text) (ws : List Text) → Contains ws x → Contains (y ∷ ws) x
-behind x y ws c = (suc c.0, omega (arith, c.1), c.2)
+abbrev number : {E : Type 0} → Result ℕ E → ℕ
+number (Ok n) = n
+number (Err e) = 0
 
-taken : (word : Text) (w : Bor Text) (ws : List (Bor Text)) (b r : Best) → distance w.now word
-    < b.edits
-    → Chosen word ws (best_of (distance w.now word) w) r → Chosen word (w ∷ ws) b r
-taken word w ws b r less i = record {
-  least = omega (arith, i.least, less);
-  below = All-cons (λ x. r.edits ≤ distance x word) w.now (texts ws) i.least i.below;
-  one = elim i.one [
-    | inl e ↦ inr (w, (0, omega arith, refl), ap (λ x. x.found) e, ap (λ x. x.edits) e, rw e less)
-    | inr x ↦ inr (x.0, behind x.0.now w.now (texts ws) x.1, x.2, x.3, omega (arith, x.4, less))
-  ];
+pub distance_of : {E : Type 0} (a b : Text) (r : Result ℕ E) → (a ≡ b → r ≡ Ok 0)
+    → (chars a ≡ [] → IfOk r (λ d. d ≡ length (chars b)))
+    → (chars b ≡ [] → IfOk r (λ d. d ≡ length (chars a)))
+    → (a ≢ b → chars a ≢ [] → chars b ≢ [] → IfOk r (λ d. d ≡ damerau nat_eq (chars a) (chars b)))
+    → IfOk r (IsDistance (chars a) (chars b))
+distance_of a b (Err e) same first second value = tt
+distance_of a b (Ok d) same first second value =
+    subst (IsDistance (chars a) (chars b))
+    (sym (one_distance a b d (λ e. ap number (same e)) first second value
+    (cases_eq d (damerau nat_eq (chars a) (chars b))))) (is_distance (chars a) (chars b))
+
+-- None of the words so far is nearer.
+all_as_far : (ws : List Text) (word : Text) (n : ℕ) (found : Option (Bor Text))
+    → IsSoFar ws word n found → All (IsAsFarAs n word) ws
+all_as_far ws word n None so_far = so_far.1
+all_as_far ws word n (Some f) so_far =
+    subst (All (IsAsFarAs n word)) (sym so_far.split)
+    (All-append (IsAsFarAs n word) so_far.front (f.now ∷ so_far.back)
+    (All-weaker (IsAsFarAs (n + 1) word) (IsAsFarAs n word)
+    (λ w far m made. omega (arith, far m made)) so_far.front so_far.farther)
+    (All-cons (IsAsFarAs n word) f.now so_far.back so_far.distance.least so_far.as_far))
+
+reached : (ws : List Text) (word : Text) (n : ℕ) (found : Option (Bor Text))
+    → IsSoFar ws word n found → n ≤ reach word + 1
+reached ws word n None so_far = omega (arith, so_far.0)
+reached ws word n (Some f) so_far = omega (arith, so_far.near)
+
+passed : (ws : List Text) (word w : Text) (n : ℕ) (found : Option (Bor Text))
+    → IsSoFar ws word n found → IsAsFarAs n word w → IsSoFar (ws ++ w ∷ []) word n found
+passed ws word w n None so_far far =
+    (so_far.0, All-push (IsAsFarAs n word) ws w so_far.1 far)
+passed ws word w n (Some f) so_far far = record {
+  front = so_far.front;
+  back = so_far.back ++ w ∷ [];
+  split = ap (λ l. l ++ w ∷ []) so_far.split ∙ append_assoc so_far.front (f.now ∷ so_far.back) (w ∷ []);
+  distance = so_far.distance;
+  near = so_far.near;
+  farther = so_far.farther;
+  as_far = All-push (IsAsFarAs n word) so_far.back w so_far.as_far far;
 }
 
-passed : (word : Text) (w : Bor Text) (ws : List (Bor Text)) (b r : Best) → b.edits
-    ≤ distance w.now word
-    → Chosen word ws b r → Chosen word (w ∷ ws) b r
-passed word w ws b r more i = record {
-  least = i.least;
-  below = All-cons (λ x. r.edits ≤ distance x word) w.now (texts ws) (omega (arith, i.least, more))
-      i.below;
-  one = elim i.one [
-    | inl e ↦ inl e
-    | inr x ↦ inr (x.0, behind x.0.now w.now (texts ws) x.1, x.2, x.3, x.4)
-  ];
-}
-
-either : (word : Text) (w : Bor Text) (ws : List (Bor Text)) (b : Best) (t : Bool)
-    → nat_lt (distance w.now word) b.edits ≡ t
-    → ((next : Best) → Chosen word ws next (best_from word next ws))
-    → Chosen word (w ∷ ws) b (best_from word (if t then best_of (distance w.now word) w else b) ws)
-either word w ws b true less i = taken word w ws b _ (lt_true _ _ less) (i _)
-either word w ws b false more i = passed word w ws b _ (lt_false _ _ more) (i b)
-
-pub chosen : (word : Text) (ws : List (Bor Text)) (b : Best)
-    → Chosen word ws b (best_from word b ws)
-chosen word [] b =
-    record {
-      least = omega arith;
-      below = λ k d below. absurd (omega (arith, below));
-      one =
-          inl refl;
+pub one_more_word : (ws : List Text) (word : Text) (w : Bor Text) (best next : Best)
+    → IsSoFar ws word best.edits best.found → IsNext word best w next
+    → IsSoFar (ws ++ w.now ∷ []) word next.edits next.found
+one_more_word ws word w best next so_far (inl better) =
+    let far = all_as_far ws word best.edits best.found so_far in
+    let in_reach = reached ws word best.edits best.found so_far in
+    subst (IsSoFar (ws ++ w.now ∷ []) word next.edits) (sym better.1) record {
+      front = ws;
+      back = [];
+      split = refl;
+      distance = better.2;
+      near = omega (arith, better.0, in_reach);
+      farther = All-weaker (IsAsFarAs best.edits word) (IsAsFarAs (next.edits + 1) word)
+          (λ x is_far m made. omega (arith, is_far m made, better.0)) ws far;
+      as_far = All-nil (IsAsFarAs next.edits word);
     }
-chosen word (w ∷ ws) b = either word w ws b (nat_lt (distance w.now word) b.edits) refl
-    (λ next. chosen word ws next)
+one_more_word ws word w best next so_far (inr same) =
+    subst (λ (b : Best). IsSoFar (ws ++ w.now ∷ []) word b.edits b.found) (sym same.0)
+    (passed ws word w.now best.edits best.found so_far same.1)
 
-nearest_of : (word : Text) (ws : List (Bor Text)) (r : Best) → Chosen word ws (start word) r
-    → IsNearest (texts ws) word (option_map (λ w. w.now) r.found)
-nearest_of word ws r c = elim c.one [
-  | inl e ↦ subst (λ (o : Option (Bor Text)). IsNearest (texts ws) word (option_map (λ w. w.now) o))
-      (sym (ap (λ x. x.found) e))
-      (λ k d below. omega (arith, c.below k d below, ap (λ x. x.edits) e))
-  | inr x ↦ subst (λ (o : Option (Bor Text)). IsNearest (texts ws) word (option_map (λ w. w.now) o))
-      (sym x.2)
-      (x.1, omega (arith, x.3, x.4), λ k d below. omega (arith, c.below k d below, x.3))
-]
+pub found_nearest : (ws : List Text) (word : Text) (n : ℕ) (found : Option (Bor Text))
+    → IsSoFar ws word n found → IsNearest ws word (option_map (λ w. w.now) found)
+found_nearest ws word n None so_far =
+    subst (λ m. All (IsAsFarAs m word) ws) so_far.0 so_far.1
+found_nearest ws word n (Some f) so_far = (n, so_far)
 
-pub nearest_found : (word : Text) (ws : List (Bor Text)) (r : Best) → r
-    ≡ best_from word (start word) ws
-    → IsNearest (texts ws) word (option_map (λ w. w.now) r.found)
-nearest_found word ws r e = nearest_of word ws r
-    (subst (λ x. Chosen word ws (start word) x) (sym e) (chosen word ws (start word)))
+-- A word that is longer or shorter by more characters than the best has edits isn't nearer.
+pub too_far : (word w : Text) (n count other gap : ℕ) → count ≡ length (chars word)
+    → other ≡ length (chars w) → gap ≡ abs_diff count other → n ≤ gap → IsAsFarAs n word w
+too_far word w n count other gap is_count is_other is_gap far m made =
+    let lengths = made_length m (chars word) (chars w) made in
+    grind (arith, is_count, is_other, is_gap, far, lengths.0, lengths.1)
 
--- one more word
-pub next_best : (word : Text) (words : List (Bor Text)) (at : ℕ) (best next whole : Best)
-    (w : Bor Text) → at < length words → w ≡ get_or words at w
-    → next ≡ better best (best_of (distance w.now word) w) → best_from word best (drop at words)
-    ≡ whole → best_from word next (drop (at + 1) words) ≡ whole
-next_best word words at best next whole w below is e so_far =
-    let first : drop at words ≡ get_or words at w
-    ∷ drop (at + 1) words = rw add-one (drop-cons words at w below) in
-    let cut : drop at words ≡ w ∷ drop (at + 1) words = first
-    ∙ ap (λ y. y ∷ drop (at + 1) words) (sym is) in
-    ap (λ b. best_from word b (drop (at + 1) words)) e ∙ ap (λ ws. best_from word best ws) (sym cut)
-    ∙ so_far
+texts_more : (words : List (Bor Text)) (i : ℕ) (d : Bor Text) → i < length words
+    → texts (take i words) ++ (get_or words i d).now ∷ [] ≡ texts (take (i + 1) words)
+texts_more words i d within =
+    sym (ap texts (take_at_read words i d within).1 ∙ map-append (λ w. w.now) (take i words) (get_or words i d ∷ []))
+
+pub next_so_far : (words : List (Bor Text)) (word : Text) (i : ℕ) (d : Bor Text) (best next : Best)
+    → i < length words → IsSoFar (texts (take i words)) word best.edits best.found
+    → IsNext word best (get_or words i d) next
+    → IsSoFar (texts (take (i + 1) words)) word next.edits next.found
+next_so_far words word i d best next within so_far is =
+    subst (λ ws. IsSoFar ws word next.edits next.found) (texts_more words i d within)
+    (one_more_word (texts (take i words)) word (get_or words i d) best next so_far is)
+
+pub all_so_far : (words : List (Bor Text)) (word : Text) (i n : ℕ) (found : Option (Bor Text))
+    → length words ≤ i → IsSoFar (texts (take i words)) word n found
+    → IsSoFar (texts words) word n found
+all_so_far words word i n found past so_far =
+    subst (λ ws. IsSoFar (texts ws) word n found) (take_all i words past) so_far

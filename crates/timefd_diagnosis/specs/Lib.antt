@@ -1,5 +1,6 @@
 pub mod Spans
 pub mod Words
+pub mod Edits
 pub mod Nearest
 pub mod Places
 pub mod Codes

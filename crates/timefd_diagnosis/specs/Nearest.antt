@@ -1,38 +1,48 @@
--- How far words are apart, and which is the nearest.
-use Rattle.std.specs.Prelude.{ℕ, ◌≤◌, ◌<◌, ◌+◌, ◌/◌, max, List, [], ◌∷◌, length, Option, Some, None, All, Contains, chars, nat_lt, if◌then◌else◌}
+-- Which word is the nearest to another.
+use Rattle.std.specs.Prelude.{ℕ, ◌≡◌, ◌≤◌, ◌<◌, ◌+◌, ◌/◌, max, List, [], ◌∷◌, ◌++◌, length, Option, Some, None, All, chars, nat_lt, ◌⊎◌, if◌then◌else◌}
 use denote.Ref.{Bor}
-use Rattle.strsim.specs.Edits.{osa_table}
 use Rattle.timefd_component.specs.Tree.{Text}
 use Rattle.timefd_diagnosis.specs.declared.nearest.Best.{Best}
+use Rattle.timefd_diagnosis.specs.Edits.{IsDistance, IsMadeBy}
 
--- the least number of edits between two texts: one character put in, taken away or replaced, or two
--- neighbours swapped
-abbrev pub distance : Text → Text → ℕ
-distance a b = (osa_table (chars a) (chars b)).last_row (length (chars b))
+-- How many edits away a word is near, by how many characters it has: as many as a third of them, and
+-- one at least; none where it has one character or none.
+abbrev pub reach_of : ℕ → ℕ
+reach_of count = if nat_lt count 2 then 0 else max (count / 3) 1
 
--- how many edits away a near word may be
 abbrev pub reach : Text → ℕ
-reach word = max (length word / 3) 1
+reach word = reach_of (length (chars word))
 
--- It is one of the words, near, and none is nearer; or none is near.
+-- No fewer edits make the one text of the other, by their characters.
+abbrev pub IsAsFarAs : ℕ → Text → Text → Type 0
+IsAsFarAs n word w = (m : ℕ) → IsMadeBy m (chars word) (chars w) → n ≤ m
+
+-- It is the first of the nearest words, so many edits away, and is near.
+pub record IsFirstNearest (words : List Text) (word found : Text) (n : ℕ) : Type 0 where
+  pub front : List Text
+  pub back : List Text
+  pub split : words ≡ front ++ found ∷ back
+  pub distance : IsDistance (chars word) (chars found) n
+  pub near : n ≤ reach word
+  pub farther : All (IsAsFarAs (n + 1) word) front
+  pub as_far : All (IsAsFarAs n word) back
+
+-- It is the first of the nearest words, if one is near.
 abbrev pub IsNearest : List Text → Text → Option Text → Type 0
-IsNearest words word (Some found) =
-    Contains words found × (distance found word ≤ reach word)
-    × All (λ w. distance found word ≤ distance w word) words
-IsNearest words word None = All (λ w. reach word < distance w word) words
+IsNearest words word (Some found) = (n : ℕ) × IsFirstNearest words word found n
+IsNearest words word None = All (IsAsFarAs (reach word + 1) word) words
 
--- the better of two, and the first where both are as good
-abbrev pub better : Best → Best → Best
-better a b = if nat_lt b.edits a.edits then b else a
+-- Of these words it is the nearest so far.
+abbrev pub IsSoFar : List Text → Text → ℕ → Option (Bor Text) → Type 0
+IsSoFar words word n (Some found) = IsFirstNearest words word found.now n
+IsSoFar words word n None = (n ≡ reach word + 1) × All (IsAsFarAs n word) words
 
-abbrev pub best_of : ℕ → Bor Text → Best
-best_of edits word = record { edits = edits; found = Some word }
+-- One more word is nearer and takes the place of the nearest, or isn't.
+abbrev pub IsBetter : Text → Best → Bor Text → Best → Type 0
+IsBetter word best w next =
+    (next.edits < best.edits) × (next.found ≡ Some w)
+    × IsDistance (chars word) (chars w.now) next.edits
 
--- the better of a start and each word in turn
-abbrev pub best_from : Text → Best → List (Bor Text) → Best
-best_from word best [] = best
-best_from word best (w ∷ ws) = best_from word (better best (best_of (distance w.now word) w)) ws
-
--- nothing is found, and only a near word is better
-abbrev pub start : Text → Best
-start word = record { edits = reach word + 1; found = None }
+abbrev pub IsNext : Text → Best → Bor Text → Best → Type 0
+IsNext word best w next =
+    IsBetter word best w next ⊎ ((next ≡ best) × IsAsFarAs best.edits word w.now)

@@ -1,44 +1,34 @@
 //! The nearest of some words.
 
-ghost use Rattle.std.specs.Prelude.{◌≡◌, IfOk, option_map};
+ghost use Rattle.std.specs.Prelude.{◌≡◌, IfOk, chars, length, option_map};
+ghost use Rattle.timefd_diagnosis.specs.Edits.{IsDistance};
 ghost use Rattle.timefd_diagnosis.specs.Nearest as spec;
-ghost use Rattle.timefd_diagnosis.specs.Nearest.{IsNearest, best_from, better, start};
+ghost use Rattle.timefd_diagnosis.specs.Nearest.{IsNearest, IsNext, IsSoFar};
 ghost use Rattle.timefd_diagnosis.specs.Words.{texts};
 
 use std::alloc::{AllocError, Global};
-use strsim::osa_distance;
+use strsim::damerau_levenshtein;
 
-// The nearest word so far, and how many edits away it is; a greater number where there is none.
+// The nearest word so far, and how many edits away it is; one more than a near word may be where
+// there is none.
 #[derive(Clone, Copy)]
 struct Best {
     edits: usize,
     found: Option<&'static str>,
 }
 
-impl Best {
-    // The better of two, and this one where both are as good.
-    fn or(self, other: Best) -> Best
-        ensures { result ≡ better self other }
-    {
-        if other.edits < self.edits {
-            other
-        } else {
-            self
-        }
-    }
-}
-
-// How many edits may lie between a word and another that is near: a third of its bytes, and one at
-// least.
-fn reach(word: &str) -> usize
-    ensures { result ≡ spec.reach word.now }
+// How many edits away a word of so many characters is near: a third of them, and one at least, but
+// none where it has one alone.
+fn reach_of(count: usize) -> usize
+    ensures { result ≡ spec.reach_of count }
 {
-    (word.len() / 3).max(1)
+    if count < 2 { 0 } else { (count / 3).max(1) }
 }
 
 /// The one of the words that the fewest edits make of this word (a character put in, taken away or
 /// replaced, or two neighbours swapped), the first of several such; `None` where it takes more of
-/// them than a third of its length for each. An `Err` says that memory ran out.
+/// them than a third of its characters for each, and more than one, or where it has one character
+/// alone. An `Err` says that memory ran out.
 pub fn nearest(
     alloc: Global,
     words: &'static [&'static str],
@@ -57,17 +47,54 @@ fn best_of_all(
     words: &'static [&'static str],
     word: &str,
 ) -> Result<Best, AllocError>
-    ensures { IfOk result (λ best. best ≡ best_from word.now (start word.now) words.now) }
+    ensures { IfOk result (λ best. IsSoFar (texts words.now) word.now best.edits best.found) }
 {
+    let count = char_count(word);
     let mut best = Best {
-        edits: reach(word) + 1,
+        edits: reach_of(count) + 1,
         found: None,
     };
     for candidate in words {
-        best = best.or(Best {
-            edits: osa_distance(alloc, candidate, word)?,
-            found: Some(*candidate),
-        });
+        best = next_best(alloc, word, count, best, candidate)?;
     }
     Ok(best)
+}
+
+// The best so far, or one more word if it is better. Words that are longer or shorter by more
+// characters than the best has edits aren't compared.
+fn next_best(
+    alloc: Global,
+    word: &str,
+    count: usize,
+    best: Best,
+    candidate: &'static str,
+) -> Result<Best, AllocError>
+    requires { count ≡ length (chars word.now) }
+    ensures { IfOk result (IsNext word.now best candidate.entry) }
+{
+    if count.abs_diff(char_count(candidate)) >= best.edits {
+        return Ok(best);
+    }
+    let edits = distance(alloc, word, candidate)?;
+    if edits < best.edits {
+        Ok(Best {
+            edits,
+            found: Some(candidate),
+        })
+    } else {
+        Ok(best)
+    }
+}
+
+// The least number of edits that make the second word of the first.
+fn distance(alloc: Global, word: &str, other: &str) -> Result<usize, AllocError>
+    ensures { IfOk result (IsDistance (chars word.now) (chars other.now)) }
+{
+    damerau_levenshtein(alloc, word, other)
+}
+
+fn char_count(text: &str) -> usize
+    ensures { result ≡ length (chars text.now) }
+{
+    text.chars().count()
 }

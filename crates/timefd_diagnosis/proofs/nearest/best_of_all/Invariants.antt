@@ -1,7 +1,8 @@
-use Rattle.std.proofs.Common.{◌≡◌, drop}
-use Rattle.timefd_diagnosis.specs.Nearest.{best_from, start}
+use Rattle.std.proofs.Common.{take}
+use Rattle.timefd_diagnosis.specs.Nearest.{IsSoFar}
+use Rattle.timefd_diagnosis.specs.Words.{texts}
 use Rattle.timefd_diagnosis.proofs.nearest.best_of_all.Given as goal
 
 abbrev pub invariant-loop-candidate : goal.invariant-loop-candidate
-invariant-loop-candidate l = best_from l.word l.best (drop l.candidate-index l.words)
-    ≡ best_from l.word (start l.word) l.words
+invariant-loop-candidate l =
+    IsSoFar (texts (take l.candidate-index l.words)) l.word l.best.edits l.best.found
