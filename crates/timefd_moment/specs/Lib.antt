@@ -1,0 +1,6 @@
+pub mod Calendar
+pub mod Signed
+pub mod Faults
+pub mod Moments
+pub mod Instants
+pub mod Laws
