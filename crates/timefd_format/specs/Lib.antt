@@ -1,0 +1,6 @@
+pub mod Puts
+pub mod Fields
+pub mod Written
+pub mod Writes
+pub mod Laws
+pub mod Outcomes

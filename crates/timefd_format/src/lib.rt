@@ -1,0 +1,19 @@
+//! Writes dates and times by format descriptions, into the end of a buffer.
+#![tactic(auto)]
+
+mod digits;
+mod field;
+mod items;
+pub mod laws;
+mod names;
+mod place;
+mod put;
+mod put_field;
+mod shown;
+mod unshown;
+mod view;
+mod write;
+
+pub use field::Lack;
+pub use unshown::Unshown;
+pub use write::{FormatError, write_description, write_items};
