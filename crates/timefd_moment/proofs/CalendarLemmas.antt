@@ -133,8 +133,7 @@ month_left y (suc m) d o a b e within more =
     let here : suc m - 1 ≡ m = omega arith in
     let next : suc m + 1 - 1 ≡ suc m = omega arith in
     let at = ap (days_of_months y) here in
-    let behind = ap (days_of_months y) next in
-    (
+    let behind = ap (days_of_months y) next in (
       omega (arith, e, more, at, behind, months_next y m),
       omega arith,
       not_last (cases_order (suc m) 12),

@@ -3,4 +3,5 @@ pub mod Signed
 pub mod Faults
 pub mod Moments
 pub mod Instants
+pub mod Display
 pub mod Laws

@@ -4,6 +4,7 @@
 mod calendar;
 mod component_range;
 mod date;
+mod display;
 mod from_day;
 pub mod laws;
 mod moment;
