@@ -1,5 +1,5 @@
 -- From what was written to what is answered.
-use Rattle.std.proofs.Common.{ℕ, ◌∙◌, ◌++◌, length, take, Result, Ok, Err, refl, ap, arith, append-nil}
+use Rattle.std.proofs.Common.{ℕ, ◌∙◌, ◌++◌, length, take, Result, Ok, Err, ap, arith, append-nil}
 use Rattle.std.proofs.lemmas.List.{drop_all}
 use Rattle.timefd_component.specs.Tree.{Text}
 use Rattle.timefd_format.specs.declared.place.Place.TheVariants as place

@@ -114,7 +114,7 @@ magnitude_in y a b = by (nat_lt y 1000000) refl
     by false e = omega (arith, b)
 
 -- a sign in front of a number
-signed_text : (p : Padding) (w : ℕ) (mandatory negative : Bool) (v low high : ℕ) (Z : Text → Type 0)
+pub signed_text : (p : Padding) (w : ℕ) (mandatory negative : Bool) (v low high : ℕ) (Z : Text → Type 0)
     → (negative ≡ true → v ≤ low) → (negative ≡ false → v ≤ high)
     → (negative ≡ true → v ≡ 0 → Z (codes "-" ++ filled p w 0))
     → IsSigned low high (λ n. mandatory) (filled p w) (sign_text (sign_of negative mandatory) ++ filled p w v)
@@ -184,7 +184,7 @@ standard w u p b y Z shown digits =
 
 -- Instants.
 
-of_instant : (P : Field → Type 0) (u : UnixTime) (c : Component) → (is_within u ≡ true → P (stamp_field u c))
+pub of_instant : (P : Field → Type 0) (u : UnixTime) (c : Component) → (is_within u ≡ true → P (stamp_field u c))
     → IfOk (instant_field u c) P
 of_instant P u c h = by (is_within u) refl
   where
@@ -192,14 +192,14 @@ of_instant P u c h = by (is_within u) refl
     by true e = h (sym e)
     by false e = tt
 
-lowest : (u : UnixTime) → is_within u ≡ true → u.is_negative ≡ true
+pub lowest : (u : UnixTime) → is_within u ≡ true → u.is_negative ≡ true
     → u.nanoseconds ≤ 31619087596800 * 1000000000
 lowest u h negative =
     let e : nat_le u.nanoseconds (31619087596800 * 1000000000) ≡ true =
     sym (ap (λ b. if b then nat_le u.nanoseconds (31619087596800 * 1000000000) else nat_lt u.nanoseconds (31494784780800 * 1000000000)) negative) ∙ h in
     leb-true _ _ e
 
-highest : (u : UnixTime) → is_within u ≡ true → u.is_negative ≡ false
+pub highest : (u : UnixTime) → is_within u ≡ true → u.is_negative ≡ false
     → u.nanoseconds < 31494784780800 * 1000000000
 highest u h positive =
     let e : nat_lt u.nanoseconds (31494784780800 * 1000000000) ≡ true =

@@ -16,12 +16,7 @@ use timefd_moment::Moment;
 
 /// Writes what an item shows of the moment in front of a place.
 #[cycle(items)]
-fn write(
-    moment: Moment,
-    item: &BorrowedFormatItem<'_>,
-    buffer: &mut [u8],
-    place: Place,
-) -> Place
+fn write(moment: Moment, item: &BorrowedFormatItem<'_>, buffer: &mut [u8], place: Place) -> Place
     requires { IsIn (length buffer.old) place }
     ensures { Writes (written moment (item_tree item.now)) buffer.old place buffer.new result }
 {
