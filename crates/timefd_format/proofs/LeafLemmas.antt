@@ -1,5 +1,7 @@
 -- What is written of a tree is written of its leaves in turn.
-use Rattle.std.proofs.Common.{◌≡◌, ◌∙◌, true, false, List, [], ◌∷◌, ◌++◌, length, Result, Ok, Err, refl, sym, ap, subst, arith, append_assoc, append-nil}
+use Rattle.std.proofs.Common.{◌≡◌, ◌∙◌, true, false, List, [], ◌∷◌, ◌++◌, length, Result, Ok, Err, IfOk, refl, sym, ap, subst, arith, append_assoc, append-nil}
+use Rattle.std.specs.Str.{IsUtf8}
+use Rattle.std.proofs.lemmas.Str.{IsUtf8-nil}
 use Rattle.std.proofs.lemmas.List.{take_all, drop_all}
 use Rattle.timefd_component.specs.Tree.{Text, Tree, component, literal, compound, optional, first, Trees, no_trees, more_trees, trees}
 use Rattle.timefd_moment.specs.declared.moment.Moment.{Moment}
@@ -9,6 +11,7 @@ use Rattle.timefd_format.specs.declared.place.Place.TheVariants as place
 use Rattle.timefd_format.specs.declared.unshown.Unshown.{Unshown}
 use Rattle.timefd_format.specs.Writes.{IsIn, Writes}
 use Rattle.timefd_format.specs.Written.{written, written_all, written_first, followed, shown}
+use Rattle.timefd_format.proofs.Utf8Lemmas.{followed_utf8}
 use Rattle.timefd_format.proofs.WalkLemmas.{writes_behind, writes_in}
 
 followed-none : (x : Result Text Unshown) → followed x (Ok []) ≡ x
@@ -57,6 +60,7 @@ pub record IsWrittenTo (m : Moment) (whole left : List Tree) (old new : Text) (a
   pub split : whole ≡ left ++ done
   pub writes : Writes (written_all m (trees done)) old (place.At (length old)) new at
   pub inside : IsIn (length new) at
+  pub utf8 : IfOk (written_all m (trees done)) IsUtf8
 
 pub nothing_yet : (m : Moment) (whole : List Tree) (old : Text) → IsWrittenTo m whole whole old old (place.At (length old))
 nothing_yet m whole old = record {
@@ -64,17 +68,19 @@ nothing_yet m whole old = record {
   split = sym (append-nil whole);
   writes = (omega arith, sym ((λ i. take_all (length old) old (omega arith) i ++ drop_all (length old) old (omega arith) i) ∙ append-nil old));
   inside = omega arith;
+  utf8 = IsUtf8-nil;
 }
 
 pub one_leaf : (m : Moment) (whole left rest : List Tree) (t : Tree) (old mid new : Text) (e k : Place)
     → IsWrittenTo m whole left old mid e → left ≡ rest ++ t ∷ [] → Writes (written m t) mid e new k
-    → IsWrittenTo m whole rest old new k
-one_leaf m whole left rest t old mid new e k w is one = record {
+    → IfOk (written m t) IsUtf8 → IsWrittenTo m whole rest old new k
+one_leaf m whole left rest t old mid new e k w is one text = record {
   done = t ∷ w.done;
   split = w.split ∙ ap (λ x. x ++ w.done) is ∙ append_assoc rest (t ∷ []) w.done;
   writes = writes_behind (written m t) (written_all m (trees w.done)) old mid new (place.At (length old)) e k
       (omega arith) w.writes one;
   inside = writes_in (written m t) mid new e k w.inside one;
+  utf8 = followed_utf8 (written m t) (written_all m (trees w.done)) text w.utf8;
 }
 
 pub all_leaves : (m : Moment) (tree : Tree) (left : List Tree) (old new : Text) (e : Place)
@@ -84,3 +90,9 @@ all_leaves m tree left old new e w none =
     let all : w.done ≡ leaves tree = sym (w.split ∙ ap (λ x. x ++ w.done) none) in
     subst (λ x. Writes x old (place.At (length old)) new e)
     (ap (λ ts. written_all m (trees ts)) all ∙ by_leaves m tree) w.writes
+
+pub all_utf8 : (m : Moment) (tree : Tree) (left : List Tree) (old new : Text) (e : Place)
+    → IsWrittenTo m (leaves tree) left old new e → left ≡ [] → IfOk (written m tree) IsUtf8
+all_utf8 m tree left old new e w none =
+    let all : w.done ≡ leaves tree = sym (w.split ∙ ap (λ x. x ++ w.done) none) in
+    subst (λ x. IfOk x IsUtf8) (ap (λ ts. written_all m (trees ts)) all ∙ by_leaves m tree) w.utf8

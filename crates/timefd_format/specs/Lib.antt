@@ -4,3 +4,4 @@ pub mod Written
 pub mod Writes
 pub mod Laws
 pub mod Outcomes
+pub mod Answers

@@ -10,10 +10,12 @@ mod place;
 mod put;
 mod put_field;
 mod shown;
+mod text;
 mod unshown;
 mod view;
 mod write;
 
 pub use field::Lack;
+pub use text::{TextError, format};
 pub use unshown::Unshown;
 pub use write::{FormatError, write_description, write_items};

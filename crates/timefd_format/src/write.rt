@@ -1,6 +1,6 @@
 //! The public calls.
 
-ghost use Rattle.std.specs.Prelude.{◌≡◌, ◌≤◌, IfErr, length};
+ghost use Rattle.std.specs.Prelude.{◌≡◌, ◌≤◌, IfErr, IfOk, IsUtf8, drop, length};
 ghost use Rattle.timefd_component.specs.Reserved.{reserve};
 ghost use Rattle.timefd_component.specs.Tree.{trees};
 ghost use Rattle.timefd_format_item.specs.Meaning.{item_trees};
@@ -36,6 +36,7 @@ pub fn write_description(
         result }
     ensures enough { reserve (view_tree view.entry) ≤ length buffer.old
         → IfErr result (λ error. ¬ (error ≡ FormatError.Room)) }
+    ensures utf8 { IfOk result (λ at. IsUtf8 (drop at buffer.new)) }
 {
     match write_view(moment, view, buffer) {
         Place::At(at) => Ok(at),
