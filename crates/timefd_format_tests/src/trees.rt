@@ -1,9 +1,10 @@
 //! What whole descriptions write.
 
-use super::answers::{AMPLE, add_described, add_items, add_strftime};
+use super::answers::{AMPLE, add_described, add_items, add_strftime, description};
 use super::moments::moment_at;
 use std::alloc::Global;
 use std::process::Abort;
+use timefd_format::format;
 
 /// Expects what a description of version 3 writes of the first moment.
 fn expect_described(rt: &impl Abort, alloc: Global, text: &str, expected: &str) {
@@ -61,4 +62,25 @@ fn items(rt: HostRuntime) {
     out.clear();
     add_items(&rt, rt.alloc(), moment_at(&rt, 0), "", &mut out);
     assert!(&rt; out.is_empty(), "{AMPLE}");
+}
+
+/// Expects the text of the first moment, in memory of its own.
+fn expect_text(rt: &impl Abort, alloc: Global, text: &str, expected: &str) {
+    let description = description(rt, alloc, text);
+    match format(alloc, moment_at(rt, 0), description.view()) {
+        Ok(answer) => assert_eq!(rt; answer.as_str(), expected),
+        Err(_) => assert!(rt; false, "{AMPLE}"),
+    }
+}
+
+#[test]
+fn texts(rt: HostRuntime) {
+    expect_text(&rt, rt.alloc(), "[year]-[month]-[day]", "2026-11-23");
+    expect_text(&rt, rt.alloc(), "", "");
+    expect_text(
+        &rt,
+        rt.alloc(),
+        "um [hour] Uhr für [weekday]",
+        "um 05 Uhr für Monday",
+    );
 }
