@@ -5,3 +5,4 @@ pub mod Writes
 pub mod Laws
 pub mod Outcomes
 pub mod Answers
+pub mod Sent

@@ -6,6 +6,7 @@ mod field;
 mod items;
 pub mod laws;
 mod names;
+mod output;
 mod place;
 mod put;
 mod put_field;
@@ -16,6 +17,7 @@ mod view;
 mod write;
 
 pub use field::Lack;
+pub use output::{OutputError, format_to};
 pub use text::{TextError, format};
 pub use unshown::Unshown;
 pub use write::{FormatError, write_description, write_items};
