@@ -56,7 +56,34 @@ fn kind(component: Component) -> Kind
         | Component::UnixTimestampMicrosecond(_)
         | Component::UnixTimestampNanosecond(_) => Kind::Instant,
         Component::Ignore(_) | Component::End(_) => Kind::Nothing,
-        _ => Kind::Date,
+        Component::Day(_)
+        | Component::MonthShort(_)
+        | Component::MonthLong(_)
+        | Component::MonthNumerical(_)
+        | Component::Ordinal(_)
+        | Component::WeekdayShort(_)
+        | Component::WeekdayLong(_)
+        | Component::WeekdaySunday(_)
+        | Component::WeekdayMonday(_)
+        | Component::WeekNumberIso(_)
+        | Component::WeekNumberSunday(_)
+        | Component::WeekNumberMonday(_)
+        | Component::CalendarYearFullExtendedRange(_)
+        | Component::CalendarYearFullStandardRange(_)
+        | Component::CalendarYearCenturyExtendedRange(_)
+        | Component::CalendarYearCenturyStandardRange(_)
+        | Component::IsoYearFullExtendedRange(_)
+        | Component::IsoYearFullStandardRange(_)
+        | Component::IsoYearCenturyExtendedRange(_)
+        | Component::IsoYearCenturyStandardRange(_)
+        | Component::CalendarYearLastTwo(_)
+        | Component::IsoYearLastTwo(_)
+        | Component::Month(_)
+        | Component::Weekday(_)
+        | Component::WeekNumber(_)
+        | Component::Hour(_)
+        | Component::UnixTimestamp(_)
+        | Component::Year(_) => Kind::Date,
     }
 }
 
@@ -267,7 +294,12 @@ fn sign_of(is_negative: bool, has_plus: bool) -> Sign
 }
 
 fn signed(sign: Sign, padding: Padding, width: usize, value: u128) -> Field
-    ensures { result ≡ Field.Number (record { sign = sign; padding = padding; width = width; value = value }) }
+    ensures { result ≡ Field.Number (record {
+      sign = sign;
+      padding = padding;
+      width = width;
+      value = value;
+    }) }
 {
     Field::Number(Number {
         sign,
