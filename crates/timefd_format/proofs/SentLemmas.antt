@@ -31,3 +31,5 @@ pub forgotten : (x : Result Text Unshown) (old new : Option (List ℕ)) (e : All
     → Keeps old new → IsSent x old new (Err (fails.Memory e))
 forgotten (Ok text) old new e h = h
 forgotten (Err v) old new e h = h
+
+pub ruleset sent = (appended, refused, unshown, forgotten)

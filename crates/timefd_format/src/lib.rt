@@ -1,11 +1,14 @@
 //! Writes dates and times by format descriptions, into the end of a buffer.
 #![tactic(auto)]
 
+mod clock;
 mod digits;
 mod field;
+mod instant;
 mod items;
 pub mod laws;
 mod names;
+mod numbers;
 mod output;
 mod place;
 mod put;

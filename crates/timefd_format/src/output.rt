@@ -24,7 +24,7 @@ pub enum OutputError {
 
 /// Writes what a description shows of the moment to an output, all at once. Where it shows
 /// nothing, or memory runs out, nothing is written.
-#[tactic(auto, using(crate::proofs::SentLemmas::appended, crate::proofs::SentLemmas::refused, crate::proofs::SentLemmas::unshown, crate::proofs::SentLemmas::forgotten))]
+#[tactic(auto, using(crate::proofs::SentLemmas::sent))]
 pub fn format_to<W: io::Write>(
     alloc: Global,
     moment: Moment,

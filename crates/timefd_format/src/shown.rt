@@ -5,10 +5,13 @@ ghost use Rattle.timefd_format.specs.Fields as spec;
 ghost use Rattle.timefd_format.specs.Fields.{IsField};
 ghost use Rattle.timefd_moment.specs.Moments.{is_before_zero, magnitude};
 
-use crate::field::{Field, Kind, Lack, Number, Sign};
+use crate::clock::{offset_field, time_field};
+use crate::field::{Field, Kind, Lack};
+use crate::instant::instant_field;
+use crate::numbers::{plain, sign_of, signed};
 use timefd_component::Component;
 use timefd_modifier::Padding;
-use timefd_moment::{Date, Moment, Time, UnixTime, UtcOffset};
+use timefd_moment::{Date, Moment, UnixTime};
 
 /// What a modern component shows of a moment.
 pub fn field(moment: Moment, component: Component) -> Result<Field, Lack>
@@ -188,131 +191,6 @@ fn date_field(date: Date, component: Component) -> Result<Field, Lack>
         | Component::UnixTimestamp(_)
         | Component::Year(_) => Ok(Field::Nothing),
     }
-}
-
-fn time_field(time: Time, component: Component) -> Field
-    ensures table { result ≡ spec.time_field time component }
-    ensures field { IsField result }
-{
-    match component {
-        Component::Hour12(m) => plain(m.padding, 2, time.hour_of_twelve() as u64),
-        Component::Hour24(m) => plain(m.padding, 2, time.hour as u64),
-        Component::Minute(m) => plain(m.padding, 2, time.minute as u64),
-        Component::Second(m) => plain(m.padding, 2, time.second as u64),
-        Component::Period(m) => Field::Period {
-            is_uppercase: m.is_uppercase,
-            is_afternoon: time.hour >= 12,
-        },
-        Component::Subsecond(m) => Field::Fraction {
-            digits: m.digits,
-            nanosecond: time.nanosecond,
-        },
-        _ => Field::Nothing,
-    }
-}
-
-fn offset_field(offset: UtcOffset, component: Component) -> Field
-    ensures table { result ≡ spec.offset_field offset component }
-    ensures field { IsField result }
-{
-    match component {
-        Component::OffsetHour(m) => signed(
-            sign_of(offset.is_negative, m.sign_is_mandatory),
-            m.padding,
-            2,
-            (offset.seconds / 3_600) as u128,
-        ),
-        Component::OffsetMinute(m) => plain(m.padding, 2, (offset.seconds / 60 % 60) as u64),
-        Component::OffsetSecond(m) => plain(m.padding, 2, (offset.seconds % 60) as u64),
-        _ => Field::Nothing,
-    }
-}
-
-fn instant_field(unix: UnixTime, component: Component) -> Result<Field, Lack>
-    ensures table { result ≡ spec.instant_field unix component }
-    ensures field { IfOk result IsField }
-{
-    if unix.is_within() {
-        Ok(stamp_field(unix, component))
-    } else {
-        Err(Lack::InstantOutOfRange)
-    }
-}
-
-fn stamp_field(unix: UnixTime, component: Component) -> Field
-    requires { unix.nanoseconds ≤ 31619087596800000000000 }
-    ensures table { result ≡ spec.stamp_field unix component }
-    ensures field { IsField result }
-{
-    match component {
-        Component::UnixTimestampSecond(m) => stamp(m.sign_is_mandatory, unix, whole_seconds(unix)),
-        Component::UnixTimestampMillisecond(m) => {
-            stamp(m.sign_is_mandatory, unix, unix.nanoseconds / 1_000_000)
-        }
-        Component::UnixTimestampMicrosecond(m) => {
-            stamp(m.sign_is_mandatory, unix, unix.nanoseconds / 1_000)
-        }
-        Component::UnixTimestampNanosecond(m) => {
-            stamp(m.sign_is_mandatory, unix, unix.nanoseconds)
-        }
-        _ => Field::Nothing,
-    }
-}
-
-fn whole_seconds(unix: UnixTime) -> u128
-    requires { unix.nanoseconds ≤ 31619087596800000000000 }
-    ensures { result ≡ spec.whole_seconds unix }
-{
-    if unix.is_negative {
-        (unix.nanoseconds + 999_999_999) / 1_000_000_000
-    } else {
-        unix.nanoseconds / 1_000_000_000
-    }
-}
-
-fn stamp(sign_is_mandatory: bool, unix: UnixTime, value: u128) -> Field
-    ensures { result ≡ spec.stamp_of sign_is_mandatory unix value }
-{
-    signed(
-        sign_of(unix.is_negative, sign_is_mandatory),
-        Padding::None,
-        1,
-        value,
-    )
-}
-
-fn sign_of(is_negative: bool, has_plus: bool) -> Sign
-    ensures { result ≡ spec.sign_of is_negative has_plus }
-{
-    if is_negative {
-        Sign::Minus
-    } else if has_plus {
-        Sign::Plus
-    } else {
-        Sign::None
-    }
-}
-
-fn signed(sign: Sign, padding: Padding, width: usize, value: u128) -> Field
-    ensures { result ≡ Field.Number (record {
-      sign = sign;
-      padding = padding;
-      width = width;
-      value = value;
-    }) }
-{
-    Field::Number(Number {
-        sign,
-        padding,
-        width,
-        value,
-    })
-}
-
-fn plain(padding: Padding, width: usize, value: u64) -> Field
-    ensures { result ≡ spec.plain padding width value }
-{
-    signed(Sign::None, padding, width, value as u128)
 }
 
 fn weekday(one_indexed: bool, days: u8) -> Field
