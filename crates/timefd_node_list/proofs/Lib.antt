@@ -6,3 +6,4 @@ pub mod PrintLemmas
 pub mod ViewLemmas
 pub mod WalkLemmas
 pub mod TurnLemmas
+pub mod LeafLemmas

@@ -3,3 +3,5 @@ pub mod NodeTrees
 pub mod Tallies
 pub mod Views
 pub mod Turns
+pub mod Leaves
+pub mod LeafMeaning

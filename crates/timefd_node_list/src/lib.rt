@@ -4,6 +4,7 @@
 
 mod debug;
 pub mod in_turn;
+pub mod leaves;
 pub mod members;
 pub mod node;
 pub mod node_list;
@@ -12,6 +13,7 @@ pub mod view;
 pub mod walk;
 
 pub use in_turn::InTurn;
+pub use leaves::{Leaf, Leaves};
 pub use members::Members;
 pub use view::{Shape, View};
 pub use walk::Walk;

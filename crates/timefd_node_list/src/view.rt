@@ -6,6 +6,7 @@ ghost use Rattle.timefd_component.specs.Reserved.{reserve};
 ghost use Rattle.timefd_component.specs.Tree.{pack};
 
 use crate::debug::write_last;
+use crate::leaves::Leaves;
 use crate::members::Members;
 use crate::node::Node;
 use crate::walk::Walk;
@@ -43,6 +44,8 @@ pub enum Shape<'v, 'a> {
 
 impl<'v, 'a> View<'v, 'a> {
     ghost use Rattle.timefd_component.specs.Reserved.{tree_count};
+    ghost use Rattle.timefd_node_list.specs.LeafMeaning.{leaves_left};
+    ghost use Rattle.timefd_node_list.specs.Leaves.{leaves};
     ghost use Rattle.timefd_node_list.specs.Turns.{walk_trees};
     ghost use Rattle.timefd_node_list.specs.Views.{shape_tree, view_tree, walked};
 
@@ -74,6 +77,13 @@ impl<'v, 'a> View<'v, 'a> {
             },
             Node::First(members) => Shape::First(Members::new(inner, members.count)),
         }
+    }
+
+    /// The parts of it that a formatter writes.
+    pub fn leaves(self) -> Leaves<'v, 'a>
+        ensures { leaves_left result ≡ leaves (view_tree self.entry) }
+    {
+        Leaves::new(self.nodes)
     }
 
     /// How many parts it has, itself among them: as many as `walk` gives.

@@ -1,0 +1,17 @@
+-- What is answered as a text, beside what was to be written.
+use Rattle.std.specs.Prelude.{◌≡◌, Result, Ok, Err, ⊤, string_bytes}
+use Rattle.std.specs.declared.string.String.{String}
+use Rattle.std.specs.declared.alloc.Global.{Global}
+use Rattle.timefd_component.specs.Tree.{Text}
+use Rattle.timefd_format.specs.declared.text.TextError.{TextError}
+use Rattle.timefd_format.specs.declared.text.TextError.TheVariants as fails
+use Rattle.timefd_format.specs.declared.unshown.Unshown.{Unshown}
+
+-- The text, or the first component that shows nothing, or that memory ran out.
+abbrev pub IsAnswer : Result Text Unshown → Result (String Global) TextError → Type 0
+IsAnswer (Ok text) (Ok answer) = string_bytes answer ≡ text
+IsAnswer (Ok text) (Err (fails.Unshown u)) = ⊥
+IsAnswer (Ok text) (Err (fails.Memory e)) = ⊤
+IsAnswer (Err v) (Ok answer) = ⊥
+IsAnswer (Err v) (Err (fails.Unshown u)) = u ≡ v
+IsAnswer (Err v) (Err (fails.Memory e)) = ⊤

@@ -1,0 +1,64 @@
+//! The public calls.
+
+ghost use Rattle.std.specs.Prelude.{◌≡◌, ◌≤◌, IfErr, IfOk, IsUtf8, drop, length};
+ghost use Rattle.timefd_component.specs.Reserved.{reserve};
+ghost use Rattle.timefd_component.specs.Tree.{trees};
+ghost use Rattle.timefd_format_item.specs.Meaning.{item_trees};
+ghost use Rattle.timefd_format.specs.Outcomes.{IsOutcome};
+ghost use Rattle.timefd_format.specs.Written.{written, written_all};
+ghost use Rattle.timefd_node_list.specs.Views.{view_tree};
+
+use crate::items;
+use crate::place::Place;
+use crate::unshown::Unshown;
+use crate::view::write_view;
+use timefd_format_item::BorrowedFormatItem;
+use timefd_moment::Moment;
+use timefd_node_list::View;
+
+/// Why nothing is written.
+#[derive(Debug, Clone, Copy)]
+pub enum FormatError {
+    /// A component shows nothing of the value. It is the first such one.
+    Unshown(Unshown),
+    /// The buffer has no room.
+    Room,
+}
+
+/// Writes the moment by a description of version 3 at the end of the buffer, and answers where it
+/// begins there.
+pub fn write_description(
+    moment: Moment,
+    view: View<'_, '_>,
+    buffer: &mut [u8],
+) -> Result<usize, FormatError>
+    ensures outcome { IsOutcome (written moment (view_tree view.entry)) buffer.old buffer.new
+        result }
+    ensures enough { reserve (view_tree view.entry) ≤ length buffer.old
+        → IfErr result (λ error. ¬ (error ≡ FormatError.Room)) }
+    ensures utf8 { IfOk result (λ at. IsUtf8 (drop at buffer.new)) }
+{
+    match write_view(moment, view, buffer) {
+        Place::At(at) => Ok(at),
+        Place::NoRoom => Err(FormatError::Room),
+        Place::Unshown(unshown) => Err(FormatError::Unshown(unshown)),
+    }
+}
+
+/// Writes the moment by items of version 1 or 2, or of strftime, at the end of the buffer, and
+/// answers where it begins there.
+pub fn write_items(
+    moment: Moment,
+    items: &[BorrowedFormatItem<'_>],
+    buffer: &mut [u8],
+) -> Result<usize, FormatError>
+    ensures { IsOutcome (written_all moment (trees (item_trees items.now))) buffer.old buffer.new
+        result }
+{
+    let end = Place::At(buffer.len());
+    match items::write_all(moment, items, buffer, end) {
+        Place::At(at) => Ok(at),
+        Place::NoRoom => Err(FormatError::Room),
+        Place::Unshown(unshown) => Err(FormatError::Unshown(unshown)),
+    }
+}

@@ -1,0 +1,7 @@
+pub mod Calendar
+pub mod Signed
+pub mod Faults
+pub mod Moments
+pub mod Instants
+pub mod Display
+pub mod Laws

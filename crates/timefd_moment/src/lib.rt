@@ -1,0 +1,20 @@
+//! Dates, times of day, offsets from UTC, instants, and what is known of a value: the moment.
+#![tactic(auto)]
+
+mod calendar;
+mod component_range;
+mod date;
+mod display;
+mod from_day;
+pub mod laws;
+mod moment;
+mod offset;
+mod time;
+mod unix_time;
+
+pub use component_range::ComponentRange;
+pub use date::Date;
+pub use moment::Moment;
+pub use offset::UtcOffset;
+pub use time::Time;
+pub use unix_time::UnixTime;

@@ -1,0 +1,106 @@
+//! Instants.
+
+ghost use Rattle.std.specs.Prelude.{◌≡◌, ◌≤◌, ◌*ℤ◌, pos, IfErr, IfOk, IsFalse, IsTrue};
+
+use crate::component_range::ComponentRange;
+use crate::date::Date;
+use crate::from_day::date_of_day;
+use crate::offset::UtcOffset;
+use crate::time::Time;
+
+/// How far an instant is after the start of 1970 in UTC, or before it.
+#[derive(Debug, Clone, Copy, PartialEq, Eq)]
+pub struct UnixTime {
+    /// Whether it is before that.
+    pub is_negative: bool,
+    /// How many nanoseconds.
+    pub nanoseconds: u128,
+}
+
+// The start of 1970, counted as in `UnixTime::of`.
+const UNIX_START: u128 = (365_962_028 * 86_400 + 100_000) * 1_000_000_000;
+
+impl UnixTime {
+    ghost use Rattle.timefd_moment.specs.Instants.{count, is_within};
+    ghost use Rattle.timefd_moment.specs.Moments as spec;
+    ghost use Rattle.timefd_moment.specs.Signed.{signed};
+
+    /// That of a date and time with an offset.
+    pub fn of(date: Date, time: Time, offset: UtcOffset) -> UnixTime
+        ensures { result ≡ spec.unix_time date time offset }
+    {
+        let local = date.day_number() as u64 * 86_400
+            + time.hour as u64 * 3_600
+            + time.minute as u64 * 60
+            + time.second as u64
+            + 100_000;
+        let utc = if offset.is_negative {
+            local + offset.seconds as u64
+        } else {
+            local - offset.seconds as u64
+        };
+        let nanoseconds = utc as u128 * 1_000_000_000 + time.nanosecond as u128;
+        if nanoseconds < UNIX_START {
+            UnixTime {
+                is_negative: true,
+                nanoseconds: UNIX_START - nanoseconds,
+            }
+        } else {
+            UnixTime {
+                is_negative: false,
+                nanoseconds: nanoseconds - UNIX_START,
+            }
+        }
+    }
+
+    /// The instant so many nanoseconds after the start of 1970, before it as a negative number.
+    pub fn from_nanoseconds(nanoseconds: i128) -> UnixTime
+        ensures { signed result.is_negative result.nanoseconds ≡ nanoseconds }
+    {
+        UnixTime {
+            is_negative: nanoseconds < 0,
+            nanoseconds: nanoseconds.unsigned_abs(),
+        }
+    }
+
+    /// The instant so many seconds after the start of 1970, before it as a negative number.
+    pub fn from_seconds(seconds: i64) -> UnixTime
+        ensures { signed result.is_negative result.nanoseconds ≡ seconds *ℤ pos 1000000000 }
+    {
+        UnixTime::from_nanoseconds(seconds as i128 * 1_000_000_000)
+    }
+
+    /// Whether its year in UTC is one of the years -999,999 to 999,999.
+    pub fn is_within(self) -> bool
+        ensures { result ≡ is_within self }
+    {
+        const EARLIEST: u128 = 31_619_087_596_800 * 1_000_000_000;
+        const END: u128 = 31_494_784_780_800 * 1_000_000_000;
+        if self.is_negative {
+            self.nanoseconds <= EARLIEST
+        } else {
+            self.nanoseconds < END
+        }
+    }
+
+    /// The date and time in UTC. An `Err` comes where the year is none from -999,999 to 999,999.
+    pub(crate) fn date_and_time(self) -> Result<(Date, Time), ComponentRange>
+        ensures found { IfOk result (λ r. spec.local_nanoseconds r.0 r.1 ≡ count self) }
+        ensures in_range { IfOk result (λ r. IsTrue (is_within self)) }
+        ensures fault { IfErr result (λ e. (e ≡ ComponentRange.Instant)
+            × IsFalse (is_within self)) }
+    {
+        if !self.is_within() {
+            return Err(ComponentRange::Instant);
+        }
+        let count = if self.is_negative {
+            UNIX_START - self.nanoseconds
+        } else {
+            UNIX_START + self.nanoseconds
+        };
+        let seconds = (count / 1_000_000_000) as u64 - 100_000;
+        let date = date_of_day((seconds / 86_400) as u32);
+        let time = Time::of_second((seconds % 86_400) as u32, (count % 1_000_000_000) as u32);
+        Ok((date, time))
+    }
+}
