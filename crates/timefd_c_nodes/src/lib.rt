@@ -11,6 +11,7 @@ mod place;
 mod size;
 mod view;
 
+pub use component::component_node;
 pub use items::write_items;
 pub use node::Node;
 pub use size::{Size, items_size};

@@ -12,14 +12,15 @@ use Rattle.timefd_component.specs.declared.component.Component.{Component}
 use Rattle.timefd_component.specs.declared.component.Component.TheVariants.{Day, MonthShort, MonthLong, MonthNumerical, Ordinal, WeekdayShort, WeekdayLong, WeekdaySunday, WeekdayMonday, WeekNumberIso, WeekNumberSunday, WeekNumberMonday, CalendarYearFullExtendedRange, CalendarYearFullStandardRange, CalendarYearCenturyExtendedRange, CalendarYearCenturyStandardRange, IsoYearFullExtendedRange, IsoYearFullStandardRange, IsoYearCenturyExtendedRange, IsoYearCenturyStandardRange, CalendarYearLastTwo, IsoYearLastTwo, Hour12, Hour24, Minute, Second, OffsetMinute, OffsetSecond, Period, Subsecond, OffsetHour, UnixTimestampSecond, UnixTimestampMillisecond, UnixTimestampMicrosecond, UnixTimestampNanosecond, Ignore, End, Month, Weekday, WeekNumber, Hour, UnixTimestamp, Year}
 use Rattle.timefd_component.specs.Modern.{modern}
 use Rattle.timefd_component.specs.Texts.{filled, before_trimmed, trimmed, at_least_one, subsecond, plus_where, periods, IsNumber, IsSigned, IsOneOf, IsWeekday, IsExtended, IsStandard, IsText, full, century, short_months, long_months, short_weekdays, long_weekdays}
-use Rattle.timefd_component.specs.Tree.{Text}
+use Rattle.timefd_component.specs.Tree.{Text, Tree, component, literal, compound, optional, first, Trees, no_trees, more_trees}
 use Rattle.timefd_moment.specs.declared.moment.Moment.{Moment}
 use Rattle.timefd_format.specs.declared.field.Field.{Field}
 use Rattle.timefd_format.specs.declared.field.Lack.{Lack}
 use Rattle.timefd_format.specs.declared.unshown.Unshown.{Unshown}
 use Rattle.timefd_format.specs.Fields.{field, field_text}
 use Rattle.timefd_format.specs.Laws.{IsTextOf, IsMinusZero}
-use Rattle.timefd_format.specs.Written.{followed, shown, text_of}
+use Rattle.timefd_format.specs.Literals.{HasUtf8Literals, HaveUtf8Literals}
+use Rattle.timefd_format.specs.Written.{followed, shown, text_of, written, written_all, written_first}
 use Rattle.timefd_format.proofs.TextLemmas.{renders}
 
 cons_ascii : (b : ℕ) (xs : Text) → b < 128 → IsAscii xs → IsAscii (b ∷ xs)
@@ -239,3 +240,21 @@ pub followed_utf8 : (x y : Result Text Unshown) → IfOk x IsUtf8 → IfOk y IsU
 followed_utf8 (Ok a) (Ok b) f g = IsUtf8-append a b f g
 followed_utf8 (Ok a) (Err u) f g = tt
 followed_utf8 (Err u) y f g = tt
+
+mutual
+  pub written_utf8 : (m : Moment) (t : Tree) → HasUtf8Literals t → IfOk (written m t) IsUtf8
+  written_utf8 m (component c) is = shown_utf8 m c
+  written_utf8 m (literal bytes) is = is
+  written_utf8 m (compound ts) is = written_all_utf8 m ts is
+  written_utf8 m (optional true t) is = written_utf8 m t is
+  written_utf8 m (optional false t) is = IsUtf8-nil
+  written_utf8 m (first ts) is = written_first_utf8 m ts is
+
+  pub written_all_utf8 : (m : Moment) (ts : Trees) → HaveUtf8Literals ts → IfOk (written_all m ts) IsUtf8
+  written_all_utf8 m no_trees is = IsUtf8-nil
+  written_all_utf8 m (more_trees t ts) is =
+      followed_utf8 (written m t) (written_all m ts) (written_utf8 m t is.0) (written_all_utf8 m ts is.1)
+
+  written_first_utf8 : (m : Moment) (ts : Trees) → HaveUtf8Literals ts → IfOk (written_first m ts) IsUtf8
+  written_first_utf8 m no_trees is = IsUtf8-nil
+  written_first_utf8 m (more_trees t ts) is = written_utf8 m t is.0

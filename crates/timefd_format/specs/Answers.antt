@@ -1,6 +1,7 @@
 -- What is answered as a text, beside what was to be written.
-use Rattle.std.specs.Prelude.{◌≡◌, Result, Ok, Err, ⊤, string_bytes}
+use Rattle.std.specs.Prelude.{ℕ, ◌≡◌, Result, Ok, Err, ⊤, string_bytes}
 use Rattle.std.specs.declared.string.String.{String}
+use Rattle.std.specs.declared.vec.Vec.{Vec}
 use Rattle.std.specs.declared.alloc.Global.{Global}
 use Rattle.timefd_component.specs.Tree.{Text}
 use Rattle.timefd_format.specs.declared.text.TextError.{TextError}
@@ -15,3 +16,12 @@ IsAnswer (Ok text) (Err (fails.Memory e)) = ⊤
 IsAnswer (Err v) (Ok answer) = ⊥
 IsAnswer (Err v) (Err (fails.Unshown u)) = u ≡ v
 IsAnswer (Err v) (Err (fails.Memory e)) = ⊤
+
+-- the same in bytes
+abbrev pub AreBytes : Result Text Unshown → Result (Vec ℕ Global) TextError → Type 0
+AreBytes (Ok text) (Ok answer) = answer.items ≡ text
+AreBytes (Ok text) (Err (fails.Unshown u)) = ⊥
+AreBytes (Ok text) (Err (fails.Memory e)) = ⊤
+AreBytes (Err v) (Ok answer) = ⊥
+AreBytes (Err v) (Err (fails.Unshown u)) = u ≡ v
+AreBytes (Err v) (Err (fails.Memory e)) = ⊤

@@ -4,5 +4,7 @@ pub mod Written
 pub mod Writes
 pub mod Laws
 pub mod Outcomes
+pub mod Literals
 pub mod Answers
 pub mod Sent
+pub mod Sentences

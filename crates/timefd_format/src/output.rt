@@ -12,7 +12,7 @@ use timefd_moment::Moment;
 use timefd_node_list::View;
 
 /// Why a text was not written to an output.
-#[derive(Drop)]
+#[derive(Debug, Drop)]
 pub enum OutputError {
     /// A component shows nothing of the moment. It is the first such one.
     Unshown(Unshown),

@@ -4,6 +4,7 @@ ghost use Rattle.std.specs.Prelude.{◌≡◌, ◌≤◌, IfErr, IfOk, IsUtf8, d
 ghost use Rattle.timefd_component.specs.Reserved.{reserve};
 ghost use Rattle.timefd_component.specs.Tree.{trees};
 ghost use Rattle.timefd_format_item.specs.Meaning.{item_trees};
+ghost use Rattle.timefd_format.specs.Literals.{HaveUtf8Literals};
 ghost use Rattle.timefd_format.specs.Outcomes.{IsOutcome};
 ghost use Rattle.timefd_format.specs.Written.{written, written_all};
 ghost use Rattle.timefd_node_list.specs.Views.{view_tree};
@@ -52,8 +53,10 @@ pub fn write_items(
     items: &[BorrowedFormatItem<'_>],
     buffer: &mut [u8],
 ) -> Result<usize, FormatError>
-    ensures { IsOutcome (written_all moment (trees (item_trees items.now))) buffer.old buffer.new
-        result }
+    ensures outcome { IsOutcome (written_all moment (trees (item_trees items.now))) buffer.old
+        buffer.new result }
+    ensures utf8 { HaveUtf8Literals (trees (item_trees items.now))
+        → IfOk result (λ at. IsUtf8 (drop at buffer.new)) }
 {
     let end = Place::At(buffer.len());
     match items::write_all(moment, items, buffer, end) {

@@ -147,7 +147,8 @@ pub record IsLeaf (tree : Tree) : Type 0 where
   pub modern : modern leaf ≡ leaf
   pub counted : IsCounted leaf
 
-component_leaf : (strict : Bool) (h : Head) (tree : Tree) (o : Option Row)
+-- the component of a name
+pub component_leaf : (strict : Bool) (h : Head) (tree : Tree) (o : Option Row)
     → row_of strict h.name ≡ o → component_verdict strict h o ≡ Ok tree → IsLeaf tree
 component_leaf strict h tree None known e = absurd cc
 component_leaf strict h tree (Some r) known e =
@@ -158,7 +159,8 @@ component_leaf strict h tree (Some r) known e =
     row_has IsGoodRow strict h.name rows r rows_good known strict (placed h) leaf.0 leaf.2 in
     record { leaf = leaf.0; is = leaf.1; modern = good.0; counted = good.1 }
 
-third : (t : Tree) (a b : Bool) (x y z : Result Tree Fault) → (x ≡ Ok t → ⊥) → (y ≡ Ok t → ⊥)
+-- of three, neither of the first two
+pub third : (t : Tree) (a b : Bool) (x y z : Result Tree Fault) → (x ≡ Ok t → ⊥) → (y ≡ Ok t → ⊥)
     → cond a x (cond b y z) ≡ Ok t → z ≡ Ok t
 third t true b x y z no_x no_y e = absurd (no_x e)
 third t false true x y z no_x no_y e = absurd (no_y e)

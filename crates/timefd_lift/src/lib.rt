@@ -9,5 +9,6 @@ mod item;
 pub mod laws;
 mod modifier;
 
+pub use component::push_component;
 pub use from_one::{v1_to_v2, v1_to_v2_borrowed};
 pub use from_two::{v2_to_v3, v2_to_v3_borrowed};

@@ -1,9 +1,11 @@
 -- What `{}` writes: the forms of ISO 8601.
-use Rattle.std.specs.Prelude.{ℕ, ◌+◌, ◌/◌, ◌%◌, ◌==◌, nat_le, nat_lt, if◌then◌else◌, List, [], ◌∷◌, ◌++◌, codes}
+use Rattle.std.specs.Prelude.{ℕ, ◌+◌, ◌/◌, ◌%◌, ◌==◌, nat_le, nat_lt, if◌then◌else◌, List, [], ◌∷◌, ◌++◌, codes, Option, Some, None}
 use Rattle.std.specs.Fmt.{decimal}
 use Rattle.timefd_moment.specs.declared.date.Date.{Date}
 use Rattle.timefd_moment.specs.declared.time.Time.{Time}
 use Rattle.timefd_moment.specs.declared.offset.UtcOffset.{UtcOffset}
+use Rattle.timefd_moment.specs.declared.moment.Moment.{Moment}
+use Rattle.timefd_moment.specs.declared.unix_time.UnixTime.{UnixTime}
 use Rattle.timefd_moment.specs.Moments.{magnitude, is_before_zero}
 
 -- two digits, or more where it has more
@@ -48,3 +50,32 @@ unfoldable pub offset_text : UtcOffset → List ℕ
 offset_text o =
     (if o.is_negative then codes "-" else codes "+") ++ (two_digits (o.seconds / 3600)
     ++ (codes ":" ++ (two_digits (o.seconds / 60 % 60) ++ offset_seconds_text (o.seconds % 60))))
+
+-- What is known, one behind another: a `T` between a date and a time.
+
+abbrev pub known_date : Option Date → List ℕ
+known_date None = []
+known_date (Some d) = date_text d
+
+abbrev pub between : Option Date → Option Time → List ℕ
+between None t = codes ""
+between (Some d) None = codes ""
+between (Some d) (Some t) = codes "T"
+
+abbrev pub known_time : Option Time → List ℕ
+known_time None = []
+known_time (Some t) = time_text t
+
+abbrev pub known_offset : Option UtcOffset → List ℕ
+known_offset None = []
+known_offset (Some o) = offset_text o
+
+unfoldable pub moment_text : Moment → List ℕ
+moment_text m =
+    known_date m.date ++ (between m.date m.time ++ (known_time m.time ++ known_offset m.offset))
+
+-- the seconds after the start of 1970, and the fraction of a second; before it behind a minus
+unfoldable pub unix_text : UnixTime → List ℕ
+unix_text u =
+    (if u.is_negative then codes "-" else codes "") ++ (decimal (u.nanoseconds / 1000000000)
+    ++ fraction_text (u.nanoseconds % 1000000000))

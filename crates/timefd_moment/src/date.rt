@@ -6,6 +6,7 @@ ghost use Rattle.timefd_moment.specs.Faults.{date_fault};
 
 use crate::calendar::{days_before_month, days_before_year, days_in_month, days_in_year};
 use crate::component_range::ComponentRange;
+use crate::weekday::Weekday;
 
 /// A day of the years -999,999 to 999,999 of the Gregorian calendar.
 #[derive(Debug, Clone, Copy, PartialEq, Eq)]
@@ -21,6 +22,7 @@ pub struct Date {
 
 impl Date {
     ghost use Rattle.timefd_moment.specs.Moments as spec;
+    ghost use Rattle.timefd_moment.specs.Weekdays.{days_after_monday};
 
     /// The date of these numbers. An `Err` names the first one that is out of its range.
     pub fn from_calendar_date(year: i32, month: u8, day: u8) -> Result<Date, ComponentRange>
@@ -84,6 +86,13 @@ impl Date {
         ensures within { result ≤ 6 }
     {
         ((self.day_number() + 5) % 7) as u8
+    }
+
+    /// The day of the week.
+    pub fn weekday(self) -> Weekday
+        ensures { days_after_monday result ≡ spec.days_from_monday self }
+    {
+        Weekday::after_monday(self.number_days_from_monday())
     }
 
     /// How many days it is after a Sunday.

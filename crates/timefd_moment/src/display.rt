@@ -5,8 +5,10 @@ ghost use Rattle.std.specs.Fmt.{WritesOnOk};
 ghost use Rattle.timefd_moment.specs.Display as spec;
 
 use crate::date::Date;
+use crate::moment::Moment;
 use crate::offset::UtcOffset;
 use crate::time::Time;
+use crate::unix_time::UnixTime;
 use std::fmt;
 
 impl fmt::Display for Date {
@@ -43,6 +45,65 @@ impl fmt::Display for UtcOffset {
         f.write_str(":")?;
         two_digits(f, self.seconds / 60 % 60)?;
         offset_seconds(f, self.seconds % 60)
+    }
+}
+
+/// What is known, one behind another: a `T` between a date and a time.
+impl fmt::Display for Moment {
+    ghost output = { λ m. Some (spec.moment_text m) };
+
+    fn fmt<W: fmt::Write>(&self, f: &mut fmt::Formatter<W>) -> fmt::Result {
+        known_date(f, self.date)?;
+        f.write_str(between(self.date, self.time))?;
+        known_time(f, self.time)?;
+        known_offset(f, self.offset)
+    }
+}
+
+/// The seconds after the start of 1970.
+impl fmt::Display for UnixTime {
+    ghost output = { λ u. Some (spec.unix_text u) };
+
+    fn fmt<W: fmt::Write>(&self, f: &mut fmt::Formatter<W>) -> fmt::Result {
+        f.write_str(if self.is_negative { "-" } else { "" })?;
+        write!(f, "{}", self.nanoseconds / 1_000_000_000)?;
+        fraction(f, (self.nanoseconds % 1_000_000_000) as u32)
+    }
+}
+
+fn known_date<W: fmt::Write>(f: &mut fmt::Formatter<W>, date: Option<Date>) -> fmt::Result
+    ensures { WritesOnOk W.write_str_gives f.old result (spec.known_date date) f.new }
+{
+    match date {
+        Some(date) => write!(f, "{date}"),
+        None => Ok(()),
+    }
+}
+
+fn between(date: Option<Date>, time: Option<Time>) -> &'static str
+    ensures { result.now ≡ spec.between date time }
+{
+    match (date, time) {
+        (Some(_), Some(_)) => "T",
+        (None, _) | (Some(_), None) => "",
+    }
+}
+
+fn known_time<W: fmt::Write>(f: &mut fmt::Formatter<W>, time: Option<Time>) -> fmt::Result
+    ensures { WritesOnOk W.write_str_gives f.old result (spec.known_time time) f.new }
+{
+    match time {
+        Some(time) => write!(f, "{time}"),
+        None => Ok(()),
+    }
+}
+
+fn known_offset<W: fmt::Write>(f: &mut fmt::Formatter<W>, offset: Option<UtcOffset>) -> fmt::Result
+    ensures { WritesOnOk W.write_str_gives f.old result (spec.known_offset offset) f.new }
+{
+    match offset {
+        Some(offset) => write!(f, "{offset}"),
+        None => Ok(()),
     }
 }
 

@@ -11,6 +11,7 @@ mod moment;
 mod offset;
 mod time;
 mod unix_time;
+mod weekday;
 
 pub use component_range::ComponentRange;
 pub use date::Date;
@@ -18,3 +19,4 @@ pub use moment::Moment;
 pub use offset::UtcOffset;
 pub use time::Time;
 pub use unix_time::UnixTime;
+pub use weekday::Weekday;

@@ -2,7 +2,7 @@
 
 use std::alloc::Global;
 use std::process::Abort;
-use timefd_moment::{ComponentRange, Date, Time, UtcOffset};
+use timefd_moment::{ComponentRange, Date, Time, UtcOffset, Weekday};
 
 /// A date and its place in the year, in days after Monday, and in weeks: of ISO 8601 with their
 /// year, from Sunday and from Monday.
@@ -39,6 +39,7 @@ fn expect_row(rt: &impl Abort, row: Row) {
     assert_eq!(rt; date.year(), row.year);
     assert_eq!(rt; date.ordinal(), row.ordinal);
     assert_eq!(rt; date.number_days_from_monday(), row.from_monday);
+    assert_eq!(rt; date.weekday().number_days_from_monday(), row.from_monday);
     assert_eq!(rt; date.number_days_from_sunday(), (row.from_monday + 1) % 7);
     assert_eq!(rt; date.iso_years(), u32::from(row.iso_year) + 1_000_000);
     assert_eq!(rt; date.iso_week(), row.iso_week);
@@ -151,4 +152,38 @@ fn printed(rt: HostRuntime) {
     expect_offset_text(&rt, rt.alloc(), 3_600, "+01:00");
     expect_offset_text(&rt, rt.alloc(), -80_000, "-22:13:20");
     expect_offset_text(&rt, rt.alloc(), 0, "+00:00");
+}
+
+const WEEK: &[(Weekday, &str)] = &[
+    (Weekday::Monday, "Monday"),
+    (Weekday::Tuesday, "Tuesday"),
+    (Weekday::Wednesday, "Wednesday"),
+    (Weekday::Thursday, "Thursday"),
+    (Weekday::Friday, "Friday"),
+    (Weekday::Saturday, "Saturday"),
+    (Weekday::Sunday, "Sunday"),
+];
+
+fn expect_weekday(rt: &impl Abort, alloc: Global, weekday: Weekday, expected: &str) {
+    let text = format!(in alloc; "{weekday}").expect(rt, "memory");
+    assert_eq!(rt; text.as_str(), expected);
+    assert_eq!(rt;
+        weekday.number_from_monday(),
+        weekday.number_days_from_monday() + 1
+    );
+    assert_eq!(rt;
+        weekday.number_from_sunday(),
+        weekday.number_days_from_sunday() + 1
+    );
+    assert!(rt; weekday.next().previous() == weekday);
+}
+
+#[test]
+fn weekdays(rt: HostRuntime) {
+    for (weekday, expected) in WEEK {
+        expect_weekday(&rt, rt.alloc(), *weekday, expected);
+    }
+    assert!(&rt; Weekday::Sunday.next() == Weekday::Monday);
+    assert_eq!(&rt; Weekday::Sunday.number_from_sunday(), 1);
+    assert_eq!(&rt; Weekday::Sunday.number_from_monday(), 7);
 }

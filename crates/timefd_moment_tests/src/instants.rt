@@ -1,5 +1,6 @@
 //! Instants, and the dates and times that they are in UTC.
 
+use std::alloc::Global;
 use std::process::Abort;
 use timefd_moment::{ComponentRange, Date, Moment, Time, UnixTime, UtcOffset};
 
@@ -70,4 +71,36 @@ fn out_of_range(rt: HostRuntime) {
     assert!(&rt; Moment::from_unix(early).err() == Some(ComponentRange::Instant));
     let late = UnixTime::from_seconds(31_494_784_780_800);
     assert!(&rt; Moment::from_unix(late).err() == Some(ComponentRange::Instant));
+}
+
+fn expect_moment_text(rt: &impl Abort, alloc: Global, moment: Moment, expected: &str) {
+    let text = format!(in alloc; "{moment}").expect(rt, "memory");
+    assert_eq!(rt; text.as_str(), expected);
+}
+
+fn expect_unix_text(rt: &impl Abort, alloc: Global, nanoseconds: i128, expected: &str) {
+    let unix = UnixTime::from_nanoseconds(nanoseconds);
+    let text = format!(in alloc; "{unix}").expect(rt, "memory");
+    assert_eq!(rt; text.as_str(), expected);
+}
+
+#[test]
+fn printed(rt: HostRuntime) {
+    let date = Date::from_calendar_date(2026, 11, 23).ok();
+    let time = Time::from_hms_nano(5, 36, 7, 0).ok();
+    let offset = UtcOffset::from_whole_seconds(3_600).ok();
+    let mut moment = Moment { date, time, offset };
+    expect_moment_text(&rt, rt.alloc(), moment, "2026-11-23T05:36:07+01:00");
+    moment.offset = None;
+    expect_moment_text(&rt, rt.alloc(), moment, "2026-11-23T05:36:07");
+    moment.date = None;
+    expect_moment_text(&rt, rt.alloc(), moment, "05:36:07");
+    expect_unix_text(
+        &rt,
+        rt.alloc(),
+        1_795_408_567_012_345_678,
+        "1795408567.012345678",
+    );
+    expect_unix_text(&rt, rt.alloc(), -500_000, "-0.000500000");
+    expect_unix_text(&rt, rt.alloc(), 0, "0");
 }
