@@ -1,0 +1,4 @@
+pub mod FlatLemmas
+pub mod LetterLemmas
+pub mod LengthLemmas
+pub mod ItemLemmas

@@ -1,0 +1,13 @@
+use Rattle.std.proofs.Common.{◌≡◌, ◌++◌, drop, string_bytes}
+use Rattle.timefd_component.specs.Tree.{trees}
+use Rattle.timefd_convert.specs.Leaves.{AreLeafItems}
+use Rattle.timefd_format_item.specs.Meaning.{item_trees}
+use Rattle.timefd_print.specs.Printed.{printed_all}
+use Rattle.timefd_convert.proofs.item.push_members.Given as goal
+
+-- what is printed so far, and the members that are left, are what is printed of all
+abbrev pub invariant-members : goal.invariant-members
+invariant-members l =
+    AreLeafItems (drop l.at l.members)
+    × (string_bytes l.text ++ printed_all (trees (item_trees (drop l.at l.members)))
+    ≡ string_bytes l.fn.text ++ printed_all (trees (item_trees l.members)))

@@ -1,0 +1,13 @@
+use Rattle.std.proofs.Common.{◌≡◌, ◌++◌, drop, string_bytes}
+use Rattle.timefd_component.specs.Tree.{trees}
+use Rattle.timefd_convert.specs.Leaves.{AreShallowItems}
+use Rattle.timefd_format_item.specs.Meaning.{item_trees}
+use Rattle.timefd_print.specs.Printed.{printed_all}
+use Rattle.timefd_convert.proofs.strftime.printed.Given as goal
+
+-- what is printed so far, and the items that are left, are what is printed of all
+abbrev pub invariant-items : goal.invariant-items
+invariant-items l =
+    AreShallowItems (drop l.at l.items)
+    × (string_bytes l.answer ++ printed_all (trees (item_trees (drop l.at l.items)))
+    ≡ printed_all (trees (item_trees l.items)))

@@ -1,0 +1,4 @@
+pub mod Flat
+pub mod Leaves
+pub mod Laws
+pub mod Answers

@@ -1,0 +1,71 @@
+//! Prints the items of strftime in version 3.
+
+ghost use Rattle.std.specs.Prelude.{◌≡◌, ◌++◌, IsTrue, OnOk, string_bytes};
+ghost use Rattle.timefd_component.specs.Tree.{trees};
+ghost use Rattle.timefd_convert.specs.Leaves.{AreLeaves, IsLeafItem, IsShallowItem};
+ghost use Rattle.timefd_format_item.specs.Meaning.{item_tree, item_trees};
+ghost use Rattle.timefd_language.specs.Strings.{are_of_strings};
+ghost use Rattle.timefd_print.specs.Printed as spec;
+
+use std::alloc::{AllocError, Global};
+use timefd_items::BorrowedFormatItem;
+use timefd_lift::push_component;
+use timefd_print::push_literal;
+
+/// Appends what is printed of an item: of each member in turn, if it is a compound.
+pub fn push_item(
+    alloc: Global,
+    text: &mut String,
+    item: &BorrowedFormatItem<'_>,
+) -> Result<(), AllocError>
+    requires { IsShallowItem item.now }
+    ensures { OnOk result (string_bytes text.new ≡ string_bytes text.old ++ spec.printed
+        (item_tree item.now)) }
+{
+    match *item {
+        BorrowedFormatItem::StringLiteral(literal) => push_literal(text, literal),
+        BorrowedFormatItem::Component(component) => push_component(alloc, text, component),
+        BorrowedFormatItem::Compound(members) => push_members(alloc, text, members),
+        BorrowedFormatItem::Literal(_)
+        | BorrowedFormatItem::Optional(_)
+        | BorrowedFormatItem::First(_) => unreachable!(),
+    }
+}
+
+/// Appends what is printed of the members of a compound.
+#[tactic(auto, using(crate::proofs::ItemLemmas::leaf_items))]
+fn push_members(
+    alloc: Global,
+    text: &mut String,
+    members: &[BorrowedFormatItem<'_>],
+) -> Result<(), AllocError>
+    requires leaves { AreLeaves (trees (item_trees members.now)) }
+    requires strings { IsTrue (are_of_strings members.now) }
+    ensures { OnOk result (string_bytes text.new ≡ string_bytes text.old ++ spec.printed_all
+        (trees (item_trees members.now))) }
+{
+    'members: for at in 0..members.len() {
+        push_leaf(alloc, text, &members[at])?;
+    }
+    Ok(())
+}
+
+/// Appends what is printed of a literal or a component.
+fn push_leaf(
+    alloc: Global,
+    text: &mut String,
+    item: &BorrowedFormatItem<'_>,
+) -> Result<(), AllocError>
+    requires { IsLeafItem item.now }
+    ensures { OnOk result (string_bytes text.new ≡ string_bytes text.old ++ spec.printed
+        (item_tree item.now)) }
+{
+    match *item {
+        BorrowedFormatItem::StringLiteral(literal) => push_literal(text, literal),
+        BorrowedFormatItem::Component(component) => push_component(alloc, text, component),
+        BorrowedFormatItem::Literal(_)
+        | BorrowedFormatItem::Compound(_)
+        | BorrowedFormatItem::Optional(_)
+        | BorrowedFormatItem::First(_) => unreachable!(),
+    }
+}

@@ -1,0 +1,80 @@
+//! Texts of strftime as texts of version 3.
+
+ghost use Rattle.std.specs.Prelude.{◌≡◌, ◌≤◌, ◌*◌, [], List, IfOk, IsOk, MatchResult, length, string_bytes};
+ghost use Rattle.std.specs.Result.{IfErr};
+ghost use Rattle.timefd_borrowed_fault.specs.Placed.{HasPlacedFault};
+ghost use Rattle.timefd_component.specs.Tree.{Tree, trees};
+ghost use Rattle.timefd_convert.specs.Answers.{HasStrftimeItems, IsPrintedOf};
+ghost use Rattle.timefd_convert.specs.Leaves.{AreShallowItems};
+ghost use Rattle.timefd_fault.specs.Faults as spec;
+ghost use Rattle.timefd_format_item.specs.Meaning.{item_trees};
+ghost use Rattle.timefd_language.specs.Strftime.{SpellsStrftime, StrftimeFaultOf};
+ghost use Rattle.timefd_language.specs.Told.{IsFaultOrMemory};
+ghost use Rattle.timefd_lift.specs.Answers.{IsTextOrMemory};
+ghost use Rattle.timefd_print.specs.Printed.{printed_all};
+ghost use Rattle.timefd_strftime.specs.StrftimeAnswers.{IsStrftimeFault};
+
+use crate::item::push_item;
+use crate::laws::flattening;
+use std::alloc::{AllocError, Global};
+use timefd_items::BorrowedFormatItem;
+use timefd_parse::{ParseError, StrftimeTables, parse_strftime_borrowed};
+
+/// The text of version 3 that means what a text of strftime means: the components of each letter in
+/// their normal form, those of a composite letter one after another, and `[`, `]` and `\` behind a
+/// `\`. Neighbouring literals are one literal in it. Each letter has exact components.
+///
+/// The error is the fault of the text by the rules of strftime, or `Memory` where memory ran out. A
+/// fault that quotes nothing of the text is answered even then. This call is this port's own.
+pub fn strftime_to_v3(alloc: Global, s: &str) -> Result<String, ParseError>
+    // What is answered is printed of what strftime spells, and has the same items. What is refused is
+    // refused for the fault that the rules of strftime assign.
+    ensures printed { IfOk result (λ answer. IsPrintedOf s.now (string_bytes answer)) }
+    ensures same_items { IfOk result (λ answer. HasStrftimeItems s.now (string_bytes answer)) }
+    ensures fault { IfErr result (IsStrftimeFault s.now) }
+
+    // What strftime spells is printed, unless memory runs out. What has a fault is refused for it,
+    // unless the fault quotes the text and memory runs out for that.
+    ensures spelled { (list : List Tree) → SpellsStrftime s.now list
+        → IsTextOrMemory (printed_all (trees list)) result }
+    ensures refused { (f : spec.Fault) → StrftimeFaultOf s.now f
+        → MatchResult result (λ _. ⊥) (IsFaultOrMemory f) }
+
+    // The fault's index lies in the text or at its end, between two characters.
+    ensures place { IfErr result (HasPlacedFault s.now) }
+
+    // It has at most 53 bytes for each byte of the text, as that of `%c` has.
+    ensures within { IfOk result (λ answer. length (string_bytes answer) ≤ 53 * length s.now) }
+
+    // The empty text takes no memory.
+    ensures empty { s.now ≡ [] → IsOk result }
+{
+    // The law by which version 3 spells the same items.
+    flattening();
+    let tables = StrftimeTables::new();
+    match parse_strftime_borrowed(alloc, &tables, s) {
+        Ok(items) => match printed(alloc, s.len(), &items) {
+            Ok(answer) => Ok(answer),
+            Err(error) => Err(ParseError::Memory(error)),
+        },
+        Err(error) => Err(error),
+    }
+}
+
+/// What is printed of the items in turn, with room for so many bytes at first.
+fn printed(
+    alloc: Global,
+    room: usize,
+    items: &[BorrowedFormatItem<'_>],
+) -> Result<String, AllocError>
+    requires { AreShallowItems items.now }
+    ensures printed { IfOk result (λ answer. string_bytes answer ≡ printed_all
+        (trees (item_trees items.now))) }
+    ensures empty { items.now ≡ [] → room ≡ 0 → IsOk result }
+{
+    let mut answer = String::with_capacity(alloc, room)?;
+    'items: for at in 0..items.len() {
+        push_item(alloc, &mut answer, &items[at])?;
+    }
+    Ok(answer)
+}

@@ -1,0 +1,4 @@
+pub mod Printed
+pub mod Reasons
+pub mod Laws
+pub mod Answers

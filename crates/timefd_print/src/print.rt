@@ -1,0 +1,57 @@
+//! Prints a description of version 3.
+
+ghost use Rattle.std.specs.Prelude.{◌≡◌, IfOk, MatchResult, string_bytes};
+ghost use Rattle.std.specs.Result.{IfErr};
+ghost use Rattle.timefd_component.specs.Tree.{Text};
+ghost use Rattle.timefd_language.specs.Grammar.{nesting_limit};
+ghost use Rattle.timefd_node_list.specs.Views.{view_tree};
+ghost use Rattle.timefd_print.specs.Answers.{IsMemory, IsReason};
+ghost use Rattle.timefd_print.specs.Laws.{SpellsTree};
+ghost use Rattle.timefd_print.specs.Printed as spec;
+ghost use Rattle.timefd_print.specs.Reasons.{HasCounts, reason};
+
+use crate::error::PrintError;
+use crate::push::push;
+use crate::reason;
+use std::alloc::{AllocError, Global};
+use timefd_items::View;
+
+/// How many descriptions stand around one another at most.
+const NESTING_LIMIT: u8 = 127;
+
+/// The text of version 3 of a description, in its normal form: components with the modifiers that
+/// aren't the default and with the range of each year that has one, `[`, `]` and `\` of literals
+/// behind a `\`, and a space in front of each nested description. It is the text of each description
+/// that some text spells. One made by hand that none spells is refused.
+///
+/// The error is the first reason from the left why no text spells it, or `Memory` where memory ran
+/// out. A description that no text spells is refused for it even then.
+pub fn print_v3(alloc: Global, view: View<'_, '_>) -> Result<String, PrintError>
+    // What is answered is the normal form, which spells the description. Each count is one of 16 bits.
+    ensures printed { IfOk result (λ text. string_bytes text ≡ spec.printed
+        (view_tree view.entry)) }
+    ensures spelled { IfOk result (λ text. HasCounts (view_tree view.entry)
+        → SpellsTree nesting_limit (string_bytes text) (view_tree view.entry)) }
+    // What some text spells is printed, unless memory runs out.
+    ensures all { (text : Text) → SpellsTree nesting_limit text (view_tree view.entry)
+        → MatchResult result (λ answer. string_bytes answer ≡ spec.printed
+        (view_tree view.entry)) IsMemory }
+    // The error is the reason against it, or out of memory where there is none.
+    ensures reason { IfErr result (IsReason (reason nesting_limit (view_tree view.entry))) }
+{
+    if let Some(reason) = reason::reason(view, NESTING_LIMIT) {
+        return Err(PrintError::Unspelled(reason));
+    }
+    match text_of(alloc, view) {
+        Ok(text) => Ok(text),
+        Err(error) => Err(PrintError::Memory(error)),
+    }
+}
+
+fn text_of(alloc: Global, view: View<'_, '_>) -> Result<String, AllocError>
+    ensures { IfOk result (λ text. string_bytes text ≡ spec.printed (view_tree view.entry)) }
+{
+    let mut text = String::new(alloc);
+    push(alloc, &mut text, view)?;
+    Ok(text)
+}
