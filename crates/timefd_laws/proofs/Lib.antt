@@ -1,0 +1,12 @@
+pub mod HeadLemmas
+pub mod ModifierLemmas
+pub mod NestLemmas
+pub mod NameLemmas
+pub mod BracketLemmas
+pub mod EscapeLemmas
+pub mod DirectiveLemmas
+pub mod WordLemmas
+pub mod LastLemmas
+pub mod AnswerLemmas
+pub mod ExampleLemmas
+pub mod OutermostLemmas

@@ -1,0 +1,5 @@
+use Rattle.timefd_laws.proofs.NestLemmas.{one_optional_at_least}
+use Rattle.timefd_laws.proofs.nests.optional_nests_one_at_least.Goals as goal
+
+pub returns : goal.returns
+returns c = one_optional_at_least

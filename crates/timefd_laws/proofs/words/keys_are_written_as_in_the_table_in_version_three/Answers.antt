@@ -1,0 +1,5 @@
+use Rattle.timefd_laws.proofs.WordLemmas.{keys_with_case}
+use Rattle.timefd_laws.proofs.words.keys_are_written_as_in_the_table_in_version_three.Goals as goal
+
+pub returns : goal.returns
+returns c = keys_with_case

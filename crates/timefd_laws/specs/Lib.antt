@@ -1,0 +1,10 @@
+pub mod Heads
+pub mod Names
+pub mod Modifiers
+pub mod Nests
+pub mod Brackets
+pub mod Escapes
+pub mod Directives
+pub mod Words
+pub mod Answers
+pub mod Examples

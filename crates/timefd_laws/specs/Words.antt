@@ -1,0 +1,53 @@
+-- Words are told apart, and each stands once.
+use Rattle.std.specs.Prelude.{ℕ, ◌≡◌, Bool, true, false, List, [], ◌∷◌, ◌++◌, Option, Some, IsFalse}
+use Rattle.timefd_component.specs.Tree.{Text}
+use Rattle.timefd_language.specs.declared.key.Key as code_key
+use Rattle.timefd_language.specs.declared.name.Name.{Name}
+use Rattle.timefd_language.specs.declared.setting.Setting.{Setting}
+use Rattle.timefd_language.specs.Bytes.{same}
+use Rattle.timefd_language.specs.Distinct.{names, words_in}
+use Rattle.timefd_language.specs.Letters.{Letter, letters}
+use Rattle.timefd_language.specs.Lookup.{key_for, keys_for}
+use Rattle.timefd_language.specs.Recased.{SameButCase}
+use Rattle.timefd_language.specs.Values.{Value, Values, Key, words, key_in, setting_in}
+
+-- Two names at two places aren't the same, not even without regard to case.
+abbrev pub NoTwoNames : Type 0
+NoTwoNames = (a b : Text) (before between rest : List Text)
+    → names ≡ before ++ a ∷ (between ++ b ∷ rest) → IsFalse (same false a b)
+
+-- Nor are two keys of a name.
+abbrev pub NoTwoKeys : Type 0
+NoTwoKeys = (name : Name) (a b : Key) (before between rest : List Key)
+    → keys_for name ≡ before ++ a ∷ (between ++ b ∷ rest) → IsFalse (same false a.key b.key)
+
+-- Nor are two values of a key.
+abbrev pub NoTwoValues : Type 0
+NoTwoValues = (key : code_key.Key) (a b : Value Setting)
+    (before between rest : List (Value Setting))
+    → (key_for key).values ≡ words (before ++ a ∷ (between ++ b ∷ rest))
+    → IsFalse (same false a.word b.word)
+
+-- In versions 1 and 2 the case of a key or a value makes no difference.
+abbrev pub WordsWithoutCase : Type 0
+WordsWithoutCase = (keys : List Key) (values : List (Value Setting)) (a b : Text)
+    → SameButCase a b
+    → (key_in false a keys ≡ key_in false b keys)
+    × (setting_in false (words values) a ≡ setting_in false (words values) b)
+
+-- In version 3 a key is written as it stands in the table.
+abbrev pub KeysWithCase : Type 0
+KeysWithCase = (keys : List Key) (word : Text) (k : Key) → key_in true word keys ≡ Some k
+    → word ≡ k.key
+
+-- And a value is one of the table's words.
+abbrev pub ValuesWithCase : Type 0
+ValuesWithCase = (values : List (Value Setting)) (word : Text) (s : Setting)
+    → setting_in true (words values) word ≡ Some s
+    → (v : Value Setting) × (word ≡ v.word) × (s ≡ v.sets)
+
+-- No byte is a letter at two places of the table.
+abbrev pub NoTwoLetters : Type 0
+NoTwoLetters = (l m : Letter) (before between rest : List Letter) (b : ℕ) (c d : Text) (e f : Text)
+    → letters ≡ before ++ l ∷ (between ++ m ∷ rest) → l.letters ≡ c ++ b ∷ d
+    → m.letters ≡ e ++ b ∷ f → ⊥
