@@ -1,4 +1,4 @@
-pub mod Written
+pub mod Days
 pub mod Read
 pub mod Places
 pub mod Messages

@@ -3,7 +3,6 @@
 //! description of version 1. `main` runs each on a few texts and prints what it answers.
 #![tactic(auto)]
 
-mod component;
 mod date;
 mod lint;
 mod place;
@@ -11,7 +10,6 @@ mod read;
 mod samples;
 mod upgrade;
 mod write;
-mod write_items;
 
 use std::io;
 

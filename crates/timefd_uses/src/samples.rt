@@ -1,22 +1,24 @@
 //! What `main` prints of each use.
 
-use crate::component::WriteError;
 use crate::date::Date;
 use crate::lint::lint;
 use crate::read::{ReadError, read_date};
 use crate::upgrade::upgrade;
-use crate::write::write_date;
-use crate::write_items::write_date_by_items;
+use crate::write::{day_alone, write_date, write_date_in};
 use std::alloc::Global;
 use std::io;
+use timefd_format::TextError;
+use timefd_format_text::{FormatTextError, format_text};
+use timefd_moment::Moment;
 use timefd_parse::{
-    BorrowedOutput, DescriptionVersion, ParseError, StrftimeTables, parse, parse_borrowed,
-    parse_strftime_borrowed,
+    BorrowedOutput, DescriptionVersion, FormatDescriptionV3, Language, ParseError, parse,
+    parse_borrowed,
 };
 
-/// The seventh of March 2026, written by descriptions of version 3 and by items of strftime.
+/// The seventh of March 2026, a Saturday, written by texts of version 3 and of strftime, and by a
+/// description.
 pub fn written(rt: &impl Print, alloc: Global) -> io::Result<()> {
-    let Some(date) = Date::new(2026, 3, 7) else {
+    let Ok(date) = timefd_moment::Date::from_calendar_date(2026, 3, 7) else {
         return Ok(());
     };
     for text in [
@@ -24,43 +26,65 @@ pub fn written(rt: &impl Print, alloc: Global) -> io::Result<()> {
         "[day padding:none]. [month padding:none]. [year sign:mandatory]",
         "[optional format:false [on ]][first [[day]] [[month]]]",
         "[weekday]",
+        "[hour]",
     ] {
-        print_written(rt, alloc, text, written_by(alloc, date, text))?;
+        let language = Language::Version(DescriptionVersion::Three);
+        print_written(rt, alloc, language, text, day_alone(date))?;
     }
     for text in ["%d/%m/%Y", "%F%n", "%A"] {
-        print_written(rt, alloc, text, written_by_strftime(alloc, date, text))?;
+        print_written(rt, alloc, Language::Strftime, text, day_alone(date))?;
     }
-    Ok(())
-}
-
-fn written_by(alloc: Global, date: Date, text: &str) -> Result<String, WriteError> {
-    match parse_borrowed(alloc, DescriptionVersion::Three, text) {
-        Ok(BorrowedOutput::Description(description)) => write_date(alloc, date, &description),
-        Ok(BorrowedOutput::Items(items)) => write_date_by_items(alloc, date, &items),
-        Err(ParseError::Invalid(_)) => Err(WriteError::NotOfADate),
-        Err(ParseError::Memory(error)) => Err(WriteError::Memory(error)),
-    }
-}
-
-fn written_by_strftime(alloc: Global, date: Date, text: &str) -> Result<String, WriteError> {
-    let tables = StrftimeTables::new();
-    match parse_strftime_borrowed(alloc, &tables, text) {
-        Ok(items) => write_date_by_items(alloc, date, &items),
-        Err(ParseError::Invalid(_)) => Err(WriteError::NotOfADate),
-        Err(ParseError::Memory(error)) => Err(WriteError::Memory(error)),
-    }
+    described(rt, alloc, date, "[weekday repr:short] [day padding:none]")
 }
 
 fn print_written(
     rt: &impl Print,
     alloc: Global,
+    language: Language,
     text: &str,
-    answer: Result<String, WriteError>,
+    moment: Moment,
 ) -> io::Result<()> {
-    match answer {
-        Ok(date) => println!(rt; "{text} writes {date:?}"),
-        Err(WriteError::NotOfADate) => println!(rt; "{text} is not of a date"),
-        Err(WriteError::Memory(error)) => Err(io::Error::from(error)),
+    match format_text(alloc, language, text, moment) {
+        Ok(shown) => println!(rt; "{text} writes {:?}", str::from_utf8(&shown).unwrap_or("no text")),
+        Err(FormatTextError::Fault(_)) => println!(rt; "{text} is no description"),
+        Err(FormatTextError::Unshown(unshown)) => println!(rt; "{text}: {unshown}"),
+        Err(FormatTextError::Memory(error)) => Err(io::Error::from(error)),
+    }
+}
+
+/// The date by a description that is read once: in memory of its own, and in a buffer.
+fn described(
+    rt: &impl Print,
+    alloc: Global,
+    date: timefd_moment::Date,
+    text: &str,
+) -> io::Result<()> {
+    match parse_borrowed(alloc, DescriptionVersion::Three, text) {
+        Ok(BorrowedOutput::Description(description)) => {
+            print_description(rt, alloc, date, &description)
+        }
+        Ok(BorrowedOutput::Items(_)) | Err(ParseError::Invalid(_)) => {
+            println!(rt; "{text} is no description of version 3")
+        }
+        Err(ParseError::Memory(error)) => Err(io::Error::from(error)),
+    }
+}
+
+fn print_description(
+    rt: &impl Print,
+    alloc: Global,
+    date: timefd_moment::Date,
+    description: &FormatDescriptionV3<'_>,
+) -> io::Result<()> {
+    match write_date(alloc, date, description) {
+        Ok(text) => println!(rt; "a description writes {text:?}")?,
+        Err(TextError::Unshown(unshown)) => println!(rt; "{unshown}")?,
+        Err(TextError::Memory(error)) => return Err(io::Error::from(error)),
+    }
+    let mut buffer = [b'.'; 16];
+    match write_date_in(date, description, &mut buffer) {
+        Ok(_) => println!(rt; "in a buffer {:?}", str::from_utf8(&buffer).unwrap_or("no text")),
+        Err(error) => println!(rt; "{error}"),
     }
 }
 

@@ -1,0 +1,71 @@
+-- Leap years, of the years counted from -1,000,000 on and of the signed ones.
+use Rattle.std.proofs.Common.{ℕ, suc, ◌≡◌, ◌≢◌, ◌∙◌, ◌⊎◌, inl, inr, ◌+◌, ◌-◌, ◌%◌, ◌==◌, ◌||◌, ◌&&◌, not, Bool, true, false, if◌then◌else◌, ℤ, pos, negsuc, ◌+ℤ◌, unsigned_abs, sym, ap, arith}
+use Rattle.std.proofs.Math.Dec.{eqb}
+use Rattle.std.proofs.lemmas.Bool.Decides.{eqb_tells}
+use Rattle.jiff_core.specs.Calendar.{IsYear, is_leap_year, days_in_month as jiff_days}
+use Rattle.jiff.proofs.SpanFacts.{signed_arith}
+use Rattle.std.specs.Int.{IsInRange}
+use Rattle.timefd_moment.specs.Calendar.{IsDay, counted, is_leap, days_in_month}
+
+-- a test of two numbers that are 0 together
+same : (a b : ℕ) → (a ≡ 0 → b ≡ 0) → (b ≡ 0 → a ≡ 0) → (a == 0) ≡ (b == 0)
+same a b f g = by (eqb_tells a 0) (eqb_tells b 0)
+  where
+    by : ((eqb a 0 ≡ true) × (a ≡ 0)) ⊎ ((eqb a 0 ≡ false) × (a ≢ 0))
+        → ((eqb b 0 ≡ true) × (b ≡ 0)) ⊎ ((eqb b 0 ≡ false) × (b ≢ 0)) → (a == 0) ≡ (b == 0)
+    by (inl x) (inl y) = x.0 ∙ sym y.0
+    by (inl x) (inr y) = absurd (y.1 (f x.1))
+    by (inr x) (inl y) = absurd (x.1 (g y.1))
+    by (inr x) (inr y) = x.0 ∙ sym y.0
+
+abbrev leap_of : Bool → Bool → Bool → Bool
+leap_of a b c = a && (not b || c)
+
+-- numbers that make a multiple of 400 together
+together : (c s : ℕ) → c + s ≡ 1000000 → is_leap c ≡ is_leap s
+together c s e =
+    let four : (c % 4 == 0) ≡ (s % 4 == 0) = same (c % 4) (s % 4) (λ h. omega (arith, e, h)) (λ h. omega (arith, e, h)) in
+    let hundred : (c % 100 == 0) ≡ (s % 100 == 0) = same (c % 100) (s % 100) (λ h. omega (arith, e, h)) (λ h. omega (arith, e, h)) in
+    let all : (c % 400 == 0) ≡ (s % 400 == 0) = same (c % 400) (s % 400) (λ h. omega (arith, e, h)) (λ h. omega (arith, e, h)) in
+    λ i. leap_of (four i) (hundred i) (all i)
+
+-- a number and one that is a million more
+apart : (c s : ℕ) → c ≡ s + 1000000 → is_leap c ≡ is_leap s
+apart c s e =
+    let four : (c % 4 == 0) ≡ (s % 4 == 0) = same (c % 4) (s % 4) (λ h. omega (arith, e, h)) (λ h. omega (arith, e, h)) in
+    let hundred : (c % 100 == 0) ≡ (s % 100 == 0) = same (c % 100) (s % 100) (λ h. omega (arith, e, h)) (λ h. omega (arith, e, h)) in
+    let all : (c % 400 == 0) ≡ (s % 400 == 0) = same (c % 400) (s % 400) (λ h. omega (arith, e, h)) (λ h. omega (arith, e, h)) in
+    λ i. leap_of (four i) (hundred i) (all i)
+
+pub counted_is : (y : ℤ) → IsYear y → pos (counted y) ≡ y +ℤ pos 1000000
+counted_is (pos n) is = omega (arith, signed_arith)
+counted_is (negsuc n) is =
+    let small : IsYear (negsuc n) = is in
+    let e : negsuc n +ℤ pos 1000000 ≡ pos (999999 - n) = omega (arith, signed_arith, small) in
+    ap pos (ap unsigned_abs e) ∙ sym e
+
+pub leap : (y : ℤ) → IsYear y → is_leap (counted y) ≡ is_leap_year y
+leap (pos n) is = apart (counted (pos n)) n (omega (arith, signed_arith))
+leap (negsuc n) is =
+    together (counted (negsuc n)) (suc n) (omega (arith, signed_arith, is, counted_is (negsuc n) is))
+
+pub same_months : (y : ℤ) (m : ℕ) → IsYear y → days_in_month (counted y) m ≡ jiff_days y m
+same_months y m is =
+    ap (λ b. if m == 2 then (if b then 29 else 28) else (if (m == 4) || (m == 6) || (m == 9) || (m == 11) then 30 else 31)) (leap y is)
+
+-- what jiff has of a day is what a date has
+pub day_in : (y : ℤ) (years m d : ℕ) → years ≡ counted y → IsYear y → IsInRange 1 12 m
+    → IsInRange 1 (jiff_days y m) d → IsDay years m d
+day_in y years m d e is month day = (
+  omega (arith, signed_arith, is, e, counted_is y is),
+  omega (arith, signed_arith, is, e, counted_is y is),
+  month.0,
+  month.1,
+  day.0,
+  omega (arith, day.1, same_months y m is, ap (λ x. days_in_month x m) e),
+)
+
+-- and the other way
+pub day_back : (y : ℤ) (years m d : ℕ) → years ≡ counted y → IsYear y → IsDay years m d
+    → IsInRange 1 (jiff_days y m) d
+day_back y years m d e is all = (all.4, omega (arith, all.5, same_months y m is, ap (λ x. days_in_month x m) e))

@@ -1,0 +1,3 @@
+pub mod LeapLemmas
+pub mod SignedLemmas
+pub mod ReadLemmas

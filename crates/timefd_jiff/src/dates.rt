@@ -1,0 +1,44 @@
+//! Days of the calendar. `jiff` has the years -9999 to 9999.
+
+ghost use Rattle.std.specs.Prelude.{◌≤◌, ◌↔◌, IfOk, IsOk};
+ghost use Rattle.timefd_jiff.specs.Same.{IsSameDate};
+
+use jiff::civil;
+use jiff_core::Error;
+use jiff_core::error::Bound;
+use timefd_moment::Date;
+
+/// The same date.
+pub fn date_from_jiff(date: civil::Date) -> Date
+    ensures { IsSameDate date result }
+{
+    plain_date(date.to_plain())
+}
+
+/// The same date, of the plain one.
+#[tactic(auto, using(crate::proofs::LeapLemmas::day_in))]
+pub(crate) fn plain_date(date: jiff_core::civil::Date) -> Date
+    ensures { IsSameDate date result }
+{
+    Date {
+        years: (date.year as i32 + 1_000_000) as u32,
+        month: date.month,
+        day: date.day,
+    }
+}
+
+/// The same date. An `Err` comes where its year is none from -9999 to 9999.
+#[tactic(auto, using(crate::proofs::LeapLemmas::day_back))]
+pub fn date_to_jiff(date: Date) -> Result<civil::Date, Error>
+    ensures value { IfOk result (λ d. IsSameDate d date) }
+    ensures succeeds { IsOk result ↔ ((990001 ≤ date.years) × (date.years ≤ 1009999)) }
+{
+    if date.years < 990_001 || date.years > 1_009_999 {
+        return Err(Error::Range(Bound::Year));
+    }
+    Ok(civil::Date::from_plain(jiff_core::civil::Date {
+        year: (date.years as i32 - 1_000_000) as i16,
+        month: date.month,
+        day: date.day,
+    }))
+}

@@ -1,0 +1,42 @@
+//! Instants. `jiff` has those of the years -9999 to 9999, whatever the offset.
+
+ghost use Rattle.std.specs.Prelude.{◌≡◌, ◌≤◌, ◌↔◌, IfOk, IsOk};
+ghost use Rattle.jiff_core.specs.Timestamp.{IsTimestampNanos};
+ghost use Rattle.timefd_jiff.specs.Same.{IsSameInstant};
+ghost use Rattle.timefd_moment.specs.Signed.{signed};
+
+use jiff::Timestamp;
+use jiff_core::Error;
+use jiff_core::error::Bound;
+use timefd_moment::UnixTime;
+
+/// The same instant.
+pub fn unix_time_from_jiff(timestamp: Timestamp) -> UnixTime
+    ensures { IsSameInstant timestamp result }
+{
+    UnixTime::from_nanoseconds(timestamp.as_nanosecond())
+}
+
+/// The same instant. An `Err` comes where `jiff` has none such.
+#[tactic(auto, using(crate::proofs::SignedLemmas::instant_out))]
+pub fn unix_time_to_jiff(unix: UnixTime) -> Result<Timestamp, Error>
+    ensures value { IfOk result (λ t. IsSameInstant t unix) }
+    ensures succeeds { IsOk result ↔ IsTimestampNanos (signed unix.is_negative unix.nanoseconds) }
+{
+    if unix.nanoseconds > 377_705_023_201_000_000_000 {
+        return Err(Error::Range(Bound::UnixEpochSeconds));
+    }
+    Timestamp::from_nanosecond(nanoseconds(unix))
+}
+
+// The nanoseconds with their sign.
+fn nanoseconds(unix: UnixTime) -> i128
+    requires { unix.nanoseconds ≤ 377705023201000000000 }
+    ensures { result ≡ signed unix.is_negative unix.nanoseconds }
+{
+    if unix.is_negative {
+        -(unix.nanoseconds as i128)
+    } else {
+        unix.nanoseconds as i128
+    }
+}

@@ -1,0 +1,16 @@
+//! From the dates, times, offsets and instants of `jiff` to those of `timefd_moment`, and back; and
+//! a reader of dates in the forms of RFC 3339.
+#![tactic(auto)]
+
+mod dates;
+mod instants;
+mod moments;
+mod reading;
+mod times;
+
+pub use dates::{date_from_jiff, date_to_jiff};
+pub use instants::{unix_time_from_jiff, unix_time_to_jiff};
+pub use jiff_core::Error;
+pub use moments::{moment_from_datetime, moment_from_zoned};
+pub use reading::read_moment;
+pub use times::{offset_from_jiff, offset_to_jiff, time_from_jiff, time_to_jiff};

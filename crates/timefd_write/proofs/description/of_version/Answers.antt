@@ -1,0 +1,9 @@
+use Rattle.std.proofs.Common.{subst}
+use Rattle.timefd_language.specs.Told.{MemoryAlone}
+use Rattle.timefd_write.proofs.description.of_version.Goals as goal
+
+-- a text that is spelled has no fault
+pub unreachable-requires : goal.unreachable-requires
+unreachable-requires c =
+    subst MemoryAlone c.in-Err-Invalid.field-0-is
+    (c.in-Err-Invalid.ensures.spelled c.requires.0 c.requires.1)

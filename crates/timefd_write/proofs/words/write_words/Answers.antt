@@ -1,0 +1,14 @@
+use Rattle.std.proofs.Common.{rules}
+use Rattle.timefd_diagnosis.specs.Words.{texts}
+use Rattle.timefd_write.proofs.RunLemmas.{goes_on, split_texts}
+use Rattle.timefd_write.proofs.words.write_words.Goals as goal
+
+pub words-preserved : goal.words-preserved
+words-preserved g c =
+    goes_on c.args.now c.args.description.now (texts c.args.words.now) (texts c.words.rest.now) _
+    c.as_bytes.result.now (g.W.Write.contents c.args.output.now)
+    (g.W.Write.contents c.words.output) (g.W.Write.contents c.write_one.new.output) c.words.tally
+    c.of.result c.and-tally.result c.in_ok-outcome.outcome
+    (split_texts c.words.rest.now _ _ c.as_bytes.result.now (search rules) c.in-len1-up.len_at_least
+    c.as_bytes.ensures.value)
+    c.words.invariant c.in_ok-outcome.ensures c.of.ensures c.and-tally.ensures

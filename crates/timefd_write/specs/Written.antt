@@ -1,0 +1,88 @@
+-- What is written of words, one after another.
+use Rattle.std.specs.Prelude.{ℕ, ◌≡◌, Bool, List, [], ◌∷◌, ◌++◌, codes, map, Option, Result, Ok, Err, IsUtf8, ⊤}
+use Rattle.std.specs.Io.KnownBytes.{Appends, IsAtEnd}
+use Rattle.std.specs.declared.alloc.Global.{Global}
+use Rattle.std.specs.declared.vec.Vec.{Vec}
+use Rattle.timefd_component.specs.Tree.{Text, trees}
+use Rattle.timefd_format.specs.declared.text.TextError.{TextError}
+use Rattle.timefd_format.specs.declared.text.TextError.TheVariants as fails
+use Rattle.timefd_format.specs.declared.unshown.Unshown.{Unshown}
+use Rattle.timefd_format.specs.Written.{written, written_all}
+use Rattle.timefd_format_item.specs.Meaning.{item_trees}
+use Rattle.timefd_items.specs.Description.{description_tree}
+use Rattle.timefd_moment.specs.declared.moment.Moment.{Moment}
+use Rattle.timefd_parse.specs.declared.parsing.BorrowedOutput.{BorrowedOutput}
+use Rattle.timefd_parse.specs.declared.parsing.BorrowedOutput.TheVariants.{Items, Description}
+use Rattle.timefd_rewrite.specs.Lines.{AreLinesOf, IsNextLine, without_newline}
+use Rattle.timefd_write.specs.declared.lines.LineRead.{LineRead}
+use Rattle.timefd_write.specs.declared.lines.LineRead.TheVariants.{Line, End, Failed}
+use Rattle.timefd_write.specs.declared.outcome.Outcome.{Outcome}
+use Rattle.timefd_write.specs.declared.outcome.Outcome.TheVariants as came
+use Rattle.timefd_write.specs.declared.outcome.Tally.{Tally}
+use Rattle.timefd_write.specs.Moments.{IsNamed}
+use Rattle.timefd_write.specs.Tallies.{at_end, tally_of, both}
+
+-- The text that a description and a moment determine, or the first component that shows nothing.
+abbrev pub written_of : Moment → BorrowedOutput → Result Text Unshown
+written_of m (Items items) = written_all m (trees (item_trees items.items))
+written_of m (Description d) = written m (description_tree d)
+
+-- that text and a newline
+abbrev pub IsLine : Result Text Unshown → Result (Vec ℕ Global) TextError → Type 0
+IsLine (Ok text) (Ok line) = line.items ≡ text ++ codes "\n"
+IsLine (Ok text) (Err (fails.Unshown u)) = ⊥
+IsLine (Ok text) (Err (fails.Memory e)) = ⊤
+IsLine (Err v) (Ok line) = ⊥
+IsLine (Err v) (Err (fails.Unshown u)) = u ≡ v
+IsLine (Err v) (Err (fails.Memory e)) = ⊤
+
+-- A line is appended, and no other byte.
+abbrev pub AppendsLine : Result Text Unshown → Option Text → Option Text → Type 0
+AppendsLine (Ok text) before behind = Appends before behind (text ++ codes "\n")
+AppendsLine (Err u) before behind = ⊥
+
+-- What comes of a moment, beside what is written before it and behind it.
+abbrev pub IsOneOfMoment : Moment → BorrowedOutput → Option Text → Option Text → Outcome → Type 0
+IsOneOfMoment m o before behind (came.Written n) =
+    (n ≡ m) × AppendsLine (written_of m o) before behind
+IsOneOfMoment m o before behind (came.Unshown n u) =
+    (n ≡ m) × (written_of m o ≡ Err u) × (behind ≡ before)
+IsOneOfMoment m o before behind (came.Unread e) = ⊥
+IsOneOfMoment m o before behind came.NotText = ⊥
+
+-- What comes of a word. Where it names a moment that the description shows, the line is written; else
+-- nothing is.
+abbrev pub IsOne : Option Moment → BorrowedOutput → Text → Option Text → Option Text → Outcome
+    → Type 0
+IsOne now o word before behind (came.Written m) =
+    IsNamed now word (Ok m) × AppendsLine (written_of m o) before behind
+IsOne now o word before behind (came.Unshown m u) =
+    IsNamed now word (Ok m) × (written_of m o ≡ Err u) × (behind ≡ before)
+IsOne now o word before behind (came.Unread e) = IsNamed now word (Err e) × (behind ≡ before)
+IsOne now o word before behind came.NotText = (¬ IsUtf8 word) × (behind ≡ before)
+
+-- What comes of each word in turn, and of the end behind them, where a read has failed or not.
+abbrev pub Runs : Bool → Option Moment → BorrowedOutput → List Text → Option Text → Option Text
+    → Tally → Type 0
+Runs failed now o [] before behind tally = (behind ≡ before) × (tally ≡ at_end failed)
+Runs failed now o (word ∷ words) before behind tally = (outcome : Outcome) × (between : Option Text)
+    × (more : Tally) × IsOne now o word before between outcome
+    × Runs failed now o words between behind more × (tally ≡ both (tally_of outcome) more)
+
+-- The words are the lines of a reader, all of them unless a read has failed.
+abbrev pub RunsOn : Bool → Option Moment → BorrowedOutput → Option Text → Option Text → Option Text
+    → Tally → Type 0
+RunsOn failed now o bytes before behind tally = (lines : List Text)
+    × AreLinesOf bytes lines failed
+    × Runs failed now o (map without_newline lines) before behind tally
+
+abbrev pub RunsOver : Option Moment → BorrowedOutput → Option Text → Option Text → Option Text
+    → Tally → Type 0
+RunsOver now o bytes before behind tally =
+    (failed : Bool) × RunsOn failed now o bytes before behind tally
+
+-- What a read of a line does: nothing is known of a reader that has failed.
+abbrev pub IsRead : Option Text → Option Text → Text → LineRead → Type 0
+IsRead old new line Line = IsNextLine old line new
+IsRead old new line End = IsAtEnd old
+IsRead old new line Failed = ⊤

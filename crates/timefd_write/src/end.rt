@@ -1,0 +1,37 @@
+//! How a run ends, and the exit status that tells it.
+
+ghost use Rattle.std.specs.Prelude.{◌≡◌};
+ghost use Rattle.timefd_write.specs.Tallies as spec;
+
+use crate::outcome::Tally;
+
+/// How a run ends that came to its end.
+#[derive(Clone, Copy)]
+pub enum RunEnd {
+    /// The description is refused, and nothing is written.
+    Refused,
+    /// Each word was looked at.
+    Done(Tally),
+}
+
+impl RunEnd {
+    /// The exit status of the program.
+    pub fn status(self) -> u8
+        ensures { result ≡ spec.status self }
+    {
+        match self {
+            RunEnd::Refused => 1,
+            RunEnd::Done(tally) => {
+                if tally.has_failed {
+                    4
+                } else if tally.not_text {
+                    5
+                } else if tally.is_refused {
+                    1
+                } else {
+                    0
+                }
+            }
+        }
+    }
+}

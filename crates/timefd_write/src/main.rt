@@ -1,0 +1,180 @@
+//! `timefd_format [OPTION].. [--] DESCRIPTION [MOMENT]..`: writes moments by a format description,
+//! a line each. `docs/WRITE.md` has the options, and what moments are read.
+#![tactic(auto)]
+
+mod asked;
+mod clock;
+mod description;
+mod end;
+mod language;
+mod line;
+mod lines;
+mod message;
+mod moment;
+mod outcome;
+mod run;
+mod usage;
+mod word;
+mod words;
+
+use asked::{Asked, OptionError, Request, asked_of};
+use clock::moment_now;
+use end::RunEnd;
+use outcome::RunError;
+use run::run;
+use std::alloc::{AllocError, Global};
+use std::env;
+use std::io::{BufReader, BufWriter, ErrorKind, IsTerminal, Write};
+use std::process::ExitCode;
+
+// The statuses of runs that did not come to their end.
+const WRONG_ARGUMENTS: u8 = 2;
+
+const NO_MEMORY: u8 = 3;
+
+const FAILED: u8 = 4;
+
+// How many bytes are read at once.
+const BUFFER: usize = 65_536;
+
+// Says on the standard error why nothing more is written, and answers the status.
+fn told(rt: &HostRuntime, status: u8, sentence: &str) -> u8 {
+    let _ = eprintln!(rt; "timefd_format: {sentence}");
+    status
+}
+
+fn no_memory(rt: &HostRuntime) -> u8 {
+    told(rt, NO_MEMORY, "memory ran out")
+}
+
+fn write_failed(rt: &HostRuntime) -> u8 {
+    told(rt, FAILED, "the standard output can't be written")
+}
+
+fn wrong_arguments(rt: &HostRuntime, error: OptionError<'_>) -> u8 {
+    match usage::sentence(rt.alloc(), error) {
+        Ok(sentence) => told(rt, WRONG_ARGUMENTS, &sentence),
+        Err(AllocError) => no_memory(rt),
+    }
+}
+
+// The words, each lent.
+fn lent<'a>(alloc: Global, words: &'a [String]) -> Result<Vec<&'a str>, AllocError> {
+    let mut all = Vec::new(alloc);
+    for word in words {
+        all.push(word.as_str())?;
+    }
+    Ok(all)
+}
+
+fn is_set(rt: &HostRuntime, name: &str) -> bool {
+    match env::var(rt, name) {
+        Ok(value) => !value.is_empty(),
+        Err(env::VarError::NotPresent) => false,
+        Err(_) => true,
+    }
+}
+
+fn is_dumb(rt: &HostRuntime) -> bool {
+    match env::var(rt, "TERM") {
+        Ok(value) => value.as_str() == "dumb",
+        Err(_) => false,
+    }
+}
+
+// Whether a fault is drawn in colours.
+fn is_colored(rt: &HostRuntime) -> bool {
+    rt.stderr().is_terminal() && !is_set(rt, "NO_COLOR") && !is_dumb(rt)
+}
+
+// Writes a text to the standard output, and answers the status.
+fn written(rt: &HostRuntime, text: &str) -> u8 {
+    match rt.stdout().write_all(text.as_bytes()) {
+        Ok(()) => 0,
+        Err(_) => write_failed(rt),
+    }
+}
+
+// The status of what the words behind the program's name ask for.
+fn status(rt: &HostRuntime, words: &[&str]) -> u8 {
+    match asked_of(words) {
+        Ok(Asked::Help) => written(rt, usage::USAGE),
+        Ok(Asked::Version) => written(rt, usage::VERSION),
+        Ok(Asked::Run(request)) => {
+            let from = words.len().saturating_sub(request.moment_count);
+            run_status(rt, request, words.get(from..).unwrap_or(&[]))
+        }
+        Err(error) => wrong_arguments(rt, error),
+    }
+}
+
+fn run_status(rt: &HostRuntime, request: Request<'_>, moments: &[&str]) -> u8 {
+    let Ok(mut output) = BufWriter::new(rt.alloc(), rt.stdout()) else {
+        return no_memory(rt);
+    };
+    let end = run_to(rt, request, moments, &mut output);
+    match (end, output.flush()) {
+        (Ok(end), Ok(())) => end_status(rt, end.status()),
+        (Err(RunError::Memory), _) => no_memory(rt),
+        (Err(RunError::Write), _) | (Ok(_), Err(_)) => write_failed(rt),
+    }
+}
+
+fn run_to<W: Write>(
+    rt: &HostRuntime,
+    request: Request<'_>,
+    moments: &[&str],
+    output: &mut W,
+) -> Result<RunEnd, RunError> {
+    let Ok(mut input) = BufReader::with_capacity(rt.alloc(), BUFFER, rt.stdin()) else {
+        return Err(RunError::Memory);
+    };
+    run(
+        rt.alloc(),
+        moment_now(rt),
+        is_colored(rt),
+        request.language,
+        request.description,
+        moments,
+        &mut input,
+        output,
+        &mut rt.stderr(),
+    )
+}
+
+// Says that the standard input was not read to its end, where it was not.
+fn end_status(rt: &HostRuntime, status: u8) -> u8 {
+    if status == FAILED {
+        told(rt, status, "the standard input can't be read")
+    } else {
+        status
+    }
+}
+
+fn args_status(rt: &HostRuntime, args: &[String]) -> u8 {
+    let [_, words @ ..] = args else {
+        return status(rt, &[]);
+    };
+    match lent(rt.alloc(), words) {
+        Ok(words) => status(rt, &words),
+        Err(AllocError) => no_memory(rt),
+    }
+}
+
+fn collected(rt: &HostRuntime, args: env::Args) -> Option<Vec<String>> {
+    args.collect(rt.alloc()).ok()
+}
+
+fn main(rt: HostRuntime) -> ExitCode {
+    let args = match env::args(&rt) {
+        Ok(args) => collected(&rt, args),
+        Err(error) if error.kind() == ErrorKind::OutOfMemory => None,
+        Err(_) => {
+            return ExitCode::from(told(&rt, WRONG_ARGUMENTS, "an argument is no UTF-8"));
+        }
+    };
+    match args {
+        Some(args) => ExitCode::from(args_status(&rt, &args)),
+        None => ExitCode::from(no_memory(&rt)),
+    }
+}

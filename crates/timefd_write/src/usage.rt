@@ -1,0 +1,48 @@
+//! What the program says of itself, and of arguments that are none of its.
+
+use crate::asked::OptionError;
+use std::alloc::{AllocError, Global};
+use timefd_drawing::shown::safe;
+
+/// What `--version` writes.
+pub const VERSION: &str = "timefd_format 0.1.0\n";
+
+/// What `--help` writes.
+pub const USAGE: &str = "usage: timefd_format [OPTION].. [--] DESCRIPTION [MOMENT]..
+
+Writes each moment by the format description, a line each. Without a moment it reads them from the
+standard input, one a line. A moment is a date, with a time of day and an offset where they are
+known, as 2026-11-23T05:36:07.25+01:00; the word now is that of the program's start, in UTC.
+
+  --language 1|2|3|strftime    the language of the description; version 3 if it isn't given
+  --help, -h                   writes this
+  --version, -V                writes the program's version
+  --                           ends the options
+
+The status is 0 where all moments are written, 1 where the description or a moment is refused, 2 at
+wrong arguments, 3 where memory ran out, 4 where a read or a write failed, 5 where a line is no
+UTF-8.
+";
+
+/// What is wrong with the arguments, in a sentence.
+pub fn sentence(alloc: Global, error: OptionError<'_>) -> Result<String, AllocError> {
+    match error {
+        OptionError::Unknown(word) => {
+            let word = safe(alloc, word)?;
+            format!(in alloc;
+                "there is no option `{word}`; --help lists them, and behind `--` it is a description"
+            )
+        }
+        OptionError::MissingLanguage => String::from_str(
+            alloc,
+            "`--language` wants a value: one of 1, 2, 3, strftime",
+        ),
+        OptionError::NoLanguage(word) => {
+            let word = safe(alloc, word)?;
+            format!(in alloc; "`{word}` is no value of `--language`: one of 1, 2, 3, strftime")
+        }
+        OptionError::NoDescription => {
+            String::from_str(alloc, "there is no description; --help shows the usage")
+        }
+    }
+}

@@ -1,0 +1,45 @@
+//! What a word is where an option may stand.
+
+ghost use Rattle.std.specs.Prelude.{◌≡◌};
+ghost use Rattle.timefd_write.specs.Words as spec;
+
+/// What a word is where an option may stand.
+#[derive(Clone, Copy)]
+pub enum Word {
+    /// `--language`, whose value is the word behind it.
+    Language,
+    /// `--help` or `-h`.
+    Help,
+    /// `--version` or `-V`.
+    Version,
+    /// `--`, behind which the description stands, whatever it begins with.
+    End,
+    /// What looks like an option and is none.
+    Unknown,
+    /// The description.
+    Description,
+}
+
+/// What a word is where an option may stand.
+pub fn word_of(word: &str) -> Word
+    ensures { result ≡ spec.word_of word.now }
+{
+    match word {
+        "--language" => Word::Language,
+        "--help" | "-h" => Word::Help,
+        "--version" | "-V" => Word::Version,
+        "--" => Word::End,
+        _ => other_word(word),
+    }
+}
+
+// What a word is that is no option.
+fn other_word(word: &str) -> Word
+    ensures { result ≡ spec.other_word word.now }
+{
+    if word.as_bytes().starts_with(b"-") {
+        Word::Unknown
+    } else {
+        Word::Description
+    }
+}

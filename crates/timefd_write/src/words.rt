@@ -1,0 +1,36 @@
+//! The moments that the arguments name, one after another.
+
+ghost use Rattle.std.specs.Prelude.{false, IfOk};
+ghost use Rattle.timefd_diagnosis.specs.Words.{texts};
+ghost use Rattle.timefd_write.specs.Written.{Runs};
+
+use crate::line::write_one;
+use crate::outcome::{RunError, Tally};
+use std::alloc::Global;
+use std::io::Write;
+use timefd_moment::Moment;
+use timefd_parse::BorrowedOutput;
+
+/// Writes the line of the moment that each word names, in turn. Those that have none are told, and
+/// the others are still written.
+#[tactic(auto, using(crate::proofs::RunLemmas::starts, crate::proofs::RunLemmas::is_done))]
+pub fn write_words<W: Write, E: Write>(
+    alloc: Global,
+    now: Option<Moment>,
+    description: &BorrowedOutput<'_>,
+    words: &[&str],
+    output: &mut W,
+    errors: &mut E,
+) -> Result<Tally, RunError>
+    ensures { IfOk result (Runs false now description.now (texts words.now) (W.contents output.old)
+        (W.contents output.new)) }
+{
+    let mut tally = Tally::at_end(false);
+    let mut rest = words;
+    'words: while let [word, behind @ ..] = rest {
+        let outcome = write_one(alloc, now, description, word.as_bytes(), output, errors)?;
+        tally = tally.and(Tally::of(outcome));
+        rest = behind;
+    }
+    Ok(tally)
+}
