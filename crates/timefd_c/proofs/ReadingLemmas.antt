@@ -18,6 +18,7 @@ use Rattle.timefd_language.specs.declared.description_version.DescriptionVersion
 use Rattle.timefd_parse.specs.declared.language.Language.TheVariants.{Version, Strftime}
 use Rattle.timefd_language.proofs.Reserved.{reserves_within_law}
 use Rattle.timefd_c_nodes.proofs.TreeLemmas.{walked_length}
+use Rattle.timefd_c.proofs.LongestLemmas.{is_longest, three_reserved}
 use Rattle.timefd_c.proofs.RoomLemmas.{nodes_within, literals_within}
 use Rattle.timefd_c.specs.Answers.{Describes, IsAnswer}
 use Rattle.timefd_c.specs.Reports.{IsReport, parts, tops}
@@ -32,6 +33,7 @@ told r = record {
   literals =
       r.literals;
   written = r.written;
+  bytes = r.bytes;
 }
 
 abbrev pub silent : ℕ → ℕ → ReadAnswer
@@ -42,6 +44,7 @@ silent status value = record {
   literals = 0;
   written =
       false;
+  bytes = 0;
 }
 
 -- a text of version 3 has at most one node more than bytes
@@ -118,6 +121,9 @@ reported language bytes ns ms a b r utf8 found spelled no_fault = record {
   within = λ e three. three_within language bytes found.0 r.nodes found.1 three found.2.nodes;
   nodes_within = nodes_within language bytes found.0 r.nodes found.1 found.2.nodes;
   literals_within = literals_within language bytes found.0 r.literals found.1 found.2.literals;
+  longest = λ e list d. is_longest language list r.bytes (spelled list d.1).bytes;
+  reserved = λ e three. three_reserved language found.0 r.bytes r.value three found.2.bytes
+      found.2.value;
   nodes_kept = λ accepted. absurd (accepted refl);
   literals_kept = λ accepted. absurd (accepted refl);
   none_counted = λ accepted. absurd (accepted refl);
@@ -135,9 +141,11 @@ silent_reads language bytes ns a status value not_accepted is = record {
   within = λ e. absurd (not_accepted e);
   nodes_within = omega arith;
   literals_within = omega arith;
+  longest = λ e. absurd (not_accepted e);
+  reserved = λ e. absurd (not_accepted e);
   nodes_kept = λ accepted. refl;
   literals_kept = λ accepted. refl;
-  none_counted = λ accepted. (refl, refl, refl);
+  none_counted = λ accepted. (refl, refl, refl, refl);
 }
 
 pub faulted : (language : Language) (bytes : Text) (ns : List Node) (a : Text) (f : Fault)

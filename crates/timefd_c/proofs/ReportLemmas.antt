@@ -10,8 +10,9 @@ use Rattle.timefd_borrowed_fault.specs.declared.borrowed_parse_error.BorrowedPar
 use Rattle.timefd_borrowed_fault.specs.BorrowedFaults.{IsMemory}
 use Rattle.timefd_format_item.specs.declared.borrowed_format_item.BorrowedFormatItem.{BorrowedFormatItem}
 use Rattle.timefd_format_item.specs.Meaning.{item_tree, item_trees}
-use Rattle.timefd_component.specs.Reserved.{reserve}
+use Rattle.timefd_component.specs.Reserved.{reserve, reserve_all}
 use Rattle.timefd_component.specs.Tree.{Text, Tree, trees, pack}
+use Rattle.timefd_node_list.specs.Nodes.{kept_bytes}
 use Rattle.timefd_node_list.specs.Views.{walked, walked_all}
 use Rattle.timefd_language.specs.declared.description_version.DescriptionVersion.{DescriptionVersion}
 use Rattle.timefd_language.specs.declared.description_version.DescriptionVersion.TheVariants.{One, Two, Three}
@@ -29,9 +30,10 @@ use Rattle.timefd_strftime.proofs.DirectiveLemmas.{one as strftime_one}
 use Rattle.timefd_c.specs.declared.read.Report.{Report}
 use Rattle.timefd_c.specs.Reports.{Reports, IsReport}
 
-abbrev pub report : ℕ → Size → Bool → Report
-report value size written = record {
+abbrev pub report : ℕ → ℕ → Size → Bool → Report
+report value bytes size written = record {
   value = value;
+  bytes = bytes;
   nodes = size.nodes;
   literals =
       size.literals;
@@ -50,11 +52,12 @@ unsized : (ts : List Tree) (size : Size) (ns : List Node) (a : Text) → IsSize 
     → Fit size ns a → (length ts ≤ length ns) × (length (literals_of ts) ≤ length a)
 unsized ts size ns a is h = (omega (arith, is.0, h.0), omega (arith, is.1, h.1))
 
-pub reports_kept : (ts : List Tree) (value : ℕ) (size : Size) (ns : List Node) (a : Text) (t : Bool)
-    → IsSize ts size → (IsTrue t ↔ Fit size ns a) → t ≡ false
-    → Reports ts value ns ns a a (report value size false)
-reports_kept ts value size ns a t is fits off = record {
+pub reports_kept : (ts : List Tree) (value bytes : ℕ) (size : Size) (ns : List Node) (a : Text)
+    (t : Bool) → IsSize ts size → (IsTrue t ↔ Fit size ns a) → t ≡ false
+    → Reports ts value bytes ns ns a a (report value bytes size false)
+reports_kept ts value bytes size ns a t is fits off = record {
   value = refl;
+  bytes = refl;
   nodes = is.0;
   literals = is.1;
   room = (
@@ -67,13 +70,14 @@ reports_kept ts value size ns a t is fits off = record {
   kept = λ h. (refl, refl);
 }
 
-pub reports_written : (ts : List Tree) (value : ℕ) (size : Size) (ns ms : List Node) (a b : Text)
-    (t : Bool) → IsSize ts size → (IsTrue t ↔ Fit size ns a) → t ≡ true
+pub reports_written : (ts : List Tree) (value bytes : ℕ) (size : Size) (ns ms : List Node)
+    (a b : Text) (t : Bool) → IsSize ts size → (IsTrue t ↔ Fit size ns a) → t ≡ true
     → ms ≡ nodes_from 0 0 ts ++ drop (length ts) ns
     → b ≡ literals_of ts ++ drop (length (literals_of ts)) a
-    → Reports ts value ns ms a b (report value size true)
-reports_written ts value size ns ms a b t is fits on nodes literals = record {
+    → Reports ts value bytes ns ms a b (report value bytes size true)
+reports_written ts value bytes size ns ms a b t is fits on nodes literals = record {
   value = refl;
+  bytes = refl;
   nodes = is.0;
   literals = is.1;
   room = (λ h. unsized ts size ns a is (fits.0 on), λ h. refl);
@@ -86,17 +90,22 @@ reports_written ts value size ns ms a b t is fits on nodes literals = record {
 
 pub items_report : (items : List BorrowedFormatItem) (list : List Tree) (ns ms : List Node)
     (a b : Text) (r : Report) → map item_tree items ≡ list
-    → Reports (walked_all (trees (item_trees items))) (length items) ns ms a b r
-    → Reports (walked_all (trees list)) (length list) ns ms a b r
+    → Reports (walked_all (trees (item_trees items))) (length items)
+    (kept_bytes (reserve_all (trees (item_trees items)))) ns ms a b r
+    → Reports (walked_all (trees list)) (length list) (kept_bytes (reserve_all (trees list))) ns ms
+    a b r
 items_report items list ns ms a b r is reports =
-    subst (λ l. Reports (walked_all (trees l)) (length l) ns ms a b r) is
-    (subst (λ n. Reports (walked_all (trees (item_trees items))) n ns ms a b r)
+    subst (λ l. Reports (walked_all (trees l)) (length l) (kept_bytes (reserve_all (trees l))) ns ms
+    a b r) is
+    (subst (λ n. Reports (walked_all (trees (item_trees items))) n
+    (kept_bytes (reserve_all (trees (item_trees items)))) ns ms a b r)
     (sym (length-map items item_tree)) reports)
 
 pub tree_report : (t u : Tree) (ns ms : List Node) (a b : Text) (r : Report) → t ≡ u
-    → Reports (walked t) (reserve t) ns ms a b r → Reports (walked u) (reserve u) ns ms a b r
+    → Reports (walked t) (reserve t) (reserve t) ns ms a b r
+    → Reports (walked u) (reserve u) (reserve u) ns ms a b r
 tree_report t u ns ms a b r is reports =
-    subst (λ x. Reports (walked x) (reserve x) ns ms a b r) is reports
+    subst (λ x. Reports (walked x) (reserve x) (reserve x) ns ms a b r) is reports
 
 -- What is spelled is reported, or memory ran out; and what is spelled has no fault.
 
@@ -104,7 +113,8 @@ pub items_spelled : (v : DescriptionVersion) (list : List Tree)
     (vec : Vec BorrowedFormatItem Global) (lent : List BorrowedFormatItem) (ns ms : List Node)
     (a b : Text) (r : Result Report BorrowedParseError)
     → lent ≡ vec.items → IsOutput v list (Items vec)
-    → IfOk r (Reports (walked_all (trees (item_trees lent))) (length lent) ns ms a b)
+    → IfOk r (Reports (walked_all (trees (item_trees lent))) (length lent)
+    (kept_bytes (reserve_all (trees (item_trees lent)))) ns ms a b)
     → IfErr r IsMemory
     → MatchResult r (IsReport (Version v) list ns ms a b) IsMemory
 items_spelled One list vec lent ns ms a b (Ok x) e is reports memory =
@@ -117,7 +127,8 @@ items_spelled v list vec lent ns ms a b (Err x) e is reports memory = memory
 pub description_spelled : (v : DescriptionVersion) (list : List Tree) (d : FormatDescriptionV3)
     (ns ms : List Node) (a b : Text) (r : Result Report BorrowedParseError)
     → IsOutput v list (Description d)
-    → IfOk r (Reports (walked (description_tree d)) (reserve (description_tree d)) ns ms a b)
+    → IfOk r (Reports (walked (description_tree d)) (reserve (description_tree d))
+    (reserve (description_tree d)) ns ms a b)
     → IfErr r IsMemory
     → MatchResult r (IsReport (Version v) list ns ms a b) IsMemory
 description_spelled One list d ns ms a b (Ok x) is reports memory = absurd is
@@ -129,7 +140,8 @@ description_spelled v list d ns ms a b (Err x) is reports memory = memory
 pub strftime_spelled : (list : List Tree) (items lent : List BorrowedFormatItem) (ns ms : List Node)
     (a b : Text) (r : Result Report BorrowedParseError)
     → lent ≡ items → map item_tree items ≡ list
-    → IfOk r (Reports (walked_all (trees (item_trees lent))) (length lent) ns ms a b)
+    → IfOk r (Reports (walked_all (trees (item_trees lent))) (length lent)
+    (kept_bytes (reserve_all (trees (item_trees lent)))) ns ms a b)
     → IfErr r IsMemory
     → MatchResult r (IsReport Strftime list ns ms a b) IsMemory
 strftime_spelled list items lent ns ms a b (Ok x) e is reports memory =

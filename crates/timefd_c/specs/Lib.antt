@@ -5,3 +5,5 @@ pub mod Conversions
 pub mod Reports
 pub mod Reading
 pub mod Numbers
+pub mod Moments
+pub mod Formats

@@ -1,6 +1,7 @@
 -- What is answered to C of a text that is read as nodes.
-use Rattle.std.specs.Prelude.{ℕ, ◌≡◌, ◌≢◌, ◌+◌, ◌*◌, ◌≤◌, IsFalse, IsTrue, List, Option, Some, None, length, take}
-use Rattle.timefd_component.specs.Tree.{Text, Tree}
+use Rattle.std.specs.Prelude.{ℕ, ◌≡◌, ◌≢◌, ◌+◌, ◌-◌, ◌*◌, ◌^◌, ◌<◌, ◌≤◌, IsFalse, IsTrue, List, Option, Some, None, length, take}
+use Rattle.timefd_component.specs.Texts.{RendersAll}
+use Rattle.timefd_component.specs.Tree.{Text, Tree, trees}
 use Rattle.timefd_language.specs.declared.description_version.DescriptionVersion.TheVariants.{One, Two, Three}
 use Rattle.timefd_parse.specs.declared.language.Language.{Language}
 use Rattle.timefd_parse.specs.declared.language.Language.TheVariants.{Version, Strftime}
@@ -17,6 +18,7 @@ abbrev pub report_in : ReadAnswer → Report
 report_in answer =
     record {
       value = answer.value;
+      bytes = answer.bytes;
       nodes = answer.nodes;
       literals = answer.literals;
       written =
@@ -51,6 +53,13 @@ most_literals None len = 0
 most_literals (Some (Version v)) len = len
 most_literals (Some Strftime) len = 3 * len
 
+-- A rendering of the list has so many bytes, and none has more. Where a `usize` counts no more, a
+-- rendering has so many at least.
+pub record IsLongest (list : List Tree) (bytes : ℕ) : Type 0 where
+  pub reached : (text : Text) × RendersAll (trees list) text × (bytes ≤ length text)
+  pub most : bytes < 2 ^ 64 - 1 → (text : Text) → RendersAll (trees list) text
+      → length text ≤ bytes
+
 -- The answer says what the bytes are in the language, where there is one, and of the buffers, which
 -- held `nodes_before` and `before` and hold `nodes_after` and `after`, what was written.
 pub record Reads (language : Option Language) (bytes : Text) (nodes_before nodes_after : List Node)
@@ -68,8 +77,13 @@ pub record Reads (language : Option Language) (bytes : Text) (nodes_before nodes
   -- So much room is always enough.
   pub nodes_within : answer.nodes ≤ most_nodes language (length bytes)
   pub literals_within : answer.literals ≤ most_literals language (length bytes)
+  -- In every language the longest rendering is told. In version 3 it has the bytes of the value.
+  pub longest : answer.status ≡ ACCEPTED → (list : List Tree) → Describes language bytes list
+      → IsLongest list answer.bytes
+  pub reserved : answer.status ≡ ACCEPTED → language ≡ Some (Version Three)
+      → answer.bytes ≡ answer.value
   -- Where nothing is accepted, nothing is written.
   pub nodes_kept : answer.status ≢ ACCEPTED → nodes_after ≡ nodes_before
   pub literals_kept : answer.status ≢ ACCEPTED → after ≡ before
   pub none_counted : answer.status ≢ ACCEPTED → (answer.nodes ≡ 0) × (answer.literals ≡ 0)
-      × IsFalse answer.written
+      × IsFalse answer.written × (answer.bytes ≡ 0)

@@ -1,6 +1,8 @@
 -- What is said and written of a description that is read as nodes.
 use Rattle.std.specs.Prelude.{ℕ, ◌≡◌, ◌≤◌, ◌++◌, ◌↔◌, IsTrue, IsFalse, List, [], ◌∷◌, length, drop}
+use Rattle.timefd_component.specs.Reserved.{reserve, reserve_all}
 use Rattle.timefd_component.specs.Tree.{Text, Tree, trees, pack}
+use Rattle.timefd_node_list.specs.Nodes.{kept_bytes}
 use Rattle.timefd_node_list.specs.Views.{walked, walked_all}
 use Rattle.timefd_language.specs.declared.description_version.DescriptionVersion.TheVariants.{One, Two, Three}
 use Rattle.timefd_parse.specs.declared.language.Language.{Language}
@@ -26,11 +28,20 @@ tops (Version Two) list = list
 tops (Version Three) list = pack list ∷ []
 tops Strftime list = list
 
+-- the length of the longest rendering: what all that stands side by side reserves together, where a
+-- `usize` counts it
+abbrev pub longest : Language → List Tree → ℕ
+longest (Version One) list = kept_bytes (reserve_all (trees list))
+longest (Version Two) list = kept_bytes (reserve_all (trees list))
+longest (Version Three) list = reserve (pack list)
+longest Strftime list = kept_bytes (reserve_all (trees list))
+
 -- These parts are reported, and where both buffers have room their nodes and literals stand at the
 -- fronts.
-pub record Reports (ts : List Tree) (counted : ℕ) (nodes_before nodes_after : List Node)
+pub record Reports (ts : List Tree) (counted greatest : ℕ) (nodes_before nodes_after : List Node)
     (before after : Text) (r : Report) : Type 0 where
   pub value : r.value ≡ counted
+  pub bytes : r.bytes ≡ greatest
   pub nodes : r.nodes ≡ length ts
   pub literals : r.literals ≡ length (literals_of ts)
   pub room : IsTrue r.written ↔ ((length ts ≤ length nodes_before)
@@ -44,4 +55,5 @@ pub record Reports (ts : List Tree) (counted : ℕ) (nodes_before nodes_after : 
 -- the report on a text that spells the list in the language
 abbrev pub IsReport : Language → List Tree → List Node → List Node → Text → Text → Report → Type 0
 IsReport language list nodes_before nodes_after before after r =
-    Reports (parts language list) (amount language list) nodes_before nodes_after before after r
+    Reports (parts language list) (amount language list) (longest language list) nodes_before
+    nodes_after before after r

@@ -80,10 +80,13 @@ pub struct ReadAnswer {
     pub literals: usize,
     /// Whether both buffers had room for all of them, and were written.
     pub written: bool,
+    /// How many bytes the longest rendering of an accepted text has, in each language, at most
+    /// `usize::MAX`, or else 0.
+    pub bytes: usize,
 }
 
 // So large is it in `examples/timefd.h`.
-const _: () = prove!(size_of::<ReadAnswer>() == 40);
+const _: () = prove!(size_of::<ReadAnswer>() == 48);
 
 const _: () = prove!(align_of::<ReadAnswer>() == 8);
 
@@ -98,6 +101,8 @@ impl ReadAnswer {
           literals =
               0;
           written = false;
+          bytes =
+              0;
         } }
     {
         ReadAnswer {
@@ -106,6 +111,7 @@ impl ReadAnswer {
             nodes: 0,
             literals: 0,
             written: false,
+            bytes: 0,
         }
     }
 }

@@ -1,12 +1,16 @@
 //! The readers for C, and for Rust outside of this workspace: two functions that say of the bytes
 //! of a text what they are in a language, which a number names, and one that rewrites a text of
-//! version 1 as one of version 2, and one that writes the nodes of a description.
+//! version 1 as one of version 2, one that writes the nodes of a description, and one that writes
+//! a date and time by a description.
 //! `examples/timefd.h` declares them.
 #![tactic(auto)]
 
 mod answer;
 mod exports;
+mod format;
+mod format_answer;
 pub mod laws;
+mod moment;
 mod nodes;
 mod numbers;
 mod read;
@@ -17,5 +21,8 @@ mod whole;
 
 pub use answer::{ACCEPTED, Answer, NO_MEMORY, NOT_UTF8, REFUSED, ReadAnswer, UNKNOWN_KIND};
 pub use exports::{timefd_check, timefd_judge, timefd_v1_to_v2, timefd_v2_to_v3};
+pub use format::timefd_format;
+pub use format_answer::{FormatAnswer, OUT_OF_RANGE, UNSHOWN};
+pub use moment::MomentFields;
 pub use nodes::{VERSION, timefd_read, timefd_version};
 pub use timefd_c_nodes::Node;

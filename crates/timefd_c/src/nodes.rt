@@ -48,6 +48,7 @@ pub extern "C" fn timefd_read(
             nodes: report.nodes,
             literals: report.literals,
             written: report.written,
+            bytes: report.bytes,
         },
         Err(BorrowedParseError::Invalid(fault)) => ReadAnswer::plain(REFUSED, fault.index),
         Err(BorrowedParseError::Memory(_)) => ReadAnswer::plain(NO_MEMORY, 0),

@@ -9,15 +9,16 @@ ghost use Rattle.timefd_borrowed_fault.specs.BorrowedFaults.{IsLent, IsLentOf, I
 ghost use Rattle.timefd_parse.specs.Language.{FaultIn, SpellsIn};
 ghost use Rattle.timefd_items.specs.Description.{description_tree};
 ghost use Rattle.timefd_format_item.specs.Meaning.{item_trees};
-ghost use Rattle.timefd_component.specs.Reserved.{reserve};
+ghost use Rattle.timefd_component.specs.Reserved.{reserve, reserve_all};
 ghost use Rattle.timefd_component.specs.Tree.{trees};
+ghost use Rattle.timefd_node_list.specs.Nodes.{kept_bytes};
 ghost use Rattle.timefd_node_list.specs.Views.{walked, walked_all};
 ghost use Rattle.timefd_c_nodes.specs.Sizes.{IsTooLarge};
 ghost use Rattle.timefd_c.specs.Reports.{IsReport, Reports};
 
 use std::alloc::{AllocError, Global};
 use timefd_c_nodes::{Node, Size, items_size, view_size, write_items, write_view};
-use timefd_items::BorrowedFormatItem;
+use timefd_items::{BorrowedFormatItem, items_bytes};
 use timefd_parse::{
     BorrowedOutput, BorrowedParseError, DescriptionVersion, FormatDescriptionV3, Language,
     NESTING_LIMIT, StrftimeTables, count_strftime, parse_all_borrowed, parse_strftime_all_borrowed,
@@ -28,6 +29,8 @@ use timefd_parse::{
 pub struct Report {
     /// How many items it has, or in version 3 how many bytes it reserves.
     pub value: usize,
+    /// How many bytes its longest rendering has, at most `usize::MAX`.
+    pub bytes: usize,
     /// How many nodes it has.
     pub nodes: usize,
     /// How many bytes its literals have together.
@@ -167,7 +170,7 @@ fn report_items<'e>(
     literals: &mut [u8],
 ) -> Result<Report, BorrowedParseError<'e>>
     ensures reports { IfOk result (Reports (walked_all (trees (item_trees items.now)))
-        (length items.now) nodes.old nodes.new literals.old literals.new) }
+        (length items.now) (kept_bytes (reserve_all (trees (item_trees items.now)))) nodes.old nodes.new literals.old literals.new) }
     ensures memory { IfErr result IsMemory }
     ensures large { IsErr result → IsTooLarge (walked_all (trees (item_trees items.now))) }
     ensures nodes_kept { IsErr result → nodes.new ≡ nodes.old }
@@ -176,11 +179,12 @@ fn report_items<'e>(
     let Some(size) = items_size(items) else {
         return Err(BorrowedParseError::Memory(AllocError));
     };
+    let bytes = items_bytes(items);
     if !has_room(size, nodes, literals) {
-        return Ok(report_of(items.len(), size, false));
+        return Ok(report_of(items.len(), bytes, size, false));
     }
     write_items(items, nodes, literals);
-    Ok(report_of(items.len(), size, true))
+    Ok(report_of(items.len(), bytes, size, true))
 }
 
 /// Writes what a description is. An `Err` says that a `usize` doesn't count it, and then nothing is
@@ -191,7 +195,8 @@ fn report_description<'e>(
     literals: &mut [u8],
 ) -> Result<Report, BorrowedParseError<'e>>
     ensures reports { IfOk result (Reports (walked (description_tree description.now))
-        (reserve (description_tree description.now)) nodes.old nodes.new literals.old literals.new) }
+        (reserve (description_tree description.now)) (reserve (description_tree description.now))
+        nodes.old nodes.new literals.old literals.new) }
     ensures memory { IfErr result IsMemory }
     ensures large { IsErr result → IsTooLarge (walked (description_tree description.now)) }
     ensures nodes_kept { IsErr result → nodes.new ≡ nodes.old }
@@ -201,12 +206,12 @@ fn report_description<'e>(
     let Some(size) = view_size(view) else {
         return Err(BorrowedParseError::Memory(AllocError));
     };
-    let value = description.max_bytes_needed();
+    let bytes = description.max_bytes_needed();
     if !has_room(size, nodes, literals) {
-        return Ok(report_of(value, size, false));
+        return Ok(report_of(bytes, bytes, size, false));
     }
     write_view(view, nodes, literals);
-    Ok(report_of(value, size, true))
+    Ok(report_of(bytes, bytes, size, true))
 }
 
 fn has_room(size: Size, nodes: &[Node], literals: &[u8]) -> bool
@@ -216,9 +221,10 @@ fn has_room(size: Size, nodes: &[Node], literals: &[u8]) -> bool
     size.nodes <= nodes.len() && size.literals <= literals.len()
 }
 
-fn report_of(value: usize, size: Size, written: bool) -> Report
+fn report_of(value: usize, bytes: usize, size: Size, written: bool) -> Report
     ensures { result ≡ record {
       value = value;
+      bytes = bytes;
       nodes = size.nodes;
       literals =
           size.literals;
@@ -227,6 +233,7 @@ fn report_of(value: usize, size: Size, written: bool) -> Report
 {
     Report {
         value,
+        bytes,
         nodes: size.nodes,
         literals: size.literals,
         written,

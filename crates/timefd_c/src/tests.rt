@@ -3,5 +3,7 @@
 mod answers;
 mod buffers;
 mod conversions;
+mod formats;
+mod longest;
 mod node_buffers;
 mod nodes;

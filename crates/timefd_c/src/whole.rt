@@ -1,4 +1,4 @@
-//! A text in a buffer that has room for all of it.
+//! Bytes in a buffer that has room for all of them.
 
 ghost use Rattle.std.specs.Prelude.{◌≡◌, ◌<◌, ◌≤◌, ◌++◌, length, drop};
 
@@ -10,9 +10,20 @@ pub fn write_whole(text: &str, buffer: &mut [u8]) -> usize
     ensures too_short { length buffer.old < length text.now
         → (buffer.new ≡ buffer.old) × (result ≡ 0) }
 {
-    if buffer.len() < text.len() {
+    write_bytes(text.as_bytes(), buffer)
+}
+
+/// The same of bytes.
+pub fn write_bytes(bytes: &[u8], buffer: &mut [u8]) -> usize
+    ensures whole { length bytes.now ≤ length buffer.old
+        → (buffer.new ≡ bytes.now ++ drop (length bytes.now) buffer.old)
+        × (result ≡ length bytes.now) }
+    ensures too_short { length buffer.old < length bytes.now
+        → (buffer.new ≡ buffer.old) × (result ≡ 0) }
+{
+    if buffer.len() < bytes.len() {
         return 0;
     }
-    buffer[..text.len()].copy_from_slice(text.as_bytes());
-    text.len()
+    buffer[..bytes.len()].copy_from_slice(bytes);
+    bytes.len()
 }

@@ -23,6 +23,7 @@ fn written(rt: &HostRuntime, node_room: usize, literal_room: usize) -> Option<bo
         Ok(
             Report {
                 value: 6,
+                bytes: 6,
                 nodes: 3,
                 literals: 4,
                 written,

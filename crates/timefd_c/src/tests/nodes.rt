@@ -54,7 +54,7 @@ fn reads(
     rt: &HostRuntime,
     language: Language,
     text: &str,
-    value: usize,
+    [value, bytes]: [usize; 2],
     rows: &[Row],
     text_of_literals: &str,
 ) -> bool {
@@ -62,6 +62,7 @@ fn reads(
     let mut literals = [b'.'; ROOM];
     let report = Report {
         value,
+        bytes,
         nodes: rows.len(),
         literals: text_of_literals.len(),
         written: true,
@@ -83,7 +84,7 @@ fn reads(
             .all(|byte| *byte == b'.')
 }
 
-/// Texts of version 3.
+/// Texts of version 3, each with the bytes of its longest rendering, which are the value too.
 const THREE: &[(&str, usize, &[Row], &str)] = &[
     ("", 0, &[(3, 0, NONE, 0, [0, 0, 0])], ""),
     ("[day]", 2, &[(2, 1, ZERO, 0, [0, 0, 2])], ""),
@@ -181,7 +182,10 @@ const THREE: &[(&str, usize, &[Row], &str)] = &[
 fn version_three(rt: HostRuntime) {
     for &(text, value, rows, literals) in THREE {
         let language = Language::Version(DescriptionVersion::Three);
-        assert!(rt; reads(&rt, language, text, value, rows, literals), "{text}");
+        assert!(rt;
+            reads(&rt, language, text, [value, value], rows, literals),
+            "{text}"
+        );
     }
 }
 
@@ -189,11 +193,11 @@ fn version_three(rt: HostRuntime) {
 fn items(rt: HostRuntime) {
     let one = Language::Version(DescriptionVersion::One);
     let two = Language::Version(DescriptionVersion::Two);
-    assert!(rt; reads(&rt, one, "", 0, &[], ""));
-    assert!(rt; reads(&rt, Language::Strftime, "", 0, &[], ""));
-    assert!(rt; reads(&rt, one, "[[x[year]", 3, ONE, "[x"));
-    assert!(rt; reads(&rt, two, "\\[x[YEAR]", 3, ONE, "[x"));
-    assert!(rt; reads(&rt, Language::Strftime, "%D%%", 2, STRFTIME, "//%"));
+    assert!(rt; reads(&rt, one, "", [0, 0], &[], ""));
+    assert!(rt; reads(&rt, Language::Strftime, "", [0, 0], &[], ""));
+    assert!(rt; reads(&rt, one, "[[x[year]", [3, 9], ONE, "[x"));
+    assert!(rt; reads(&rt, two, "\\[x[YEAR]", [3, 9], ONE, "[x"));
+    assert!(rt; reads(&rt, Language::Strftime, "%D%%", [2, 9], STRFTIME, "//%"));
 }
 
 /// A bracket and a letter, one literal each, and a year of up to six digits.

@@ -1,0 +1,59 @@
+//! The function that C calls to write a moment.
+
+ghost use Rattle.std.specs.Prelude.{◌≡◌};
+ghost use Rattle.timefd_c.specs.Formats.{Formats, FormatsBy};
+ghost use Rattle.timefd_c.specs.Languages.{language_of};
+
+use crate::answer::{ACCEPTED, NO_MEMORY, NOT_UTF8, REFUSED, UNKNOWN_KIND};
+use crate::format_answer::FormatAnswer;
+use crate::moment::MomentFields;
+use crate::numbers::from_number;
+use crate::whole::write_bytes;
+use std::alloc::Global;
+use timefd_format_text::{FormatTextError, format_text};
+use timefd_moment::Moment;
+use timefd_parse::Language;
+
+/// Writes the moment by the bytes, a text of the language with this number, over the front of the
+/// buffer, if that has room for all that the text writes. The value is its length in bytes.
+#[unsafe(no_mangle)]
+pub extern "C" fn timefd_format(
+    alloc: Global,
+    kind: u32,
+    text: &[u8],
+    moment: &MomentFields,
+    buffer: &mut [u8],
+) -> FormatAnswer
+    ensures formats { Formats (language_of kind) text.now moment.now buffer.old buffer.new result }
+{
+    match moment.moment() {
+        Ok(moment) => format_by(alloc, from_number(kind), text, moment, buffer),
+        Err(range) => FormatAnswer::out_of_range(range),
+    }
+}
+
+fn format_by(
+    alloc: Global,
+    language: Option<Language>,
+    bytes: &[u8],
+    moment: Moment,
+    buffer: &mut [u8],
+) -> FormatAnswer
+    ensures formats { FormatsBy language bytes.now moment buffer.old buffer.new result }
+{
+    let Some(language) = language else {
+        return FormatAnswer::silent(UNKNOWN_KIND, 0);
+    };
+    let Ok(text) = str::from_utf8(bytes) else {
+        return FormatAnswer::silent(NOT_UTF8, 0);
+    };
+    match format_text(alloc, language, text, moment) {
+        Ok(shown) => FormatAnswer {
+            written: write_bytes(&shown, buffer),
+            ..FormatAnswer::silent(ACCEPTED, shown.len())
+        },
+        Err(FormatTextError::Fault(fault)) => FormatAnswer::silent(REFUSED, fault.index),
+        Err(FormatTextError::Unshown(unshown)) => FormatAnswer::unshown(unshown),
+        Err(FormatTextError::Memory(_)) => FormatAnswer::silent(NO_MEMORY, 0),
+    }
+}
