@@ -1,9 +1,10 @@
 pub mod NearestLemmas
 pub mod PlaceLemmas
 pub mod CodeLemmas
-pub mod HelpLemmas
+pub mod WordLemmas
 pub mod TableLemmas
 pub mod AlignLemmas
 pub mod WayLemmas
 pub mod EditLemmas
 pub mod DistanceLemmas
+pub mod LackingLemmas

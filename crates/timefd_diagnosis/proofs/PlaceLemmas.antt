@@ -1,186 +1,242 @@
--- What stands behind the last `[`, and what that makes of a word: there is one answer.
-use Rattle.std.proofs.Common.{ℕ, ◌≡◌, ◌≢◌, ◌<◌, ◌-◌, [], ◌∷◌, ◌++◌, length, length-append, get_or, take, drop, Option, Some, None, ◌==◌, refl, sym, ap, subst, ◌∙◌, arith, inl, inr, IsUtf8}
-use Rattle.std.specs.Prelude.{Bool, true, MatchOption}
-use Rattle.std.specs.Str.{NoCharPasses, IsCharBoundary}
-use Rattle.std.specs.Str.Pattern.{RFindsChar, SplitsAroundMatch}
-use Rattle.std.proofs.Math.Seq.{get_or-append_seam}
-use Rattle.std.proofs.lemmas.Bool.{cases_lt, true≢false}
+-- Where a text ends inside of a bracket: there is one answer.
+use Rattle.std.proofs.Common.{ℕ, ◌+◌, suc, ◌≡◌, ◌≢◌, ◌<◌, ◌≤◌, List, [], ◌∷◌, ◌++◌, length, length-append, length-drop, get_or, take, drop, drop-cons, add-one, Option, Some, None, ◌==◌, refl, sym, ap, subst, ◌∙◌, arith, append_assoc, append-nil}
+use Rattle.std.specs.Prelude.{true}
+use Rattle.std.specs.Borrow.{Bor}
+use Rattle.std.specs.Str.{IsCharBoundary}
+use Rattle.std.specs.Str.Pattern.{RFindsChar}
+use Rattle.std.proofs.lemmas.Str.Pattern.{rfind_char}
+use Rattle.std.specs.List.{list_all}
+use Rattle.std.proofs.lemmas.Bool.{and_parts, and_from, true≢false}
 use Rattle.std.proofs.lemmas.Bool.Decides.{nat_tests}
-use Rattle.std.proofs.lemmas.List.{take-append-drop, append_cancel_right}
-use Rattle.std.proofs.lemmas.Option.{same_Some, none-some}
-use Rattle.std.proofs.lemmas.Str.{IsCharBoundary-start, IsCharBoundary-after_ascii}
-use Rattle.std.proofs.lemmas.Str.Pattern.{NoCharPasses-char, drop_at_char}
+use Rattle.std.proofs.lemmas.List.{take-append-drop, get_or-drop}
 use Rattle.timefd_component.specs.Tree.{Text}
-use Rattle.timefd_language.specs.declared.name.Name.{Name}
-use Rattle.timefd_language.specs.declared.name.Name.TheVariants.{Optional, First, Component}
-use Rattle.timefd_language.specs.Bytes.{left, colon, is_white, is_word_byte}
+use Rattle.timefd_language.specs.Bytes.{left, colon, is_white, is_word_byte, is_key_byte, ZeroOrMore, OneOrMore, StopsBefore}
 use Rattle.timefd_language.specs.Cut.{IsCut}
-use Rattle.timefd_language.specs.Lookup.{IsNameOf, key_for, keys_for}
-use Rattle.timefd_language.specs.Values.{key_in}
-use Rattle.timefd_language.specs.Names.{row_for}
-use Rattle.timefd_language.proofs.Reader.{cut, span}
-use Rattle.timefd_language.proofs.Spans.{span-exact}
-use Rattle.timefd_diagnosis.specs.declared.place.Place.{Place}
-use Rattle.timefd_diagnosis.specs.declared.place.Place.TheVariants as places
-use Rattle.timefd_diagnosis.specs.Places.{IsInside, IsBehindWhite, IsLastWord, IsHeadIn, IsPlaceAt, IsPlaceIn, IsPlaceBehind}
+use Rattle.timefd_language.specs.Head.{Head, IsHead, Modifier, IsModifier, AreModifiers, head_text, modifier_text, modifiers_text}
+use Rattle.timefd_language.proofs.Before.{modifiers_before-is}
+use Rattle.timefd_language.proofs.Spans.{key-not_white, all-append, all-implied, zero_from_one, stops_one, stops_zero, word-not_white, key-word, white-not_word}
+use Rattle.timefd_parse.specs.declared.modifier.Modifier as code
+use Rattle.timefd_parse.specs.BracketParts.{BeginsNamed, BeginsModified, FindsModifiers, NamesHeads}
+use Rattle.timefd_parse.proofs.BracketLemmas.{same_cut}
+use Rattle.timefd_diagnosis.specs.Places.{EndsInHead, is_inside, IsLastBracket, BeginsNoModifier, IsBehindSome, IsBehindAll, EndsHead, NamesHead, IsNamedHead}
 
-pub inside_of : (s front rest : Text) → SplitsAroundMatch (RFindsChar left) s front rest
-    → IsInside s rest
-inside_of s front rest k =
-    let back : rest ≡ drop k.1 s = k.4 in
-    let at : drop k.0 s ≡ left ∷ rest = drop_at_char left s k.0 k.1 k.2.1 (omega arith)
-    ∙ ap (λ t. left ∷ t) (sym back) in
-    let none : NoCharPasses (λ d. d == left) rest =
-    subst (λ t. NoCharPasses (λ d. d == left) t) (sym back) k.2.0 in
-    record {
-      before = take k.0 s;
-      whole = sym (take-append-drop k.0 s) ∙ ap (λ t. take k.0 s ++ t) at;
-      last = λ i below. NoCharPasses-char left rest i none (omega arith) below;
-    }
+-- Bytes inside of a bracket.
 
-within : (before rest : Text) → length before < length (before ++ left ∷ rest)
-within before rest = omega (arith, length-append before (left ∷ rest))
+pub white-inside : (b : ℕ) → is_white b ≡ true → is_inside b ≡ true
+white-inside b e = grind (arith, nat_tests)
 
-pub none_inside : (s : Text) → NoCharPasses (λ d. d == left) s → (rest : Text) → ¬ IsInside s rest
-none_inside s none rest is =
-    NoCharPasses-char left (is.before ++ left ∷ rest) (length is.before)
-    (subst (NoCharPasses (λ d. d == left)) is.whole none) (omega arith) (within is.before rest)
-    (get_or-append_seam is.before left rest 0)
+pub word-inside : (b : ℕ) → is_word_byte b ≡ true → is_inside b ≡ true
+word-inside b e = grind (arith, nat_tests)
 
--- no `[` stands in it
-abbrev HasNoLeft : Text → Type 0
-HasNoLeft text = (k : ℕ) → k < length text → get_or text k 0 ≢ left
+pub key-inside : (b : ℕ) → is_key_byte b ≡ true → is_inside b ≡ true
+key-inside b e = word-inside b (key-word b e)
 
-stands : (before rest text : Text) → text ≡ before ++ left ∷ rest → ¬ HasNoLeft text
-stands before rest text is none =
-    subst HasNoLeft is none (length before) (within before rest)
-    (get_or-append_seam before left rest 0)
+other-inside : (b : ℕ) → b ≢ left → is_inside b ≡ true
+other-inside b e = grind (arith, nat_tests)
 
-abbrev behind_first : Text → Text
-behind_first [] = []
-behind_first (b ∷ bytes) = bytes
+modifier_inside : (m : Modifier) → IsModifier m → ZeroOrMore is_inside (modifier_text m)
+modifier_inside m is =
+    all-append is_inside (m.white ++ m.key) (colon ∷ m.value)
+    (all-append is_inside m.white m.key
+    (all-implied is_white is_inside white-inside m.white (zero_from_one is_white m.white is.white))
+    (all-implied is_key_byte is_inside key-inside m.key (zero_from_one is_key_byte m.key is.key)))
+    (all-implied is_word_byte is_inside word-inside m.value
+    (zero_from_one is_word_byte m.value is.value))
 
-one_inside : (x y a b : Text) → x ++ left ∷ a ≡ y ++ left ∷ b → HasNoLeft a → HasNoLeft b → a ≡ b
-one_inside [] [] a b e ha hb = ap behind_first e
-one_inside [] (d ∷ y) a b e ha hb = absurd (stands y b a (ap behind_first e) ha)
-one_inside (c ∷ x) [] a b e ha hb = absurd (stands x a b (sym (ap behind_first e)) hb)
-one_inside (c ∷ x) (d ∷ y) a b e ha hb = one_inside x y a b (ap behind_first e) ha hb
+modifiers_inside : (ms : List Modifier) → AreModifiers ms → ZeroOrMore is_inside (modifiers_text ms)
+modifiers_inside [] are = refl
+modifiers_inside (m ∷ ms) are =
+    all-append is_inside (modifier_text m) (modifiers_text ms) (modifier_inside m are.0)
+    (modifiers_inside ms are.1)
 
-same_inside : (s a b : Text) → IsInside s a → IsInside s b → a ≡ b
-same_inside s a b first second =
-    one_inside first.before second.before a b (sym first.whole ∙ second.whole) first.last
-    second.last
+-- what stands behind the `[` of a head
+abbrev in_head : Head → Text
+in_head h = (h.white ++ h.name) ++ modifiers_text h.modifiers
 
-cut_is : (test : ℕ → Bool) (text a b : Text) → IsCut test text a b → span test text ≡ cut a b
-cut_is test text a b is =
-    ap (span test) is.whole ∙ span-exact test a b is.passes is.stops
+head_inside : (h : Head) → IsHead h → ZeroOrMore is_inside (in_head h)
+head_inside h is =
+    all-append is_inside (h.white ++ h.name) (modifiers_text h.modifiers)
+    (all-append is_inside h.white h.name (all-implied is_white is_inside white-inside h.white is.white)
+    (all-implied is_word_byte is_inside word-inside h.name (zero_from_one is_word_byte h.name is.name)))
+    (modifiers_inside h.modifiers is.modifiers)
 
-same_cut : (test : ℕ → Bool) (text other a b c d : Text) → text ≡ other → IsCut test text a b
-    → IsCut test other c d → cut a b ≡ cut c d
-same_cut test text other a b c d e first second =
-    sym (cut_is test text a b first) ∙ ap (span test) e ∙ cut_is test other c d second
+stands : (y b : Text) → ZeroOrMore is_inside (y ++ left ∷ b) → ⊥
+stands [] b h = true≢false (sym h)
+stands (d ∷ y) b h = stands y b (and_parts (is_inside d) (list_all is_inside (y ++ left ∷ b)) h).1
 
-same_head : (front name between word rest : Text) → IsHeadIn front name between
-    → IsHeadIn front word rest → cut name between ≡ cut word rest
-same_head front name between word rest first second =
-    same_cut is_word_byte first.named second.named name between word rest
-    (ap (λ c. c.rest) (same_cut is_white first.head second.head first.white first.named second.white
-    second.named (same_inside front first.head second.head first.inside second.inside)
-    first.spaces second.spaces))
-    first.word second.word
+one_inside : (x y a b : Text) → x ++ left ∷ a ≡ y ++ left ∷ b → ZeroOrMore is_inside a
+    → ZeroOrMore is_inside b → a ≡ b
+one_inside [] [] a b e ha hb = ap (drop 1) e
+one_inside [] (d ∷ y) a b e ha hb = absurd (stands y b (subst (ZeroOrMore is_inside) (ap (drop 1) e) ha))
+one_inside (c ∷ x) [] a b e ha hb =
+    absurd (stands x a (subst (ZeroOrMore is_inside) (sym (ap (drop 1) e)) hb))
+one_inside (c ∷ x) (d ∷ y) a b e ha hb = one_inside x y a b (ap (drop 1) e) ha hb
 
--- Where nothing is found nothing is.
+pub all_inside : (text : Text) → ((i : ℕ) → i < length text → get_or text i 0 ≢ left)
+    → ZeroOrMore is_inside text
+all_inside [] none = refl
+all_inside (b ∷ text) none =
+    and_from (is_inside b) (list_all is_inside text) (other-inside b (none 0 (omega arith)))
+    (all_inside text (λ i below. none (suc i) (omega (arith, below))))
 
-pub headless : (front : Text) → ((rest : Text) → ¬ IsInside front rest) → (name between : Text)
-    → ¬ IsHeadIn front name between
-headless front none name between is = none is.head is.inside
+-- What ends in a head has one last bracket.
 
-pub nothing_in : (strict : Bool) (front : Text)
-    → ((name : Text) (between : Text) → ¬ IsHeadIn front name between)
-    → (place : Place) → ¬ IsPlaceIn strict front place
-nothing_in strict front none place is = none is.0 is.1 is.2
+bracket_of : (front bracket : Text) (h : Head) (between : Text) → IsLastBracket front bracket
+    → EndsHead between → EndsInHead front h between → bracket ≡ head_text h ++ between
+bracket_of front bracket h between last ends is =
+    last.opens ∙ ap (λ t. left ∷ t) (one_inside last.before is.before last.inside (in_head h ++ between)
+    (sym (last.whole ∙ ap (λ t. last.before ++ t) last.opens) ∙ is.whole) last.last
+    (all-append is_inside (in_head h) between (head_inside h is.is) ends.inside))
 
-no_place : (strict : Bool) (front name between : Text) → IsHeadIn front name between
-    → ((place : Place) → ¬ IsPlaceAt strict name between place)
-    → (place : Place) → ¬ IsPlaceIn strict front place
-no_place strict front name between head none place is =
-    none place (subst (λ c. IsPlaceAt strict c.front c.rest place)
-    (same_head front is.0 is.1 name between is.2 head) is.3)
+pub bracketless : (front : Text) → ZeroOrMore is_inside front → (h : Head) (between : Text)
+    → EndsInHead front h between → ⊥
+bracketless front none h between is =
+    stands is.before (in_head h ++ between) (subst (ZeroOrMore is_inside) is.whole none)
 
-pub place_of : (r : Option Place) (strict : Bool) (front name between : Text)
-    → IsHeadIn front name between
-    → MatchOption r ((place : Place) → ¬ IsPlaceAt strict name between place)
-    (IsPlaceAt strict name between)
-    → IsPlaceBehind strict front r
-place_of None strict front name between head none = no_place strict front name between head none
-place_of (Some place) strict front name between head at = (name, between, head, at)
+pub last_is : (text bracket : Text) (k : ℕ) → k < length text → get_or text k 0 ≡ left
+    → ((i : ℕ) → k < i → i < length text → get_or text i 0 ≢ left) → bracket ≡ drop k text
+    → IsLastBracket text bracket
+last_is text bracket k below at last is = record {
+  before = take k text;
+  inside = drop (k + 1) text;
+  whole = sym (take-append-drop k text) ∙ ap (λ t. take k text ++ t) (sym is);
+  opens = is ∙ drop-cons text k 0 below ∙ ap (λ b. b ∷ drop (suc k) text) at
+      ∙ ap (λ n. left ∷ drop n text) (sym (add-one k));
+  last = all_inside (drop (k + 1) text) (λ i within.
+      subst (λ b. b ≢ left) (sym (get_or-drop (k + 1) text i 0))
+      (last (k + 1 + i) (omega arith) (omega (arith, within, length-drop (k + 1) text))));
+}
 
-unnamed : (strict : Bool) (word : Text) (name : Name) → IsNameOf strict word None
-    → ¬ IsNameOf strict word (Some name)
-unnamed strict word Optional none is = true≢false (sym is ∙ none.0)
-unnamed strict word First none is = true≢false (sym is.1 ∙ none.1)
-unnamed strict word (Component name) none is =
-    none-some (row_for name) (sym none.2 ∙ is.2)
+pub none_found : (text : Text) → RFindsChar left text None → ZeroOrMore is_inside text
+none_found text none = all_inside text (rfind_char left text None none (omega arith))
 
-pub no_name : (strict : Bool) (word between : Text) → IsNameOf strict word None → (place : Place)
-    → ¬ IsPlaceAt strict word between place
-no_name strict word between none places.Name is = is
-no_name strict word between none (places.Key name) is = unnamed strict word name none is.0
-no_name strict word between none (places.Value key) is = unnamed strict word is.2 none is.3
+pub last_found : (text bracket : Text) (k : ℕ)
+    → (j : ℕ) × RFindsChar left text (Some (k, j)) × (k ≤ j) × IsCharBoundary text k × IsCharBoundary text j
+    → bracket ≡ drop k text → IsLastBracket text bracket
+last_found text bracket k found is =
+    let at = rfind_char left text (Some k) found (omega arith) in
+    last_is text bracket k at.0 at.1 at.2 is
 
-same_keys : (strict : Bool) (word : Text) (n m : Name) → IsNameOf strict word (Some n)
-    → IsNameOf strict word (Some m) → keys_for n ≡ keys_for m
-same_keys strict word Optional Optional a b = refl
-same_keys strict word Optional First a b = absurd (true≢false (sym a ∙ b.0))
-same_keys strict word Optional (Component m) a b = absurd (true≢false (sym a ∙ b.0))
-same_keys strict word First Optional a b = absurd (true≢false (sym b ∙ a.0))
-same_keys strict word First First a b = refl
-same_keys strict word First (Component m) a b = absurd (true≢false (sym a.1 ∙ b.1))
-same_keys strict word (Component n) Optional a b = absurd (true≢false (sym b ∙ a.0))
-same_keys strict word (Component n) First a b = absurd (true≢false (sym b.1 ∙ a.1))
-same_keys strict word (Component n) (Component m) a b =
-    ap (λ r. r.keys) (same_Some (row_for n) (row_for m) (sym a.2 ∙ b.2))
+-- Modifiers.
 
-not_before : (text : Text) (s t : ℕ) → IsBehindWhite text s → IsBehindWhite text t → ¬ (s < t)
-not_before text s t first second below =
-    true≢false (sym (second.white (omega arith)) ∙ first.last (t - 1) (omega arith)
-    (omega (arith, second.within)))
+abbrev pub word_behind : Modifier → Text → Text
+word_behind m x = m.key ++ colon ∷ (m.value ++ x)
 
-same_last : (text a b : Text) → IsLastWord text a → IsLastWord text b → a ≡ b
-same_last text a b first second =
-    let back : ¬ (first.start < second.start) =
-    not_before text first.start second.start first.begins second.begins in
-    let forth : ¬ (second.start < first.start) =
-    not_before text second.start first.start second.begins first.begins in
-    first.is ∙ ap (λ n. drop n text) (omega (arith, back, forth)) ∙ sym second.is
+pub cut_white : (m : Modifier) (x : Text) → IsModifier m
+    → IsCut is_white (modifier_text m ++ x) m.white (word_behind m x)
+cut_white m x is = record {
+  whole = simp append_assoc;
+  passes = zero_from_one is_white m.white is.white;
+  stops = stops_one is_key_byte is_white key-not_white m.key (colon ∷ (m.value ++ x)) is.key;
+}
 
-pub no_value : (strict : Bool) (word between before key_word : Text) (name : Name)
-    → IsNameOf strict word (Some name) → between ≡ before ++ colon ∷ []
-    → IsLastWord before key_word → key_in strict key_word (keys_for name) ≡ None
-    → (place : Place) → ¬ IsPlaceAt strict word between place
-no_value strict word between before key_word name named ends last none places.Name is = is
-no_value strict word between before key_word name named ends last none (places.Key other) is =
-    is.1 before ends
-no_value strict word between before key_word name named ends last none (places.Value key) is =
-    let front : is.0 ≡ before = append_cancel_right is.0 before (colon ∷ []) (sym is.4 ∙ ends) in
-    let same : is.1 ≡ key_word =
-    same_last before is.1 key_word (subst (λ t. IsLastWord t is.1) front is.5) last in
-    let keys : keys_for is.2 ≡ keys_for name = same_keys strict word is.2 name is.3 named in
-    let found : key_in strict key_word (keys_for name) ≡ Some (key_for key) =
-    subst (λ w. key_in strict w (keys_for name) ≡ Some (key_for key)) same
-    (subst (λ ks. key_in strict is.1 ks ≡ Some (key_for key)) keys is.6) in
-    none-some (key_for key) (sym none ∙ found)
+cut_text : (m : Modifier) (x : Text) → IsModifier m → StopsBefore is_word_byte x
+    → IsCut is_word_byte (word_behind m x) (m.key ++ colon ∷ m.value) x
+cut_text m x is stops = record {
+  whole = simp append_assoc;
+  passes = all-append is_word_byte m.key (colon ∷ m.value)
+      (all-implied is_key_byte is_word_byte key-word m.key (zero_from_one is_key_byte m.key is.key))
+      (zero_from_one is_word_byte m.value is.value);
+  stops = stops;
+}
 
--- white bytes are ASCII, so the last word begins where a character does
-pub boundary_behind : (bytes : Text) (start : ℕ) → IsUtf8 bytes → IsBehindWhite bytes start
-    → IsCharBoundary bytes start
-boundary_behind bytes start utf8 is =
-    elim (cases_lt 0 start) [
-      | inl below ↦ subst (IsCharBoundary bytes) (omega (arith, below))
-          (IsCharBoundary-after_ascii bytes (start - 1) utf8 (omega (arith, below, is.within))
-          (white_is_ascii _ (is.white below)))
-      | inr none ↦ subst (IsCharBoundary bytes) (omega (arith, none)) (IsCharBoundary-start bytes utf8)
-    ]
+-- what follows a modifier is the same, whichever it is
+same_behind : (m n : Modifier) (x y : Text) → IsModifier m → IsModifier n
+    → StopsBefore is_word_byte x → StopsBefore is_word_byte y
+    → modifier_text m ++ x ≡ modifier_text n ++ y → x ≡ y
+same_behind m n x y is_m is_n stops_x stops_y e =
+    let a = cut_white m x is_m in
+    let b = cut_white n y is_n in
+    let words = same_cut is_white (modifier_text m ++ x) m.white _ n.white _ a (e ∙ b.whole) b.passes
+    b.stops in
+    let c = cut_text m x is_m stops_x in
+    let d = cut_text n y is_n stops_y in
+    (same_cut is_word_byte (word_behind m x) (m.key ++ colon ∷ m.value) x (n.key ++ colon ∷ n.value) y c
+    (words.rest ∙ d.whole) d.passes d.stops).rest
+
+stops_behind : (ms : List Modifier) (rest : Text) → AreModifiers ms → StopsBefore is_word_byte rest
+    → StopsBefore is_word_byte (modifiers_text ms ++ rest)
+stops_behind [] rest are stops = stops
+stops_behind (m ∷ ms) rest are stops =
+    subst (StopsBefore is_word_byte) (modifiers_before-is (m ∷ ms) rest)
+    (stops_one is_white is_word_byte white-not_word m.white _ are.0.white)
+
+same_end : (ms ns : List Modifier) (a b : Text) → AreModifiers ms → AreModifiers ns
+    → StopsBefore is_word_byte a → StopsBefore is_word_byte b → BeginsNoModifier a
+    → BeginsNoModifier b → modifiers_text ms ++ a ≡ modifiers_text ns ++ b → a ≡ b
+same_end [] [] a b are_m are_n stops_a stops_b none_a none_b e = e
+same_end [] (n ∷ ns) a b are_m are_n stops_a stops_b none_a none_b e =
+    absurd (none_a n (modifiers_text ns ++ b) are_n.0 (stops_behind ns b are_n.1 stops_b)
+    (e ∙ append_assoc (modifier_text n) (modifiers_text ns) b))
+same_end (m ∷ ms) [] a b are_m are_n stops_a stops_b none_a none_b e =
+    absurd (none_b m (modifiers_text ms ++ a) are_m.0 (stops_behind ms a are_m.1 stops_a)
+    (sym e ∙ append_assoc (modifier_text m) (modifiers_text ms) a))
+same_end (m ∷ ms) (n ∷ ns) a b are_m are_n stops_a stops_b none_a none_b e =
+    same_end ms ns a b are_m.1 are_n.1 stops_a stops_b none_a none_b
+    (same_behind m n (modifiers_text ms ++ a) (modifiers_text ns ++ b) are_m.0 are_n.0
+    (stops_behind ms a are_m.1 stops_a) (stops_behind ns b are_n.1 stops_b)
+    (sym (append_assoc (modifier_text m) (modifiers_text ms) a) ∙ e
+    ∙ append_assoc (modifier_text n) (modifiers_text ns) b))
+
+more_text : (ms : List Modifier) (m : Modifier) (behind : Text)
+    → modifiers_text ms ++ (modifier_text m ++ behind) ≡ modifiers_text (ms ++ m ∷ []) ++ behind
+more_text [] m behind = ap (λ t. t ++ behind) (sym (append-nil (modifier_text m)))
+more_text (x ∷ ms) m behind =
+    append_assoc (modifier_text x) (modifiers_text ms) (modifier_text m ++ behind)
+    ∙ ap (λ t. modifier_text x ++ t) (more_text ms m behind)
+    ∙ sym (append_assoc (modifier_text x) (modifiers_text (ms ++ m ∷ [])) behind)
+
+more_are : (ms : List Modifier) (m : Modifier) → AreModifiers ms → IsModifier m
+    → AreModifiers (ms ++ m ∷ [])
+more_are [] m are is = (is, tt)
+more_are (x ∷ ms) m are is = (are.0, more_are ms m are.1 is)
+
+pub one_more : (text rest behind : Text) (m : code.Modifier) → IsBehindSome text rest
+    → BeginsModified rest m behind → IsBehindSome text behind
+one_more text rest behind m so_far is = record {
+  modifiers = so_far.modifiers ++ is.modifier ∷ [];
+  are = more_are so_far.modifiers is.modifier so_far.are is.is;
+  whole = so_far.whole ∙ ap (λ t. modifiers_text so_far.modifiers ++ t) is.whole
+      ∙ more_text so_far.modifiers is.modifier behind;
+  stops = is.stops;
+}
+
+pub no_more : (text : Text) → StopsBefore is_word_byte text → IsBehindSome text text
+no_more text stops = record { modifiers = []; are = tt; whole = refl; stops = stops }
+
+-- The head that a text ends in.
+
+pub named_head : (front bracket name rest between : Text) → IsLastBracket front bracket
+    → BeginsNamed bracket name rest → IsBehindAll rest between → IsNamedHead front name between
+named_head front bracket name rest between last named all =
+    let ms = all.some.modifiers in (
+      record { white = named.white; name = name; modifiers = ms },
+      refl,
+      record {
+        before = last.before;
+        is = record { white = named.all_white; name = named.word; modifiers = all.some.are };
+        whole = last.whole ∙ ap (λ t. last.before ++ t) (named.whole
+            ∙ ap (λ t. left ∷ (named.white ++ (name ++ t))) all.some.whole
+            ∙ ap (λ t. left ∷ t) (regrouped named.white name (modifiers_text ms) between));
+      },
+    )
   where
-    white_is_ascii : (b : ℕ) → is_white b ≡ true → b < 128
-    white_is_ascii b e = grind (arith, nat_tests)
+    regrouped : (a b c d : Text) → a ++ (b ++ (c ++ d)) ≡ ((a ++ b) ++ c) ++ d
+    regrouped a b c d = simp append_assoc
+
+pub names_head : (front bracket : Text) (name rest end : Bor (List ℕ)) → IsLastBracket front bracket
+    → NamesHeads bracket (Some (name, rest)) → IsBehindAll rest.now end.now
+    → NamesHead front (Some (name, end))
+names_head front bracket name rest end last names all h between ends is =
+    let e = bracket_of front bracket h between last ends is in
+    let found = names h between is.is ends.stops e in
+    let some = all.some in (
+      found.0,
+      same_end some.modifiers h.modifiers end.now between some.are is.is.modifiers some.stops
+          ends.stops all.none ends.none (sym some.whole ∙ found.1),
+    )
+
+pub names_none : (front bracket : Text) → IsLastBracket front bracket → NamesHeads bracket None
+    → NamesHead front None
+names_none front bracket last names h between ends is =
+    names h between is.is ends.stops (bracket_of front bracket h between last ends is)

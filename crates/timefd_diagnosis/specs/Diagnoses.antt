@@ -16,4 +16,4 @@ IsOfFault f d = fault_of d.fault ≡ f
 pub record IsDiagnosis (language : Language) (text : Text) (d : Diagnostic) : Type 0 where
   pub start : d.span.start ≡ index d.fault
   pub end : d.span.end ≡ end_of language text (fault_of d.fault)
-  pub help : IsHelpFor language text (fault_of d.fault).kind d.span d.help
+  pub help : IsHelpFor language text (fault_of d.fault) d.help

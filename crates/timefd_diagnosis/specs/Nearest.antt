@@ -1,6 +1,7 @@
 -- Which word is the nearest to another.
-use Rattle.std.specs.Prelude.{ℕ, ◌≡◌, ◌≤◌, ◌<◌, ◌+◌, ◌/◌, max, List, [], ◌∷◌, ◌++◌, length, Option, Some, None, All, chars, nat_lt, ◌⊎◌, if◌then◌else◌}
+use Rattle.std.specs.Prelude.{ℕ, ◌≡◌, ◌≤◌, ◌<◌, ◌+◌, ◌/◌, max, List, [], ◌∷◌, ◌++◌, length, Option, Some, None, All, chars, nat_eq, nat_lt, ◌⊎◌, if◌then◌else◌}
 use denote.Ref.{Bor}
+use Rattle.std.specs.List.{list_any}
 use Rattle.timefd_component.specs.Tree.{Text}
 use Rattle.timefd_diagnosis.specs.declared.nearest.Best.{Best}
 use Rattle.timefd_diagnosis.specs.Edits.{IsDistance, IsMadeBy}
@@ -16,6 +17,14 @@ reach word = reach_of (length (chars word))
 -- No fewer edits make the one text of the other, by their characters.
 abbrev pub IsAsFarAs : ℕ → Text → Text → Type 0
 IsAsFarAs n word w = (m : ℕ) → IsMadeBy m (chars word) (chars w) → n ≤ m
+
+-- how many of some characters aren't among others
+abbrev pub lack_of : List ℕ → ℕ → ℕ
+lack_of others c = if list_any (nat_eq c) others then 0 else 1
+
+abbrev pub lacking : List ℕ → List ℕ → ℕ
+lacking others [] = 0
+lacking others (c ∷ characters) = lack_of others c + lacking others characters
 
 -- It is the first of the nearest words, so many edits away, and is near.
 pub record IsFirstNearest (words : List Text) (word found : Text) (n : ℕ) : Type 0 where

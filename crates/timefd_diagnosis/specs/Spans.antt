@@ -1,5 +1,6 @@
 -- Where a fault ends.
-use Rattle.std.specs.Prelude.{ℕ, ◌+◌, [], ◌∷◌, length, drop, min, nat_lt, if◌then◌else◌}
+use Rattle.std.specs.Char.{len_utf8}
+use Rattle.std.specs.Prelude.{ℕ, ◌+◌, List, [], ◌∷◌, chars, length, drop, min}
 use Rattle.std.specs.List.{prefix_len}
 use Rattle.timefd_component.specs.Tree.{Text}
 use Rattle.timefd_fault.specs.Faults.{Kind, Fault, unclosed_bracket, invalid_name, invalid_modifier, missing_name, missing_modifier, expected, not_supported, duplicate_modifier, invalid_combination}
@@ -30,18 +31,14 @@ abbrev pub extent_of : Language → Kind → Extent
 extent_of (Version v) kind = version_extent kind
 extent_of Strftime kind = Character
 
--- how many bytes the first character has, as its first byte says
-abbrev pub character_len : Text → ℕ
-character_len [] = 0
-character_len (b ∷ bytes) =
-    if nat_lt b 0x80 then 1
-    else if nat_lt b 0xe0 then min (length (b ∷ bytes)) 2
-    else if nat_lt b 0xf0 then min (length (b ∷ bytes)) 3
-    else min (length (b ∷ bytes)) 4
+-- how many bytes the first of some characters has
+abbrev pub first_len : List ℕ → ℕ
+first_len [] = 0
+first_len (c ∷ characters) = len_utf8 c
 
 -- how many bytes at the front of what stands there
 abbrev pub measured : Extent → Text → ℕ
-measured Character rest = character_len rest
+measured Character rest = first_len (chars rest)
 measured Word rest = prefix_len is_word_byte rest
 measured Key rest = prefix_len is_key_byte rest
 measured (Bytes len) rest = min len (length rest)

@@ -2,6 +2,7 @@
 
 ghost use Rattle.std.specs.Prelude.{◌≡◌, ◌↔◌, List, None, IfOk, IfSome};
 ghost use Rattle.timefd_component.specs.Tree.{Tree};
+ghost use Rattle.timefd_borrowed_fault.specs.Placed.{IsPlaced};
 ghost use Rattle.timefd_fault.specs.Faults.{fault_of};
 ghost use Rattle.timefd_language.specs.Grammar.{nesting_limit};
 ghost use Rattle.timefd_parse.specs.Language.{SpellsIn, FaultIn};
@@ -34,6 +35,8 @@ pub fn diagnose(
         → (list : List Tree) × SpellsIn language nesting_limit text.now list) }
     ensures refused { IfOk result (λ found. IfSome found (λ d.
         FaultIn language nesting_limit text.now (fault_of d.fault))) }
+    // The fault's index lies in the text or at its end, between two characters.
+    ensures place { IfOk result (λ found. IfSome found (λ d. IsPlaced text.now (fault_of d.fault))) }
     ensures diagnosis { IfOk result (λ found. IfSome found (IsDiagnosis language text.now)) }
 {
     match amount_within(alloc, language, NESTING_LIMIT, text) {
@@ -50,10 +53,11 @@ fn described(
     text: &str,
     fault: InvalidFormatDescription,
 ) -> Result<Diagnostic, AllocError>
+    requires { IsPlaced text.now (fault_of fault) }
     ensures fault { IfOk result (IsOfFault (fault_of fault)) }
     ensures diagnosis { IfOk result (IsDiagnosis language text.now) }
 {
     let span = span_of(language, text, &fault);
-    let help = help_for(alloc, language, text, &fault, span)?;
+    let help = help_for(alloc, language, text, &fault)?;
     Ok(Diagnostic { fault, span, help })
 }

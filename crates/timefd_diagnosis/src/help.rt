@@ -1,15 +1,15 @@
 //! What to write in place of what is at fault.
 
-ghost use Rattle.std.specs.Prelude.{◌≡◌, IfOk, MatchOption};
+ghost use Rattle.std.specs.Prelude.{IfOk, MatchOption};
+ghost use Rattle.std.specs.Str.{IsCharBoundary};
+ghost use Rattle.timefd_borrowed_fault.specs.Placed.{IsPlaced};
 ghost use Rattle.timefd_fault.specs.Faults.{fault_of};
 ghost use Rattle.timefd_diagnosis.specs.Helps.{HasNoModifierPlace, IsHelpFor, IsModifierPlace, IsWordsHelp};
-ghost use Rattle.timefd_diagnosis.specs.Helps as spec;
 
 use crate::code::Code;
 use crate::cure::{advice, strftime_advice};
 use crate::nearest::nearest;
 use crate::place::{Place, place_behind};
-use crate::span::Span;
 use std::alloc::{AllocError, Global};
 use timefd_parse::{DescriptionVersion, InvalidFormatDescription, Language};
 
@@ -31,18 +31,18 @@ pub enum Help {
     Advice(&'static str),
 }
 
-/// What helps against a fault of a text, which has this span. An `Err` says that memory ran out.
+/// What helps against a fault of a text. An `Err` says that memory ran out.
 pub fn help_for(
     alloc: Global,
     language: Language,
     text: &str,
     fault: &InvalidFormatDescription,
-    span: Span,
 ) -> Result<Help, AllocError>
-    ensures help { IfOk result (IsHelpFor language text.now (fault_of fault.now).kind span) }
+    requires { IsPlaced text.now (fault_of fault.now) }
+    ensures help { IfOk result (IsHelpFor language text.now (fault_of fault.now)) }
 {
     match language {
-        Language::Version(version) => version_help(alloc, version, text, fault, span),
+        Language::Version(version) => version_help(alloc, version, text, fault),
         Language::Strftime => Ok(Help::Advice(strftime_advice(Code::of(fault)))),
     }
 }
@@ -52,17 +52,16 @@ fn version_help(
     version: DescriptionVersion,
     text: &str,
     fault: &InvalidFormatDescription,
-    span: Span,
 ) -> Result<Help, AllocError>
-    ensures { IfOk result (IsHelpFor (Language.Version version) text.now
-        (fault_of fault.now).kind span) }
+    requires { IsPlaced text.now (fault_of fault.now) }
+    ensures { IfOk result (IsHelpFor (Language.Version version) text.now (fault_of fault.now)) }
 {
     match fault {
         InvalidFormatDescription::InvalidComponentName { name, .. } => {
             words_help(alloc, version.is_strict(), Place::Name, name)
         }
-        InvalidFormatDescription::InvalidModifier { value, .. } => {
-            match modifier_place(version.is_strict(), text, value, span) {
+        InvalidFormatDescription::InvalidModifier { value, index } => {
+            match modifier_place(version.is_strict(), text, *index, value) {
                 Some(place) => words_help(alloc, version.is_strict(), place, value),
                 None => Ok(Help::Advice(advice(version, Code::InvalidModifier))),
             }
@@ -93,22 +92,12 @@ fn words_help(alloc: Global, strict: bool, place: Place, word: &str) -> Result<H
     })
 }
 
-// What the word of a modifier was to be.
-fn modifier_place(strict: bool, text: &str, word: &str, span: Span) -> Option<Place>
-    ensures { MatchOption result (HasNoModifierPlace strict text.now word.now span)
-        (IsModifierPlace strict text.now word.now span) }
+// What a modifier's word that stands at this index was to be.
+fn modifier_place(strict: bool, text: &str, index: usize, word: &str) -> Option<Place>
+    requires { IsCharBoundary text.now index }
+    ensures { MatchOption result (HasNoModifierPlace strict text.now index word.now)
+        (IsModifierPlace strict text.now index word.now) }
 {
-    let front = text.get(..front_end(word, span))?;
-    place_behind(strict, front)
-}
-
-// Where what is looked at for that ends. A colon with nothing on one side is looked at from behind.
-fn front_end(word: &str, span: Span) -> usize
-    ensures { result ≡ spec.front_end word.now span }
-{
-    if word.is_empty() {
-        span.end
-    } else {
-        span.start
-    }
+    let (front, _) = text.split_at(index);
+    place_behind(strict, front, word)
 }

@@ -6,7 +6,7 @@ mod code;
 mod cure;
 mod diagnostic;
 mod help;
-mod nearest;
+pub mod nearest;
 pub mod place;
 mod span;
 pub mod words;

@@ -1,6 +1,7 @@
 //! The nearest of some words.
 
-ghost use Rattle.std.specs.Prelude.{◌≡◌, IfOk, chars, length, option_map};
+ghost use Rattle.std.specs.Prelude.{◌≡◌, ◌≤◌, IfOk, chars, length, nat_eq, option_map};
+ghost use Rattle.std.specs.List.{list_any};
 ghost use Rattle.timefd_diagnosis.specs.Edits.{IsDistance};
 ghost use Rattle.timefd_diagnosis.specs.Nearest as spec;
 ghost use Rattle.timefd_diagnosis.specs.Nearest.{IsNearest, IsNext, IsSoFar};
@@ -61,7 +62,7 @@ fn best_of_all(
 }
 
 // The best so far, or one more word if it is better. Words that are longer or shorter by more
-// characters than the best has edits aren't compared.
+// characters than the best has edits, or that lack as many, aren't compared.
 fn next_best(
     alloc: Global,
     word: &str,
@@ -73,6 +74,9 @@ fn next_best(
     ensures { IfOk result (IsNext word.now best candidate.entry) }
 {
     if count.abs_diff(char_count(candidate)) >= best.edits {
+        return Ok(best);
+    }
+    if lacking(word, candidate) >= best.edits {
         return Ok(best);
     }
     let edits = distance(alloc, word, candidate)?;
@@ -91,6 +95,30 @@ fn distance(alloc: Global, word: &str, other: &str) -> Result<usize, AllocError>
     ensures { IfOk result (IsDistance (chars word.now) (chars other.now)) }
 {
     damerau_levenshtein(alloc, word, other)
+}
+
+// A number of characters of a word that another one lacks. No fewer edits make that of it.
+fn lacking(word: &str, other: &str) -> usize
+    ensures { result ≤ spec.lacking (chars other.now) (chars word.now) }
+{
+    let mut count: usize = 0;
+    for character in word.chars() {
+        count = count.saturating_add(lack_of(other, character));
+    }
+    count
+}
+
+// 1 where a text lacks the character.
+fn lack_of(text: &str, character: char) -> usize
+    ensures { result ≡ spec.lack_of (chars text.now) character }
+{
+    if has(text, character) { 0 } else { 1 }
+}
+
+fn has(text: &str, character: char) -> bool
+    ensures { result ≡ list_any (nat_eq character) (chars text.now) }
+{
+    text.chars().any(|c| c == character)
 }
 
 fn char_count(text: &str) -> usize

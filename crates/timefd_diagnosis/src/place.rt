@@ -1,10 +1,9 @@
 //! What stands where a fault is: a name, a key or a value.
 
-ghost use Rattle.std.specs.Prelude.{◌≡◌, MatchOption};
-ghost use Rattle.timefd_component.specs.Tree.{Text};
-ghost use Rattle.timefd_language.specs.Bytes as bytes;
+ghost use Rattle.std.specs.Prelude.{◌≡◌, IfSome, MatchOption};
+ghost use Rattle.timefd_language.specs.Bytes.{is_word_byte, StopsBefore, ZeroOrMore};
 ghost use Rattle.timefd_diagnosis.specs.Places as spec;
-ghost use Rattle.timefd_diagnosis.specs.Places.{IsBehindWhite, IsHeadIn, IsInside, IsLastWord, IsPlaceAt, IsPlaceBehind};
+ghost use Rattle.timefd_diagnosis.specs.Places.{is_inside, IsBehindAll, IsLastBracket, IsNamedHead, IsPlaceAt, IsPlaceBehind, NamesHead};
 ghost use Rattle.timefd_diagnosis.specs.Words.{texts};
 ghost use Rattle.timefd_diagnosis.specs.declared.place.Place.{Place};
 
@@ -12,6 +11,7 @@ use crate::words::{keys, names, values};
 use timefd_language::key::{Key, key_of};
 use timefd_language::name::{Name, name_of};
 use timefd_language::text::{Class, cut};
+use timefd_parse::{bracket_name, first_modifier};
 
 /// What a word at fault was to be.
 #[derive(Clone, Copy)]
@@ -37,76 +37,74 @@ impl Place {
     }
 }
 
-/// What stands behind the last `[` of a text, if it has one.
-fn inside(front: &str) -> Option<&str>
-    ensures { MatchOption result ((rest : Text) → ¬ IsInside front.now rest)
-        (λ rest. IsInside front.now rest.now) }
-{
-    match front.rsplit_once('[') {
-        Some((_, rest)) => Some(rest),
-        None => None,
-    }
-}
-
-// What stands behind the last white byte of a text.
-fn last_word(text: &str) -> &str
-    ensures { IsLastWord text.now result.now }
-{
-    let (_, word) = text.split_at(behind_white(text.as_bytes()));
-    word
-}
-
-// Where the last word begins.
-fn behind_white(bytes: &[u8]) -> usize
-    ensures { IsBehindWhite bytes.now result }
-{
-    let mut start = 0;
-    for (at, byte) in bytes.iter().enumerate() {
-        if is_white(*byte) {
-            start = at + 1;
-        }
-    }
-    start
-}
-
-fn is_white(byte: u8) -> bool
-    ensures { result ≡ bytes.is_white byte }
-{
-    matches!(byte, b'\t' | b'\n' | 12 | b'\r' | b' ')
-}
-
-/// What a modifier's word was to be that stands behind this text: a key, or the value of one.
+/// What a modifier's word was to be that stands behind this text: a key, or the value of one. Where
+/// the word is empty, a colon stands there, and is taken for that of a key without a value.
 /// `None` where that can't be told, as no name or no key stands there.
-pub fn place_behind(strict: bool, front: &str) -> Option<Place>
-    ensures place { IsPlaceBehind strict front.now result }
+pub fn place_behind(strict: bool, front: &str, word: &str) -> Option<Place>
+    ensures place { IsPlaceBehind strict front.now word.now result }
 {
-    let (word, between) = head_in(front)?;
-    place_at(strict, word, between)
+    let (name, between) = head_in(front)?;
+    place_at(strict, name, between, word)
 }
 
-// The name of the bracket that a text ends in, and what stands behind the name.
+// The name of the bracket that a text ends in, and what stands behind its modifiers.
 fn head_in(front: &str) -> Option<(&str, &str)>
-    ensures { MatchOption result
-        ((name : Text) (between : Text) → ¬ IsHeadIn front.now name between)
-        (λ head. IsHeadIn front.now head.0.now head.1.now) }
+    ensures found { IfSome result (λ head. IsNamedHead front.now head.0.now head.1.now) }
+    ensures heads { NamesHead front.now result }
 {
-    let head = inside(front)?;
-    let (_, rest) = cut(head, Class::White);
-    Some(cut(rest, Class::Word))
+    let bracket = last_bracket(front)?;
+    let (name, modifiers) = bracket_name(bracket)?;
+    Some((name, behind_modifiers(modifiers)))
 }
 
-// What stands behind a name and the rest of its head.
-fn place_at(strict: bool, word: &str, between: &str) -> Option<Place>
-    ensures { MatchOption result
-        ((place : Place) → ¬ IsPlaceAt strict word.now between.now place)
-        (IsPlaceAt strict word.now between.now) }
+// What a text ends with from its last `[` on, if it has one.
+fn last_bracket(text: &str) -> Option<&str>
+    ensures { MatchOption result (ZeroOrMore is_inside text.now)
+        (λ bracket. IsLastBracket text.now bracket.now) }
 {
-    let name = name_of(strict, word)?;
-    match between.strip_suffix(':') {
-        None => Some(Place::Key(name)),
-        Some(before) => {
-            let key = key_of(name, strict, last_word(before))?;
-            Some(Place::Value(key))
-        }
+    let at = text.rfind('[')?;
+    let (_, bracket) = text.split_at(at);
+    Some(bracket)
+}
+
+// What stands behind the modifiers that a text begins with.
+fn behind_modifiers(text: &str) -> &str
+    requires { StopsBefore is_word_byte text.now }
+    ensures { IsBehindAll text.now result.now }
+{
+    let mut rest = text;
+    'modifiers: while let Some((_, behind)) = first_modifier(rest) {
+        rest = behind;
     }
+    rest
+}
+
+// What a word was to be that stands behind a head with this name, and behind this.
+fn place_at(strict: bool, name: &str, between: &str, word: &str) -> Option<Place>
+    ensures { MatchOption result
+        ((place : Place) → ¬ IsPlaceAt strict name.now between.now word.now place)
+        (IsPlaceAt strict name.now between.now word.now) }
+{
+    let named = name_of(strict, name)?;
+    let (white, rest) = cut(between, Class::White);
+    let (key, after) = cut(rest, Class::Key);
+    if white.is_empty() {
+        return None;
+    }
+    if rest.is_empty() && !word.is_empty() {
+        return Some(Place::Key(named));
+    }
+    if after == colon_before(word) {
+        Some(Place::Value(key_of(named, strict, key)?))
+    } else {
+        None
+    }
+}
+
+// What stands between a key and its value: nothing where that is empty, as the colon is at fault
+// then.
+fn colon_before(word: &str) -> &'static str
+    ensures { result.now ≡ spec.colon_before word.now }
+{
+    if word.is_empty() { "" } else { ":" }
 }

@@ -1,11 +1,13 @@
 //! The bytes of a text that are at fault.
 
-ghost use Rattle.std.specs.Prelude.{◌≡◌, ◌≤◌, ◌+◌, length, drop};
+ghost use Rattle.std.specs.Prelude.{◌≡◌, ◌≤◌, chars, length};
 ghost use Rattle.std.specs.List.{prefix_len};
+ghost use Rattle.timefd_borrowed_fault.specs.Placed.{IsPlaced};
 ghost use Rattle.timefd_fault.specs.Faults as faults;
-ghost use Rattle.timefd_language.specs.Bytes as bytes;
+ghost use Rattle.timefd_language.specs.Cut.{class_test};
 ghost use Rattle.timefd_diagnosis.specs.Spans as spec;
 
+use timefd_language::text::{Class, cut};
 use timefd_parse::{InvalidFormatDescription, Language};
 
 /// Bytes of a text, by their indices: those from `start` on, up to `end`.
@@ -31,11 +33,12 @@ pub enum Extent {
 /// The bytes at fault: from the fault's index on, up to the end of the name, key or value there, or
 /// else of the one character there.
 pub fn span_of(language: Language, text: &str, fault: &InvalidFormatDescription) -> Span
+    requires { IsPlaced text.now (faults.fault_of fault.now) }
     ensures start { result.start ≡ faults.index fault.now }
     ensures end { result.end ≡ spec.end_of language text.now (faults.fault_of fault.now) }
 {
     let start = fault.index();
-    let rest = rest_from(text, start);
+    let (_, rest) = text.split_at(start);
     Span {
         start,
         end: start + measured(extent_of(language, fault), rest),
@@ -78,68 +81,35 @@ fn modifier_extent(value: &str) -> Extent
     }
 }
 
-// The bytes from an index on.
-fn rest_from(text: &str, start: usize) -> &[u8]
-    ensures { result.now ≡ drop start text.now }
-{
-    text.as_bytes().get(start..).unwrap_or(&[])
-}
-
 // How many bytes at the front an extent takes.
-fn measured(extent: Extent, rest: &[u8]) -> usize
+fn measured(extent: Extent, rest: &str) -> usize
     ensures len { result ≡ spec.measured extent rest.now }
     ensures within { result ≤ length rest.now }
 {
     match extent {
-        Extent::Character => character_len(rest),
-        Extent::Word => word_len(rest),
-        Extent::Key => key_len(rest),
+        Extent::Character => first_len(rest),
+        Extent::Word => len_of(rest, Class::Word),
+        Extent::Key => len_of(rest, Class::Key),
         Extent::Bytes(len) => len.min(rest.len()),
     }
 }
 
-fn character_len(rest: &[u8]) -> usize
-    ensures len { result ≡ spec.character_len rest.now }
+// How many bytes the first character has.
+fn first_len(rest: &str) -> usize
+    ensures len { result ≡ spec.first_len (chars rest.now) }
     ensures within { result ≤ length rest.now }
 {
-    match rest {
-        [] => 0,
-        [byte, ..] if *byte < 0x80 => 1,
-        [byte, ..] if *byte < 0xE0 => rest.len().min(2),
-        [byte, ..] if *byte < 0xF0 => rest.len().min(3),
-        [_, ..] => rest.len().min(4),
+    match rest.chars().next() {
+        Some(character) => character.len_utf8(),
+        None => 0,
     }
 }
 
-fn is_word_byte(byte: u8) -> bool
-    ensures { result ≡ bytes.is_word_byte byte }
-{
-    !matches!(
-        byte,
-        b'[' | b']' | b'\\' | b'\t' | b'\n' | 12 | b'\r' | b' '
-    )
-}
-
-fn word_len(rest: &[u8]) -> usize
-    ensures len { result ≡ prefix_len bytes.is_word_byte rest.now }
+// How many bytes at the front are of a class.
+fn len_of(rest: &str, class: Class) -> usize
+    ensures len { result ≡ prefix_len (class_test class) rest.now }
     ensures within { result ≤ length rest.now }
 {
-    for (at, byte) in rest.iter().enumerate() {
-        if !is_word_byte(*byte) {
-            return at;
-        }
-    }
-    rest.len()
-}
-
-fn key_len(rest: &[u8]) -> usize
-    ensures len { result ≡ prefix_len bytes.is_key_byte rest.now }
-    ensures within { result ≤ length rest.now }
-{
-    for (at, byte) in rest.iter().enumerate() {
-        if *byte == b':' || !is_word_byte(*byte) {
-            return at;
-        }
-    }
-    rest.len()
+    let (front, _) = cut(rest, class);
+    front.len()
 }

@@ -1,23 +1,36 @@
 -- Texts as JSON writes them.
-use Rattle.std.specs.Prelude.{ℕ, ◌+◌, ◌-◌, ◌/◌, ◌%◌, ◌||◌, ◌==◌, [], ◌∷◌, ◌++◌, codes, decimal, flat_map, nat_lt, if◌then◌else◌}
+use Rattle.std.specs.Prelude.{ℕ, ◌+◌, ◌-◌, ◌/◌, ◌%◌, ◌||◌, ◌==◌, [], ◌∷◌, ◌++◌, chars, codes, decimal, encode_utf8, flat_map, nat_lt, if◌then◌else◌}
+use Rattle.std.specs.Char.Escape.{encode_utf16}
+use Rattle.std.specs.Str.{IsUtf8, NonePass}
 use Rattle.timefd_component.specs.Tree.{Text}
 use Rattle.timefd_drawing.specs.declared.json.Entry.{Entry}
 use Rattle.timefd_drawing.specs.declared.json.Detail.{Detail}
+use Rattle.timefd_drawing.specs.Shown.{is_hidden}
 
 abbrev pub hex_digit : ℕ → ℕ
 hex_digit n = if nat_lt n 10 then 48 + n else 97 + (n - 10)
 
--- Quotes and backslashes stand behind a backslash, and control characters by their numbers; all
--- else is as it is.
+-- a number of 16 bits in four digits
+abbrev pub unit : ℕ → Text
+unit n =
+    codes "\\u"
+    ++ (hex_digit (n / 4096) ∷ hex_digit (n / 256 % 16) ∷ hex_digit (n / 16 % 16)
+    ∷ hex_digit (n % 16) ∷ [])
+
+-- the one or two numbers of a character in UTF-16
+abbrev pub units : ℕ → Text
+units c = flat_map unit (encode_utf16 c)
+
+-- Quotes and backslashes stand behind a backslash, and hidden characters by their numbers; all else
+-- is as it is.
 abbrev pub escaped : ℕ → Text
-escaped byte =
-    if (byte == 34) || (byte == 92) then 92 ∷ byte ∷ []
-    else if nat_lt byte 32 then codes "\\u00"
-    ++ (hex_digit (byte / 16) ∷ hex_digit (byte % 16) ∷ [])
-    else byte ∷ []
+escaped c =
+    if (c == 34) || (c == 92) then 92 ∷ c ∷ []
+    else if is_hidden c then units c
+    else encode_utf8 c
 
 abbrev pub all_escaped : Text → Text
-all_escaped text = flat_map escaped text
+all_escaped text = flat_map escaped (chars text)
 
 abbrev pub quoted : Text → Text
 quoted text = codes "\"" ++ (all_escaped text ++ codes "\"")
@@ -28,16 +41,28 @@ text_field front text = front ++ quoted text
 abbrev pub number_field : Text → ℕ → Text
 number_field front number = front ++ decimal number
 
-abbrev pub object : Entry → Detail → Text
-object e d =
-    [] ++ text_field (codes "{\"code\":") e.code.now ++ number_field (codes ",\"column\":") e.column
-    ++ number_field (codes ",\"end\":") d.end ++ text_field (codes ",\"file\":") e.file.now
-    ++ text_field (codes ",\"help\":") d.help.now ++ number_field (codes ",\"line\":") e.line
-    ++ text_field (codes ",\"message\":") e.message.now
-    ++ number_field (codes ",\"start\":") d.start ++ codes "}\n"
+-- an object on a fault of a text, and one where no text was looked at
+abbrev pub object : Text → Text → ℕ → ℕ → Text → ℕ → ℕ → Text → Text
+object code file line column message start end help =
+    [] ++ text_field (codes "{\"code\":") code ++ number_field (codes ",\"column\":") column
+    ++ number_field (codes ",\"end\":") end ++ text_field (codes ",\"file\":") file
+    ++ text_field (codes ",\"help\":") help ++ number_field (codes ",\"line\":") line
+    ++ text_field (codes ",\"message\":") message ++ number_field (codes ",\"start\":") start
+    ++ codes "}\n"
 
-abbrev pub note_object : Entry → Text
-note_object e =
-    [] ++ text_field (codes "{\"code\":") e.code.now ++ number_field (codes ",\"column\":") e.column
-    ++ text_field (codes ",\"file\":") e.file.now ++ number_field (codes ",\"line\":") e.line
-    ++ text_field (codes ",\"message\":") e.message.now ++ codes "}\n"
+abbrev pub note_object : Text → Text → ℕ → ℕ → Text → Text
+note_object code file line column message =
+    [] ++ text_field (codes "{\"code\":") code ++ number_field (codes ",\"column\":") column
+    ++ text_field (codes ",\"file\":") file ++ number_field (codes ",\"line\":") line
+    ++ text_field (codes ",\"message\":") message ++ codes "}\n"
+
+abbrev pub object_of : Entry → Detail → Text
+object_of e d =
+    object e.code.now e.file.now e.line e.column e.message.now d.start d.end d.help.now
+
+abbrev pub note_object_of : Entry → Text
+note_object_of e = note_object e.code.now e.file.now e.line e.column e.message.now
+
+-- No character of a text is hidden in quotes.
+abbrev pub NoneIsHiddenInJson : Type 0
+NoneIsHiddenInJson = (text : Text) → IsUtf8 text → NonePass is_hidden (chars (quoted text))

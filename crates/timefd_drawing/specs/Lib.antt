@@ -1,2 +1,7 @@
-pub mod Json
 pub mod Shown
+pub mod Json
+pub mod Positions
+pub mod HelpText
+pub mod Sentence
+pub mod Lines
+pub mod Drawing

@@ -1,7 +1,7 @@
 -- Which characters a terminal would obey or show nothing of, and what stands for them.
-use Rattle.std.specs.Prelude.{ℕ, ◌+◌, Bool, List, [], ◌∷◌, map, chars, nat_le, nat_lt, ◌==◌, ◌&&◌, if◌then◌else◌}
+use Rattle.std.specs.Prelude.{ℕ, ◌+◌, ◌-◌, Bool, List, [], ◌∷◌, ◌++◌, map, length, take, drop, chars, codes, nat_le, nat_lt, ◌==◌, ◌&&◌, if◌then◌else◌}
 use Rattle.std.specs.List.{list_any}
-use Rattle.std.specs.Str.{encode_utf8_all}
+use Rattle.std.specs.Str.{IsUtf8, NonePass, encode_utf8_all}
 use Rattle.timefd_component.specs.Tree.{Text}
 
 -- the codes from a first to a last one
@@ -31,3 +31,28 @@ shown c =
 
 abbrev pub safe : Text → Text
 safe text = encode_utf8_all (map shown (chars text))
+
+-- The first characters of a text, and the last ones, with a mark where some are left out.
+abbrev pub cut_end : ℕ → Text → Text
+cut_end most text =
+    if nat_lt most (length (chars text))
+    then encode_utf8_all (take most (chars text)) ++ codes ".."
+    else text
+
+abbrev pub cut_start : ℕ → Text → Text
+cut_start most text =
+    if nat_lt most (length (chars text))
+    then codes ".." ++ encode_utf8_all (drop (length (chars text) - most) (chars text))
+    else text
+
+-- How many characters are shown of what stands before a span, of the span and behind it, and of a
+-- word in a sentence.
+abbrev pub most_shown : ℕ
+most_shown = 40
+
+abbrev pub most_of_a_word : ℕ
+most_of_a_word = 80
+
+-- No character of what is shown is hidden.
+abbrev pub NoneIsHidden : Type 0
+NoneIsHidden = (text : Text) → IsUtf8 text → NonePass is_hidden (chars (safe text))

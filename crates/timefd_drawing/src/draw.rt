@@ -1,11 +1,14 @@
 //! A diagnostic as it is written.
 
-ghost use Rattle.std.specs.Prelude.{◌≢◌, [], IfOk};
+ghost use Rattle.std.specs.Prelude.{◌≡◌, ◌≢◌, [], IfOk, string_bytes};
+ghost use Rattle.timefd_drawing.specs.Drawing as spec;
 
 use crate::help_text::help_text;
-use crate::human::{colors, human, line_at};
+use crate::human::human;
 use crate::json::{Detail, Entry, note_object, object};
-use crate::shown::{columns, safe};
+use crate::lines::{error_line, place_line, short_line};
+use crate::position::{Origin, Position, position_of};
+use crate::sentence::shown_sentence;
 use std::alloc::{AllocError, Global};
 use timefd_diagnosis::{Diagnostic, code_of};
 
@@ -29,14 +32,7 @@ pub struct Style {
     pub is_colored: bool,
 }
 
-/// Where a text stands: the file's name, and the number of the line at which it begins, from 1.
-#[derive(Clone, Copy)]
-pub struct Origin<'a> {
-    pub file: &'a str,
-    pub line: u64,
-}
-
-/// The diagnostic of a text, in the form that is asked for.
+/// The diagnostic of a text, in the form that is asked for. An `Err` says that memory ran out.
 pub fn drawn(
     alloc: Global,
     style: Style,
@@ -44,47 +40,47 @@ pub fn drawn(
     text: &str,
     diagnostic: &Diagnostic,
 ) -> Result<Vec<u8>, AllocError>
-    ensures { IfOk result (λ message. message.items ≢ []) }
+    ensures exact { IfOk result (λ message. message.items
+        ≡ spec.drawn style origin.entry text.now diagnostic.now) }
+    ensures some { IfOk result (λ message. message.items ≢ []) }
 {
-    let line = line_at(origin, text, diagnostic.span.start, diagnostic.span.end);
-    let column = columns(alloc, line.before)?.saturating_add(1);
     match style.format {
-        Format::Human => as_line(human(alloc, style.is_colored, origin, line, column, diagnostic)?),
-        Format::Short => as_line(short(alloc, origin, line.number, column, diagnostic)?),
-        Format::Json => as_object(alloc, origin, line.number, column, diagnostic),
+        Format::Human => {
+            let drawing = human(alloc, style.is_colored, origin, text, diagnostic)?;
+            Ok(drawing.into_bytes())
+        }
+        Format::Short => {
+            let line = short(alloc, origin, text, diagnostic)?;
+            Ok(line.into_bytes())
+        }
+        Format::Json => json(alloc, origin, text, diagnostic),
     }
-}
-
-// The bytes of a text, and a newline.
-fn as_line(text: String) -> Result<Vec<u8>, AllocError>
-    ensures { IfOk result (λ message. message.items ≢ []) }
-{
-    let mut bytes = text.into_bytes();
-    bytes.extend_from_slice(b"\n")?;
-    Ok(bytes)
 }
 
 fn short(
     alloc: Global,
     origin: Origin<'_>,
-    line: u64,
-    column: usize,
+    text: &str,
     diagnostic: &Diagnostic,
-) -> Result<String, AllocError> {
-    let file = safe(alloc, origin.file)?;
-    let sentence = sentence(alloc, diagnostic)?;
-    format!(in alloc; "{file}:{line}:{column}: {sentence}")
+) -> Result<String, AllocError>
+    ensures { IfOk result (λ line. string_bytes line
+        ≡ spec.short origin.entry text.now diagnostic.now) }
+{
+    let place = position_of(alloc, origin.line, text, diagnostic.span.start)?;
+    let sentence = shown_sentence(alloc, &diagnostic.fault)?;
+    short_line(alloc, origin.file, place, &sentence)
 }
 
-fn as_object(
+fn json(
     alloc: Global,
     origin: Origin<'_>,
-    line: u64,
-    column: usize,
+    text: &str,
     diagnostic: &Diagnostic,
 ) -> Result<Vec<u8>, AllocError>
-    ensures { IfOk result (λ message. message.items ≢ []) }
+    ensures { IfOk result (λ object. object.items
+        ≡ spec.json origin.entry text.now diagnostic.now) }
 {
+    let Position { line, column } = position_of(alloc, origin.line, text, diagnostic.span.start)?;
     let message = format!(in alloc; "{}", diagnostic.fault)?;
     let help = help_text(alloc, diagnostic.help)?;
     let entry = Entry {
@@ -102,13 +98,8 @@ fn as_object(
     object(alloc, entry, detail)
 }
 
-/// The sentence of the fault, with no character that a terminal would obey.
-pub fn sentence(alloc: Global, diagnostic: &Diagnostic) -> Result<String, AllocError> {
-    let sentence = format!(in alloc; "{}", diagnostic.fault)?;
-    safe(alloc, &sentence)
-}
-
-/// What is wrong with a file or a line that no description was looked for in.
+/// What is wrong with a file or a line that no description was looked for in. An `Err` says that
+/// memory ran out.
 pub fn note(
     alloc: Global,
     style: Style,
@@ -116,25 +107,48 @@ pub fn note(
     code: &str,
     message: &str,
 ) -> Result<Vec<u8>, AllocError>
-    ensures { IfOk result (λ message. message.items ≢ []) }
+    ensures exact { IfOk result (λ note. note.items
+        ≡ spec.note style origin.entry code.now message.now) }
+    ensures some { IfOk result (λ note. note.items ≢ []) }
 {
-    let file = safe(alloc, origin.file)?;
-    let line = origin.line;
-    let (red, blue, plain) = colors(style.is_colored);
+    let place = Position {
+        line: origin.line,
+        column: 1,
+    };
     match style.format {
-        Format::Human => as_line(format!(in alloc;
-            "{red}error[{code}]{plain}: {message}\n {blue}-->{plain} {file}:{line}:1\n"
-        )?),
-        Format::Short => as_line(format!(in alloc; "{file}:{line}:1: {message}")?),
+        Format::Human => {
+            let drawing = human_note(alloc, style.is_colored, origin.file, place, code, message)?;
+            Ok(drawing.into_bytes())
+        }
+        Format::Short => {
+            let line = short_line(alloc, origin.file, place, message)?;
+            Ok(line.into_bytes())
+        }
         Format::Json => note_object(
             alloc,
             Entry {
                 code,
                 file: origin.file,
-                line,
+                line: origin.line,
                 column: 1,
                 message,
             },
         ),
     }
+}
+
+fn human_note(
+    alloc: Global,
+    is_colored: bool,
+    file: &str,
+    place: Position,
+    code: &str,
+    message: &str,
+) -> Result<String, AllocError>
+    ensures { IfOk result (λ drawing. string_bytes drawing
+        ≡ spec.human_note is_colored file.now place.line place.column code.now message.now) }
+{
+    let error = error_line(alloc, is_colored, code, message)?;
+    let arrow = place_line(alloc, is_colored, " ", file, place)?;
+    format!(in alloc; "{error}{arrow}\n")
 }

@@ -1,105 +1,90 @@
 //! A diagnostic as it is drawn.
 
-use crate::draw::{Origin, sentence};
+ghost use Rattle.std.specs.Prelude.{◌≡◌, IfOk, string_bytes};
+ghost use Rattle.timefd_drawing.specs.Drawing as spec;
+
 use crate::help_text::help_text;
-use crate::shown::{parts_shown, safe};
+use crate::lines::{bar_line, caret_line, error_line, help_line, place_line, text_line};
+use crate::position::{Line, Origin, line_of, position_of};
+use crate::sentence::shown_sentence;
+use crate::shown::{cut_end, cut_start, safe};
 use std::alloc::{AllocError, Global};
 use timefd_diagnosis::{Diagnostic, code_of};
 use unicode_width::UnicodeWidthStr;
 
-/// A line, cut at a span that begins in it.
-#[derive(Clone, Copy)]
-pub struct Line<'a> {
-    /// Its number in the file, from 1.
-    pub number: u64,
-    /// What stands before the span, the span as far as it is of this line, and what is behind it.
-    pub before: &'a str,
-    pub at: &'a str,
-    pub behind: &'a str,
-}
+// The most characters that are shown of what stands before a span, of the span, and behind it.
+const MOST_SHOWN: usize = 40;
 
-/// The line of a text that a span begins in.
-pub fn line_at<'a>(origin: Origin<'_>, text: &'a str, start: usize, end: usize) -> Line<'a> {
-    let front = text.get(..start).unwrap_or(text);
-    let rest = text.get(start..).unwrap_or("");
-    let len = end.saturating_sub(start);
-    let (at, behind) = match (rest.get(..len), rest.get(len..)) {
-        (Some(at), Some(behind)) => (at, behind),
-        _ => (rest, ""),
-    };
-    let mut number = origin.line;
-    for byte in front.as_bytes() {
-        if *byte == b'\n' {
-            number = number.saturating_add(1);
-        }
-    }
-    Line {
-        number,
-        before: behind_newline(front),
-        at: before_newline(at),
-        behind: before_newline(behind),
-    }
-}
-
-// What stands behind the last newline.
-fn behind_newline(text: &str) -> &str {
-    match text.rsplit_once('\n') {
-        Some((_, line)) => line,
-        None => text,
-    }
-}
-
-// What stands before the first newline.
-fn before_newline(text: &str) -> &str {
-    match text.split_once('\n') {
-        Some((line, _)) => line,
-        None => text,
-    }
-}
-
-/// What is put before and behind a part that is coloured.
-pub fn colors(is_colored: bool) -> (&'static str, &'static str, &'static str) {
-    if is_colored {
-        ("\u{1B}[1;31m", "\u{1B}[1;36m", "\u{1B}[0m")
-    } else {
-        ("", "", "")
-    }
-}
-
-/// The drawing, without the newline at its end.
+/// The drawing. An `Err` says that memory ran out.
 pub fn human(
     alloc: Global,
     is_colored: bool,
     origin: Origin<'_>,
-    line: Line<'_>,
-    column: usize,
+    text: &str,
     diagnostic: &Diagnostic,
-) -> Result<String, AllocError> {
-    let (red, blue, plain) = colors(is_colored);
-    let code = code_of(&diagnostic.fault);
-    let sentence = sentence(alloc, diagnostic)?;
-    let file = safe(alloc, origin.file)?;
-    let number = line.number;
-    let digits = format!(in alloc; "{number}")?;
-    let margin = repeated(alloc, ' ', digits.len())?;
-    let parts = parts_shown(alloc, line.before, line.at, line.behind)?;
-    let indent = repeated(alloc, ' ', parts.before.width())?;
-    let carets = repeated(alloc, '^', parts.at.width().max(1))?;
-    let help = help_text(alloc, diagnostic.help)?;
-    let head = format!(in alloc;
-        "{red}error[{code}]{plain}: {sentence}\n{margin}{blue}-->{plain} {file}:{number}:{column}\n"
+) -> Result<String, AllocError>
+    ensures { IfOk result (λ drawing. string_bytes drawing
+        ≡ spec.human is_colored origin.entry text.now diagnostic.now) }
+{
+    let place = position_of(alloc, origin.line, text, diagnostic.span.start)?;
+    let margin = margin(alloc, place.line)?;
+    let sentence = shown_sentence(alloc, &diagnostic.fault)?;
+    let error = error_line(alloc, is_colored, code_of(&diagnostic.fault), &sentence)?;
+    let arrow = place_line(alloc, is_colored, &margin, origin.file, place)?;
+    let source = source(
+        alloc,
+        is_colored,
+        place.line,
+        line_of(text, diagnostic.span),
     )?;
-    let (before, at, behind) = (parts.before, parts.at, parts.behind);
-    let drawing = format!(in alloc;
-        "{margin} {blue}|{plain}\n{blue}{number} |{plain} {before}{at}{behind}\n{margin} {blue}|{plain} {indent}{red}{carets}{plain}\n"
-    )?;
-    format!(in alloc; "{head}{drawing}{margin} {blue}={plain} help: {help}\n")
+    let words = help_text(alloc, diagnostic.help)?;
+    let help = help_line(alloc, is_colored, &margin, &words)?;
+    format!(in alloc; "{error}{arrow}{source}{help}\n")
 }
 
-fn repeated(alloc: Global, c: char, count: usize) -> Result<String, AllocError> {
-    let mut out = String::new(alloc);
-    for _ in 0..count {
-        out.push(c)?;
-    }
-    Ok(out)
+// As many spaces as the number of a line has digits.
+fn margin(alloc: Global, line: u64) -> Result<String, AllocError>
+    ensures { IfOk result (λ margin. string_bytes margin ≡ spec.margin line) }
+{
+    let digits = format!(in alloc; "{line}")?;
+    " ".repeat(alloc, digits.len())
+}
+
+// The line with the span, and carets under the span. Each part is cut where it is long.
+fn source(
+    alloc: Global,
+    is_colored: bool,
+    number: u64,
+    line: Line<'_>,
+) -> Result<String, AllocError>
+    ensures { IfOk result (λ source. string_bytes source ≡ spec.source is_colored number
+        line.entry.before.now line.entry.at.now line.entry.behind.now) }
+{
+    let before = cut_start(alloc, line.before, MOST_SHOWN)?;
+    let at = cut_end(alloc, line.at, MOST_SHOWN)?;
+    let behind = cut_end(alloc, line.behind, MOST_SHOWN)?;
+    let before = safe(alloc, &before)?;
+    let at = safe(alloc, &at)?;
+    let behind = safe(alloc, &behind)?;
+    source_of(alloc, is_colored, number, &before, &at, &behind)
+}
+
+fn source_of(
+    alloc: Global,
+    is_colored: bool,
+    number: u64,
+    before: &str,
+    at: &str,
+    behind: &str,
+) -> Result<String, AllocError>
+    ensures { IfOk result (λ source. string_bytes source
+        ≡ spec.source_of is_colored number before.now at.now behind.now) }
+{
+    let margin = margin(alloc, number)?;
+    let indent = " ".repeat(alloc, before.width())?;
+    let carets = "^".repeat(alloc, at.width().max(1))?;
+    let bar = bar_line(alloc, is_colored, &margin)?;
+    let text = text_line(alloc, is_colored, number, before, at, behind)?;
+    let below = caret_line(alloc, is_colored, &margin, &indent, &carets)?;
+    format!(in alloc; "{bar}{text}{below}")
 }

@@ -1,8 +1,9 @@
 //! Objects of JSON.
 
-ghost use Rattle.std.specs.Prelude.{◌≡◌, ◌<◌, ◌++◌, decimal, IfOk, OnOk};
+ghost use Rattle.std.specs.Prelude.{◌≡◌, ◌<◌, ◌++◌, decimal, flat_map, IfOk, OnOk};
 ghost use Rattle.timefd_drawing.specs.Json as spec;
 
+use crate::shown::is_hidden;
 use std::alloc::{AllocError, Global};
 
 /// What an object on a diagnostic holds.
@@ -30,7 +31,7 @@ pub struct Detail<'a> {
 
 /// An object on a line, on a fault of a text.
 pub fn object(alloc: Global, entry: Entry<'_>, detail: Detail<'_>) -> Result<Vec<u8>, AllocError>
-    ensures { IfOk result (λ line. line.items ≡ spec.object entry.entry detail.entry) }
+    ensures { IfOk result (λ line. line.items ≡ spec.object_of entry.entry detail.entry) }
 {
     let mut out = Vec::new(alloc);
     push_text(&mut out, "{\"code\":", entry.code)?;
@@ -47,7 +48,7 @@ pub fn object(alloc: Global, entry: Entry<'_>, detail: Detail<'_>) -> Result<Vec
 
 /// An object on a line, where no text was looked at.
 pub fn note_object(alloc: Global, entry: Entry<'_>) -> Result<Vec<u8>, AllocError>
-    ensures { IfOk result (λ line. line.items ≡ spec.note_object entry.entry) }
+    ensures { IfOk result (λ line. line.items ≡ spec.note_object_of entry.entry) }
 {
     let mut out = Vec::new(alloc);
     push_text(&mut out, "{\"code\":", entry.code)?;
@@ -64,39 +65,70 @@ fn push_quoted(out: &mut Vec<u8>, text: &str) -> Result<(), AllocError>
     ensures { OnOk result (out.new.items ≡ out.old.items ++ spec.quoted text.now) }
 {
     out.extend_from_slice(b"\"")?;
-    push_all_escaped(out, text.as_bytes())?;
+    push_all_escaped(out, text)?;
     out.extend_from_slice(b"\"")
 }
 
-fn push_all_escaped(out: &mut Vec<u8>, bytes: &[u8]) -> Result<(), AllocError>
-    ensures { OnOk result (out.new.items ≡ out.old.items ++ spec.all_escaped bytes.now) }
+fn push_all_escaped(out: &mut Vec<u8>, text: &str) -> Result<(), AllocError>
+    ensures { OnOk result (out.new.items ≡ out.old.items ++ spec.all_escaped text.now) }
 {
-    for byte in bytes {
-        push_escaped(out, *byte)?;
+    for c in text.chars() {
+        push_escaped(out, c)?;
     }
     Ok(())
 }
 
-// Appends a byte of a text: quotes and backslashes behind a backslash, control characters by their
-// numbers.
-fn push_escaped(out: &mut Vec<u8>, byte: u8) -> Result<(), AllocError>
-    ensures { OnOk result (out.new.items ≡ out.old.items ++ spec.escaped byte) }
+// Appends a character of a text: quotes and backslashes behind a backslash, hidden characters by
+// their numbers.
+fn push_escaped(out: &mut Vec<u8>, c: char) -> Result<(), AllocError>
+    ensures { OnOk result (out.new.items ≡ out.old.items ++ spec.escaped c) }
 {
-    if byte == b'"' || byte == b'\\' {
-        return out.extend_from_slice(&[b'\\', byte]);
+    if c == '"' || c == '\\' {
+        return out.extend_from_slice(&[b'\\', c as u8]);
     }
-    if byte < b' ' {
-        let digits = [hex_digit(byte / 16), hex_digit(byte % 16)];
-        out.extend_from_slice(b"\\u00")?;
-        return out.extend_from_slice(&digits);
+    if is_hidden(c) {
+        return push_units(out, c);
     }
-    out.extend_from_slice(&[byte])
+    let mut room = [0; 4];
+    out.extend_from_slice(c.encode_utf8(&mut room).as_bytes())
 }
 
-fn hex_digit(n: u8) -> u8
+// Appends the one or two numbers of a character.
+fn push_units(out: &mut Vec<u8>, c: char) -> Result<(), AllocError>
+    ensures { OnOk result (out.new.items ≡ out.old.items ++ spec.units c) }
+{
+    let mut room = [0; 2];
+    push_all_units(out, c.encode_utf16(&mut room))
+}
+
+fn push_all_units(out: &mut Vec<u8>, units: &[u16]) -> Result<(), AllocError>
+    ensures { OnOk result (out.new.items ≡ out.old.items ++ flat_map spec.unit units.now) }
+{
+    for unit in units {
+        push_unit(out, *unit)?;
+    }
+    Ok(())
+}
+
+// Appends a number of 16 bits in four digits.
+fn push_unit(out: &mut Vec<u8>, unit: u16) -> Result<(), AllocError>
+    ensures { OnOk result (out.new.items ≡ out.old.items ++ spec.unit unit) }
+{
+    let digits = [
+        hex_digit(unit / 4096),
+        hex_digit(unit / 256 % 16),
+        hex_digit(unit / 16 % 16),
+        hex_digit(unit % 16),
+    ];
+    out.extend_from_slice(b"\\u")?;
+    out.extend_from_slice(&digits)
+}
+
+fn hex_digit(n: u16) -> u8
     requires { n < 16 }
     ensures { result ≡ spec.hex_digit n }
 {
+    let n = n as u8;
     if n < 10 { b'0' + n } else { b'a' + (n - 10) }
 }
 

@@ -5,6 +5,11 @@ mod draw;
 mod help_text;
 mod human;
 mod json;
+pub mod laws;
+mod lines;
+mod position;
+mod sentence;
 pub mod shown;
 
-pub use draw::{Format, Origin, Style, drawn, note};
+pub use draw::{Format, Style, drawn, note};
+pub use position::Origin;

@@ -1,27 +1,17 @@
 //! Texts as a terminal may show them.
 
-ghost use Rattle.std.specs.Prelude.{◌≡◌, chars, false, IfOk, string_bytes};
+ghost use Rattle.std.specs.Prelude.{◌≡◌, ◌<◌, ◌-◌, ◌^◌, chars, drop, false, IfOk, length, string_bytes, take};
+ghost use Rattle.std.specs.Str.{encode_utf8_all};
 ghost use Rattle.timefd_drawing.specs.Shown as spec;
 ghost use Rattle.unicode_width.specs.Width.{str_width};
 
 use std::alloc::{AllocError, Global};
 use unicode_width::UnicodeWidthStr;
 
-// The most characters that are shown of what stands before a span, of the span, and behind it.
-const SHOWN: usize = 40;
-
-/// Three parts of a line as they are shown: what stands before a span, the span, what is behind it.
-#[derive(Drop)]
-pub struct Shown {
-    pub before: String,
-    pub at: String,
-    pub behind: String,
-}
-
-// Whether a terminal would obey a character or show nothing of it: control characters, line and
-// paragraph separators, those that turn the direction of text, and those that are ignored where they
-// can't be shown.
-fn is_hidden(c: char) -> bool
+/// Whether a terminal would obey a character or show nothing of it: control characters, line and
+/// paragraph separators, those that turn the direction of text, and those that are ignored where they
+/// can't be shown.
+pub fn is_hidden(c: char) -> bool
     ensures { result ≡ spec.is_hidden c }
 {
     matches!(
@@ -71,45 +61,55 @@ pub fn safe(alloc: Global, text: &str) -> Result<String, AllocError>
 
 /// The columns that a text takes in a terminal once it is made safe.
 pub fn columns(alloc: Global, text: &str) -> Result<usize, AllocError>
-    ensures { IfOk result (λ columns. columns ≡ str_width false (chars (spec.safe text.now))) }
+    ensures value { IfOk result (λ columns.
+        columns ≡ str_width false (chars (spec.safe text.now))) }
+    ensures bound { IfOk result (λ columns. columns < 2 ^ 64 - 1) }
 {
     let text = safe(alloc, text)?;
     Ok(text.width())
 }
 
-// The last of the characters, with a mark where some are left out.
-fn last_shown(alloc: Global, text: &str) -> Result<String, AllocError> {
-    match text.char_indices().rev().nth(SHOWN - 1) {
-        Some((at, _)) if at > 0 => {
-            let kept = safe(alloc, text.get(at..).unwrap_or(text))?;
-            format!(in alloc; "..{kept}")
-        }
-        _ => safe(alloc, text),
-    }
+fn char_count(text: &str) -> usize
+    ensures { result ≡ length (chars text.now) }
+{
+    text.chars().count()
 }
 
-// The first of the characters, with a mark where some are left out.
-fn first_shown(alloc: Global, text: &str) -> Result<String, AllocError> {
-    match text.char_indices().nth(SHOWN) {
-        Some((at, _)) => {
-            let kept = safe(alloc, text.get(..at).unwrap_or(text))?;
-            format!(in alloc; "{kept}..")
-        }
-        None => safe(alloc, text),
+/// The first characters of a text, and a mark where some are left out. An `Err` says that memory
+/// ran out.
+pub fn cut_end(alloc: Global, text: &str, most: usize) -> Result<String, AllocError>
+    ensures { IfOk result (λ cut. string_bytes cut ≡ spec.cut_end most text.now) }
+{
+    if char_count(text) <= most {
+        return String::from_str(alloc, text);
     }
+    let front = first_chars(alloc, text, most)?;
+    format!(in alloc; "{front}..")
 }
 
-/// The parts of a line, the first cut at its front and the others at their ends where they are
-/// long.
-pub fn parts_shown(
-    alloc: Global,
-    before: &str,
-    at: &str,
-    behind: &str,
-) -> Result<Shown, AllocError> {
-    Ok(Shown {
-        before: last_shown(alloc, before)?,
-        at: first_shown(alloc, at)?,
-        behind: first_shown(alloc, behind)?,
-    })
+/// The last characters of a text, and a mark where some are left out. An `Err` says that memory ran
+/// out.
+pub fn cut_start(alloc: Global, text: &str, most: usize) -> Result<String, AllocError>
+    ensures { IfOk result (λ cut. string_bytes cut ≡ spec.cut_start most text.now) }
+{
+    let count = char_count(text);
+    if count <= most {
+        return String::from_str(alloc, text);
+    }
+    let rest = chars_behind(alloc, text, count - most)?;
+    format!(in alloc; "..{rest}")
+}
+
+fn first_chars(alloc: Global, text: &str, count: usize) -> Result<String, AllocError>
+    ensures { IfOk result (λ front. string_bytes front
+        ≡ encode_utf8_all (take count (chars text.now))) }
+{
+    text.chars().take(count).collect(alloc)
+}
+
+fn chars_behind(alloc: Global, text: &str, count: usize) -> Result<String, AllocError>
+    ensures { IfOk result (λ rest. string_bytes rest
+        ≡ encode_utf8_all (drop count (chars text.now))) }
+{
+    text.chars().skip(count).collect(alloc)
 }

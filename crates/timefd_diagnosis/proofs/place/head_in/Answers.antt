@@ -1,13 +1,22 @@
 use Rattle.std.proofs.Common.{sym, subst}
-use Rattle.std.specs.Prelude.{MatchOption}
-use Rattle.timefd_component.specs.Tree.{Text}
-use Rattle.timefd_diagnosis.specs.Places.{IsHeadIn}
-use Rattle.timefd_diagnosis.proofs.PlaceLemmas.{headless}
+use Rattle.timefd_diagnosis.specs.Places.{NamesHead}
+use Rattle.timefd_diagnosis.proofs.PlaceLemmas.{named_head, names_head, names_none}
 use Rattle.timefd_diagnosis.proofs.place.head_in.Goals as goal
 
-pub returns-in_err-head : goal.returns-in_err-head
-returns-in_err-head c =
-    subst (λ r. MatchOption r
-    ((name : Text) (between : Text) → ¬ IsHeadIn c.args.front.now name between)
-    (λ head. IsHeadIn c.args.front.now head.0.now head.1.now)) (sym c.from_residual.ensures)
-    (headless c.args.front.now c.in_err-head.ensures)
+pub returns-in_err-name-clause-heads : goal.returns-in_err-name-clause-heads
+returns-in_err-name-clause-heads c =
+    subst (NamesHead c.args.front.now) (sym c.from_residual-in_err-name.ensures)
+    (names_none c.args.front.now c.in_ok-bracket.bracket.now c.in_ok-bracket.ensures
+    c.in_err-name.ensures.heads)
+
+pub returns-clause-found : goal.returns-clause-found
+returns-clause-found c =
+    named_head c.args.front.now c.in_ok-bracket.bracket.now c.in_ok-name.name.now
+    c.in_ok-name.modifiers.now c.behind_modifiers.result.now c.in_ok-bracket.ensures
+    c.in_ok-name.ensures.found c.behind_modifiers.ensures
+
+pub returns-clause-heads : goal.returns-clause-heads
+returns-clause-heads c =
+    names_head c.args.front.now c.in_ok-bracket.bracket.now c.in_ok-name.name
+    c.in_ok-name.modifiers c.behind_modifiers.result c.in_ok-bracket.ensures
+    c.in_ok-name.ensures.heads c.behind_modifiers.ensures

@@ -1,49 +1,35 @@
-use Rattle.std.proofs.Common.{◌≡◌, [], ◌∷◌, ◌++◌, Some, None, sym, subst, arith}
-use Rattle.std.proofs.lemmas.Str.Pattern.{strip_suffix_char}
-use Rattle.std.specs.Prelude.{MatchOption}
-use Rattle.timefd_language.specs.Bytes.{colon}
+use Rattle.std.proofs.Common.{arith, ◌≡◌, ◌≢◌, ◌<◌, ap, length, eqb-true, false-eqb, sym, subst, Some, None, [], rules}
+use Rattle.std.specs.Prelude.{MatchOption, bytes_eq, false}
 use Rattle.timefd_diagnosis.specs.declared.place.Place.{Place}
-use Rattle.timefd_diagnosis.specs.Places.{IsPlaceAt}
-use Rattle.timefd_diagnosis.proofs.PlaceLemmas.{no_name, no_value}
+use Rattle.timefd_diagnosis.specs.Places.{IsPlaceAt, colon_before}
+use Rattle.timefd_diagnosis.proofs.WordLemmas.{no_colon, no_key, unequal}
+use Rattle.timefd_diagnosis.proofs.place.place_at.Goals.{else-is_empty-2-via-then-is_empty-2+else-not-is_empty, else-is_empty-2-via-else-is_empty-2}
 use Rattle.timefd_diagnosis.proofs.place.place_at.Goals as goal
 
-pub returns-in_err-name : goal.returns-in_err-name
-returns-in_err-name c =
+pub returns-in_err-key_of : goal.returns-in_err-key_of
+returns-in_err-key_of c =
+    let not_key : c.cut.result.1.now ≡ [] → ¬ (0 < length c.args.word.now) =
+    elim c.else-is_empty-2.branch [
+      | else-is_empty-2-via-then-is_empty-2+else-not-is_empty w ↦ λ e p. omega (arith, eqb-true _ 0 (sym w.if-not-is_empty.ensures))
+      | else-is_empty-2-via-else-is_empty-2 w ↦ λ e p. false-eqb _ 0 w.if-is_empty-2.ensures (ap length e)
+    ] in
     subst (λ r. MatchOption r
-    ((place : Place) → ¬ IsPlaceAt c.args.strict c.args.word.now c.args.between.now place)
-    (IsPlaceAt c.args.strict c.args.word.now c.args.between.now)) (sym c.from_residual.ensures)
-    (no_name c.args.strict c.args.word.now c.args.between.now c.in_err-name.ensures)
+    ((place : Place) → ¬ IsPlaceAt c.args.strict c.args.name.now c.args.between.now c.args.word.now place)
+    (IsPlaceAt c.args.strict c.args.name.now c.args.between.now c.args.word.now))
+    (sym c.from_residual-in_err-key_of.ensures)
+    (no_key c.args.strict c.args.name.now c.args.between.now c.args.word.now c.cut.result.0.now
+    c.cut.result.1.now c.cut-2.result.0.now c.cut-2.result.1.now c.in_ok-named.named
+    c.cut.ensures.parts c.cut-2.ensures.parts not_key c.in_ok-named.ensures
+    (sym c.in_err-key_of.ensures))
 
-pub returns-in_err-key-in-Some : goal.returns-in_err-key-in-Some
-returns-in_err-key-in-Some c =
-    let ends : c.args.between.now ≡ c.in-Some.before.now ++ colon ∷ [] =
-    strip_suffix_char colon c.args.between.now (Some c.in-Some.before) c.in-Some.ensures.cases
-    (omega arith) in
-    subst (λ r. MatchOption r
-    ((place : Place) → ¬ IsPlaceAt c.args.strict c.args.word.now c.args.between.now place)
-    (IsPlaceAt c.args.strict c.args.word.now c.args.between.now))
-    (sym c.from_residual-in_err-key-in-Some.ensures)
-    (no_value c.args.strict c.args.word.now c.args.between.now c.in-Some.before.now
-    c.last_word.result.now c.in_ok-name.name c.in_ok-name.ensures ends c.last_word.ensures
-    (sym c.in_err-key-in-Some.ensures))
-
-pub returns-in_ok-key-in-Some : goal.returns-in_ok-key-in-Some
-returns-in_ok-key-in-Some c =
-    let ends : c.args.between.now ≡ c.in-Some.before.now ++ colon ∷ [] =
-    strip_suffix_char colon c.args.between.now (Some c.in-Some.before) c.in-Some.ensures.cases
-    (omega arith) in (
-      c.in-Some.before.now,
-      c.last_word.result.now,
-      c.in_ok-name.name,
-      c.in_ok-name.ensures,
-      ends,
-      c.last_word.ensures,
-      sym c.in_ok-key-in-Some.ensures,
-    )
-
-pub returns-in-None : goal.returns-in-None
-returns-in-None c = (
-  c.in_ok-name.ensures,
-  strip_suffix_char colon c.args.between.now None c.in-None.ensures.cases
-      (omega arith),
-)
+pub returns-else-eq : goal.returns-else-eq
+returns-else-eq c =
+    let not_key : c.cut.result.1.now ≡ [] → ¬ (0 < length c.args.word.now) =
+    elim c.else-is_empty-2.branch [
+      | else-is_empty-2-via-then-is_empty-2+else-not-is_empty w ↦ λ e p. omega (arith, eqb-true _ 0 (sym w.if-not-is_empty.ensures))
+      | else-is_empty-2-via-else-is_empty-2 w ↦ λ e p. false-eqb _ 0 w.if-is_empty-2.ensures (ap length e)
+    ] in
+    no_colon c.args.strict c.args.name.now c.args.between.now c.args.word.now c.cut.result.0.now
+    c.cut.result.1.now c.cut-2.result.0.now c.cut-2.result.1.now c.cut.ensures.parts
+    c.cut-2.ensures.parts not_key
+    (unequal _ (colon_before c.args.word.now) (subst (λ t. false ≡ bytes_eq c.cut-2.result.1.now t) c.colon_before.ensures c.if-eq.ensures))

@@ -1,7 +1,6 @@
-use Rattle.std.proofs.Common.{◌≡◌, ◌++◌, drop}
-use Rattle.timefd_drawing.specs.Json.{all_escaped}
+use Rattle.std.proofs.Common.{◌≡◌, ◌++◌, flat_map}
+use Rattle.timefd_drawing.specs.Json.{escaped}
 use Rattle.timefd_drawing.proofs.json.push_all_escaped.Given as goal
 
-abbrev pub invariant-loop-byte : goal.invariant-loop-byte
-invariant-loop-byte l = l.out.items ++ all_escaped (drop l.byte-index l.bytes) ≡ l.fn.out.items
-    ++ all_escaped l.bytes
+abbrev pub invariant-loop-c : goal.invariant-loop-c
+invariant-loop-c l = l.out.items ≡ l.fn.out.items ++ flat_map escaped l.yielded

@@ -1,8 +1,0 @@
-use Rattle.std.proofs.Common.{◌≡◌, ◌+◌, drop}
-use Rattle.std.specs.List.{prefix_len}
-use Rattle.timefd_language.specs.Bytes.{is_word_byte}
-use Rattle.timefd_diagnosis.proofs.span.word_len.Given as goal
-
-abbrev pub invariant-loop-at : goal.invariant-loop-at
-invariant-loop-at l = l.at + prefix_len is_word_byte (drop l.at l.rest)
-    ≡ prefix_len is_word_byte l.rest

@@ -1,0 +1,79 @@
+-- What is shown holds no hidden character.
+use Rattle.std.proofs.Common.{ℕ, ◌≡◌, ◌<◌, ◌+◌, Bool, true, false, nat_lt, not, ◌==◌, List, [], ◌∷◌, map, chars, refl, sym, subst, inl, inr, arith, ltb-true, get_or}
+use Rattle.std.proofs.lemmas.Bool.{cases_Bool}
+use Rattle.std.proofs.lemmas.Bool.Decides.{nat_tests}
+use Rattle.std.proofs.lemmas.List.FromFn.{get_or-range_with_len, length-range_with_len}
+use Rattle.std.proofs.lemmas.List.Sums.{AllPass-from_list_all}
+use Rattle.std.proofs.lemmas.Str.{chars-encodes, scalars-chars}
+use Rattle.std.specs.List.{list_all, range_with_len}
+use Rattle.std.specs.Str.{NonePass, all_scalars}
+use Rattle.timefd_drawing.specs.Shown.{NoneIsHidden, is_hidden, shown}
+
+-- What holds of the pictures, of the replacement character, and of each character that isn't hidden
+-- holds of what is shown.
+by_cases : (P : ℕ → Type 0) (c : ℕ) → (c < 0x20 → P (0x2400 + c)) → P 0x2421 → P 0xFFFD
+    → (is_hidden c ≡ false → P c) → P (shown c)
+by_cases P c picture delete replaced other = elim (cases_Bool (nat_lt c 0x20)) [
+  | inl low ↦ rw low (picture (ltb-true c 0x20 low))
+  | inr high ↦ rw high (elim (cases_Bool (c == 0x7F)) [
+    | inl is ↦ rw is delete
+    | inr isnt ↦ rw isnt (elim (cases_Bool (is_hidden c)) [
+      | inl hidden ↦ rw hidden replaced
+      | inr clear ↦ rw clear (other clear)
+    ])
+  ])
+]
+
+-- The pictures aren't hidden, one by one.
+pictures : list_all (λ c. not (is_hidden (0x2400 + c))) (range_with_len 0 0x20) ≡ true
+pictures = refl
+
+pub not_true : (b : Bool) → not b ≡ true → b ≡ false
+not_true true e = sym e
+not_true false e = refl
+
+picture_is_clear : (c : ℕ) → c < 0x20 → is_hidden (0x2400 + c) ≡ false
+picture_is_clear c low =
+    let at : get_or (range_with_len 0 0x20) c 0 ≡ c =
+    omega (arith, get_or-range_with_len 0 0x20 c 0 low) in
+    not_true (is_hidden (0x2400 + c)) (subst (λ n. not (is_hidden (0x2400 + n)) ≡ true) at
+    (AllPass-from_list_all (λ n. not (is_hidden (0x2400 + n))) (range_with_len 0 0x20) pictures c 0
+    (omega (arith, length-range_with_len 0 0x20))))
+
+shown_is_clear : (c : ℕ) → is_hidden (shown c) ≡ false
+shown_is_clear c =
+    by_cases (λ d. is_hidden d ≡ false) c (picture_is_clear c) refl refl (λ clear. clear)
+
+scalar_of : (c : ℕ) → c < 0xD800 → all_scalars (c ∷ []) ≡ true
+scalar_of c low = grind (arith, nat_tests)
+
+-- what is shown of characters are characters
+shown_scalar : (c : ℕ) → all_scalars (c ∷ []) ≡ true → all_scalars (shown c ∷ []) ≡ true
+shown_scalar c is =
+    by_cases (λ d. all_scalars (d ∷ []) ≡ true) c (λ low. scalar_of (0x2400 + c) (omega arith)) refl
+    refl (λ clear. is)
+
+pub first_scalar : (c : ℕ) (cs : List ℕ) → all_scalars (c ∷ cs) ≡ true → all_scalars (c ∷ []) ≡ true
+first_scalar c cs is = grind (arith, nat_tests)
+
+pub other_scalars : (c : ℕ) (cs : List ℕ) → all_scalars (c ∷ cs) ≡ true → all_scalars cs ≡ true
+other_scalars c cs is = grind (arith, nat_tests)
+
+pub joined : (c : ℕ) (cs : List ℕ) → all_scalars (c ∷ []) ≡ true → all_scalars cs ≡ true
+    → all_scalars (c ∷ cs) ≡ true
+joined c cs one all = grind (arith, nat_tests)
+
+shown_scalars : (cs : List ℕ) → all_scalars cs ≡ true → all_scalars (map shown cs) ≡ true
+shown_scalars [] is = refl
+shown_scalars (c ∷ cs) is =
+    joined (shown c) (map shown cs) (shown_scalar c (first_scalar c cs is))
+    (shown_scalars cs (other_scalars c cs is))
+
+none_pass : (cs : List ℕ) → NonePass is_hidden (map shown cs)
+none_pass [] = tt
+none_pass (c ∷ cs) = (shown_is_clear c, none_pass cs)
+
+pub none_is_hidden : NoneIsHidden
+none_is_hidden text utf8 =
+    subst (NonePass is_hidden) (sym (chars-encodes (map shown (chars text))
+    (shown_scalars (chars text) (scalars-chars text utf8)))) (none_pass (chars text))

@@ -1,0 +1,89 @@
+-- A diagnostic as it is written.
+use Rattle.std.specs.Prelude.{ℕ, Bool, false, ◌++◌, chars, codes, decimal, length, max}
+use Rattle.std.specs.List.{repeat}
+use Rattle.unicode_width.specs.Width.{str_width}
+use Rattle.timefd_component.specs.Tree.{Text}
+use Rattle.timefd_fault.specs.Faults.{fault_of}
+use Rattle.timefd_fault.specs.Sentences.{error_sentence}
+use Rattle.timefd_diagnosis.specs.Codes.{code_of, name_of}
+use Rattle.timefd_diagnosis.specs.declared.diagnostic.Diagnostic.{Diagnostic}
+use Rattle.timefd_drawing.specs.declared.draw.Format.{Format}
+use Rattle.timefd_drawing.specs.declared.draw.Format.TheVariants.{Human, Json, Short}
+use Rattle.timefd_drawing.specs.declared.draw.Style.{Style}
+use Rattle.timefd_drawing.specs.declared.position.Origin.{Origin}
+use Rattle.timefd_drawing.specs.HelpText.{help_text}
+use Rattle.timefd_drawing.specs.Json.{object, note_object}
+use Rattle.timefd_drawing.specs.Lines.{error_line, place_line, bar_line, text_line, caret_line, help_line, short_line}
+use Rattle.timefd_drawing.specs.Positions.{line_number, column, before, spanned, after}
+use Rattle.timefd_drawing.specs.Sentence.{shown_sentence}
+use Rattle.timefd_drawing.specs.Shown.{cut_end, cut_start, most_shown, safe}
+
+-- as many spaces as the number of the line has digits
+abbrev pub margin : ℕ → Text
+margin line = repeat (length (decimal line)) (codes " ")
+
+-- what a text takes in a terminal
+abbrev pub width : Text → ℕ
+width text = str_width false (chars text)
+
+-- The line that a span begins in, with a caret under each column of the span, and with one where it
+-- has none. Each of the parts is cut where it is long.
+abbrev pub source_of : Bool → ℕ → Text → Text → Text → Text
+source_of colored line before at behind =
+    bar_line colored (margin line) ++ (text_line colored line before at behind
+    ++ caret_line colored (margin line) (repeat (width before) (codes " "))
+    (repeat (max (width at) 1) (codes "^")))
+
+abbrev pub source : Bool → ℕ → Text → Text → Text → Text
+source colored line before at behind =
+    source_of colored line (safe (cut_start most_shown before)) (safe (cut_end most_shown at))
+    (safe (cut_end most_shown behind))
+
+abbrev pub code : Diagnostic → Text
+code d = name_of (code_of (fault_of d.fault).kind)
+
+abbrev pub human_at : Bool → Text → ℕ → Text → Diagnostic → Text
+human_at colored file line text d =
+    error_line colored (code d) (shown_sentence (fault_of d.fault))
+    ++ (place_line colored (margin line) file line (column text d.span.start)
+    ++ (source colored line (before d.span.start text) (spanned d.span text) (after d.span text)
+    ++ (help_line colored (margin line) (help_text d.help) ++ codes "\n")))
+
+abbrev pub human : Bool → Origin → Text → Diagnostic → Text
+human colored origin text d =
+    human_at colored origin.file.now (line_number origin.line text d.span.start) text d
+
+abbrev pub short : Origin → Text → Diagnostic → Text
+short origin text d =
+    short_line origin.file.now (line_number origin.line text d.span.start)
+    (column text d.span.start) (shown_sentence (fault_of d.fault))
+
+-- The sentence is whole in an object.
+abbrev pub json : Origin → Text → Diagnostic → Text
+json origin text d =
+    object (code d) origin.file.now (line_number origin.line text d.span.start)
+    (column text d.span.start) (error_sentence d.fault) d.span.start d.span.end (help_text d.help)
+
+abbrev pub drawn_in : Format → Bool → Origin → Text → Diagnostic → Text
+drawn_in Human colored origin text d = human colored origin text d
+drawn_in Json colored origin text d = json origin text d
+drawn_in Short colored origin text d = short origin text d
+
+abbrev pub drawn : Style → Origin → Text → Diagnostic → Text
+drawn style origin text d = drawn_in style.format style.is_colored origin text d
+
+abbrev pub human_note : Bool → Text → ℕ → ℕ → Text → Text → Text
+human_note colored file line column code message =
+    error_line colored code message
+    ++ (place_line colored (codes " ") file line column ++ codes "\n")
+
+-- What is wrong with a file or a line as a whole stands in its first column.
+abbrev pub note_in : Format → Bool → Origin → Text → Text → Text
+note_in Human colored origin code message =
+    human_note colored origin.file.now origin.line 1 code message
+note_in Json colored origin code message =
+    note_object code origin.file.now origin.line 1 message
+note_in Short colored origin code message = short_line origin.file.now origin.line 1 message
+
+abbrev pub note : Style → Origin → Text → Text → Text
+note style origin code message = note_in style.format style.is_colored origin code message

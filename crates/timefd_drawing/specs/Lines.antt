@@ -1,0 +1,58 @@
+-- The lines of a drawing, and the line that editors read.
+use Rattle.std.specs.Prelude.{ℕ, Bool, true, false, [], ◌∷◌, ◌++◌, codes, decimal}
+use Rattle.timefd_component.specs.Tree.{Text}
+use Rattle.timefd_drawing.specs.Shown.{safe}
+
+-- what is put in front of what is red, of what is blue, and behind both
+abbrev pub red : Bool → Text
+red true = 27 ∷ codes "[1;31m"
+red false = []
+
+abbrev pub blue : Bool → Text
+blue true = 27 ∷ codes "[1;36m"
+blue false = []
+
+abbrev pub plain : Bool → Text
+plain true = 27 ∷ codes "[0m"
+plain false = []
+
+-- `error[CODE]: SENTENCE`
+abbrev pub error_line : Bool → Text → Text → Text
+error_line colored code sentence =
+    red colored ++ (codes "error[" ++ (code ++ (codes "]" ++ (plain colored ++ (codes ": "
+    ++ (sentence ++ codes "\n"))))))
+
+-- `--> FILE:LINE:COLUMN`
+abbrev pub place_line : Bool → Text → Text → ℕ → ℕ → Text
+place_line colored margin file line column =
+    margin ++ (blue colored ++ (codes "-->" ++ (plain colored ++ (codes " " ++ (safe file
+    ++ (codes ":" ++ (decimal line ++ (codes ":" ++ (decimal column ++ codes "\n")))))))))
+
+-- a bar
+abbrev pub bar_line : Bool → Text → Text
+bar_line colored margin =
+    margin ++ (codes " " ++ (blue colored ++ (codes "|" ++ (plain colored ++ codes "\n"))))
+
+-- `LINE | TEXT`
+abbrev pub text_line : Bool → ℕ → Text → Text → Text → Text
+text_line colored line before at behind =
+    blue colored ++ (decimal line ++ (codes " |" ++ (plain colored ++ (codes " " ++ (before
+    ++ (at ++ (behind ++ codes "\n")))))))
+
+-- a bar, and carets behind an indent
+abbrev pub caret_line : Bool → Text → Text → Text → Text
+caret_line colored margin indent carets =
+    margin ++ (codes " " ++ (blue colored ++ (codes "|" ++ (plain colored ++ (codes " "
+    ++ (indent ++ (red colored ++ (carets ++ (plain colored ++ codes "\n")))))))))
+
+-- `= help: HELP`
+abbrev pub help_line : Bool → Text → Text → Text
+help_line colored margin help =
+    margin ++ (codes " " ++ (blue colored ++ (codes "=" ++ (plain colored ++ (codes " help: "
+    ++ (help ++ codes "\n"))))))
+
+-- `FILE:LINE:COLUMN: SENTENCE`
+abbrev pub short_line : Text → ℕ → ℕ → Text → Text
+short_line file line column sentence =
+    safe file ++ (codes ":" ++ (decimal line ++ (codes ":" ++ (decimal column ++ (codes ": "
+    ++ (sentence ++ codes "\n"))))))

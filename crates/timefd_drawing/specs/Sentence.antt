@@ -1,0 +1,16 @@
+-- The sentence of a fault as it is shown: no more of a word than that, and no hidden character.
+use Rattle.timefd_component.specs.Tree.{Text}
+use Rattle.timefd_fault.specs.Faults.{Fault, Kind, fault, invalid_name, invalid_modifier}
+use Rattle.timefd_fault.specs.Sentences.{sentence}
+use Rattle.timefd_drawing.specs.Shown.{cut_end, most_of_a_word, safe}
+
+abbrev pub brief_kind : Kind → Kind
+brief_kind (invalid_name name) = invalid_name (cut_end most_of_a_word name)
+brief_kind (invalid_modifier word) = invalid_modifier (cut_end most_of_a_word word)
+brief_kind other = other
+
+abbrev pub brief : Fault → Fault
+brief f = fault (brief_kind f.kind) f.index
+
+abbrev pub shown_sentence : Fault → Text
+shown_sentence f = safe (sentence (brief f))

@@ -1,0 +1,14 @@
+//! What holds of the definitions.
+
+ghost use Rattle.timefd_drawing.specs.Json.{NoneIsHiddenInJson};
+ghost use Rattle.timefd_drawing.specs.Shown.{NoneIsHidden};
+
+/// No character of a safe text is hidden.
+pub fn none_is_hidden()
+    ensures { NoneIsHidden }
+{}
+
+/// Nor is one of a text in the quotes of JSON.
+pub fn none_is_hidden_in_json()
+    ensures { NoneIsHiddenInJson }
+{}

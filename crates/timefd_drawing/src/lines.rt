@@ -1,0 +1,128 @@
+//! The lines of a drawing, and the line that editors read.
+
+ghost use Rattle.std.specs.Prelude.{◌≡◌, IfOk, string_bytes};
+ghost use Rattle.timefd_drawing.specs.Lines as spec;
+
+use crate::position::Position;
+use crate::shown::safe;
+use std::alloc::{AllocError, Global};
+
+// What is put in front of what is red.
+fn red(is_colored: bool) -> &'static str
+    ensures { result.now ≡ spec.red is_colored }
+{
+    if is_colored { "\u{1B}[1;31m" } else { "" }
+}
+
+// What is put in front of what is blue.
+fn blue(is_colored: bool) -> &'static str
+    ensures { result.now ≡ spec.blue is_colored }
+{
+    if is_colored { "\u{1B}[1;36m" } else { "" }
+}
+
+// What is put behind both.
+fn plain(is_colored: bool) -> &'static str
+    ensures { result.now ≡ spec.plain is_colored }
+{
+    if is_colored { "\u{1B}[0m" } else { "" }
+}
+
+/// The first line: the fault's name, and its sentence.
+pub fn error_line(
+    alloc: Global,
+    is_colored: bool,
+    code: &str,
+    sentence: &str,
+) -> Result<String, AllocError>
+    ensures { IfOk result (λ line. string_bytes line
+        ≡ spec.error_line is_colored code.now sentence.now) }
+{
+    let (red, plain) = (red(is_colored), plain(is_colored));
+    format!(in alloc; "{red}error[{code}]{plain}: {sentence}\n")
+}
+
+/// The line with the place.
+pub fn place_line(
+    alloc: Global,
+    is_colored: bool,
+    margin: &str,
+    file: &str,
+    place: Position,
+) -> Result<String, AllocError>
+    ensures { IfOk result (λ line. string_bytes line
+        ≡ spec.place_line is_colored margin.now file.now place.line place.column) }
+{
+    let (blue, plain) = (blue(is_colored), plain(is_colored));
+    let file = safe(alloc, file)?;
+    let Position { line, column } = place;
+    format!(in alloc; "{margin}{blue}-->{plain} {file}:{line}:{column}\n")
+}
+
+/// A bar.
+pub fn bar_line(alloc: Global, is_colored: bool, margin: &str) -> Result<String, AllocError>
+    ensures { IfOk result (λ line. string_bytes line ≡ spec.bar_line is_colored margin.now) }
+{
+    let (blue, plain) = (blue(is_colored), plain(is_colored));
+    format!(in alloc; "{margin} {blue}|{plain}\n")
+}
+
+/// The line of the text, by its three parts.
+pub fn text_line(
+    alloc: Global,
+    is_colored: bool,
+    number: u64,
+    before: &str,
+    at: &str,
+    behind: &str,
+) -> Result<String, AllocError>
+    ensures { IfOk result (λ line. string_bytes line
+        ≡ spec.text_line is_colored number before.now at.now behind.now) }
+{
+    let (blue, plain) = (blue(is_colored), plain(is_colored));
+    format!(in alloc; "{blue}{number} |{plain} {before}{at}{behind}\n")
+}
+
+/// A bar, and carets behind an indent.
+pub fn caret_line(
+    alloc: Global,
+    is_colored: bool,
+    margin: &str,
+    indent: &str,
+    carets: &str,
+) -> Result<String, AllocError>
+    ensures { IfOk result (λ line. string_bytes line
+        ≡ spec.caret_line is_colored margin.now indent.now carets.now) }
+{
+    let (red, blue, plain) = (red(is_colored), blue(is_colored), plain(is_colored));
+    format!(in alloc; "{margin} {blue}|{plain} {indent}{red}{carets}{plain}\n")
+}
+
+/// The line with the help.
+pub fn help_line(
+    alloc: Global,
+    is_colored: bool,
+    margin: &str,
+    help: &str,
+) -> Result<String, AllocError>
+    ensures { IfOk result (λ line. string_bytes line
+        ≡ spec.help_line is_colored margin.now help.now) }
+{
+    let (blue, plain) = (blue(is_colored), plain(is_colored));
+    format!(in alloc; "{margin} {blue}={plain} help: {help}\n")
+}
+
+/// `FILE:LINE:COLUMN: SENTENCE`, as editors read it.
+pub fn short_line(
+    alloc: Global,
+    file: &str,
+    place: Position,
+    sentence: &str,
+) -> Result<String, AllocError>
+    ensures { IfOk result (λ line. string_bytes line
+        ≡ spec.short_line file.now place.line place.column sentence.now) }
+{
+    let name = safe(alloc, file)?;
+    let Position { line, column } = place;
+    format!(in alloc; "{name}:{line}:{column}: {sentence}\n")
+}

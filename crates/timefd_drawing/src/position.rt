@@ -1,0 +1,103 @@
+//! Where a byte of a text stands in a file, and how a line is cut at a span.
+
+ghost use Rattle.std.specs.Prelude.{◌≡◌, IfOk};
+ghost use Rattle.timefd_drawing.specs.Positions as spec;
+
+use crate::shown::columns;
+use std::alloc::{AllocError, Global};
+use timefd_diagnosis::Span;
+
+/// Where a text stands: the file's name, and the number of the line at which it begins, from 1.
+#[derive(Clone, Copy)]
+pub struct Origin<'a> {
+    pub file: &'a str,
+    pub line: u64,
+}
+
+/// A place in a file, as editors name it: the line and the column, both from 1.
+#[derive(Clone, Copy)]
+pub struct Position {
+    pub line: u64,
+    pub column: usize,
+}
+
+/// A line that a span begins in, cut at the span.
+#[derive(Clone, Copy)]
+pub struct Line<'a> {
+    /// What stands before the span.
+    pub before: &'a str,
+    /// The span, as far as it is of this line.
+    pub at: &'a str,
+    /// What stands behind it.
+    pub behind: &'a str,
+}
+
+/// The place of the byte at an index, in a text that begins in this line. The column counts what
+/// stands in front of it as a terminal shows it. An `Err` says that memory ran out.
+pub fn position_of(
+    alloc: Global,
+    first: u64,
+    text: &str,
+    index: usize,
+) -> Result<Position, AllocError>
+    ensures line { IfOk result (λ place. place.line ≡ spec.line_number first text.now index) }
+    ensures column { IfOk result (λ place. place.column ≡ spec.column text.now index) }
+{
+    let (front, _) = cut_at(text, index);
+    Ok(Position {
+        line: first.saturating_add(newlines(front) as u64),
+        column: columns(alloc, last_line(front))? + 1,
+    })
+}
+
+/// The line of a text that a span begins in.
+pub fn line_of(text: &str, span: Span) -> Line<'_>
+    ensures before { result.before.now ≡ spec.before span.start text.now }
+    ensures at { result.at.now ≡ spec.spanned span text.now }
+    ensures behind { result.behind.now ≡ spec.after span text.now }
+{
+    let (front, rest) = cut_at(text, span.start);
+    let (at, behind) = cut_at(first_line(rest), span.end.saturating_sub(span.start));
+    Line {
+        before: last_line(front),
+        at,
+        behind,
+    }
+}
+
+// What stands in front of a byte index, and what is behind; inside of a character a text isn't cut.
+fn cut_at(text: &str, index: usize) -> (&str, &str)
+    ensures front { result.0.now ≡ spec.front index text.now }
+    ensures behind { result.1.now ≡ spec.behind index text.now }
+{
+    match text.split_at_checked(index) {
+        Some(parts) => parts,
+        None => (text, ""),
+    }
+}
+
+fn newlines(text: &str) -> usize
+    ensures { result ≡ spec.newlines text.now }
+{
+    text.bytes().filter(|byte| *byte == b'\n').count()
+}
+
+// What stands behind the last newline.
+fn last_line(text: &str) -> &str
+    ensures { result.now ≡ spec.last_line text.now }
+{
+    match text.rsplit_once('\n') {
+        Some((_, line)) => line,
+        None => text,
+    }
+}
+
+// What stands before the first newline.
+fn first_line(text: &str) -> &str
+    ensures { result.now ≡ spec.first_line text.now }
+{
+    match text.split_once('\n') {
+        Some((line, _)) => line,
+        None => text,
+    }
+}

@@ -1,0 +1,53 @@
+//! The sentence of a fault as it is shown.
+
+ghost use Rattle.std.specs.Prelude.{◌≡◌, IfOk, string_bytes};
+ghost use Rattle.timefd_fault.specs.Faults.{fault_of};
+ghost use Rattle.timefd_drawing.specs.Sentence as spec;
+
+use crate::shown::{cut_end, safe};
+use std::alloc::{AllocError, Global};
+use timefd_fault::InvalidFormatDescription;
+
+// The most characters of a word that a sentence shows.
+const MOST_OF_A_WORD: usize = 80;
+
+/// The sentence of the fault, with a long word cut, and no character that a terminal would obey. An
+/// `Err` says that memory ran out.
+pub fn shown_sentence(alloc: Global, fault: &InvalidFormatDescription) -> Result<String, AllocError>
+    ensures { IfOk result (λ sentence. string_bytes sentence
+        ≡ spec.shown_sentence (fault_of fault.now)) }
+{
+    let fault = brief(alloc, fault)?;
+    let sentence = format!(in alloc; "{fault}")?;
+    safe(alloc, &sentence)
+}
+
+// The fault with no more of a word than a sentence shows.
+fn brief(
+    alloc: Global,
+    fault: &InvalidFormatDescription,
+) -> Result<InvalidFormatDescription, AllocError>
+    ensures { IfOk result (λ brief. fault_of brief ≡ spec.brief (fault_of fault.now)) }
+{
+    match fault {
+        InvalidFormatDescription::InvalidComponentName { name, index } => Ok(
+            InvalidFormatDescription::InvalidComponentName {
+                name: cut_end(alloc, name, MOST_OF_A_WORD)?,
+                index: *index,
+            },
+        ),
+        InvalidFormatDescription::InvalidModifier { value, index } => Ok(
+            InvalidFormatDescription::InvalidModifier {
+                value: cut_end(alloc, value, MOST_OF_A_WORD)?,
+                index: *index,
+            },
+        ),
+        InvalidFormatDescription::UnclosedOpeningBracket { .. }
+        | InvalidFormatDescription::MissingComponentName { .. }
+        | InvalidFormatDescription::MissingRequiredModifier { .. }
+        | InvalidFormatDescription::Expected { .. }
+        | InvalidFormatDescription::NotSupported { .. }
+        | InvalidFormatDescription::DuplicateModifier { .. }
+        | InvalidFormatDescription::InvalidModifierCombination { .. } => fault.clone(alloc),
+    }
+}
