@@ -1,2 +1,2 @@
+pub mod FilesLemmas
 pub mod ToldLemmas
-pub mod ConversionLemmas

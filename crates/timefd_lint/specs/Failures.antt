@@ -1,14 +1,22 @@
 -- What fails of a file, in words.
 use Rattle.std.specs.Prelude.{codes}
+use denote.Ref.{Bor}
 use Rattle.timefd_component.specs.Tree.{Text}
-use Rattle.timefd_lint.specs.declared.lines.Failure.{Failure}
-use Rattle.timefd_lint.specs.declared.lines.Failure.TheVariants.{Absent, Folder, Forbidden, Unread, Unwritten}
+use Rattle.timefd_drawing.specs.declared.draw.Style.{Style}
+use Rattle.timefd_drawing.specs.Drawing.{note}
+use Rattle.timefd_lint.specs.declared.failure.Failure.{Failure}
+use Rattle.timefd_lint.specs.declared.failure.Failure.TheVariants.{Absent, Folder, Forbidden, Unread, NotRegular, Special, Foreign, Occupied, Changed, Unwritten}
 
 abbrev pub code : Failure → Text
 code Absent = codes "unreadable"
 code Folder = codes "unreadable"
 code Forbidden = codes "unreadable"
 code Unread = codes "unreadable"
+code NotRegular = codes "unwritable"
+code Special = codes "unwritable"
+code Foreign = codes "unwritable"
+code Occupied = codes "unwritable"
+code Changed = codes "unwritable"
 code Unwritten = codes "unwritable"
 
 abbrev pub sentence : Failure → Text
@@ -16,4 +24,15 @@ sentence Absent = codes "the file can't be read: no such file"
 sentence Folder = codes "the file can't be read: it is a folder"
 sentence Forbidden = codes "the file can't be read: permission denied"
 sentence Unread = codes "the file can't be read"
+sentence NotRegular = codes "the file can't be rewritten: it is no regular file"
+sentence Special = codes "the file can't be written back: it has setuid, setgid or sticky set"
+sentence Foreign = codes "the file can't be written back: it is another user's or another group's"
+sentence Occupied =
+    codes "the file can't be written back: there is one of its name and .timefd_lint"
+sentence Changed = codes "the file can't be rewritten: it has changed meanwhile"
 sentence Unwritten = codes "the file can't be written back"
+
+-- What is written of a file that fails: its name, and the sentence.
+abbrev pub note_of : Style → Bor Text → Failure → Text
+note_of style name failure =
+    note style (record { file = name; line = 1 }) (code failure) (sentence failure)

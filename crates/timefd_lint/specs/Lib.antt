@@ -1,4 +1,6 @@
 pub mod Lines
 pub mod Told
-pub mod Conversions
 pub mod Failures
+pub mod Files
+pub mod Summaries
+pub mod Marks

@@ -1,15 +1,15 @@
-//! A file whose lines are rewritten in a later version of the language.
+//! A file whose lines are rewritten: it is read whole, and a new one takes its place.
 
-use crate::convert::{Conversion, converted};
-use crate::line::{is_passed_over, without_newline};
-use crate::stamp::Stamp;
+ghost use Rattle.std.specs.Prelude.{IfOk};
+ghost use Rattle.std.specs.Io.KnownBytes.{Appends};
+
+use crate::failure::{Failure, unread};
+use crate::stamp::{Stamp, may_be_replaced};
 use std::alloc::{AllocError, Global};
 use std::fs::{self, File, Metadata, OpenFile, OpenOptions};
-use std::io::{self, BufRead, BufReader, BufWriter, ErrorKind, Write};
+use std::io::{Error, ErrorKind, Read, Write};
 use std::os::unix::fs::{MetadataExt, OpenOptionsExt};
 use std::rt::Files;
-use std::str;
-use timefd_parse::ParseError;
 
 // What a new file is called behind the name of the one that it is to replace.
 const BESIDE: &str = ".timefd_lint";
@@ -19,8 +19,8 @@ const BESIDE: &str = ".timefd_lint";
 pub enum FixError {
     /// Memory ran out.
     Memory,
-    /// The file can't be read, or the new one not be written or not take its place.
-    Failed,
+    /// This fails of the file.
+    Failed(Failure),
     /// The standard output can't be written.
     Output,
 }
@@ -31,34 +31,111 @@ impl From<AllocError> for FixError {
     }
 }
 
-impl From<io::Error> for FixError {
-    fn from(error: io::Error) -> FixError {
-        if error.kind() == ErrorKind::OutOfMemory {
-            FixError::Memory
+// Why a file can't be read.
+fn unreadable(error: Error) -> FixError {
+    match error.kind() {
+        ErrorKind::OutOfMemory => FixError::Memory,
+        kind => FixError::Failed(unread(kind)),
+    }
+}
+
+// Why a new one can't be written.
+fn unwritable(error: Error) -> FixError {
+    match error.kind() {
+        ErrorKind::OutOfMemory => FixError::Memory,
+        _ => FixError::Failed(Failure::Unwritten),
+    }
+}
+
+fn changed() -> FixError {
+    FixError::Failed(Failure::Changed)
+}
+
+/// A file that is read whole, and what the system knew of it then.
+#[derive(Drop)]
+pub struct Original<F: Drop> {
+    pub bytes: Vec<u8>,
+    file: F,
+    found: Metadata,
+}
+
+impl<F: Read + OpenFile + Drop> Original<F> {
+    /// Reads a regular file.
+    pub fn read<R: Files<File = F>>(
+        rt: &R,
+        alloc: Global,
+        name: &str,
+    ) -> Result<Original<F>, FixError> {
+        let mut file = opened(rt, name)?;
+        let found = file.metadata().map_err(unreadable)?;
+        let bytes = read_all(alloc, &mut file, &found)?;
+        Ok(Original { bytes, file, found })
+    }
+
+    /// Puts a new file into the place of this one, which must still be as it was read. The new one
+    /// is written beside it, and takes its name once it is whole. Where the name is a link, the file
+    /// that it leads to is replaced. If anything fails, the old file is as it was.
+    pub fn replace<R: Files<File = F>>(
+        &self,
+        rt: &R,
+        alloc: Global,
+        name: &str,
+        bytes: &[u8],
+    ) -> Result<(), FixError> {
+        if !may_be_replaced(&self.found) {
+            return Err(FixError::Failed(Failure::Special));
+        }
+        let named = fs::symlink_metadata(rt, name).map_err(unwritable)?;
+        if named.is_symlink() {
+            let target = rt.canonicalize(alloc, name).map_err(unwritable)?;
+            replace_at(rt, alloc, target.as_str(), &self.file, &self.found, bytes)
         } else {
-            FixError::Failed
+            replace_at(rt, alloc, name, &self.file, &self.found, bytes)
         }
     }
 }
 
-/// Rewrites the lines of a file, into a new one beside it that takes its place once it is whole. The
-/// file is left as it was where it is no longer the one that was looked at.
-pub fn fix_file<R: Files>(
+// A regular file that is opened. What isn't regular is refused before it is opened: a pipe that
+// nobody writes into would be waited for.
+fn opened<R: Files>(rt: &R, name: &str) -> Result<R::File, FixError> {
+    let found = fs::metadata(rt, name).map_err(unreadable)?;
+    if found.is_dir() {
+        return Err(FixError::Failed(Failure::Folder));
+    }
+    if !found.is_file() {
+        return Err(FixError::Failed(Failure::NotRegular));
+    }
+    File::open(rt, name).map_err(unreadable)
+}
+
+// All bytes of a file: as many as it had when it was found.
+fn read_all<F: Read>(alloc: Global, file: &mut F, found: &Metadata) -> Result<Vec<u8>, FixError> {
+    let mut bytes = Vec::new(alloc);
+    let most = found.size().saturating_add(1);
+    file.by_ref()
+        .take(most)
+        .read_to_end(&mut bytes)
+        .map_err(unreadable)?;
+    if bytes.len() as u64 == found.size() {
+        Ok(bytes)
+    } else {
+        Err(changed())
+    }
+}
+
+// Puts a new file into the place of an old one, under a name that is no link.
+fn replace_at<R: Files>(
     rt: &R,
     alloc: Global,
-    comment: Option<&str>,
-    conversion: Conversion,
     name: &str,
+    old: &R::File,
     found: &Metadata,
+    bytes: &[u8],
 ) -> Result<(), FixError> {
     let beside = format!(in alloc; "{name}{BESIDE}")?;
-    let old = File::open(rt, name)?;
-    if !Stamp::of(&old.metadata()?).is(Stamp::of(found)) {
-        return Err(FixError::Failed);
-    }
     let new = created(rt, &beside)?;
-    let replaced = match rewrite(alloc, comment, conversion, old, new, found) {
-        Ok(()) => replace(rt, name, &beside, found),
+    let replaced = match written(new, found, bytes) {
+        Ok(()) => renamed(rt, name, &beside, old, found),
         Err(error) => Err(error),
     };
     if replaced.is_err() {
@@ -74,39 +151,58 @@ fn created<R: Files>(rt: &R, name: &str) -> Result<R::File, FixError> {
     options.write(true);
     options.create_new(true);
     options.mode(0o600);
-    Ok(options.open(rt, name)?)
+    match options.open(rt, name) {
+        Ok(file) => Ok(file),
+        Err(error) if error.kind() == ErrorKind::AlreadyExists => {
+            Err(FixError::Failed(Failure::Occupied))
+        }
+        Err(error) => Err(unwritable(error)),
+    }
 }
 
-// Writes all lines of one file into another of the same owner and group, which is on the disk then
-// and has the old one's permissions.
-fn rewrite<F: io::Read + io::Write + OpenFile + Drop>(
-    alloc: Global,
-    comment: Option<&str>,
-    conversion: Conversion,
-    old: F,
+// Writes all bytes into a new file, and closes it.
+fn written<F: Write + OpenFile + Drop>(
     new: F,
     found: &Metadata,
+    bytes: &[u8],
 ) -> Result<(), FixError> {
-    let made = new.metadata()?;
-    if made.uid() != found.uid() || made.gid() != found.gid() {
-        return Err(FixError::Failed);
-    }
-    let mut reader = BufReader::new(alloc, old)?;
-    let mut writer = BufWriter::new(alloc, new)?;
-    rewrite_lines(alloc, comment, conversion, &mut reader, &mut writer)?;
-    writer.flush()?;
-    writer.get_ref().set_permissions(found.permissions())?;
-    writer.get_ref().sync_all()?;
-    Ok(())
+    let mut new = new;
+    fill(&mut new, found, bytes)
 }
 
-// Gives a new file the name of the old one, unless that has changed meanwhile, and has the folder
-// written to the disk.
-fn replace<R: Files>(rt: &R, name: &str, beside: &str, found: &Metadata) -> Result<(), FixError> {
-    if !Stamp::of(&fs::metadata(rt, name)?).is(Stamp::of(found)) {
-        return Err(FixError::Failed);
+// Writes all bytes into a new file of the old one's owner and group, which is on the disk then and
+// has the old one's permissions.
+fn fill<F: Write + OpenFile>(new: &mut F, found: &Metadata, bytes: &[u8]) -> Result<(), FixError>
+    ensures content { IfOk result (λ _. Appends (F.contents new.old) (F.contents new.new)
+        bytes.now) }
+{
+    let made = new.metadata().map_err(unwritable)?;
+    if made.uid() != found.uid() || made.gid() != found.gid() {
+        return Err(FixError::Failed(Failure::Foreign));
     }
-    fs::rename(rt, beside, name)?;
+    new.write_all(bytes).map_err(unwritable)?;
+    new.flush().map_err(unwritable)?;
+    new.set_permissions(found.permissions())
+        .map_err(unwritable)?;
+    new.sync_all().map_err(unwritable)
+}
+
+// Gives a new file the name of the old one, unless that has changed meanwhile or the name leads to
+// another, and has the folder written to the disk.
+fn renamed<R: Files>(
+    rt: &R,
+    name: &str,
+    beside: &str,
+    old: &R::File,
+    found: &Metadata,
+) -> Result<(), FixError> {
+    let stamp = Stamp::of(found);
+    let opened = old.metadata().map_err(unwritable)?;
+    let named = fs::metadata(rt, name).map_err(unwritable)?;
+    if !stamp.is(Stamp::of(&opened)) || !stamp.is(Stamp::of(&named)) {
+        return Err(changed());
+    }
+    fs::rename(rt, beside, name).map_err(unwritable)?;
     let folder = match name.rsplit_once('/') {
         Some(("", _)) => "/",
         Some((folder, _)) => folder,
@@ -118,69 +214,4 @@ fn replace<R: Files>(rt: &R, name: &str, beside: &str, found: &Metadata) -> Resu
         let _ = folder.sync_all();
     }
     Ok(())
-}
-
-/// Writes each line of a reader, rewritten where it can be.
-pub fn rewrite_lines<R: BufRead, W: Write>(
-    alloc: Global,
-    comment: Option<&str>,
-    conversion: Conversion,
-    reader: &mut R,
-    writer: &mut W,
-) -> Result<(), FixError> {
-    let mut bytes = Vec::new(alloc);
-    for _ in 0..u64::MAX {
-        bytes.clear();
-        if reader.read_until(b'\n', &mut bytes)? == 0 {
-            return Ok(());
-        }
-        let line = without_newline(&bytes);
-        match rewritten(alloc, comment, conversion, line)? {
-            Line::Rewritten(text) => {
-                writer.write_all(text.as_bytes())?;
-                writer.write_all(&bytes[line.len()..])?;
-            }
-            Line::Kept | Line::Refused => writer.write_all(&bytes)?,
-        }
-    }
-    Err(FixError::Failed)
-}
-
-/// What a line is in the later version.
-#[derive(Drop)]
-pub enum Line {
-    /// The same, or it is passed over.
-    Kept,
-    /// Another text.
-    Rewritten(String),
-    /// None: it is refused, or no UTF-8.
-    Refused,
-}
-
-/// What a line is in the later version. An `Err` says that memory ran out.
-pub fn rewritten(
-    alloc: Global,
-    comment: Option<&str>,
-    conversion: Conversion,
-    line: &[u8],
-) -> Result<Line, AllocError> {
-    if is_passed_over(comment, line) {
-        return Ok(Line::Kept);
-    }
-    let Ok(text) = str::from_utf8(line) else {
-        return Ok(Line::Refused);
-    };
-    match converted(alloc, conversion, text) {
-        Ok(answer) => Ok(changed(text, answer)),
-        Err(ParseError::Invalid(_)) => Ok(Line::Refused),
-        Err(ParseError::Memory(error)) => Err(error),
-    }
-}
-
-// The answer, if it is another text.
-fn changed(text: &str, answer: String) -> Line {
-    if answer.as_str() == text {
-        return Line::Kept;
-    }
-    Line::Rewritten(answer)
 }

@@ -2,9 +2,7 @@
 
 ghost use Rattle.std.specs.Prelude.{◌≡◌, IfOk, OnOk};
 ghost use Rattle.std.specs.Io.KnownBytes.{Appends};
-ghost use Rattle.std.specs.Io.BufRead.{ends_with_byte, strip_last};
 ghost use Rattle.timefd_lint.specs.Lines.{IsEndOf, IsLineEnd};
-ghost use Rattle.timefd_lint.specs.Lines as spec;
 ghost use Rattle.timefd_lint.specs.Told.{Says};
 ghost use Rattle.timefd_lint.specs.declared.line.TextEnd.TheVariants as ends;
 
@@ -15,6 +13,7 @@ use std::str;
 use timefd_diagnosis::diagnose;
 use timefd_drawing::{Origin, drawn, note};
 use timefd_explain::explained;
+use timefd_rewrite::is_passed_over;
 
 /// Why a run ends before its last text.
 #[derive(Clone, Copy)]
@@ -44,47 +43,6 @@ pub enum TextEnd {
     NotText,
     /// None could be had, as a file can't be read or not be written back, and a note is written.
     Failed,
-}
-
-/// Whether a line is passed over.
-pub fn is_passed_over(comment: Option<&str>, line: &[u8]) -> bool
-    ensures { result ≡ spec.is_passed_over comment.entry line.now }
-{
-    match comment {
-        Some(mark) => line.is_empty() || line.starts_with(mark.as_bytes()),
-        None => line.is_empty(),
-    }
-}
-
-fn ends_with(line: &[u8], byte: u8) -> bool
-    ensures { result ≡ ends_with_byte byte line.now }
-{
-    match line {
-        [.., last] => *last == byte,
-        [] => false,
-    }
-}
-
-// The line without its last byte, if that is this one.
-fn without_last(line: &[u8], byte: u8) -> &[u8]
-    ensures { result.now ≡ strip_last byte line.now }
-{
-    if ends_with(line, byte) {
-        &line[..line.len() - 1]
-    } else {
-        line
-    }
-}
-
-/// A line without its newline, and without the carriage return in front of that.
-pub fn without_newline(line: &[u8]) -> &[u8]
-    ensures { result.now ≡ spec.without_newline line.now }
-{
-    if ends_with(line, b'\n') {
-        without_last(without_last(line, b'\n'), b'\r')
-    } else {
-        line
-    }
 }
 
 /// Looks at a line, without its newline, and writes what is wrong with it. An `Err` says why that

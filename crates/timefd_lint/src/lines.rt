@@ -1,16 +1,20 @@
 //! The lines of a reader, one after another.
 
-ghost use Rattle.std.specs.Prelude.{◌≡◌, true, IfOk};
+ghost use Rattle.std.specs.Prelude.{◌≡◌, IfOk, OnOk};
+ghost use Rattle.std.specs.Io.KnownBytes.{Appends};
+ghost use Rattle.timefd_lint.specs.Failures.{note_of};
 ghost use Rattle.timefd_lint.specs.Told.{IsNext, IsRunOfAll, IsRunOver, Says};
-ghost use Rattle.timefd_lint.specs.Failures as spec;
 ghost use Rattle.timefd_lint.specs.declared.line.TextEnd.TheVariants as ends;
 
-use crate::line::{RunError, TextEnd, lint_line, lint_text, without_newline, write};
+use crate::failure::{Failure, unread};
+use crate::line::{RunError, TextEnd, lint_line, lint_text, write};
+use crate::mark::note_mark;
 use crate::options::Options;
 use crate::tally::Tally;
 use std::alloc::Global;
 use std::io::{BufRead, Error, ErrorKind, Read, Write};
 use timefd_drawing::{Origin, note};
+use timefd_rewrite::without_newline;
 
 /// Looks at each line of a reader, in order, and writes what is wrong.
 #[tactic(auto, using(crate::proofs::ToldLemmas::no_lines))]
@@ -23,16 +27,19 @@ pub fn lint_lines<R: BufRead, W: Write>(
 ) -> Result<Tally, RunError>
     ensures { IfOk result (IsRunOver options.entry.language options.entry.comment
         options.entry.explains (R.remaining reader.old)
+        (R.remaining reader.new)
         (W.contents writer.old) (W.contents writer.new)) }
 {
     let mut tally = Tally::new();
     let mut bytes = Vec::new(alloc);
+    let mut is_first = true;
     'lines: for line in 1..u64::MAX {
         let origin = Origin { file: name, line };
-        match lint_next(alloc, options, origin, &mut bytes, reader, writer)? {
+        match lint_next(alloc, options, origin, is_first, &mut bytes, reader, writer)? {
             None => return Ok(tally),
             Some(end) => tally = tally.and(Tally::of(end)),
         }
+        is_first = false;
         if tally.failed {
             return Ok(tally);
         }
@@ -42,15 +49,17 @@ pub fn lint_lines<R: BufRead, W: Write>(
 }
 
 // Looks at one more line, for which there is this room: `None` at the end.
+#[tactic(auto, using(crate::proofs::ToldLemmas::read_none, crate::proofs::ToldLemmas::read_fails))]
 fn lint_next<R: BufRead, W: Write>(
     alloc: Global,
     options: Options<'_>,
     origin: Origin<'_>,
+    is_first: bool,
     bytes: &mut Vec<u8>,
     reader: &mut R,
     writer: &mut W,
 ) -> Result<Option<TextEnd>, RunError>
-    ensures { IfOk result (IsNext options.entry.language options.entry.comment
+    ensures { IfOk result (IsNext is_first options.entry.language options.entry.comment
         options.entry.explains (R.remaining reader.old) (R.remaining reader.new)
         (W.contents writer.old) (W.contents writer.new)) }
 {
@@ -60,6 +69,7 @@ fn lint_next<R: BufRead, W: Write>(
             if count == 0 {
                 return Ok(None);
             }
+            note_mark(alloc, options, origin, is_first, bytes, writer)?;
             let line = without_newline(bytes);
             Ok(Some(lint_line(alloc, options, origin, line, writer)?))
         }
@@ -78,6 +88,7 @@ pub fn lint_whole<R: Read, W: Write>(
 ) -> Result<Tally, RunError>
     ensures { IfOk result (IsRunOfAll options.entry.language options.entry.comment
         options.entry.explains (R.remaining reader.old)
+        (R.remaining reader.new)
         (W.contents writer.old) (W.contents writer.new)) }
 {
     let origin = Origin {
@@ -87,6 +98,7 @@ pub fn lint_whole<R: Read, W: Write>(
     let mut bytes = Vec::new(alloc);
     match reader.read_to_end(&mut bytes) {
         Ok(_) => {
+            note_mark(alloc, options, origin, true, &bytes, writer)?;
             let end = lint_text(alloc, options, origin, &bytes, writer)?;
             Ok(Tally::of(end))
         }
@@ -115,57 +127,6 @@ fn read_error<W: Write>(
     failed(alloc, options, name, unread(error.kind()), writer)
 }
 
-/// What fails of a file.
-#[derive(Clone, Copy)]
-pub enum Failure {
-    /// There is none of the name.
-    Absent,
-    /// It is a folder.
-    Folder,
-    /// The system doesn't permit it.
-    Forbidden,
-    /// It can't be read for another reason.
-    Unread,
-    /// It can't be written back.
-    Unwritten,
-}
-
-/// What fails where a file can't be read.
-pub fn unread(kind: ErrorKind) -> Failure {
-    match kind {
-        ErrorKind::NotFound => Failure::Absent,
-        ErrorKind::IsADirectory => Failure::Folder,
-        ErrorKind::PermissionDenied => Failure::Forbidden,
-        _ => Failure::Unread,
-    }
-}
-
-impl Failure {
-    // Its name.
-    fn code(self) -> &'static str
-        ensures { result.now ≡ spec.code self }
-    {
-        match self {
-            Failure::Absent | Failure::Folder | Failure::Forbidden | Failure::Unread =>
-                "unreadable",
-            Failure::Unwritten => "unwritable",
-        }
-    }
-
-    // Its sentence.
-    fn sentence(self) -> &'static str
-        ensures { result.now ≡ spec.sentence self }
-    {
-        match self {
-            Failure::Absent => "the file can't be read: no such file",
-            Failure::Folder => "the file can't be read: it is a folder",
-            Failure::Forbidden => "the file can't be read: permission denied",
-            Failure::Unread => "the file can't be read",
-            Failure::Unwritten => "the file can't be written back",
-        }
-    }
-}
-
 /// Notes what fails of a file.
 pub fn failed<W: Write>(
     alloc: Global,
@@ -177,6 +138,8 @@ pub fn failed<W: Write>(
     ensures end { IfOk result (λ end. end ≡ ends.Failed) }
     ensures said { IfOk result (λ end.
         Says options.entry.explains end (W.contents writer.old) (W.contents writer.new)) }
+    ensures noted { OnOk result (Appends (W.contents writer.old) (W.contents writer.new)
+        (note_of options.entry.style name.entry failure)) }
 {
     let origin = Origin {
         file: name,

@@ -3,27 +3,33 @@
 //! of the faults.
 #![tactic(auto)]
 
-mod convert;
+mod failure;
 mod fix;
 mod line;
 mod lines;
+mod mark;
 mod options;
 mod rewriting;
 mod run;
+mod source;
 mod stamp;
+mod summary;
 mod tally;
 mod usage;
 
-use convert::conversion_between;
 use line::RunError;
 use options::{Options, run_options};
 use rewriting::{Rewriting, rewrite_files};
 use run::run;
+use source::BUFFER;
 use std::alloc::{AllocError, Global};
 use std::env;
-use std::io::{BufWriter, ErrorKind, IsTerminal, Write};
+use std::io::{BufReader, BufWriter, ErrorKind, IsTerminal, Write};
 use std::process::ExitCode;
+use summary::summary;
+use tally::Tally;
 use timefd_lint_options::{Asked, Color, OptionError, Settings, options_of};
+use timefd_rewrite::conversion_between;
 
 // The statuses of runs that did not come to their end.
 const WRONG_ARGUMENTS: u8 = 2;
@@ -129,7 +135,7 @@ fn run_status(rt: &HostRuntime, settings: Settings<'_>, options: Options<'_>) ->
     };
     let end = run_and_rewrite(rt, settings, options, &mut writer);
     match (end, writer.flush()) {
-        (Ok(status), Ok(())) => end_of(rt, status),
+        (Ok(tally), Ok(())) => end_of(rt, settings, options, tally),
         (Err(RunError::Memory), _) => no_memory(rt),
         (Err(RunError::Write), _) | (Ok(_), Err(_)) => write_failed(rt),
     }
@@ -140,24 +146,37 @@ fn run_and_rewrite<W: Write>(
     settings: Settings<'_>,
     options: Options<'_>,
     writer: &mut W,
-) -> Result<u8, RunError> {
-    let status = run(rt, rt.alloc(), options, rt.stdin(), writer)?.status();
-    let Some(rewriting) = rewriting_of(settings) else {
-        return Ok(status);
-    };
-    if rewrite_files(rt, rt.alloc(), options, rewriting, writer)? {
-        Ok(FAILED)
-    } else {
-        Ok(status)
+) -> Result<Tally, RunError> {
+    if let Some(rewriting) = rewriting_of(settings) {
+        return rewrite_files(rt, rt.alloc(), options, rewriting, writer);
     }
+    let Ok(mut input) = BufReader::with_capacity(rt.alloc(), BUFFER, rt.stdin()) else {
+        return Err(RunError::Memory);
+    };
+    run(rt, rt.alloc(), options, &mut input, writer)
 }
 
 // Says why the status of a run that came to its end is no verdict.
-fn end_of(rt: &HostRuntime, status: u8) -> u8 {
+fn end_status(rt: &HostRuntime, status: u8) -> u8 {
     match status {
         FAILED => told(rt, status, "a file can't be read, or not be written back"),
         NOT_TEXT => told(rt, status, "a line is no UTF-8"),
         _ => status,
+    }
+}
+
+// The same, and behind it how much was looked at.
+fn end_of(rt: &HostRuntime, settings: Settings<'_>, options: Options<'_>, tally: Tally) -> u8 {
+    let status = end_status(rt, tally.status());
+    if settings.is_quiet {
+        return status;
+    }
+    match summary(rt.alloc(), tally, options.file_count()) {
+        Ok(line) => {
+            let _ = eprintln!(rt; "{line}");
+            status
+        }
+        Err(AllocError) => no_memory(rt),
     }
 }
 

@@ -1,6 +1,6 @@
 //! What a run does.
 
-ghost use Rattle.std.specs.Prelude.{◌≡◌};
+ghost use Rattle.std.specs.Prelude.{◌≡◌, length, max};
 
 use timefd_drawing::Style;
 use timefd_lint_options::Settings;
@@ -21,6 +21,15 @@ pub struct Options<'a> {
     pub explains: bool,
     /// The names of the files: none, where the standard input is read.
     pub files: &'a [&'a str],
+}
+
+impl Options<'_> {
+    /// How many files are looked at: the standard input alone, where none is named.
+    pub fn file_count(self) -> usize
+        ensures { result ≡ max (length self.entry.files.now) 1 }
+    {
+        self.files.len().max(1)
+    }
 }
 
 /// What a run does by its settings, over these files.

@@ -1,17 +1,22 @@
 //! The named files in a later version of the language: shown as changes, or written back.
 
-use crate::convert::Conversion;
-use crate::fix::{FixError, Line, fix_file, rewritten};
-use crate::line::{RunError, without_newline, write};
-use crate::lines::{Failure, failed};
+ghost use Rattle.std.specs.Prelude.{Option, Some, [], IfOk};
+ghost use Rattle.timefd_component.specs.Tree.{Text};
+ghost use Rattle.timefd_lint.specs.Told.{IsRunOver};
+ghost use Rattle.timefd_rewrite.specs.Rewriting.{AreRewritten};
+
+use crate::fix::{FixError, Original};
+use crate::line::RunError;
+use crate::lines::{failed, lint_lines};
 use crate::options::Options;
-use crate::stamp::may_be_replaced;
-use std::alloc::{AllocError, Global};
-use std::fs::{self, File};
-use std::io::{BufRead, BufReader, Eprint, Write};
+use crate::tally::Tally;
+use std::alloc::Global;
+use std::fs;
+use std::io::{Eprint, Write};
 use std::os::unix::fs::MetadataExt;
 use std::rt::Files;
 use timefd_drawing::shown::safe;
+use timefd_rewrite::{Conversion, Counts, RewriteError, rewrite_lines, write_diff};
 
 /// How files are rewritten.
 #[derive(Clone, Copy)]
@@ -19,16 +24,8 @@ pub struct Rewriting {
     pub conversion: Conversion,
     /// Whether they are written back, and not shown as changes.
     pub writes: bool,
-    /// Whether a file is also written back where some of its lines are refused.
+    /// Whether a file is also rewritten where some of its lines are refused.
     pub is_partial: bool,
-}
-
-// How many lines a file has, how many of them are rewritten, and how many refused.
-#[derive(Clone, Copy)]
-struct Counts {
-    lines: u64,
-    rewritten: u64,
-    refused: u64,
 }
 
 // Which file of the system a name stands for.
@@ -38,35 +35,32 @@ struct Identity {
     inode: u64,
 }
 
-/// Shows or writes back each file in turn, and one that several names stand for once. It answers
-/// whether a file can't be read or not be written back, which is noted; the others are still looked
-/// at.
+/// Looks at the lines of each file in turn, and shows what changes in it or writes it back. One that
+/// several names stand for is taken once. A file that can't be read or not be written back is noted,
+/// and the others are still looked at.
 pub fn rewrite_files<R: Files + Eprint, W: Write>(
     rt: &R,
     alloc: Global,
     options: Options<'_>,
     rewriting: Rewriting,
     writer: &mut W,
-) -> Result<bool, RunError> {
+) -> Result<Tally, RunError> {
     let mut met = Vec::new(alloc);
-    let mut has_failed = false;
+    let mut tally = Tally::new();
     for name in options.files {
-        let Some(identity) = identity_of(rt, name) else {
-            continue;
-        };
-        if is_among(&met, identity) {
-            continue;
+        if let Some(identity) = identity_of(rt, name) {
+            if is_among(&met, identity) {
+                continue;
+            }
+            meet(&mut met, identity)?;
         }
-        meet(&mut met, identity)?;
-        if !rewrite_file(rt, alloc, options, rewriting, name, writer)? {
-            has_failed = true;
-        }
+        tally = tally.and(rewrite_file(rt, alloc, options, rewriting, name, writer)?);
         // What is written back is another file of the same name.
         if let Some(identity) = identity_of(rt, name) {
             meet(&mut met, identity)?;
         }
     }
-    Ok(has_failed)
+    Ok(tally)
 }
 
 fn meet(met: &mut Vec<Identity>, identity: Identity) -> Result<(), RunError> {
@@ -76,7 +70,7 @@ fn meet(met: &mut Vec<Identity>, identity: Identity) -> Result<(), RunError> {
     }
 }
 
-// `None` where there is no file, which was noted when it was looked at.
+// `None` where there is no file.
 fn identity_of<R: Files>(rt: &R, name: &str) -> Option<Identity> {
     let metadata = fs::metadata(rt, name).ok()?;
     Some(Identity {
@@ -94,7 +88,7 @@ fn is_among(met: &[Identity], identity: Identity) -> bool {
     false
 }
 
-// Shows or writes back a file, and answers whether nothing failed.
+// Looks at a file, and shows what changes in it or writes it back.
 fn rewrite_file<R: Files + Eprint, W: Write>(
     rt: &R,
     alloc: Global,
@@ -102,144 +96,137 @@ fn rewrite_file<R: Files + Eprint, W: Write>(
     rewriting: Rewriting,
     name: &str,
     writer: &mut W,
-) -> Result<bool, RunError> {
-    match shown_or_written(rt, alloc, options, rewriting, name, writer) {
-        Ok(()) => Ok(true),
-        Err(FixError::Memory) => Err(RunError::Memory),
-        Err(FixError::Output) => Err(RunError::Write),
-        Err(FixError::Failed) => {
-            failed(alloc, options, name, Failure::Unwritten, writer)?;
-            Ok(false)
+) -> Result<Tally, RunError> {
+    let old = match Original::read(rt, alloc, name) {
+        Ok(old) => old,
+        Err(error) => return noted(alloc, options, name, error, writer),
+    };
+    let found = looked_at(
+        alloc,
+        options,
+        rewriting.conversion,
+        name,
+        &old.bytes,
+        writer,
+    )?;
+    match shown_or_written(rt, alloc, rewriting, name, &old, &found, writer) {
+        Ok(()) => Ok(found.tally),
+        Err(error) => Ok(found.tally.and(noted(alloc, options, name, error, writer)?)),
+    }
+}
+
+// Notes why a file is left as it was.
+fn noted<W: Write>(
+    alloc: Global,
+    options: Options<'_>,
+    name: &str,
+    error: FixError,
+    writer: &mut W,
+) -> Result<Tally, RunError> {
+    match error {
+        FixError::Memory => Err(RunError::Memory),
+        FixError::Output => Err(RunError::Write),
+        FixError::Failed(failure) => {
+            let end = failed(alloc, options, name, failure, writer)?;
+            Ok(Tally::of(end))
         }
     }
 }
 
+// What is found in the lines of a file, and the bytes that are to stand in their place.
+#[derive(Drop)]
+struct Found {
+    tally: Tally,
+    counts: Counts,
+    bytes: Vec<u8>,
+}
+
+// Looks at the lines of a file, and rewrites those that can be.
+fn looked_at<W: Write>(
+    alloc: Global,
+    options: Options<'_>,
+    conversion: Conversion,
+    name: &str,
+    old: &[u8],
+    writer: &mut W,
+) -> Result<Found, RunError>
+    ensures told { IfOk result (λ found. (rest : Option Text) × IsRunOver options.entry.language
+        options.entry.comment options.entry.explains (Some old.now) rest
+        (W.contents writer.old) (W.contents writer.new) found.tally) }
+    ensures rewritten { IfOk result (λ found. AreRewritten conversion options.entry.comment
+        (Some old.now) (Some []) (Some found.bytes.items) found.counts) }
+{
+    let mut lines = old;
+    let tally = lint_lines(alloc, options, name, &mut lines, writer)?;
+    let mut lines = old;
+    let mut bytes = Vec::new(alloc);
+    match rewrite_lines(alloc, options.comment, conversion, &mut lines, &mut bytes) {
+        Ok(counts) => Ok(Found {
+            tally,
+            counts,
+            bytes,
+        }),
+        // What is read stands in memory, and so does what is written.
+        Err(_) => Err(RunError::Memory),
+    }
+}
+
+// Shows what changes in a file, or writes it back; neither where nothing changes.
 fn shown_or_written<R: Files + Eprint, W: Write>(
     rt: &R,
     alloc: Global,
-    options: Options<'_>,
     rewriting: Rewriting,
     name: &str,
+    old: &Original<R::File>,
+    found: &Found,
     writer: &mut W,
 ) -> Result<(), FixError> {
-    let found = fs::metadata(rt, name)?;
-    if !found.is_file() || (rewriting.writes && !may_be_replaced(&found)) {
-        return Err(FixError::Failed);
+    if found.counts.rewritten == 0 {
+        return Ok(());
     }
-    let mut reader = BufReader::new(alloc, File::open(rt, name)?)?;
-    let counts = changes(alloc, options, rewriting, name, &mut reader, writer)?;
+    let file = safe(alloc, name)?;
+    if found.counts.refused > 0 && !rewriting.is_partial {
+        tell_refused(rt, rewriting.writes, &file, found.counts);
+        return Ok(());
+    }
+    if rewriting.writes {
+        old.replace(rt, alloc, name, &found.bytes)?;
+        tell_rewritten(rt, &file, found.counts);
+        return Ok(());
+    }
+    match write_diff(alloc, &file, &old.bytes, &found.bytes, writer) {
+        Ok(()) => Ok(()),
+        Err(RewriteError::Memory) => Err(FixError::Memory),
+        Err(RewriteError::Read | RewriteError::Write) => Err(FixError::Output),
+    }
+}
+
+fn noun(count: u64) -> &'static str {
+    if count == 1 { "line" } else { "lines" }
+}
+
+// Says why a file some of whose lines are refused is left out.
+fn tell_refused<R: Eprint>(rt: &R, writes: bool, file: &str, counts: Counts) {
+    let Counts { lines, refused, .. } = counts;
+    let noun = noun(lines);
+    let are = if refused == 1 { "is" } else { "are" };
+    let (left, cure) = if writes {
+        ("not rewritten", "--partial")
+    } else {
+        ("no diff of", "--write --partial")
+    };
+    let _ = rt.eprintln(format_args!(
+        "{left} {file}: {refused} of {lines} {noun} {are} refused; {cure} rewrites the others"
+    ));
+}
+
+// Says that a file is written back.
+fn tell_rewritten<R: Eprint>(rt: &R, file: &str, counts: Counts) {
     let Counts {
         lines,
         rewritten,
-        refused,
+        ..
     } = counts;
-    if !rewriting.writes || rewritten == 0 {
-        return Ok(());
-    }
-    let file = safe(alloc, name)?;
-    if refused > 0 && !rewriting.is_partial {
-        let are = if lines == 1 { "line is" } else { "lines are" };
-        let _ = rt.eprintln(format_args!(
-            "not rewritten {file}: {refused} of {lines} {are} refused; --partial rewrites the others"
-        ));
-        return Ok(());
-    }
-    fix_file(
-        rt,
-        alloc,
-        options.comment,
-        rewriting.conversion,
-        name,
-        &found,
-    )?;
-    let noun = if lines == 1 { "line" } else { "lines" };
+    let noun = noun(lines);
     let _ = rt.eprintln(format_args!("rewrote {file}: {rewritten} of {lines} {noun}"));
-    Ok(())
-}
-
-// Counts the lines of a file, and shows those that are rewritten, unless they are written back.
-fn changes<R: BufRead, W: Write>(
-    alloc: Global,
-    options: Options<'_>,
-    rewriting: Rewriting,
-    name: &str,
-    reader: &mut R,
-    writer: &mut W,
-) -> Result<Counts, FixError> {
-    let mut counts = Counts {
-        lines: 0,
-        rewritten: 0,
-        refused: 0,
-    };
-    let mut bytes = Vec::new(alloc);
-    for _ in 0..u64::MAX {
-        bytes.clear();
-        if reader.read_until(b'\n', &mut bytes)? == 0 {
-            return Ok(counts);
-        }
-        counts.lines = counts.lines.saturating_add(1);
-        let line = without_newline(&bytes);
-        match rewritten(alloc, options.comment, rewriting.conversion, line)? {
-            Line::Kept => {}
-            Line::Refused => counts.refused = counts.refused.saturating_add(1),
-            Line::Rewritten(text) => {
-                if !rewriting.writes {
-                    show_names(alloc, counts, name, writer)?;
-                    show_change(alloc, counts.lines, &bytes, line.len(), &text, writer)?;
-                }
-                counts.rewritten = counts.rewritten.saturating_add(1);
-            }
-        }
-    }
-    Err(FixError::Failed)
-}
-
-// Writes the names of the two files that are compared, in front of the first change.
-fn show_names<W: Write>(
-    alloc: Global,
-    counts: Counts,
-    name: &str,
-    writer: &mut W,
-) -> Result<(), FixError> {
-    if counts.rewritten > 0 {
-        return Ok(());
-    }
-    let file = safe(alloc, name)?;
-    show(
-        writer,
-        format!(in alloc; "--- {file}\n+++ {file}\n")?.as_bytes(),
-    )
-}
-
-// Writes a line and the text in its place, as a hunk of a unified diff without context.
-fn show_change<W: Write>(
-    alloc: Global,
-    number: u64,
-    bytes: &[u8],
-    line_len: usize,
-    text: &str,
-    writer: &mut W,
-) -> Result<(), FixError> {
-    let ended = bytes.get(line_len..).unwrap_or(b"");
-    let end = if ended.is_empty() {
-        b"\n\\ No newline at end of file\n"
-    } else {
-        ended
-    };
-    show(
-        writer,
-        format!(in alloc; "@@ -{number} +{number} @@\n-")?.as_bytes(),
-    )?;
-    show(writer, bytes.get(..line_len).unwrap_or(bytes))?;
-    show(writer, end)?;
-    show(writer, b"+")?;
-    show(writer, text.as_bytes())?;
-    show(writer, end)
-}
-
-fn show<W: Write>(writer: &mut W, bytes: &[u8]) -> Result<(), FixError> {
-    match write(writer, bytes) {
-        Ok(()) => Ok(()),
-        Err(_) => Err(FixError::Output),
-    }
 }

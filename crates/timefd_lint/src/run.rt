@@ -1,28 +1,30 @@
 //! A run over files.
 
-ghost use Rattle.std.specs.Prelude.{◌≡◌, [], IfOk};
-ghost use Rattle.timefd_lint.specs.Told.{IsRun, IsRunOn};
+ghost use Rattle.std.specs.Prelude.{◌≡◌, ◌≢◌, [], IfOk};
+ghost use Rattle.timefd_lint.specs.Files.{IsNoted, IsRunIn, IsRunOfFile, IsRunOfName, IsRunOfNames};
+ghost use Rattle.timefd_lint.specs.Told.{IsRun, tally_of};
 
+use crate::failure::OpenError;
 use crate::line::RunError;
-use crate::lines::{failed, lint_lines, lint_whole, unread};
+use crate::lines::{failed, lint_lines, lint_whole};
 use crate::options::Options;
+use crate::source::Source;
 use crate::tally::Tally;
 use std::alloc::Global;
-use std::fs::File;
-use std::io::{BufReader, Read, Write};
-use std::rt::Files;
+use std::io::{BufRead, Write};
+use timefd_lint_options::is_input;
 
-// How many bytes are read at once.
-const BUFFER: usize = 65_536;
+/// What the standard input is shown as.
+const INPUT: &str = "<stdin>";
 
 /// Looks at each file, or at the input where there is none, in order, and writes what is wrong. A
-/// file that can't be read is noted, and the others are still looked at.
-#[tactic(auto, using(crate::proofs::ToldLemmas::no_text, crate::proofs::ToldLemmas::run_behind, crate::proofs::ToldLemmas::run_on))]
-pub fn run<R: Files, I: Read + Drop, W: Write>(
-    rt: &R,
+/// file that can't be read is noted, and the others are still looked at. The name `-` is that of the
+/// input, of which a second one finds what the first one left: nothing.
+pub fn run<S: Source, I: BufRead, W: Write>(
+    source: &S,
     alloc: Global,
     options: Options<'_>,
-    input: I,
+    input: &mut I,
     writer: &mut W,
 ) -> Result<Tally, RunError>
     ensures told { IfOk result (IsRun options.entry.is_whole options.entry.language
@@ -30,60 +32,136 @@ pub fn run<R: Files, I: Read + Drop, W: Write>(
         (W.contents writer.new)) }
 
     // Where no file is named, what is told is all that the input has.
-    ensures input { options.entry.files.now ≡ [] → IfOk result (IsRunOn options.entry.is_whole
-        options.entry.language options.entry.comment options.entry.explains
-        (I.remaining input) (W.contents writer.old) (W.contents writer.new)) }
+    ensures input { options.entry.files.now ≡ [] → IfOk result (IsRunIn options.entry
+        (I.remaining input.old) (I.remaining input.new)
+        (W.contents writer.old) (W.contents writer.new)) }
+
+    // Where some are, each is told of in turn: what it had when it was opened, or why it wasn't.
+    ensures files { options.entry.files.now ≢ [] → IfOk result (IsRunOfNames
+        (S.opens source.now) (S.fails source.now) options.entry options.entry.files.now
+        (tally_of []) (I.remaining input.old) (I.remaining input.new)
+        (W.contents writer.old) (W.contents writer.new)) }
 {
     if options.files.is_empty() {
-        return lint_reader(alloc, options, "<stdin>", input, writer);
+        lint_reader(alloc, options, INPUT, input, writer)
+    } else {
+        lint_files(source, alloc, options, input, writer)
     }
+}
+
+// Looks at each file that is named, in order.
+#[tactic(auto, using(crate::proofs::FilesLemmas::no_name, crate::proofs::FilesLemmas::one_name, crate::proofs::FilesLemmas::all_names))]
+fn lint_files<S: Source, I: BufRead, W: Write>(
+    source: &S,
+    alloc: Global,
+    options: Options<'_>,
+    input: &mut I,
+    writer: &mut W,
+) -> Result<Tally, RunError>
+    ensures told { IfOk result (IsRun options.entry.is_whole options.entry.language
+        options.entry.comment options.entry.explains (W.contents writer.old)
+        (W.contents writer.new)) }
+    ensures files { IfOk result (IsRunOfNames (S.opens source.now) (S.fails source.now)
+        options.entry options.entry.files.now (tally_of [])
+        (I.remaining input.old) (I.remaining input.new)
+        (W.contents writer.old) (W.contents writer.new)) }
+{
     let mut tally = Tally::new();
-    'files: for name in options.files {
-        tally = tally.and(lint_file(rt, alloc, options, name, writer)?);
+    let mut rest = options.files;
+    'names: while let [name, behind @ ..] = rest {
+        tally = tally.and(lint_named(source, alloc, options, name, input, writer)?);
+        rest = behind;
     }
     Ok(tally)
 }
 
+/// Looks at all texts of a file, or of the input: all that is left of it.
+pub fn lint_named<S: Source, I: BufRead, W: Write>(
+    source: &S,
+    alloc: Global,
+    options: Options<'_>,
+    name: &str,
+    input: &mut I,
+    writer: &mut W,
+) -> Result<Tally, RunError>
+    ensures told { IfOk result (IsRun options.entry.is_whole options.entry.language
+        options.entry.comment options.entry.explains (W.contents writer.old)
+        (W.contents writer.new)) }
+    ensures named { IfOk result (IsRunOfName (S.opens source.now) (S.fails source.now)
+        options.entry name.entry (I.remaining input.old) (I.remaining input.new)
+        (W.contents writer.old) (W.contents writer.new)) }
+{
+    if is_input(name) {
+        lint_reader(alloc, options, INPUT, input, writer)
+    } else {
+        lint_file(source, alloc, options, name, writer)
+    }
+}
+
 // Looks at all texts of a file.
-#[tactic(auto, using(crate::proofs::ToldLemmas::failed_run, crate::proofs::ToldLemmas::run_on))]
-fn lint_file<R: Files, W: Write>(
-    rt: &R,
+#[tactic(auto, using(crate::proofs::FilesLemmas::opened, crate::proofs::FilesLemmas::unopened))]
+fn lint_file<S: Source, W: Write>(
+    source: &S,
     alloc: Global,
     options: Options<'_>,
     name: &str,
     writer: &mut W,
 ) -> Result<Tally, RunError>
-    ensures { IfOk result (IsRun options.entry.is_whole options.entry.language options.entry.comment
-        options.entry.explains (W.contents writer.old) (W.contents writer.new)) }
+    ensures told { IfOk result (IsRun options.entry.is_whole options.entry.language
+        options.entry.comment options.entry.explains (W.contents writer.old)
+        (W.contents writer.new)) }
+    ensures file { IfOk result (IsRunOfFile (S.opens source.now name.now)
+        (S.fails source.now name.now) options.entry name.entry
+        (W.contents writer.old) (W.contents writer.new)) }
 {
-    match File::open(rt, name) {
-        Ok(file) => lint_reader(alloc, options, name, file, writer),
-        Err(error) => {
-            let end = failed(alloc, options, name, unread(error.kind()), writer)?;
+    match source.open(alloc, name) {
+        Ok(mut reader) => lint_reader(alloc, options, name, &mut reader, writer),
+        Err(error) => note_unopened(alloc, options, name, error, writer),
+    }
+}
+
+// Notes why a file isn't opened.
+#[tactic(auto, using(crate::proofs::ToldLemmas::failed_run))]
+fn note_unopened<W: Write>(
+    alloc: Global,
+    options: Options<'_>,
+    name: &str,
+    error: OpenError,
+    writer: &mut W,
+) -> Result<Tally, RunError>
+    ensures told { IfOk result (IsRun options.entry.is_whole options.entry.language
+        options.entry.comment options.entry.explains (W.contents writer.old)
+        (W.contents writer.new)) }
+    ensures noted { IfOk result (IsNoted options.entry name.entry error
+        (W.contents writer.old) (W.contents writer.new)) }
+{
+    match error {
+        OpenError::Memory => Err(RunError::Memory),
+        OpenError::Failed(failure) => {
+            let end = failed(alloc, options, name, failure, writer)?;
             Ok(Tally::of(end))
         }
     }
 }
 
 // Looks at all texts of a reader.
-#[tactic(auto, using(crate::proofs::ToldLemmas::whole_on, crate::proofs::ToldLemmas::lines_on))]
-fn lint_reader<R: Read + Drop, W: Write>(
+#[tactic(auto, using(crate::proofs::ToldLemmas::whole_on, crate::proofs::ToldLemmas::lines_on, crate::proofs::ToldLemmas::whole_run, crate::proofs::ToldLemmas::lines_run))]
+fn lint_reader<R: BufRead, W: Write>(
     alloc: Global,
     options: Options<'_>,
     name: &str,
-    reader: R,
+    reader: &mut R,
     writer: &mut W,
 ) -> Result<Tally, RunError>
-    ensures { IfOk result (IsRunOn options.entry.is_whole options.entry.language
-        options.entry.comment options.entry.explains (R.remaining reader)
-        (W.contents writer.old) (W.contents writer.new)) }
+    ensures told { IfOk result (IsRun options.entry.is_whole options.entry.language
+        options.entry.comment options.entry.explains (W.contents writer.old)
+        (W.contents writer.new)) }
+    ensures all { IfOk result (IsRunIn options.entry (R.remaining reader.old)
+        (R.remaining reader.new) (W.contents writer.old) (W.contents writer.new)) }
 {
-    let Ok(mut reader) = BufReader::with_capacity(alloc, BUFFER, reader) else {
-        return Err(RunError::Memory);
-    };
     if options.is_whole {
-        lint_whole(alloc, options, name, &mut reader, writer)
+        lint_whole(alloc, options, name, reader, writer)
     } else {
-        lint_lines(alloc, options, name, &mut reader, writer)
+        lint_lines(alloc, options, name, reader, writer)
     }
 }

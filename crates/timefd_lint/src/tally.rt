@@ -1,6 +1,6 @@
 //! What a run came to, and the exit status that tells it.
 
-ghost use Rattle.std.specs.Prelude.{◌≡◌, ◌||◌, if◌then◌else◌, []};
+ghost use Rattle.std.specs.Prelude.{◌≡◌, ◌||◌, nat_lt, if◌then◌else◌, []};
 ghost use Rattle.timefd_lint.specs.Told as spec;
 
 use crate::line::TextEnd;
@@ -8,8 +8,10 @@ use crate::line::TextEnd;
 /// What was found in the texts so far.
 #[derive(Clone, Copy)]
 pub struct Tally {
-    /// A text was refused.
-    pub refused: bool,
+    /// How many texts were looked at; those that are passed over are not.
+    pub descriptions: u64,
+    /// How many of them were refused.
+    pub refused: u64,
     /// A line was no UTF-8.
     pub not_text: bool,
     /// A file was not read to its end, or not written back.
@@ -22,7 +24,8 @@ impl Tally {
         ensures { result ≡ spec.tally_of [] }
     {
         Tally {
-            refused: false,
+            descriptions: 0,
+            refused: 0,
             not_text: false,
             failed: false,
         }
@@ -33,7 +36,8 @@ impl Tally {
         ensures { result ≡ spec.tally_of_one end }
     {
         Tally {
-            refused: matches!(end, TextEnd::Refused),
+            descriptions: u64::from(is_description(end)),
+            refused: u64::from(matches!(end, TextEnd::Refused)),
             not_text: matches!(end, TextEnd::NotText),
             failed: matches!(end, TextEnd::Failed),
         }
@@ -44,7 +48,8 @@ impl Tally {
         ensures { result ≡ spec.both self other }
     {
         Tally {
-            refused: self.refused || other.refused,
+            descriptions: self.descriptions.saturating_add(other.descriptions),
+            refused: self.refused.saturating_add(other.refused),
             not_text: self.not_text || other.not_text,
             failed: self.failed || other.failed,
         }
@@ -53,16 +58,26 @@ impl Tally {
     /// The exit status: 1 where a text was refused, and all files were read and are text.
     pub fn status(self) -> u8
         ensures { result ≡ (if self.failed then 4 else if self.not_text then 5
-            else if self.refused then 1 else 0) }
+            else if nat_lt 0 self.refused then 1 else 0) }
     {
         if self.failed {
             4
         } else if self.not_text {
             5
-        } else if self.refused {
+        } else if self.refused > 0 {
             1
         } else {
             0
         }
+    }
+}
+
+// Whether a text was looked at.
+fn is_description(end: TextEnd) -> bool
+    ensures { result ≡ spec.is_description end }
+{
+    match end {
+        TextEnd::Accepted | TextEnd::Refused | TextEnd::NotText => true,
+        TextEnd::PassedOver | TextEnd::Failed => false,
     }
 }

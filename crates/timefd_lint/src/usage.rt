@@ -2,7 +2,7 @@
 
 use std::alloc::{AllocError, Global};
 use timefd_drawing::shown::safe;
-use timefd_lint_options::{Conflict, OptionError, Valued};
+use timefd_lint_options::{Conflict, OptionError, Valued, nearest_option};
 
 /// What `--version` writes.
 pub const VERSION: &str = "timefd_lint 0.1.0\n";
@@ -11,7 +11,7 @@ pub const VERSION: &str = "timefd_lint 0.1.0\n";
 pub const USAGE: &str = "usage: timefd_lint [OPTION].. [--] [FILE]..
 
 Reads format descriptions, one a line, from the files or from the standard input, and shows which
-are none, where, why, and what to write in their place.
+are none, where, why, and what to write in their place. The file - is the standard input.
 
   --language 1|2|3|strftime    the language of all lines; version 3 if it isn't given
   --format human|json|short    drawn, an object of JSON on a line, or FILE:LINE:COLUMN: MESSAGE
@@ -22,6 +22,7 @@ are none, where, why, and what to write in their place.
   --to 2|3                     shows what would change in a later version; writes no file
   --to 2|3 --write             writes the named files back in it
   --partial                    with --write: also files some of whose lines are refused
+  --quiet, -q                  leaves out the last line, which tells how much was looked at
   --help, -h                   writes this
   --version, -V                writes the program's version
   --                           ends the options
@@ -33,10 +34,7 @@ memory ran out, 4 where a file can't be read or written, 5 where a line is no UT
 /// What is wrong with the arguments, in a sentence.
 pub fn sentence(alloc: Global, error: OptionError<'_>) -> Result<String, AllocError> {
     match error {
-        OptionError::Unknown(word) => {
-            let word = safe(alloc, word)?;
-            format!(in alloc; "there is no option `{word}`; --help lists them")
-        }
+        OptionError::Unknown(word) => unknown_sentence(alloc, word),
         OptionError::Fix => String::from_str(
             alloc,
             "there is no option `--fix`: `--to 3` shows a diff, `--to 3 --write` writes the files",
@@ -57,6 +55,17 @@ pub fn sentence(alloc: Global, error: OptionError<'_>) -> Result<String, AllocEr
             )
         }
         OptionError::Conflict(conflict) => String::from_str(alloc, conflict_sentence(conflict)),
+    }
+}
+
+// A word that looks like an option and is none, with the option that may have been meant.
+fn unknown_sentence(alloc: Global, word: &str) -> Result<String, AllocError> {
+    let shown = safe(alloc, word)?;
+    match nearest_option(alloc, word)? {
+        Some(option) => {
+            format!(in alloc; "there is no option `{shown}`; the nearest is `{option}`")
+        }
+        None => format!(in alloc; "there is no option `{shown}`; --help lists them"),
     }
 }
 
@@ -82,5 +91,6 @@ fn conflict_sentence(conflict: Conflict) -> &'static str {
         }
         Conflict::RewritesWhole => "`--to` rewrites line by line, and doesn't go with `--whole`",
         Conflict::RewritesNoFile => "`--to` wants the name of a file",
+        Conflict::RewritesInput => "`--to` rewrites files, and `-` is the standard input",
     }
 }

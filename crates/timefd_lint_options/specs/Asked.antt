@@ -1,5 +1,5 @@
 -- What words ask for, read from the first to the last.
-use Rattle.std.specs.Prelude.{ℕ, Bool, true, false, ◌&&◌, ◌==◌, ◌+◌, List, [], ◌∷◌, length, not, Option, Some, None, Result, Ok, Err, if◌then◌else◌}
+use Rattle.std.specs.Prelude.{Bool, true, false, ◌&&◌, ◌||◌, ◌==◌, ◌+◌, List, [], ◌∷◌, length, not, Option, Some, None, Result, Ok, Err, if◌then◌else◌}
 use denote.Ref.{Bor}
 use Rattle.timefd_component.specs.Tree.{Text}
 use Rattle.timefd_drawing.specs.declared.draw.Format.{Format}
@@ -10,11 +10,12 @@ use Rattle.timefd_parse.specs.declared.language.Language.{Language}
 use Rattle.timefd_parse.specs.declared.language.Language.TheVariants as languages
 use Rattle.timefd_lint_options.specs.declared.asked.Asked.{Asked}
 use Rattle.timefd_lint_options.specs.declared.asked.Asked.TheVariants as asks
+use Rattle.timefd_lint_options.specs.declared.asked.Names.{Names}
 use Rattle.timefd_lint_options.specs.declared.asked.State.{State}
 use Rattle.timefd_lint_options.specs.declared.asked.Step.{Step}
 use Rattle.timefd_lint_options.specs.declared.asked.Step.TheVariants.{Next, Done}
 use Rattle.timefd_lint_options.specs.declared.error.Conflict.{Conflict}
-use Rattle.timefd_lint_options.specs.declared.error.Conflict.TheVariants.{ExplainUndrawn, WriteWithoutVersion, PartialWithoutWrite, NoConversion, RewritesWhole, RewritesNoFile}
+use Rattle.timefd_lint_options.specs.declared.error.Conflict.TheVariants.{ExplainUndrawn, WriteWithoutVersion, PartialWithoutWrite, NoConversion, RewritesWhole, RewritesNoFile, RewritesInput}
 use Rattle.timefd_lint_options.specs.declared.error.OptionError.{OptionError}
 use Rattle.timefd_lint_options.specs.declared.error.OptionError.TheVariants as errors
 use Rattle.timefd_lint_options.specs.declared.settings.Settings.{Settings}
@@ -22,7 +23,7 @@ use Rattle.timefd_lint_options.specs.declared.word.Valued.{Valued}
 use Rattle.timefd_lint_options.specs.declared.word.Word.{Word}
 use Rattle.timefd_lint_options.specs.declared.word.Word.TheVariants.{Flag, Valued as HasValue, Help, Version, Fix, End, Unknown, File}
 use Rattle.timefd_lint_options.specs.Settings.{initial, with_flag, with_value}
-use Rattle.timefd_lint_options.specs.Words.{word_of, is_option}
+use Rattle.timefd_lint_options.specs.Words.{word_of, is_option, is_input}
 
 abbrev pub Answer : Type 0
 Answer = Result Asked OptionError
@@ -47,43 +48,58 @@ is_rewritten languages.Strftime One = false
 is_rewritten languages.Strftime Two = false
 is_rewritten languages.Strftime Three = false
 
-abbrev pub rewriting_conflict : Settings → DescriptionVersion → ℕ → Option Conflict
-rewriting_conflict s version files =
+-- whether one of the names is that of the standard input
+abbrev pub has_input : List (Bor Text) → Bool
+has_input [] = false
+has_input (name ∷ behind) = if is_input name.now then true else has_input behind
+
+abbrev pub names_of : List (Bor Text) → Names
+names_of words = record { count = length words; has_input = has_input words }
+
+abbrev pub names_from : Text → List (Bor Text) → Names
+names_from name behind = record {
+  count = length behind + 1;
+  has_input = is_input name || has_input behind;
+}
+
+abbrev pub rewriting_conflict : Settings → DescriptionVersion → Names → Option Conflict
+rewriting_conflict s version names =
     if is_rewritten s.language version then
     if s.is_whole then Some RewritesWhole
-    else if files == 0 then Some RewritesNoFile
+    else if names.count == 0 then Some RewritesNoFile
+    else if names.has_input then Some RewritesInput
     else None
     else Some NoConversion
 
-abbrev pub version_conflict : Settings → ℕ → Option DescriptionVersion → Option Conflict
-version_conflict s files (Some version) = rewriting_conflict s version files
-version_conflict s files None = if s.writes then Some WriteWithoutVersion else None
+abbrev pub version_conflict : Settings → Names → Option DescriptionVersion → Option Conflict
+version_conflict s names (Some version) = rewriting_conflict s version names
+version_conflict s names None = if s.writes then Some WriteWithoutVersion else None
 
-abbrev pub conflict : Settings → ℕ → Option Conflict
-conflict s files =
+abbrev pub conflict : Settings → Names → Option Conflict
+conflict s names =
     if s.explains && not (is_drawn s.format) then Some ExplainUndrawn
     else if s.is_partial && not s.writes then Some PartialWithoutWrite
-    else version_conflict s files s.to
+    else version_conflict s names s.to
 
-abbrev pub unless : Option Conflict → Settings → ℕ → Answer
-unless (Some conflict) s files = Err (errors.Conflict conflict)
-unless None s files = Ok (asks.Run (record { settings = s; file_count = files }))
+abbrev pub unless : Option Conflict → Settings → Names → Answer
+unless (Some conflict) s names = Err (errors.Conflict conflict)
+unless None s names = Ok (asks.Run (record { settings = s; file_count = names.count }))
 
-abbrev pub run : Settings → ℕ → Answer
-run s files = unless (conflict s files) s files
+abbrev pub run : Settings → Names → Answer
+run s names = unless (conflict s names) s names
 
 -- the first of the words that looks like an option
 abbrev pub first_option : List (Bor Text) → Option (Bor Text)
 first_option [] = None
 first_option (word ∷ behind) = if is_option word.now then Some word else first_option behind
 
-abbrev pub named_by : Option (Bor Text) → Settings → List (Bor Text) → Answer
-named_by (Some option) s behind = Err (errors.BehindFile option)
-named_by None s behind = run s (length behind + 1)
+abbrev pub named_by : Option (Bor Text) → Settings → Names → Answer
+named_by (Some option) s names = Err (errors.BehindFile option)
+named_by None s names = run s names
 
 -- Behind the name of a file no word may look like an option.
-abbrev pub named : Settings → List (Bor Text) → Answer
-named s behind = named_by (first_option behind) s behind
+abbrev pub named : Settings → Text → List (Bor Text) → Answer
+named s name behind = named_by (first_option behind) s (names_from name behind)
 
 abbrev pub first_by : Word → Settings → Bor Text → List (Bor Text) → Step
 first_by (Flag flag) s word behind = Next (record { settings = with_flag s flag; pending = None })
@@ -91,9 +107,9 @@ first_by (HasValue option) s word behind = Next (record { settings = s; pending 
 first_by Help s word behind = Done (Ok asks.Help)
 first_by Version s word behind = Done (Ok asks.Version)
 first_by Fix s word behind = Done (Err errors.Fix)
-first_by End s word behind = Done (run s (length behind))
+first_by End s word behind = Done (run s (names_of behind))
 first_by Unknown s word behind = Done (Err (errors.Unknown word))
-first_by File s word behind = Done (named s behind)
+first_by File s word behind = Done (named s word.now behind)
 
 abbrev pub first : Settings → Bor Text → List (Bor Text) → Step
 first s word behind = first_by (word_of word.now) s word behind
@@ -115,7 +131,7 @@ one_more state word behind = step_by state.pending state.settings word behind
 
 abbrev pub at_end_by : Option Valued → Settings → Answer
 at_end_by (Some option) s = Err (errors.MissingValue option)
-at_end_by None s = run s 0
+at_end_by None s = run s (names_of [])
 
 abbrev pub at_end : State → Answer
 at_end state = at_end_by state.pending state.settings

@@ -11,7 +11,7 @@ use Rattle.timefd_lint_options.specs.declared.error.OptionError.TheVariants.{Not
 use Rattle.timefd_lint_options.specs.declared.settings.Color.TheVariants as colors
 use Rattle.timefd_lint_options.specs.declared.settings.Settings.{Settings}
 use Rattle.timefd_lint_options.specs.declared.word.Flag.{Flag}
-use Rattle.timefd_lint_options.specs.declared.word.Flag.TheVariants.{Whole, Explain, Write, Partial}
+use Rattle.timefd_lint_options.specs.declared.word.Flag.TheVariants.{Whole, Explain, Write, Partial, Quiet}
 use Rattle.timefd_lint_options.specs.declared.word.Valued.{Valued}
 use Rattle.timefd_lint_options.specs.declared.word.Valued.TheVariants.{Language, Format, Color, Comment, To}
 use Rattle.timefd_lint_options.specs.Values.{language_named, format_named, color_named, version_named}
@@ -27,6 +27,7 @@ initial = record {
   to = None;
   writes = false;
   is_partial = false;
+  is_quiet = false;
 }
 
 abbrev pub with_flag : Settings → Flag → Settings
@@ -34,6 +35,7 @@ with_flag s Whole = record s { is_whole = true }
 with_flag s Explain = record s { explains = true }
 with_flag s Write = record s { writes = true }
 with_flag s Partial = record s { is_partial = true }
+with_flag s Quiet = record s { is_quiet = true }
 
 abbrev pub with_language : Settings → Text → Option Settings
 with_language s word = option_map (λ l. record s { language = l }) (language_named word)

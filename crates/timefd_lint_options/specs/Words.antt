@@ -2,7 +2,7 @@
 use Rattle.std.specs.Prelude.{Bool, true, false, codes, bytes_eq, nat_eq, if◌then◌else◌}
 use Rattle.std.specs.List.{starts_with}
 use Rattle.timefd_component.specs.Tree.{Text}
-use Rattle.timefd_lint_options.specs.declared.word.Flag.TheVariants.{Whole, Explain, Write, Partial}
+use Rattle.timefd_lint_options.specs.declared.word.Flag.TheVariants.{Whole, Explain, Write, Partial, Quiet}
 use Rattle.timefd_lint_options.specs.declared.word.Valued.TheVariants.{Language, Format, Color, Comment, To}
 use Rattle.timefd_lint_options.specs.declared.word.Word.{Word}
 use Rattle.timefd_lint_options.specs.declared.word.Word.TheVariants.{Flag, Valued, Help, Version, Fix, End, Unknown, File}
@@ -17,6 +17,8 @@ word_of word =
     else if bytes_eq word (codes "--explain") then Flag Explain
     else if bytes_eq word (codes "--write") then Flag Write
     else if bytes_eq word (codes "--partial") then Flag Partial
+    else if bytes_eq word (codes "--quiet") then Flag Quiet
+    else if bytes_eq word (codes "-q") then Flag Quiet
     else if bytes_eq word (codes "--language") then Valued Language
     else if bytes_eq word (codes "--format") then Valued Format
     else if bytes_eq word (codes "--color") then Valued Color
@@ -30,6 +32,10 @@ word_of word =
     else if bytes_eq word (codes "--") then End
     else if bytes_eq word (codes "-") then File
     else other_word word
+
+-- the name of the standard input
+abbrev pub is_input : Text → Bool
+is_input name = bytes_eq name (codes "-")
 
 abbrev pub is_no_file : Word → Bool
 is_no_file (Flag flag) = true

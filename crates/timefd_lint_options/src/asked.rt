@@ -5,7 +5,7 @@ ghost use Rattle.timefd_lint_options.specs.Asked as spec;
 
 use crate::error::{Conflict, OptionError};
 use crate::settings::{Settings, with_flag, with_value};
-use crate::word::{Valued, Word, is_option, word_of};
+use crate::word::{Valued, Word, is_input, is_option, word_of};
 use timefd_drawing::Format;
 use timefd_parse::{DescriptionVersion, Language};
 
@@ -33,6 +33,14 @@ pub enum Asked<'a> {
 struct State<'a> {
     settings: Settings<'a>,
     pending: Option<Valued>,
+}
+
+// The words that name files.
+#[derive(Clone, Copy)]
+struct Names {
+    count: usize,
+    // Whether one of them is that of the standard input.
+    has_input: bool,
 }
 
 // What a word makes of that.
@@ -68,7 +76,7 @@ fn at_end<'a>(state: State<'a>) -> Result<Asked<'a>, OptionError<'a>>
 {
     match state.pending {
         Some(option) => Err(OptionError::MissingValue(option)),
-        None => run(state.settings, 0),
+        None => run(state.settings, names_of(&[])),
     }
 }
 
@@ -112,18 +120,22 @@ fn first<'a>(settings: Settings<'a>, word: &'a str, behind: &'a [&'a str]) -> St
         Word::Version => Step::Done(Ok(Asked::Version)),
         Word::Fix => Step::Done(Err(OptionError::Fix)),
         Word::Unknown => Step::Done(Err(OptionError::Unknown(word))),
-        Word::End => Step::Done(run(settings, behind.len())),
-        Word::File => Step::Done(named(settings, behind)),
+        Word::End => Step::Done(run(settings, names_of(behind))),
+        Word::File => Step::Done(named(settings, word, behind)),
     }
 }
 
 // A run over a file, and those that the words behind it name.
-fn named<'a>(settings: Settings<'a>, behind: &'a [&'a str]) -> Result<Asked<'a>, OptionError<'a>>
-    ensures { result ≡ spec.named settings.entry behind.now }
+fn named<'a>(
+    settings: Settings<'a>,
+    name: &str,
+    behind: &'a [&'a str],
+) -> Result<Asked<'a>, OptionError<'a>>
+    ensures { result ≡ spec.named settings.entry name.now behind.now }
 {
     match first_option(behind) {
         Some(option) => Err(OptionError::BehindFile(option)),
-        None => run(settings, behind.len().saturating_add(1)),
+        None => run(settings, names_from(name, behind)),
     }
 }
 
@@ -141,22 +153,55 @@ fn first_option<'a>(words: &'a [&'a str]) -> Option<&'a str>
     None
 }
 
-// A run with these settings, unless they don't go together.
-fn run<'a>(settings: Settings<'a>, file_count: usize) -> Result<Asked<'a>, OptionError<'a>>
-    ensures { result ≡ spec.run settings.entry file_count }
+fn names_of(words: &[&str]) -> Names
+    ensures { result ≡ spec.names_of words.now }
 {
-    match conflict(settings, file_count) {
+    Names {
+        count: words.len(),
+        has_input: has_input(words),
+    }
+}
+
+// A name, and those behind it.
+fn names_from(name: &str, behind: &[&str]) -> Names
+    ensures { result ≡ spec.names_from name.now behind.now }
+{
+    Names {
+        count: behind.len().saturating_add(1),
+        has_input: is_input(name) || has_input(behind),
+    }
+}
+
+// Whether one of the names is that of the standard input.
+fn has_input(words: &[&str]) -> bool
+    ensures { result ≡ spec.has_input words.now }
+{
+    let mut rest = words;
+    'names: while let [name, behind @ ..] = rest {
+        if is_input(name) {
+            return true;
+        }
+        rest = behind;
+    }
+    false
+}
+
+// A run with these settings, unless they don't go together.
+fn run<'a>(settings: Settings<'a>, names: Names) -> Result<Asked<'a>, OptionError<'a>>
+    ensures { result ≡ spec.run settings.entry names }
+{
+    match conflict(settings, names) {
         Some(conflict) => Err(OptionError::Conflict(conflict)),
         None => Ok(Asked::Run(Options {
             settings,
-            file_count,
+            file_count: names.count,
         })),
     }
 }
 
 // What doesn't go together in the settings.
-fn conflict(settings: Settings<'_>, file_count: usize) -> Option<Conflict>
-    ensures { result ≡ spec.conflict settings.entry file_count }
+fn conflict(settings: Settings<'_>, names: Names) -> Option<Conflict>
+    ensures { result ≡ spec.conflict settings.entry names }
 {
     if settings.explains && !is_drawn(settings.format) {
         return Some(Conflict::ExplainUndrawn);
@@ -165,7 +210,7 @@ fn conflict(settings: Settings<'_>, file_count: usize) -> Option<Conflict>
         return Some(Conflict::PartialWithoutWrite);
     }
     match settings.to {
-        Some(version) => rewriting_conflict(settings, version, file_count),
+        Some(version) => rewriting_conflict(settings, version, names),
         None if settings.writes => Some(Conflict::WriteWithoutVersion),
         None => None,
     }
@@ -175,9 +220,9 @@ fn conflict(settings: Settings<'_>, file_count: usize) -> Option<Conflict>
 fn rewriting_conflict(
     settings: Settings<'_>,
     version: DescriptionVersion,
-    file_count: usize,
+    names: Names,
 ) -> Option<Conflict>
-    ensures { result ≡ spec.rewriting_conflict settings.entry version file_count }
+    ensures { result ≡ spec.rewriting_conflict settings.entry version names }
 {
     if !is_rewritten(settings.language, version) {
         return Some(Conflict::NoConversion);
@@ -185,8 +230,11 @@ fn rewriting_conflict(
     if settings.is_whole {
         return Some(Conflict::RewritesWhole);
     }
-    if file_count == 0 {
+    if names.count == 0 {
         return Some(Conflict::RewritesNoFile);
+    }
+    if names.has_input {
+        return Some(Conflict::RewritesInput);
     }
     None
 }

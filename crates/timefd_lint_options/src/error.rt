@@ -34,4 +34,6 @@ pub enum Conflict {
     RewritesWhole,
     /// No file is named that could be rewritten.
     RewritesNoFile,
+    /// The standard input is no file that could be rewritten.
+    RewritesInput,
 }

@@ -4,10 +4,12 @@
 mod asked;
 mod error;
 mod settings;
+mod suggestion;
 mod values;
 mod word;
 
 pub use asked::{Asked, Options, options_of};
 pub use error::{Conflict, OptionError};
 pub use settings::{Color, Settings};
-pub use word::{Flag, Valued};
+pub use suggestion::nearest_option;
+pub use word::{Flag, Valued, is_input};

@@ -39,6 +39,8 @@ pub struct Settings<'a> {
     pub writes: bool,
     /// Whether a file is also written back where some of its lines are refused.
     pub is_partial: bool,
+    /// Whether the line is left out that tells how much was looked at.
+    pub is_quiet: bool,
 }
 
 impl Settings<'_> {
@@ -56,6 +58,7 @@ impl Settings<'_> {
             to: None,
             writes: false,
             is_partial: false,
+            is_quiet: false,
         }
     }
 }
@@ -79,6 +82,10 @@ pub fn with_flag<'a>(settings: Settings<'a>, flag: Flag) -> Settings<'a>
         },
         Flag::Partial => Settings {
             is_partial: true,
+            ..settings
+        },
+        Flag::Quiet => Settings {
+            is_quiet: true,
             ..settings
         },
     }

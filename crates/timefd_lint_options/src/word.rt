@@ -10,6 +10,7 @@ pub enum Flag {
     Explain,
     Write,
     Partial,
+    Quiet,
 }
 
 /// An option whose value is the word behind it.
@@ -50,6 +51,7 @@ pub fn word_of(word: &str) -> Word
         "--explain" => Word::Flag(Flag::Explain),
         "--write" => Word::Flag(Flag::Write),
         "--partial" => Word::Flag(Flag::Partial),
+        "--quiet" | "-q" => Word::Flag(Flag::Quiet),
         "--language" => Word::Valued(Valued::Language),
         "--format" => Word::Valued(Valued::Format),
         "--color" => Word::Valued(Valued::Color),
@@ -73,6 +75,13 @@ fn other_word(word: &str) -> Word
     } else {
         Word::File
     }
+}
+
+/// Whether the name of a file is that of the standard input.
+pub fn is_input(name: &str) -> bool
+    ensures { result ≡ spec.is_input name.now }
+{
+    name == "-"
 }
 
 /// Whether a word looks like an option.

@@ -3,7 +3,7 @@ use Rattle.timefd_lint.proofs.lines.lint_lines.Goals as goal
 
 pub returns-in-None : goal.returns-in-None
 returns-in-None g c =
-    ends_here c.args.options.language c.args.options.comment c.args.options.explains
+    ends_here c.lines.is_first c.args.options.language c.args.options.comment c.args.options.explains
     (g.R.Read.remaining c.args.reader.now)
     (g.R.Read.remaining c.lines.reader) (g.R.Read.remaining c.lint_next.new.reader)
     (g.W.Write.contents c.args.writer.now)
@@ -12,7 +12,7 @@ returns-in-None g c =
 
 pub returns-then-tally : goal.returns-then-tally
 returns-then-tally g c =
-    fails_here c.args.options.language c.args.options.comment c.args.options.explains
+    fails_here c.lines.is_first c.args.options.language c.args.options.comment c.args.options.explains
     (g.R.Read.remaining c.args.reader.now)
     (g.R.Read.remaining c.lines.reader) (g.R.Read.remaining c.lint_next.new.reader)
     (g.W.Write.contents c.args.writer.now)
@@ -23,7 +23,7 @@ returns-then-tally g c =
 
 pub lines-preserved : goal.lines-preserved
 lines-preserved g c =
-    goes_on c.args.options.language c.args.options.comment c.args.options.explains
+    goes_on c.lines.is_first c.args.options.language c.args.options.comment c.args.options.explains
     (g.R.Read.remaining c.args.reader.now)
     (g.R.Read.remaining c.lines.reader) (g.R.Read.remaining c.lint_next.new.reader)
     (g.W.Write.contents c.args.writer.now)
@@ -34,9 +34,10 @@ lines-preserved g c =
 
 pub returns : goal.returns
 returns g c =
-    fails_last c.args.options.language c.args.options.comment c.args.options.explains
+    fails_last c.lines.is_first c.args.options.language c.args.options.comment c.args.options.explains
     (g.R.Read.remaining c.args.reader.now)
-    (g.R.Read.remaining c.lines.reader) (g.W.Write.contents c.args.writer.now)
+    (g.R.Read.remaining c.lines.reader) (g.R.Read.remaining c.lines.reader)
+    (g.W.Write.contents c.args.writer.now)
     (g.W.Write.contents c.lines.writer) (g.W.Write.contents c.failed.new.writer) c.lines.tally
     c.of-2.result c.and.result c.in_ok-end.end c.in_ok-end.ensures.end c.lines.invariant
     c.in_ok-end.ensures.said

@@ -1,5 +1,5 @@
 -- Two conversions in turn.
-use Rattle.std.proofs.Common.{Result, Ok, Err, refl}
+use Rattle.std.proofs.Common.{Result, Ok, Err, refl, sym, subst, ◌≡◌}
 use Rattle.std.specs.Prelude.{List, IfOk, string_bytes}
 use Rattle.std.specs.Result.{IfErr}
 use Rattle.std.specs.declared.string.String.{String}
@@ -11,9 +11,11 @@ use Rattle.timefd_language.specs.declared.parse_error.ParseError.TheVariants.{In
 use Rattle.timefd_language.specs.Grammar.{Spells, items, nesting_limit}
 use Rattle.timefd_parse.specs.Answers.{IsAssigned}
 use Rattle.timefd_lift.specs.Answers.{HasItemsOf, IsRewritten, IsTextOrMemory}
-use Rattle.timefd_lift.specs.Modernized.{KeepsItemsOf}
+use Rattle.timefd_lift.specs.Modernized.{KeepsItemsOf, IsWrittenOf}
 use Rattle.timefd_lift.specs.Written.{written}
-use Rattle.timefd_lint.specs.Conversions.{KeepsItemsOver}
+use Rattle.timefd_rewrite.specs.declared.convert.Conversion.{Conversion}
+use Rattle.timefd_rewrite.specs.declared.convert.Conversion.TheVariants.{OneToTwo, TwoToThree, OneToThree}
+use Rattle.timefd_rewrite.specs.Conversions.{IsDescription, KeepsItemsOver}
 
 kept : (text between answer : Text) → HasItemsOf text between → KeepsItemsOf between answer
     → KeepsItemsOver text answer
@@ -44,3 +46,29 @@ pub refused_over : (r : Result (String Global) ParseError) (text between : Text)
 refused_over r text between is first second =
     let two = first (items is.0) (is.0, is.1.0, is.1.1, refl) in
     memory_alone r text (written two.0) (second two.0 two.1)
+
+-- What is rewritten is a description of the earlier version.
+spelled : (text answer : Text) → IsRewritten text answer
+    → (list : List Tree) × Spells One nesting_limit 0 text list
+spelled text answer is = (items is.0, (is.0, is.1.0, is.1.1, refl))
+
+pub described_by_one : (conversion : Conversion) (r : Result (String Global) ParseError)
+    (text : Text) → conversion ≡ OneToTwo
+    → IfOk r (λ answer. IsRewritten text (string_bytes answer))
+    → IfOk r (λ _. IsDescription conversion text)
+described_by_one conversion (Ok answer) text which is =
+    subst (λ c. IsDescription c text) (sym which) (spelled text (string_bytes answer) is)
+described_by_one conversion (Err e) text which is = tt
+
+pub described_by_two : (conversion : Conversion) (r : Result (String Global) ParseError)
+    (text : Text) → conversion ≡ TwoToThree
+    → IfOk r (λ answer. IsWrittenOf text (string_bytes answer))
+    → IfOk r (λ _. IsDescription conversion text)
+described_by_two conversion (Ok answer) text which is =
+    subst (λ c. IsDescription c text) (sym which) (is.0, is.1)
+described_by_two conversion (Err e) text which is = tt
+
+pub described_over : (r : Result (String Global) ParseError) (text between : Text)
+    → IsRewritten text between → IfOk r (λ _. IsDescription OneToThree text)
+described_over (Ok answer) text between is = spelled text between is
+described_over (Err e) text between is = tt

@@ -1,11 +1,13 @@
 //! Descriptions rewritten in a later version of the language.
 
-ghost use Rattle.std.specs.Prelude.{IfOk, string_bytes};
+ghost use Rattle.std.specs.Prelude.{◌≡◌, IfOk, string_bytes};
 ghost use Rattle.std.specs.Result.{IfErr};
 ghost use Rattle.timefd_language.specs.declared.description_version.DescriptionVersion.TheVariants.{One};
 ghost use Rattle.timefd_language.specs.Grammar.{nesting_limit};
 ghost use Rattle.timefd_parse.specs.Answers.{IsAssigned};
-ghost use Rattle.timefd_lint.specs.Conversions.{KeepsItems, KeepsItemsOver, version_of};
+ghost use Rattle.timefd_rewrite.specs.Conversions.{IsDescription, KeepsItems, KeepsItemsOver, version_of};
+ghost use Rattle.timefd_rewrite.specs.Conversions as spec;
+ghost use Rattle.timefd_rewrite.specs.declared.convert.Conversion.TheVariants.{OneToThree};
 
 use std::alloc::Global;
 use timefd_lift::{v1_to_v2, v2_to_v3};
@@ -23,7 +25,9 @@ pub enum Conversion {
 }
 
 /// The conversion from a language to a version, where there is one.
-pub fn conversion_between(from: Language, to: DescriptionVersion) -> Option<Conversion> {
+pub fn conversion_between(from: Language, to: DescriptionVersion) -> Option<Conversion>
+    ensures { result ≡ spec.conversion_between from to }
+{
     match (from, to) {
         (Language::Version(DescriptionVersion::One), DescriptionVersion::Two) => {
             Some(Conversion::OneToTwo)
@@ -40,7 +44,9 @@ pub fn conversion_between(from: Language, to: DescriptionVersion) -> Option<Conv
 
 /// The text of the later version with the same items, neighbouring literals joined. The error is the
 /// fault that the earlier version finds in the text, or `Memory` where memory ran out.
+#[tactic(auto, using(crate::proofs::ConversionLemmas::described_by_one, crate::proofs::ConversionLemmas::described_by_two))]
 pub fn converted(alloc: Global, conversion: Conversion, text: &str) -> Result<String, ParseError>
+    ensures description { IfOk result (λ _. IsDescription conversion text.now) }
     ensures same_items { IfOk result (λ answer.
         KeepsItems conversion text.now (string_bytes answer)) }
     ensures refused { IfErr result (IsAssigned (version_of conversion) nesting_limit text.now) }
@@ -54,6 +60,7 @@ pub fn converted(alloc: Global, conversion: Conversion, text: &str) -> Result<St
 
 // By way of version 2, which accepts what is rewritten: so the second step has no fault to find.
 fn v1_to_v3(alloc: Global, text: &str) -> Result<String, ParseError>
+    ensures description { IfOk result (λ _. IsDescription OneToThree text.now) }
     ensures same_items { IfOk result (λ answer. KeepsItemsOver text.now (string_bytes answer)) }
     ensures refused { IfErr result (IsAssigned One nesting_limit text.now) }
 {

@@ -1,0 +1,8 @@
+-- The options that are named in place of a word that is none.
+use Rattle.std.specs.Prelude.{codes, List, [], ◌∷◌}
+use Rattle.timefd_component.specs.Tree.{Text}
+
+abbrev pub long_names : List Text
+long_names = codes "--language" ∷ codes "--format" ∷ codes "--color" ∷ codes "--comment"
+    ∷ codes "--whole" ∷ codes "--explain" ∷ codes "--to" ∷ codes "--write" ∷ codes "--partial"
+    ∷ codes "--quiet" ∷ codes "--help" ∷ codes "--version" ∷ []

@@ -1,0 +1,3 @@
+pub mod ConversionLemmas
+pub mod LineLemmas
+pub mod RewriteLemmas

@@ -1,0 +1,3 @@
+pub mod Lines
+pub mod Conversions
+pub mod Rewriting

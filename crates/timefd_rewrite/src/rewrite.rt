@@ -1,0 +1,139 @@
+//! The lines of a reader, rewritten into a writer.
+
+ghost use Rattle.std.specs.Prelude.{◌≡◌, IfOk, OnOk};
+ghost use Rattle.std.specs.Result.{IfErr};
+ghost use Rattle.std.specs.Io.KnownBytes.{Appends};
+ghost use Rattle.timefd_rewrite.specs.Rewriting.{AreCutShort, AreRewritten, IsNext, IsUnwritten, Places, PlacesAnswer};
+ghost use Rattle.timefd_rewrite.specs.declared.rewrite.RewriteError.TheVariants as errors;
+
+use crate::convert::{Conversion, converted};
+use crate::counts::{Counts, Outcome};
+use crate::lines::{is_passed_over, without_newline};
+use std::alloc::Global;
+use std::io::{BufRead, ErrorKind, Write};
+use std::str;
+use timefd_parse::ParseError;
+
+/// Why not all lines of a reader are rewritten.
+#[derive(Clone, Copy)]
+pub enum RewriteError {
+    /// Memory ran out.
+    Memory,
+    /// A read failed.
+    Read,
+    /// A write failed.
+    Write,
+}
+
+/// Writes each line of a reader, and where it can be rewritten, its text in the later version with
+/// the line's own end. Lines that are passed over, refused or no UTF-8 are written as they are.
+pub fn rewrite_lines<R: BufRead, W: Write>(
+    alloc: Global,
+    comment: Option<&str>,
+    conversion: Conversion,
+    reader: &mut R,
+    writer: &mut W,
+) -> Result<Counts, RewriteError>
+    ensures all { IfOk result (AreRewritten conversion comment.entry (R.remaining reader.old)
+        (W.contents writer.old) (W.contents writer.new)) }
+    ensures cut_short { IfErr result (AreCutShort conversion comment.entry (R.remaining reader.old)
+        (W.contents writer.old) (W.contents writer.new)) }
+{
+    let mut counts = Counts::new();
+    let mut bytes = Vec::new(alloc);
+    'lines: for _line in 0..u64::MAX {
+        match rewrite_next(alloc, comment, conversion, &mut bytes, reader, writer)? {
+            None => return Ok(counts),
+            Some(outcome) => counts = counts.with(outcome),
+        }
+    }
+    Err(RewriteError::Read)
+}
+
+// Rewrites one more line, for which there is this room: `None` at the end.
+fn rewrite_next<R: BufRead, W: Write>(
+    alloc: Global,
+    comment: Option<&str>,
+    conversion: Conversion,
+    bytes: &mut Vec<u8>,
+    reader: &mut R,
+    writer: &mut W,
+) -> Result<Option<Outcome>, RewriteError>
+    ensures next { IfOk result (IsNext conversion comment.entry (R.remaining reader.old)
+        (R.remaining reader.new) (W.contents writer.old) (W.contents writer.new)) }
+    ensures unwritten { IfErr result (IsUnwritten (W.contents writer.old)
+        (W.contents writer.new)) }
+{
+    bytes.clear();
+    match reader.read_until(b'\n', bytes) {
+        Ok(count) => {
+            if count == 0 {
+                return Ok(None);
+            }
+            Ok(Some(rewrite_line(alloc, comment, conversion, bytes, writer)?))
+        }
+        Err(error) => {
+            if error.kind() == ErrorKind::OutOfMemory {
+                return Err(RewriteError::Memory);
+            }
+            Err(RewriteError::Read)
+        }
+    }
+}
+
+// Writes what stands in the place of a line.
+fn rewrite_line<W: Write>(
+    alloc: Global,
+    comment: Option<&str>,
+    conversion: Conversion,
+    line: &[u8],
+    writer: &mut W,
+) -> Result<Outcome, RewriteError>
+    ensures places { IfOk result (Places conversion comment.entry line.now (W.contents writer.old)
+        (W.contents writer.new)) }
+    ensures unwritten { IfErr result (IsUnwritten (W.contents writer.old)
+        (W.contents writer.new)) }
+{
+    let text = without_newline(line);
+    if is_passed_over(comment, text) {
+        return keep(line, Outcome::PassedOver, writer);
+    }
+    let Ok(text) = str::from_utf8(text) else {
+        return keep(line, Outcome::NotText, writer);
+    };
+    match converted(alloc, conversion, text) {
+        Ok(answer) => write_answer(line, answer.as_bytes(), writer),
+        Err(ParseError::Invalid(_)) => keep(line, Outcome::Refused, writer),
+        Err(ParseError::Memory(_)) => Err(RewriteError::Memory),
+    }
+}
+
+// Writes a line as it is.
+fn keep<W: Write>(line: &[u8], outcome: Outcome, writer: &mut W) -> Result<Outcome, RewriteError>
+    ensures outcome { IfOk result (λ o. o ≡ outcome) }
+    ensures kept { OnOk result (Appends (W.contents writer.old) (W.contents writer.new) line.now) }
+    ensures error { IfErr result (λ e. e ≡ errors.Write) }
+{
+    match writer.write_all(line) {
+        Ok(()) => Ok(outcome),
+        Err(_) => Err(RewriteError::Write),
+    }
+}
+
+// Writes a text in the place of a line, with the line's own end; or the line, if it has that text.
+fn write_answer<W: Write>(
+    line: &[u8],
+    answer: &[u8],
+    writer: &mut W,
+) -> Result<Outcome, RewriteError>
+    ensures places { IfOk result (PlacesAnswer line.now answer.now (W.contents writer.old)
+        (W.contents writer.new)) }
+    ensures error { IfErr result (λ e. e ≡ errors.Write) }
+{
+    let text = without_newline(line);
+    if answer == text {
+        return keep(line, Outcome::Same, writer);
+    }
+    keep(answer, Outcome::Rewritten, writer)?;
+    keep(&line[text.len()..], Outcome::Rewritten, writer)
+}
