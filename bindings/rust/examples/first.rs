@@ -1,12 +1,18 @@
-//! What a description is made of, and how many bytes a date that it shows needs.
+//! What a description is made of, how many bytes a date that it shows needs, and a date.
 
-use timefd::{FormatDescription, ParseError, Version};
+use std::error::Error;
 
-fn main() -> Result<(), ParseError> {
+use timefd::{Date, FormatDescription, Moment, Version};
+
+fn main() -> Result<(), Box<dyn Error>> {
     let description = FormatDescription::parse(Version::Three, "[year]-[month]-[day]")?;
     for part in description.parts() {
         println!("{part:?}"); // a literal, or a component with its modifiers
     }
     println!("at most {} bytes", description.max_bytes_needed());
+
+    let date = Some(Date { year: 2026, month: 11, day: 23 });
+    let day = Moment { date, ..Moment::default() };
+    println!("{}", timefd::format(Version::Three, "[day].[month].[year]", &day)?); // 23.11.2026
     Ok(())
 }

@@ -86,17 +86,22 @@ impl FormatDescription {
             Err(FillError::OutOfMemory) => return Err(ParseError::OutOfMemory),
             Err(FillError::Malformed) => unreachable!("the nodes are as the header says"),
         }
-        let mut description = Self { entries, literals, max_bytes: raw.value };
-        if !is_one_tree {
-            let bytes = description.items().map(|item| item.max_bytes_needed());
-            description.max_bytes = bytes.fold(0, usize::saturating_add);
-        }
-        Ok(description)
+        Ok(Self { entries, literals, max_bytes: raw.bytes })
     }
 
-    /// The greatest length of any text that the description is shown as, in bytes. A buffer of that
-    /// length is always long enough, and where each component takes its longest text, all of it is
-    /// needed. Where a `usize` can't count it, it is `usize::MAX`.
+    /// The greatest length of any text that the description is shown as, in bytes, whatever language
+    /// it was read in. A buffer of that length is always long enough, and where each component takes
+    /// its longest text, all of it is needed. Where a `usize` can't count it, it is `usize::MAX`.
+    ///
+    /// ```
+    /// use timefd::{FormatDescription, Version};
+    ///
+    /// let date = FormatDescription::parse_strftime("%F")?;
+    /// assert_eq!(date.max_bytes_needed(), 13); // the year may have a sign and six digits
+    /// let date = FormatDescription::parse(Version::One, "[year]-[month]-[day]")?;
+    /// assert_eq!(date.max_bytes_needed(), 13);
+    /// # Ok::<(), timefd::ParseError>(())
+    /// ```
     pub fn max_bytes_needed(&self) -> usize {
         self.max_bytes
     }
@@ -148,7 +153,7 @@ impl fmt::Debug for FormatDescription {
 
 /// What the library answers of a text that it accepts.
 struct Raw {
-    value: usize,
+    bytes: usize,
     nodes: Vec<RawNode>,
     literals: Vec<u8>,
 }
@@ -168,14 +173,14 @@ impl Raw {
             let nodes = buffer::copied(&nodes[..answer.nodes]).ok_or(ParseError::OutOfMemory)?;
             let literals =
                 buffer::copied(&literals[..answer.literals]).ok_or(ParseError::OutOfMemory)?;
-            return Ok(Self { value: answer.value, nodes, literals });
+            return Ok(Self { bytes: answer.bytes, nodes, literals });
         }
         let nodes = buffer::filled(answer.nodes, RawNode::default());
         let literals = buffer::filled(answer.literals, 0);
         let (mut nodes, mut literals) = nodes.zip(literals).ok_or(ParseError::OutOfMemory)?;
         let answer = accepted(kind, text, sys::read(kind, text, &mut nodes, &mut literals))?;
         assert!(answer.written, "there was room for what the library told");
-        Ok(Self { value: answer.value, nodes, literals })
+        Ok(Self { bytes: answer.bytes, nodes, literals })
     }
 }
 

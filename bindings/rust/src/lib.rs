@@ -19,6 +19,17 @@
 //! # Ok::<(), timefd::ParseError>(())
 //! ```
 //!
+//! [`format`] writes a date:
+//!
+//! ```
+//! use timefd::{Date, Moment, Version};
+//!
+//! let date = Some(Date { year: 2026, month: 11, day: 23 });
+//! let day = Moment { date, ..Moment::default() };
+//! assert_eq!(timefd::format(Version::Three, "[month]/[day]", &day)?, "11/23");
+//! # Ok::<(), timefd::FormatError>(())
+//! ```
+//!
 //! Calls may come from any thread. Reading a text that is nested as deep as it may be, 127 deep,
 //! takes some 65 KiB of stack.
 
@@ -29,7 +40,9 @@ mod decode;
 mod description;
 mod entry;
 mod error;
+mod format;
 mod modifier;
+mod moment;
 mod node;
 mod sys;
 mod version;
@@ -39,7 +52,9 @@ pub use component::Component;
 pub use convert::{v1_to_v2, v2_to_v3};
 pub use description::FormatDescription;
 pub use error::ParseError;
+pub use format::{FormatError, Lack, Number, format, format_strftime};
 pub use modifier::{Padding, SubsecondDigits, TrailingInput};
+pub use moment::{Date, Moment, Time};
 pub use node::{Item, Members, Node};
 pub use version::Version;
 pub use walks::{Nodes, Part, Parts};

@@ -22,6 +22,8 @@ pub(crate) const STRFTIME: u32 = 4;
 pub(crate) const ACCEPTED: u32 = 0;
 pub(crate) const REFUSED: u32 = 1;
 pub(crate) const NO_MEMORY: u32 = 3;
+pub(crate) const UNSHOWN: u32 = 5;
+pub(crate) const OUT_OF_RANGE: u32 = 6;
 
 pub(crate) const LITERAL: u32 = 1;
 pub(crate) const COMPONENT: u32 = 2;
@@ -66,13 +68,46 @@ pub(crate) struct ReadAnswer {
     pub(crate) nodes: usize,
     pub(crate) literals: usize,
     pub(crate) written: bool,
+    pub(crate) bytes: usize,
+}
+
+/// `timefd_moment` of the header, which says what each field means.
+#[repr(C)]
+#[derive(Debug, Clone, Copy, Default)]
+pub(crate) struct RawMoment {
+    pub(crate) known: u32,
+    pub(crate) year: i32,
+    pub(crate) nanosecond: u32,
+    pub(crate) offset_seconds: i32,
+    pub(crate) month: u8,
+    pub(crate) day: u8,
+    pub(crate) hour: u8,
+    pub(crate) minute: u8,
+    pub(crate) second: u8,
+}
+
+impl RawMoment {
+    pub(crate) const HAS_DATE: u32 = 1;
+    pub(crate) const HAS_TIME: u32 = 2;
+    pub(crate) const HAS_OFFSET: u32 = 4;
+}
+
+/// `timefd_format_answer` of the header.
+#[repr(C)]
+pub(crate) struct FormatAnswer {
+    pub(crate) status: u32,
+    pub(crate) reason: u32,
+    pub(crate) component: u32,
+    pub(crate) value: usize,
+    pub(crate) written: usize,
 }
 
 /// Where each field stands, as the header has it.
 const _: () = {
     use core::mem::{offset_of, size_of};
     assert!(size_of::<Answer>() == 32 && size_of::<RawNode>() == 48);
-    assert!(size_of::<ReadAnswer>() == 40 && offset_of!(ReadAnswer, written) == 32);
+    assert!(size_of::<ReadAnswer>() == 48 && offset_of!(ReadAnswer, written) == 32);
+    assert!(offset_of!(ReadAnswer, bytes) == 40);
     assert!(offset_of!(Answer, status) == 0 && offset_of!(ReadAnswer, status) == 0);
     assert!(offset_of!(Answer, value) == 8 && offset_of!(Answer, sentence_len) == 16);
     assert!(offset_of!(Answer, written) == 24 && offset_of!(ReadAnswer, value) == 8);
@@ -84,6 +119,14 @@ const _: () = {
     assert!(offset_of!(RawNode, trailing_input) == 14 && offset_of!(RawNode, format) == 15);
     assert!(offset_of!(RawNode, ignored) == 16 && offset_of!(RawNode, start) == 24);
     assert!(offset_of!(RawNode, count) == 32 && offset_of!(RawNode, bytes) == 40);
+    assert!(size_of::<RawMoment>() == 24 && size_of::<FormatAnswer>() == 32);
+    assert!(offset_of!(RawMoment, known) == 0 && offset_of!(RawMoment, year) == 4);
+    assert!(offset_of!(RawMoment, nanosecond) == 8 && offset_of!(RawMoment, offset_seconds) == 12);
+    assert!(offset_of!(RawMoment, month) == 16 && offset_of!(RawMoment, day) == 17);
+    assert!(offset_of!(RawMoment, hour) == 18 && offset_of!(RawMoment, minute) == 19);
+    assert!(offset_of!(RawMoment, second) == 20 && offset_of!(FormatAnswer, status) == 0);
+    assert!(offset_of!(FormatAnswer, reason) == 4 && offset_of!(FormatAnswer, component) == 8);
+    assert!(offset_of!(FormatAnswer, value) == 16 && offset_of!(FormatAnswer, written) == 24);
 };
 
 unsafe extern "C" {
@@ -106,12 +149,20 @@ unsafe extern "C" {
     ) -> Answer;
     fn timefd_v1_to_v2(text: *const u8, len: usize, buffer: *mut u8, room: usize) -> Answer;
     fn timefd_v2_to_v3(text: *const u8, len: usize, buffer: *mut u8, room: usize) -> Answer;
+    fn timefd_format(
+        kind: u32,
+        text: *const u8,
+        len: usize,
+        moment: *const RawMoment,
+        buffer: *mut u8,
+        room: usize,
+    ) -> FormatAnswer;
 }
 
 /// Stops a program that was linked with another library.
 fn expect_version() {
     let found = timefd_version();
-    assert_eq!(found, VERSION, "libtimefd_c.a is of another version than this crate");
+    assert_eq!(found, VERSION, "libtimefd is of another version than this crate");
 }
 
 /// What the text is in a language, with its nodes and the bytes of its literals where both buffers
@@ -158,6 +209,15 @@ pub(crate) fn v2_to_v3(text: &str, buffer: &mut [u8]) -> Answer {
     expect_version();
     // SAFETY: as in `check`.
     unsafe { timefd_v2_to_v3(text.as_ptr(), text.len(), buffer.as_mut_ptr(), buffer.len()) }
+}
+
+/// What the text writes of the moment, where the buffer has room for all of it.
+pub(crate) fn format(kind: u32, text: &str, moment: &RawMoment, buffer: &mut [u8]) -> FormatAnswer {
+    expect_version();
+    // SAFETY: as in `check`; the moment is borrowed for the call too.
+    unsafe {
+        timefd_format(kind, text.as_ptr(), text.len(), moment, buffer.as_mut_ptr(), buffer.len())
+    }
 }
 
 #[cfg(test)]

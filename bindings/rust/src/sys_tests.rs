@@ -6,8 +6,9 @@ use std::fmt::Debug;
 use std::fs;
 
 use super::{ACCEPTED, COMPONENT, COMPOUND, FIRST, LITERAL, NO_MEMORY, OPTIONAL, REFUSED};
-use super::{RawNode, STRFTIME, VERSION};
+use super::{OUT_OF_RANGE, RawMoment, RawNode, STRFTIME, UNSHOWN, VERSION};
 use crate::decode;
+use crate::format::{Lack, Number};
 use crate::modifier::{Padding, SubsecondDigits, TrailingInput, boolean};
 use crate::version::Version;
 
@@ -58,6 +59,13 @@ fn modifier_names(number: u8) -> Vec<String> {
     [padding, digits, trailing, boolean(number).map(header_name)].into_iter().flatten().collect()
 }
 
+/// What a number of an answer of `timefd_format` is taken for.
+fn reason_names(number: u32) -> Vec<String> {
+    let lack = Lack::from_number(number).map(header_name);
+    let range = Number::from_number(number).map(|it| format!("RANGE_{}", header_name(it)));
+    [lack, range].into_iter().flatten().collect()
+}
+
 /// What this crate takes the numbers for, by the header's names.
 fn taken() -> BTreeMap<String, u32> {
     let named = [
@@ -69,6 +77,11 @@ fn taken() -> BTreeMap<String, u32> {
         ("ACCEPTED", ACCEPTED),
         ("REFUSED", REFUSED),
         ("NO_MEMORY", NO_MEMORY),
+        ("UNSHOWN", UNSHOWN),
+        ("OUT_OF_RANGE", OUT_OF_RANGE),
+        ("HAS_DATE", RawMoment::HAS_DATE),
+        ("HAS_TIME", RawMoment::HAS_TIME),
+        ("HAS_OFFSET", RawMoment::HAS_OFFSET),
         ("LITERAL", LITERAL),
         ("COMPONENT", COMPONENT),
         ("COMPOUND", COMPOUND),
@@ -80,7 +93,9 @@ fn taken() -> BTreeMap<String, u32> {
     let modifiers = (0..=u8::MAX).flat_map(|number| {
         modifier_names(number).into_iter().map(move |name| (name, number.into()))
     });
-    named.into_iter().chain(components).chain(modifiers).collect()
+    let reasons = (0..=255)
+        .flat_map(|number| reason_names(number).into_iter().map(move |name| (name, number)));
+    named.into_iter().chain(components).chain(modifiers).chain(reasons).collect()
 }
 
 #[test]

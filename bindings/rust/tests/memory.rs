@@ -216,3 +216,37 @@ fn what_a_long_literal_holds() {
         assert!(count.most < text.len() + 65_536, "{version:?} held {} bytes", count.most);
     }
 }
+
+/// Expects that a call over a long text is accepted with the memory there is, asks for few blocks
+/// and holds at most so many bytes for each byte of the text.
+fn expect_ample<T>(text: &str, bytes: usize, call: impl Fn(&str) -> Result<T, ParseError>) {
+    let front = &text[..text.len().min(20)];
+    let (answer, count) = counted(0, || call(text));
+    assert!(answer.is_ok(), "{front}..: {:?}", answer.err());
+    assert!(count.asked < 64, "{front}..: {} blocks", count.asked);
+    assert!(count.most < bytes * text.len(), "{front}..: {} bytes of {}", count.most, text.len());
+}
+
+#[test]
+fn long_texts_have_ample_memory() {
+    const BYTES: usize = 70;
+    let pieces = ["[day]-".repeat(35_000), "[day]".repeat(100_000), "[day]-".repeat(100_000)];
+    for text in &pieces {
+        for version in [Version::One, Version::Two, Version::Three] {
+            expect_ample(text, BYTES, |text| FormatDescription::parse(version, text));
+        }
+        expect_ample(text, BYTES, v1_to_v2);
+        expect_ample(text, BYTES, v2_to_v3);
+    }
+    for text in ["%d-".repeat(35_000), "%d-".repeat(100_000)] {
+        expect_ample(&text, BYTES, FormatDescription::parse_strftime);
+    }
+    for count in [300, 100_000] {
+        let text = "[optional [a]]".repeat(count);
+        expect_ample(&text, BYTES, |text| FormatDescription::parse(Version::Three, text));
+    }
+    let text = "x".repeat(20_000_000);
+    expect_ample(&text, 3, FormatDescription::parse_strftime);
+    expect_ample(&text, 3, v1_to_v2);
+    expect_ample(&text, 3, v2_to_v3);
+}

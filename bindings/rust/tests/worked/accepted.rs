@@ -42,6 +42,12 @@ const ITEMS: &[Row] = &[
         11,
         &[STANDARD_YEAR, Literal("-"), MONTH, Literal("-"), DAY],
     ),
+    (
+        &[ONE, TWO],
+        "[year]-[month]-[day]",
+        13,
+        &[EXTENDED_YEAR, Literal("-"), MONTH, Literal("-"), DAY],
+    ),
     (&[THREE], "due [day]", 6, &[Literal("due "), DAY]),
     (&[ONE], "[[day]]", 6, &[Literal("["), Literal("day"), Literal("]"), Literal("]")]),
     (&[ONE], "[[[day]", 3, &[Literal("["), DAY]),

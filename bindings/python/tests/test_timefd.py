@@ -1,0 +1,151 @@
+"""Tests of what no doctest shows, over the installed module:   python -m unittest discover -s bindings/python/tests"""
+
+import datetime
+import doctest
+import pathlib
+import re
+import unittest
+
+import timefd
+from timefd import Component, Compound, First, Language, Literal, Name, Optional, Padding, TrailingInput, calls, library, moments
+
+HEADER = pathlib.Path(__file__).resolve().parents[3] / "examples/timefd.h"
+
+
+def defined(text):
+    """Each number that a text of C defines, by its name."""
+    return {name: int(number) for name, number in re.findall(r"^#define TIMEFD_(\w+) (\d+)u", text, re.M)}
+
+
+def load_tests(loader, tests, pattern):
+    for module in (timefd, calls, moments):
+        tests.addTests(doctest.DocTestSuite(module, extraglobs={"Language": Language, "datetime": datetime}))
+    return tests
+
+
+class Numbers(unittest.TestCase):
+    def test_the_numbers_are_those_of_the_header(self):
+        numbers = defined(HEADER.read_text())
+        ours = {"VERSION": library.VERSION, "FALSE": 1, "TRUE": 2, "ONE_OR_MORE": 10}
+        for name in ("ACCEPTED", "REFUSED", "NOT_UTF8", "NO_MEMORY", "UNKNOWN_KIND", "UNSHOWN", "OUT_OF_RANGE"):
+            ours[name] = getattr(library, name)
+        for name in ("HAS_DATE", "HAS_TIME", "HAS_OFFSET", "LITERAL", "COMPONENT", "COMPOUND", "OPTIONAL", "FIRST"):
+            ours[name] = getattr(library, name)
+        ours |= {f"PADDING_{it.name}": it for it in Padding}
+        ours |= {it.name: it for kind in (Language, TrailingInput) for it in kind}
+        self.assertLessEqual(ours.items(), numbers.items())
+
+    def test_the_components_are_all_of_the_header(self):
+        begin, end = "/* The components.", "/* The values of modifiers."
+        components = HEADER.read_text().split(begin)[1].split(end)[0]
+        self.assertEqual({it.name: it.value for it in Name}, defined(components))
+
+    def test_the_fields_stand_where_the_header_has_them(self):
+        rows = re.findall(r"^TIMEFD_FIELD\((\w+), (\w+), (\d+), (\d+)\);", HEADER.read_text(), re.M)
+        self.assertGreater(len(rows), 15)
+        structs = {
+            "timefd_answer": library.Answer,
+            "timefd_node": library.RawNode,
+            "timefd_read_answer": library.ReadAnswer,
+            "timefd_moment": library.RawMoment,
+            "timefd_format_answer": library.FormatAnswer,
+        }
+        for struct, field, start, size in rows:
+            placed = getattr(structs[struct], field)
+            self.assertEqual((placed.offset, placed.size), (int(start), int(size)), f"{struct}.{field}")
+
+
+class Formats(unittest.TestCase):
+    def test_a_moment_with_an_offset(self):
+        zone = datetime.timezone(-datetime.timedelta(minutes=30))
+        moment = datetime.datetime(2026, 11, 23, 5, 36, 7, 12345, zone)
+        text = "[weekday] [hour]:[minute]:[second].[subsecond digits:6] [offset_hour sign:mandatory]:[offset_minute]"
+        self.assertEqual(timefd.format(text, moment), "Monday 05:36:07.012345 -00:30")
+
+    def test_a_component_that_shows_nothing(self):
+        with self.assertRaises(timefd.NothingShown) as caught:
+            timefd.format("[month] [hour]", datetime.date(2026, 11, 23))
+        self.assertEqual(caught.exception.component, Name.HOUR_24)
+        self.assertEqual(str(caught.exception), "hour_24 shows nothing: there is no time of day")
+
+    def test_a_text_that_is_refused(self):
+        with self.assertRaises(timefd.InvalidDescription):
+            timefd.format("[mnth]", datetime.date(2026, 11, 23))
+
+    def test_a_long_text(self):
+        self.assertEqual(timefd.format("x" * 500, datetime.time()), "x" * 500)
+
+
+class Nodes(unittest.TestCase):
+    def test_a_tree(self):
+        due, day, rest = timefd.parse("due [day][optional format:false [ at [first [[hour]] [[period]]]]]")
+        self.assertEqual(due, Literal("due ", 4))
+        self.assertEqual(day, Component(Name.DAY, 2, padding=Padding.ZERO))
+        self.assertIsInstance(rest, Optional)
+        self.assertFalse(rest.format)
+        at, first = rest.member.members
+        self.assertEqual(at.text, " at ")
+        self.assertIsInstance(first, First)
+        self.assertEqual([it.name for it in first.members], [Name.HOUR_24, Name.PERIOD])
+
+    def test_texts_of_no_part_and_of_one(self):
+        self.assertEqual(timefd.parse(""), ())
+        self.assertEqual([it.name for it in timefd.parse("[day]")], [Name.DAY])
+        for language in Language:
+            self.assertEqual(timefd.parse("", language), ())
+            self.assertEqual(timefd.parse("x", language), (Literal("x", 1),))
+
+    def test_a_specification_that_stands_for_several(self):
+        (date,) = timefd.parse("%F", Language.STRFTIME)
+        self.assertIsInstance(date, Compound)
+        self.assertEqual(len(date.members), 5)
+
+    def test_more_than_the_first_buffers_hold(self):
+        text = "[day]ä" * 1000
+        found = timefd.parse(text)
+        self.assertEqual(len(found), 2000)
+        self.assertEqual("".join(it.text for it in found if isinstance(it, Literal)), "ä" * 1000)
+        self.assertEqual(timefd.check(text), 4000)
+
+    def test_modifiers(self):
+        (second,) = timefd.parse("[subsecond digits:3]")
+        self.assertEqual(second.digits, 3)
+        (ignore,) = timefd.parse("[ignore count:9]")
+        self.assertEqual(ignore.ignored, 9)
+        (period,) = timefd.parse("[period case:lower]")
+        self.assertIs(period.is_uppercase, False)
+        (end,) = timefd.parse("[end trailing_input:discard]")
+        self.assertIs(end.trailing_input, TrailingInput.DISCARD)
+
+
+class Faults(unittest.TestCase):
+    def test_each_call_raises_the_fault(self):
+        for call in (timefd.check, timefd.parse):
+            with self.assertRaises(timefd.InvalidDescription) as raised:
+                call("ä [mnth]")
+            self.assertEqual(raised.exception.index, 4)
+            self.assertEqual(str(raised.exception), "invalid component name `mnth` at byte index 4")
+        with self.assertRaises(timefd.InvalidDescription):
+            timefd.convert("[mnth]", Language.VERSION_1, Language.VERSION_3)
+
+    def test_a_long_sentence(self):
+        name = "x" * 5000
+        with self.assertRaises(timefd.InvalidDescription) as raised:
+            timefd.check(f"[{name}]")
+        self.assertIn(name, str(raised.exception))
+
+    def test_languages_that_are_none(self):
+        self.assertRaises(ValueError, timefd.check, "x", 5)
+        self.assertRaises(ValueError, timefd.convert, "x", Language.VERSION_3, Language.VERSION_2)
+        self.assertRaises(ValueError, timefd.convert, "x", Language.VERSION_3, Language.STRFTIME)
+
+
+class Conversions(unittest.TestCase):
+    def test_to_each_later_version(self):
+        self.assertEqual(timefd.convert("[[[day]]", Language.VERSION_1, Language.VERSION_2), r"\[[day]\]")
+        self.assertEqual(timefd.convert("[[[Day]]", Language.VERSION_1, Language.VERSION_3), r"\[[day]\]")
+        self.assertEqual(timefd.convert("x" * 1000, Language.VERSION_2, Language.VERSION_3), "x" * 1000)
+
+
+if __name__ == "__main__":
+    unittest.main()

@@ -1,0 +1,44 @@
+"""Format descriptions of dates: those of Rust's crate `time`, versions 1, 2 and 3, and of strftime.
+
+    >>> import datetime
+    >>> import timefd
+    >>> timefd.check("[year]-[month]-[day]")
+    11
+    >>> timefd.check("[year]-[mnth]")
+    Traceback (most recent call last):
+    ...
+    timefd.errors.InvalidDescription: invalid component name `mnth` at byte index 8
+    >>> timefd.parse("due [day]")[0]
+    Literal(text='due ', max_bytes=4)
+    >>> timefd.convert("[[a]", Language.VERSION_1, Language.VERSION_2)
+    '\\\\[a\\\\]'
+    >>> timefd.format("[day].[month].[year]", datetime.date(2026, 11, 23))
+    '23.11.2026'
+
+The reading is done by a library whose every function is proved; this module is only tested. Its calls may come from any thread.
+"""
+
+from timefd.calls import check, convert, parse
+from timefd.errors import InvalidDescription, NothingShown
+from timefd.language import Language
+from timefd.moments import format
+from timefd.nodes import Component, Compound, First, Literal, Name, Node, Optional, Padding, TrailingInput
+
+__all__ = [
+    "Component",
+    "Compound",
+    "First",
+    "InvalidDescription",
+    "Language",
+    "Literal",
+    "Name",
+    "Node",
+    "NothingShown",
+    "Optional",
+    "Padding",
+    "TrailingInput",
+    "check",
+    "convert",
+    "format",
+    "parse",
+]

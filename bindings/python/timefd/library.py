@@ -1,0 +1,101 @@
+"""The shared library behind `ctypes`, by its header `timefd.h`, which says what each call answers."""
+
+import ctypes
+import pathlib
+
+VERSION = 1000
+
+ACCEPTED, REFUSED, NOT_UTF8, NO_MEMORY, UNKNOWN_KIND, UNSHOWN, OUT_OF_RANGE = range(7)
+
+HAS_DATE, HAS_TIME, HAS_OFFSET = 1, 2, 4
+
+LITERAL, COMPONENT, COMPOUND, OPTIONAL, FIRST = range(1, 6)
+
+
+class Answer(ctypes.Structure):
+    _fields_ = [
+        ("status", ctypes.c_uint32),
+        ("value", ctypes.c_size_t),
+        ("sentence_len", ctypes.c_size_t),
+        ("written", ctypes.c_size_t),
+    ]
+
+
+class ReadAnswer(ctypes.Structure):
+    _fields_ = [
+        ("status", ctypes.c_uint32),
+        ("value", ctypes.c_size_t),
+        ("nodes", ctypes.c_size_t),
+        ("literals", ctypes.c_size_t),
+        ("written", ctypes.c_bool),
+        ("bytes", ctypes.c_size_t),
+    ]
+
+
+class RawNode(ctypes.Structure):
+    _fields_ = [
+        ("what", ctypes.c_uint32),
+        ("component", ctypes.c_uint32),
+        ("padding", ctypes.c_uint8),
+        ("sign_is_mandatory", ctypes.c_uint8),
+        ("case_sensitive", ctypes.c_uint8),
+        ("one_indexed", ctypes.c_uint8),
+        ("is_uppercase", ctypes.c_uint8),
+        ("digits", ctypes.c_uint8),
+        ("trailing_input", ctypes.c_uint8),
+        ("format", ctypes.c_uint8),
+        ("ignored", ctypes.c_uint32),
+        ("start", ctypes.c_size_t),
+        ("count", ctypes.c_size_t),
+        ("bytes", ctypes.c_size_t),
+    ]
+
+
+class RawMoment(ctypes.Structure):
+    _fields_ = [
+        ("known", ctypes.c_uint32),
+        ("year", ctypes.c_int32),
+        ("nanosecond", ctypes.c_uint32),
+        ("offset_seconds", ctypes.c_int32),
+        ("month", ctypes.c_uint8),
+        ("day", ctypes.c_uint8),
+        ("hour", ctypes.c_uint8),
+        ("minute", ctypes.c_uint8),
+        ("second", ctypes.c_uint8),
+    ]
+
+
+class FormatAnswer(ctypes.Structure):
+    _fields_ = [
+        ("status", ctypes.c_uint32),
+        ("reason", ctypes.c_uint32),
+        ("component", ctypes.c_uint32),
+        ("value", ctypes.c_size_t),
+        ("written", ctypes.c_size_t),
+    ]
+
+
+def _load() -> ctypes.CDLL:
+    beside = pathlib.Path(__file__).with_name("libtimefd.so")
+    library = ctypes.CDLL(str(beside) if beside.exists() else "libtimefd.so.0.1")
+    kind, size, text = ctypes.c_uint32, ctypes.c_size_t, ctypes.c_char_p
+    buffer, nodes = ctypes.POINTER(ctypes.c_char), ctypes.POINTER(RawNode)
+    moment = ctypes.POINTER(RawMoment)
+    calls = {
+        "timefd_version": ([], ctypes.c_uint32),
+        "timefd_check": ([kind, text, size, buffer, size], Answer),
+        "timefd_v1_to_v2": ([text, size, buffer, size], Answer),
+        "timefd_v2_to_v3": ([text, size, buffer, size], Answer),
+        "timefd_format": ([kind, text, size, moment, buffer, size], FormatAnswer),
+        "timefd_read": ([kind, text, size, nodes, size, buffer, size], ReadAnswer),
+    }
+    for name, (arguments, answer) in calls.items():
+        call = getattr(library, name)
+        call.argtypes, call.restype = arguments, answer
+    found = library.timefd_version()
+    if found != VERSION:
+        raise ImportError(f"libtimefd has the version {found}, and this module is for {VERSION}")
+    return library
+
+
+LIBRARY = _load()
