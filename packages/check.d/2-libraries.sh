@@ -1,0 +1,45 @@
+# The libraries, by C and C++.
+
+same 'the version of the header' "$(grep -c "of this header's version, $version:" "$prefix/include/timefd.h")" 1
+declared=$(sed -n 's/^[a-z].* \(timefd_[a-z0-9_]*\)(.*/\1/p' "$prefix/include/timefd.h" | sort | tr '\n' ' ')
+defined=$(nm -g --defined-only "$prefix/lib/libtimefd.a" | sed -n 's/.* [A-Z] //p' | sort | tr '\n' ' ')
+same 'libtimefd.a shows what the header declares and nothing else' "$defined" "$declared"
+defined=$(nm -D --defined-only "$prefix/lib/libtimefd.so" | sed -n 's/.* T \([^@]*\).*/\1/p' | sort | tr '\n' ' ')
+same 'libtimefd.so shows what the header declares and nothing else' "$defined" "$declared"
+wanted=$(nm -g --undefined-only "$prefix/lib/libtimefd.a" | sed -n 's/.* U //p' | sort | tr '\n' ' ')
+# The first is of the compiler's own library: it divides numbers of 128 bits.
+same 'libtimefd.a wants of the compiler and the C library' "$wanted" '__udivti3 free malloc memcpy memmove memset realloc '
+for page in $declared; do
+    gzip -dc "$prefix/share/man/man3/$page.3.gz" | grep -q "$page *(" || fail "man/timefd.3 says nothing of $page"
+done
+
+# The newest version of glibc that a file wants.
+newest_glibc() {
+    objdump -T "$1" | grep -o 'GLIBC_[0-9.]*' | sort -u -V | tail -n 1
+}
+same 'libtimefd.so wants glibc' "$(newest_glibc "$prefix/lib/libtimefd.so")" GLIBC_2.14
+same 'the soname' "$(objdump -p "$prefix/lib/libtimefd.so" | sed -n 's/ *SONAME *//p')" "libtimefd.so.$interface"
+
+expected=$(cat "$top/examples/expected_first.txt")
+sed 's|"../timefd.h"|<timefd.h>|' "$top/examples/c/first.c" > "$room/first.c"
+strict='-Wall -Wextra -Werror'
+if has pkg-config 'programs built by pkg-config'; then
+    export PKG_CONFIG_PATH="$prefix/lib/pkgconfig"
+    # shellcheck disable=SC2046,SC2086
+    cc $strict "$room/first.c" $(pkg-config --cflags --libs timefd) -Wl,-rpath,"$prefix/lib" -o "$room/first"
+    same 'C over the shared library' "$("$room/first")" "$expected"
+    # shellcheck disable=SC2046,SC2086
+    cc $strict -static "$room/first.c" $(pkg-config --static --cflags --libs timefd) -o "$room/first"
+    same 'C over the static library' "$("$room/first")" "$expected"
+    if has g++ 'C++'; then
+        # shellcheck disable=SC2046,SC2086
+        g++ $strict -x c++ "$room/first.c" -x none $(pkg-config --cflags --libs timefd) -Wl,-rpath,"$prefix/lib" -o "$room/first"
+        same 'C++' "$("$room/first")" "$expected"
+    fi
+    if has musl-gcc 'C over musl'; then
+        # shellcheck disable=SC2046,SC2086
+        musl-gcc $strict -static "$room/first.c" $(pkg-config --static --cflags --libs timefd) -o "$room/first"
+        same 'C over musl' "$("$room/first")" "$expected"
+    fi
+    unset PKG_CONFIG_PATH
+fi

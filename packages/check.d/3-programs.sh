@@ -1,0 +1,60 @@
+# The programs, their pages and what completes their words.
+
+same 'timefd, on no library of the system' "$(printf 'due [day]' | clean "$prefix/bin/timefd" 3)" 'ok bytes 6'
+same 'timefd_lint' "$(printf '[mnth]\n' | clean "$prefix/bin/timefd_lint" --format short || true)" \
+    '<stdin>:1:2: invalid component name `mnth` at byte index 1'
+same 'the version of timefd_lint' "$(clean "$prefix/bin/timefd_lint" --version)" "timefd_lint $version"
+same 'timefd_format' "$(clean "$prefix/bin/timefd_format" '[day] [month repr:long]' 2026-11-23)" '23 November'
+same 'the version of timefd_format' "$(clean "$prefix/bin/timefd_format" --version)" "timefd_format $version"
+for name in timefd timefd_lint timefd_format; do
+    readelf -l "$prefix/bin/$name" | grep -q INTERP && fail "$name of the release wants a loader"
+    cc -static-pie "$release/objects/$name.o" -o "$room/$name.linked"
+done
+same 'timefd, linked anew' "$(printf 'due [day]' | "$room/timefd.linked" 3)" 'ok bytes 6'
+
+if has man 'reading the manual pages'; then
+    for page in timefd.1 timefd_lint.1 timefd_format.1 timefd.3 timefd_judge.3; do
+        MANPATH="$prefix/share/man" man "${page##*.}" "${page%.*}" > "$room/said" || fail "man does not show $page"
+        grep -q "^ *timefd.* - " "$room/said" || fail "man shows something else as $page"
+    done
+fi
+if has mandoc 'mandoc over the manual pages'; then
+    for page in "$here"/man/*; do
+        same "mandoc on $(basename "$page")" "$(mandoc -T lint -W warning "$page" 2>&1 || true)" ''
+    done
+fi
+
+# The options of a program, a line each, of a text that has them.
+options() {
+    grep -o -e '--[a-z][a-z]*' | sort -u
+}
+cat > "$room/complete.bash" <<'END'
+. "$1"
+COMP_WORDS=("$2" --) COMP_CWORD=1
+"_$2" "$2" -- "$2"
+printf '%s\n' "${COMPREPLY[@]}"
+END
+cat > "$room/complete.zsh" <<'END'
+_arguments() { print -l -- "$@" }
+service=$2
+. $1
+END
+fishes=$prefix/share/fish/vendor_completions.d
+for name in timefd_lint timefd_format; do
+    wanted=$(clean "$prefix/bin/$name" --help | options)
+    same "the options in the manual page of $name" "$(sed 's/\\-/-/g' "$here/man/$name.1" | options)" "$wanted"
+    same "the options of $name in bash" \
+        "$(bash "$room/complete.bash" "$prefix/share/bash-completion/completions/$name" "$name" | options)" "$wanted"
+    if has fish "completions of fish for $name"; then
+        said=$(HOME="$room" fish --no-config -c "source $fishes/$name.fish; complete -C '$name --'" | options)
+        same "the options of $name in fish" "$said" "$wanted"
+    fi
+    if has zsh "completions of zsh for $name"; then
+        said=$(zsh -f "$room/complete.zsh" "$prefix/share/zsh/site-functions/_timefd" "$name" | options)
+        same "the options of $name in zsh" "$said" "$wanted"
+    fi
+done
+if has fish 'completions of fish for timefd'; then
+    said=$(HOME="$room" fish --no-config -c "source $fishes/timefd.fish; complete -C 'timefd s'")
+    same 'the kinds in fish' "$said" strftime
+fi

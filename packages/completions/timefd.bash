@@ -1,0 +1,58 @@
+# Completes the words of timefd, timefd_lint and timefd_format in bash.
+
+_timefd() {
+    if [ "$COMP_CWORD" -eq 1 ]; then
+        mapfile -t COMPREPLY < <(compgen -W '1 2 3 strftime' -- "$2")
+    fi
+}
+
+_timefd_lint() {
+    local word
+    for word in "${COMP_WORDS[@]:1:COMP_CWORD-1}"; do
+        if [ "$word" = -- ]; then
+            mapfile -t COMPREPLY < <(compgen -f -- "$2")
+            return
+        fi
+    done
+    case $3 in
+    --language) mapfile -t COMPREPLY < <(compgen -W '1 2 3 strftime' -- "$2") ;;
+    --format) mapfile -t COMPREPLY < <(compgen -W 'human json short' -- "$2") ;;
+    --color) mapfile -t COMPREPLY < <(compgen -W 'always never auto' -- "$2") ;;
+    --to) mapfile -t COMPREPLY < <(compgen -W '2 3' -- "$2") ;;
+    --comment) COMPREPLY=() ;;
+    *)
+        case $2 in
+        -*)
+            word='--language --format --color --comment --whole --explain --to --write --partial --quiet --help --version --'
+            mapfile -t COMPREPLY < <(compgen -W "$word" -- "$2")
+            ;;
+        *) mapfile -t COMPREPLY < <(compgen -f -- "$2") ;;
+        esac
+        ;;
+    esac
+}
+
+# Behind `--` and behind the description no word is an option.
+_timefd_format() {
+    local word value=
+    for word in "${COMP_WORDS[@]:1:COMP_CWORD-1}"; do
+        case $value$word in
+        --language) value=value ;;
+        value*) value= ;;
+        -*) [ "$word" != -- ] || return ;;
+        *)
+            mapfile -t COMPREPLY < <(compgen -W now -- "$2")
+            return
+            ;;
+        esac
+    done
+    if [ -n "$value" ]; then
+        mapfile -t COMPREPLY < <(compgen -W '1 2 3 strftime' -- "$2")
+    else
+        mapfile -t COMPREPLY < <(compgen -W '--language --help --version --' -- "$2")
+    fi
+}
+
+complete -F _timefd timefd
+complete -F _timefd_format timefd_format
+complete -o filenames -F _timefd_lint timefd_lint

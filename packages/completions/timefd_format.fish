@@ -1,0 +1,4 @@
+complete -c timefd_format -f
+complete -c timefd_format -l language -x -a '1 2 3 strftime' -d 'the language of the description'
+complete -c timefd_format -s h -l help -d 'write the usage'
+complete -c timefd_format -s V -l version -d "write the program's version"

@@ -1,0 +1,12 @@
+complete -c timefd_lint -l language -x -a '1 2 3 strftime' -d 'the language of all lines'
+complete -c timefd_lint -l format -x -a 'human json short' -d 'how a fault is written'
+complete -c timefd_lint -l color -x -a 'always never auto' -d 'whether the drawing is coloured'
+complete -c timefd_lint -l comment -x -d 'what lines begin with that are passed over'
+complete -c timefd_lint -l whole -d 'a file is one text'
+complete -c timefd_lint -l explain -d 'show each accepted text as its tree'
+complete -c timefd_lint -l to -x -a '2 3' -d 'show what would change in a later version'
+complete -c timefd_lint -l write -d 'write the named files back'
+complete -c timefd_lint -l partial -d 'write files back some of whose lines are refused'
+complete -c timefd_lint -s q -l quiet -d 'leave out the last line, on how much was looked at'
+complete -c timefd_lint -s h -l help -d 'write the usage'
+complete -c timefd_lint -s V -l version -d "write the program's version"
