@@ -1,5 +1,5 @@
-/* What texts are as format descriptions, the nodes of such a description, and texts of one version as ones of the next: the
-   functions of the static library libtimefd_c.a. */
+/* What texts are as format descriptions, the nodes of such a description, texts of one version as ones of the next, and dates
+   written by a description: the functions of the static library libtimefd_c.a. */
 
 #ifndef TIMEFD_H
 #define TIMEFD_H
@@ -43,7 +43,13 @@ uint32_t timefd_version(void);
 /* The kind is none of the four numbers above, whatever the bytes are. The value is 0. */
 #define TIMEFD_UNKNOWN_KIND 4u
 
-/* What is said of a text. No other status comes than the five above. */
+/* From timefd_format alone: a component of the description shows nothing of the moment. The value is 0. */
+#define TIMEFD_UNSHOWN 5u
+
+/* From timefd_format alone: a number of the moment is out of its range, whatever the text is. The value is 0. */
+#define TIMEFD_OUT_OF_RANGE 6u
+
+/* What is said of a text. No other status comes than the first five above. */
 typedef struct timefd_answer {
     uint32_t status;
     size_t value;
@@ -172,6 +178,9 @@ typedef struct timefd_read_answer {
     size_t nodes;    /* how many nodes an accepted text has, or else 0 */
     size_t literals; /* how many bytes its literals have together, or else 0 */
     bool written;    /* whether both buffers had room for all of them */
+    size_t bytes;    /* the length of the longest text that an accepted text can be shown as, in every language, so that a
+                        buffer of that length is never too short; SIZE_MAX where there are more, and 0 where the text is not
+                        accepted. For version 3 it is the value. */
 } timefd_read_answer;
 
 /* Says what timefd_judge says, and writes the nodes of a description to the front of the `node_room` nodes at `nodes`, and
@@ -193,6 +202,59 @@ typedef struct timefd_read_answer {
    that timefd_judge takes, and calls on several threads share malloc alone. */
 timefd_read_answer timefd_read(uint32_t kind, const uint8_t *text, size_t len, timefd_node *nodes, size_t node_room,
                                uint8_t *literals, size_t literal_room);
+
+/* What is known of a moment, in `known`: one of these, or several joined by |. */
+#define TIMEFD_HAS_DATE 1u
+#define TIMEFD_HAS_TIME 2u
+#define TIMEFD_HAS_OFFSET 4u
+
+/* A date, a time of day, an offset from UTC, or some of these. The fields of what isn't known are not looked at. */
+typedef struct timefd_moment {
+    uint32_t known;
+    int32_t year;           /* -999999 to 999999 */
+    uint32_t nanosecond;    /* 0 to 999999999 */
+    int32_t offset_seconds; /* how many seconds the clock is ahead of UTC, behind it as a negative number: less than 26 hours */
+    uint8_t month;          /* 1 to 12 */
+    uint8_t day;            /* 1 to the month's last */
+    uint8_t hour;           /* 0 to 23 */
+    uint8_t minute;         /* 0 to 59 */
+    uint8_t second;         /* 0 to 59 */
+} timefd_moment;
+
+/* Why a component shows nothing: the moment has no date, no time of day, or no offset; the component shows no year of so many
+   digits; the instant is in no year from -999999 to 999999 of UTC. */
+#define TIMEFD_NO_DATE 1u
+#define TIMEFD_NO_TIME 2u
+#define TIMEFD_NO_OFFSET 3u
+#define TIMEFD_YEAR_TOO_LONG 4u
+#define TIMEFD_INSTANT_OUT_OF_RANGE 5u
+
+/* Which number of a moment is out of its range: the first one, in this order. */
+#define TIMEFD_RANGE_YEAR 1u
+#define TIMEFD_RANGE_MONTH 2u
+#define TIMEFD_RANGE_DAY 3u
+#define TIMEFD_RANGE_HOUR 4u
+#define TIMEFD_RANGE_MINUTE 5u
+#define TIMEFD_RANGE_SECOND 6u
+#define TIMEFD_RANGE_NANOSECOND 7u
+#define TIMEFD_RANGE_OFFSET 8u
+
+/* What is said of a text that is to write a moment. */
+typedef struct timefd_format_answer {
+    uint32_t status;
+    uint32_t reason;    /* why a component shows nothing, or which number is out of its range, or else 0 */
+    uint32_t component; /* which component shows nothing, by its number in nodes, or else 0. It is the first such one. */
+    size_t value;       /* how many bytes the text has that was to be written; of TIMEFD_REFUSED the index of the fault; or else 0 */
+    size_t written;     /* how many bytes were written: all of the text, or none */
+} timefd_format_answer;
+
+/* Writes the moment by the description, the `len` bytes at `text` in the language `kind`, over the front of the `room` bytes at
+   `buffer`, with no 0 behind it, if they have room for all of it. Else the buffer is as it was, and the value tells how much room
+   is needed. In version 3 as many bytes as timefd_judge tells are always enough.
+
+   What is written is UTF-8. The buffer has been set to something before, and overlaps neither text nor moment. */
+timefd_format_answer timefd_format(uint32_t kind, const uint8_t *text, size_t len, const timefd_moment *moment, uint8_t *buffer,
+                                   size_t room);
 
 /* Where each field stands, as the library and this compiler have to agree on it. */
 #ifdef __cplusplus
@@ -230,7 +292,26 @@ TIMEFD_FIELD(timefd_read_answer, value, 8, 8);
 TIMEFD_FIELD(timefd_read_answer, nodes, 16, 8);
 TIMEFD_FIELD(timefd_read_answer, literals, 24, 8);
 TIMEFD_FIELD(timefd_read_answer, written, 32, 1);
-TIMEFD_IS(sizeof(timefd_read_answer) == 40);
+TIMEFD_FIELD(timefd_read_answer, bytes, 40, 8);
+TIMEFD_IS(sizeof(timefd_read_answer) == 48);
+
+TIMEFD_FIELD(timefd_moment, known, 0, 4);
+TIMEFD_FIELD(timefd_moment, year, 4, 4);
+TIMEFD_FIELD(timefd_moment, nanosecond, 8, 4);
+TIMEFD_FIELD(timefd_moment, offset_seconds, 12, 4);
+TIMEFD_FIELD(timefd_moment, month, 16, 1);
+TIMEFD_FIELD(timefd_moment, day, 17, 1);
+TIMEFD_FIELD(timefd_moment, hour, 18, 1);
+TIMEFD_FIELD(timefd_moment, minute, 19, 1);
+TIMEFD_FIELD(timefd_moment, second, 20, 1);
+TIMEFD_IS(sizeof(timefd_moment) == 24);
+
+TIMEFD_FIELD(timefd_format_answer, status, 0, 4);
+TIMEFD_FIELD(timefd_format_answer, reason, 4, 4);
+TIMEFD_FIELD(timefd_format_answer, component, 8, 4);
+TIMEFD_FIELD(timefd_format_answer, value, 16, 8);
+TIMEFD_FIELD(timefd_format_answer, written, 24, 8);
+TIMEFD_IS(sizeof(timefd_format_answer) == 32);
 
 #undef TIMEFD_FIELD
 #undef TIMEFD_IS

@@ -104,6 +104,16 @@ timefd_answer convert(const struct text *text, struct buffer *buffer, size_t roo
     return answer;
 }
 
+timefd_format_answer format(uint32_t kind, const struct text *text, const timefd_moment *moment,
+                            struct buffer *buffer, size_t room) {
+    uint8_t *bytes = lend(kind, text);
+    uint8_t *front = fill(buffer, room);
+    timefd_format_answer answer = timefd_format(kind, bytes, text->len, moment, front, room);
+    take_back(kind, text, bytes);
+    check_filled(kind, text, buffer, room, answer.written);
+    return answer;
+}
+
 timefd_read_answer read_nodes(uint32_t kind, const struct text *text, struct node_buffers *buffers,
                               size_t node_room, size_t literal_room) {
     uint8_t *bytes = lend(kind, text);

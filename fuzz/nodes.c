@@ -91,14 +91,20 @@ static void check_trees(uint32_t kind, const struct text *text, const timefd_nod
         expect(answer.nodes <= text->len + 1, kind, text, "at most a node for each byte and one");
         expect(count == 1 && trees[0].bytes == answer.value, kind, text,
                "nodes of one tree that reserves the value");
+        expect(answer.bytes == answer.value, kind, text, "the value as the bytes");
         return;
     }
     expect(count == answer.value || answer.nodes == 0, kind, text, "nodes of as many trees as items");
+    size_t bytes = 0;
+    for (size_t i = 0; i < count; i++) {
+        bytes += trees[i].bytes;
+    }
+    expect(answer.bytes == bytes, kind, text, "the bytes of all items");
 }
 
 static bool is_answer(timefd_read_answer a, timefd_read_answer b) {
     return a.status == b.status && a.value == b.value && a.nodes == b.nodes &&
-           a.literals == b.literals && a.written == b.written;
+           a.literals == b.literals && a.written == b.written && a.bytes == b.bytes;
 }
 
 /* With less room in one buffer than is needed nothing is written, and the same is told. */
@@ -127,8 +133,8 @@ void check_nodes(uint32_t kind, const struct text *text, timefd_answer judged) {
     expect(answer.status == judged.status && answer.value == judged.value, kind, text,
            "the same answer from timefd_read");
     if (answer.status != TIMEFD_ACCEPTED) {
-        expect(!answer.written && answer.nodes == 0 && answer.literals == 0, kind, text,
-               "no nodes of what is not accepted");
+        expect(!answer.written && answer.nodes == 0 && answer.literals == 0 && answer.bytes == 0,
+               kind, text, "no nodes of what is not accepted");
         return;
     }
     expect(answer.written, kind, text, "nodes in large buffers");

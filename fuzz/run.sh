@@ -6,8 +6,6 @@
 #     fuzz/run.sh --valgrind [COUNT] [SEED]   the same under valgrind's memcheck: 1000
 set -eu
 cd "$(dirname "$0")"
-libc=$(dirname "$(rt doc)")/c/liblibc_c.a
-library=../crates/timefd_c/out/libtimefd_c.a
 count=300000
 checker=
 if [ "${1:-}" = --valgrind ]; then
@@ -20,7 +18,8 @@ if [ "${1:-}" = --valgrind ]; then
     }
 fi
 mkdir -p out
-[ -e "$library" ] || (cd ../crates/timefd_c && rt lib --cpu x86-64 > /dev/null)
+[ -e ../crates/timefd_c/out/libtimefd_c.a ] || (cd ../crates/timefd_c && rt lib --cpu x86-64 > /dev/null)
+library=$(../packages/library)
 cc -std=c11 -Wall -Wextra -Werror -g -O2 -Wl,--wrap=malloc,--wrap=realloc,--wrap=free \
-    -o out/fuzz ./*.c "$library" "$libc"
+    -o out/fuzz ./*.c "$library/libtimefd.a"
 $checker out/fuzz "${1:-$count}" "${2:-1}"

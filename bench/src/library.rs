@@ -28,6 +28,7 @@ pub struct ReadAnswer {
     nodes: usize,
     literals: usize,
     written: bool,
+    bytes: usize,
 }
 
 impl ReadAnswer {

@@ -1,4 +1,5 @@
-//! Compares what the formatter of `examples/dates` writes with what `time` writes, on random dates.
+//! Compares what the library and the formatter of `examples/dates` write with what `time` writes, on
+//! random dates.
 
 mod descriptions;
 mod random;
@@ -8,7 +9,7 @@ use std::error::Error;
 use random::Random;
 use timefd::{FormatDescription, Version};
 
-const DATES: usize = 1_000;
+const DATES: usize = 10_000;
 const SEED: u64 = 20_261_123;
 
 fn main() -> Result<(), Box<dyn Error>> {
@@ -24,10 +25,13 @@ fn main() -> Result<(), Box<dyn Error>> {
         compared += 1;
         let mut buffer = vec![0; description.max_bytes_needed()];
         for date in &dates {
-            let written = dates::format(&description, date, &mut buffer)?;
             let expected = random::of_time(date)?.format(&items)?;
-            if written != expected {
-                return Err(format!("{text} of {date:?}: {written:?} is not {expected:?}").into());
+            let by_the_library = timefd::format(Version::One, &text, &random::moment(date))?;
+            let written = dates::format(&description, date, &mut buffer)?;
+            for shown in [by_the_library.as_str(), written] {
+                if shown != expected {
+                    return Err(format!("{text} of {date:?}: {shown:?} is not {expected:?}").into());
+                }
             }
         }
     }
