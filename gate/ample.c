@@ -17,12 +17,14 @@ void *__wrap_malloc(size_t size);
 void *__wrap_realloc(void *block, size_t size);
 void __wrap_free(void *block);
 
-enum { FRONT = 16, FIRST_ROOM = 16, ITEM = 24, NODE = 32 };
+/* A block's length in front of it; the first room of a list; the bytes of an item and of a node; the nodes of a piece. */
+enum { FRONT = 16, FIRST_ROOM = 16, ITEM = 24, NODE = 32, PIECE_NODES = 14 };
 
 static size_t asked; /* how many blocks a call asked for */
 static size_t held;  /* how many bytes it holds, and how many it held at most */
 static size_t most;
 static size_t failed;
+static bool tells; /* whether each call is told of, and not the wrong ones alone */
 
 static void take(size_t size) {
     asked++;
@@ -80,77 +82,116 @@ static void begin(void) {
     most = 0;
 }
 
-/* The room of a list of so many, which has doubled from the first one on. */
-static size_t room_of(size_t count) {
-    size_t room = FIRST_ROOM;
-    while (room < count) {
-        room *= 2;
-    }
-    return room;
-}
+/* What a list or a text takes that has doubled from its first room on. */
+struct taken {
+    size_t blocks; /* how many it asks for: the first one, and one each time that it doubles */
+    size_t room;   /* how many there is room for in the end */
+    size_t most;   /* for how many at most together: the old room is there while it is copied */
+};
 
-/* How many blocks such a list asks for: the first one, and one each time that it doubles. */
-static size_t blocks_of(size_t count) {
-    size_t blocks = 1;
-    for (size_t room = FIRST_ROOM; room < count; room *= 2) {
-        blocks++;
+static const struct taken NOTHING = {0, 0, 0};
+
+/* That of so many, with this first room. */
+static struct taken doubled(size_t first, size_t count) {
+    struct taken taken = {1, first, first};
+    while (taken.room < count) {
+        taken.blocks++;
+        taken.most = 3 * taken.room;
+        taken.room *= 2;
     }
-    return blocks;
+    return taken;
 }
 
 static size_t greater(size_t a, size_t b) { return a > b ? a : b; }
 
 /* Whether a call was accepted, asked for few blocks, held few bytes, and gave all back. */
 static void expect(const char *call, const char *name, uint32_t status, size_t blocks, size_t bytes) {
-    if (status != TIMEFD_ACCEPTED || asked > blocks || most > bytes || held != 0) {
-        failed++;
-        fprintf(stderr, "gate/library: %s of %s: status %" PRIu32 ", %zu blocks of at most %zu, %zu bytes of at most %zu, %zu left\n",
-                call, name, status, asked, blocks, most, bytes, held);
+    bool is_wrong = status != TIMEFD_ACCEPTED || asked > blocks || most > bytes || held != 0;
+    failed += is_wrong;
+    if (is_wrong || tells) {
+        fprintf(stderr,
+                "%sgate/library: %s of %s: status %" PRIu32 ", %zu blocks of at most %zu, %zu bytes of at most %zu, %zu left\n",
+                is_wrong ? "" : "right: ", call, name, status, asked, blocks, most, bytes, held);
     }
 }
 
-/* Each call of a language over a text of so many items, or in version 3 of so many nodes, some of which may be nested. */
-static void try_all(uint32_t kind, const char *name, const char *text, size_t parts, bool nests) {
-    const uint8_t *bytes = (const uint8_t *)text;
-    size_t len = strlen(text);
-    /* a list doubles, and the old one is there while it is copied */
-    size_t part = kind == TIMEFD_VERSION_3 ? NODE : ITEM;
-    size_t list = part * room_of(parts) / 2 * 3;
-    size_t blocks = blocks_of(parts);
-    /* what is counted takes none but for nested nodes, with a list or two of those that are open */
-    size_t counted = nests ? blocks + 2 : 0;
-    size_t node_room = kind == TIMEFD_STRFTIME ? 7 * len + 1 : len + 1;
-    timefd_node *nodes = __real_malloc(node_room * sizeof(timefd_node));
-    uint8_t *literals = __real_malloc(3 * len + 1);
+/* A text, and how much is in it. */
+struct text {
+    uint32_t kind;
+    const char *name;
+    const uint8_t *bytes;
+    size_t len;
+    size_t parts; /* items, or in version 3 nodes */
+    bool nests;   /* whether some of the nodes are nested */
+};
+
+/* What is taken for the list of a text's parts. */
+static struct taken list_of(const struct text *text) {
+    struct taken list = doubled(FIRST_ROOM, text->parts);
+    size_t part = text->kind == TIMEFD_VERSION_3 ? NODE : ITEM;
+    list.room *= part;
+    list.most *= part;
+    return list;
+}
+
+/* What is counted takes none but for nested nodes, with a list or two of those that are open. */
+static void try_counts(const struct text *text) {
+    struct taken list = text->nests ? list_of(text) : NOTHING;
+    size_t blocks = text->nests ? list.blocks + 2 : 0;
     uint8_t sentence[64];
     begin();
-    expect("timefd_judge", name, timefd_judge(kind, bytes, len).status, counted, nests ? list : 0);
+    expect("timefd_judge", text->name, timefd_judge(text->kind, text->bytes, text->len).status, blocks, list.most);
     begin();
-    uint32_t checked = timefd_check(kind, bytes, len, sentence, sizeof sentence).status;
-    expect("timefd_check", name, checked, counted, nests ? list : 0);
+    uint32_t status = timefd_check(text->kind, text->bytes, text->len, sentence, sizeof sentence).status;
+    expect("timefd_check", text->name, status, blocks, list.most);
     begin();
-    timefd_read_answer read = timefd_read(kind, bytes, len, nodes, node_room, literals, 3 * len + 1);
-    expect("timefd_read", name, read.written ? read.status : TIMEFD_NO_MEMORY, blocks, list);
-    /* a text has the old one's length as its first room, and doubles */
-    if (kind == TIMEFD_VERSION_1) {
-        begin();
-        timefd_answer answer = timefd_v1_to_v2(bytes, len, literals, 2 * len);
-        bool grows = answer.value > len;
-        expect("timefd_v1_to_v2", name, answer.status, grows ? 2 : 1, grows ? 3 * len : len);
-    }
-    if (kind == TIMEFD_VERSION_2) {
-        begin();
-        timefd_answer answer = timefd_v2_to_v3(bytes, len, literals, 2 * len);
-        size_t text_room = len;
-        size_t text_blocks = 1;
-        for (; text_room < answer.value; text_room *= 2) {
-            text_blocks++;
-        }
-        size_t text_bytes = text_blocks == 1 ? len : text_room / 2 * 3;
-        expect("timefd_v2_to_v3", name, answer.status, blocks + text_blocks, greater(list, part * room_of(parts) + text_bytes));
-    }
+    status = timefd_check(text->kind, text->bytes, text->len, NULL, 0).status;
+    expect("timefd_check without room", text->name, status, blocks, list.most);
+}
+
+static void try_read(const struct text *text) {
+    struct taken list = list_of(text);
+    size_t node_room = PIECE_NODES * text->parts;
+    size_t literal_room = 3 * text->len;
+    timefd_node *nodes = __real_malloc(node_room * sizeof(timefd_node));
+    uint8_t *literals = __real_malloc(literal_room);
+    begin();
+    timefd_read_answer read = timefd_read(text->kind, text->bytes, text->len, nodes, node_room, literals, literal_room);
+    expect("timefd_read", text->name, read.written ? read.status : TIMEFD_NO_MEMORY, list.blocks, list.most);
+    begin();
+    read = timefd_read(text->kind, text->bytes, text->len, NULL, 0, NULL, 0);
+    expect("timefd_read without room", text->name, read.status, list.blocks, list.most);
     __real_free(nodes);
     __real_free(literals);
+}
+
+typedef timefd_answer conversion(const uint8_t *text, size_t len, uint8_t *buffer, size_t room);
+
+/* An answer has the old text's length as its first room, and doubles. It takes the place of nothing, or of what is left of a list. */
+static void try_conversion(const char *call, conversion *convert, const struct text *text, struct taken list) {
+    size_t room = 4 * text->len;
+    uint8_t *buffer = __real_malloc(room);
+    for (size_t i = 0; i < 2; i++) {
+        begin();
+        timefd_answer answer = i == 0 ? convert(text->bytes, text->len, buffer, room) : convert(text->bytes, text->len, NULL, 0);
+        struct taken written = doubled(text->len, answer.value);
+        uint32_t status = i == 0 && answer.written != answer.value ? TIMEFD_NO_MEMORY : answer.status;
+        expect(i == 0 ? call : "a conversion without room", text->name, status, list.blocks + written.blocks,
+               greater(list.most, list.room + written.most));
+    }
+    __real_free(buffer);
+}
+
+/* Each call of a language over a text. */
+static void try_all(const struct text *text) {
+    try_counts(text);
+    try_read(text);
+    if (text->kind == TIMEFD_VERSION_1) {
+        try_conversion("timefd_v1_to_v2", timefd_v1_to_v2, text, NOTHING);
+    }
+    if (text->kind == TIMEFD_VERSION_2) {
+        try_conversion("timefd_v2_to_v3", timefd_v2_to_v3, text, list_of(text));
+    }
 }
 
 /* Each call with null beside each length that is 0. */
@@ -175,38 +216,54 @@ static void try_null(void) {
     expect("timefd_v2_to_v3", "null", timefd_v2_to_v3(NULL, 0, NULL, 0).status, 0, 0);
 }
 
-int main(void) {
-    static const struct {
-        uint32_t kind;
-        const char *name, *front, *piece, *end;
-        size_t count, parts;
-        bool nests;
-    } ROWS[] = {
-        {TIMEFD_VERSION_1, "70,000 items", "", "[day]-", "", 35000, 70000, false},
-        {TIMEFD_VERSION_2, "70,000 items", "", "[day]-", "", 35000, 70000, false},
-        {TIMEFD_VERSION_3, "70,000 nodes and the one around them", "", "[day]-", "", 35000, 70001, false},
-        {TIMEFD_STRFTIME, "70,000 items", "", "%d-", "", 35000, 70000, false},
-        {TIMEFD_VERSION_1, "200,000 items", "", "[day]-", "", 100000, 200000, false},
-        {TIMEFD_VERSION_2, "200,000 items", "", "[day]-", "", 100000, 200000, false},
-        {TIMEFD_VERSION_3, "200,000 nodes and the one around them", "", "[day]-", "", 100000, 200001, false},
-        {TIMEFD_STRFTIME, "200,000 items", "", "%d-", "", 100000, 200000, false},
-        {TIMEFD_VERSION_1, "escapes", "", "a]\\", "", 100000, 200001, false},
-        {TIMEFD_VERSION_2, "years", "", "[year]", "", 100000, 100000, false},
-        {TIMEFD_VERSION_3, "300 optionals", "", "[optional [a]]", "", 300, 601, true},
-        {TIMEFD_VERSION_3, "one bracket of 70,000 alternatives", "[first", " [a]", "]", 70000, 70001, true},
-        {TIMEFD_VERSION_1, "20 MB", "", "x", "", 20000000, 1, false},
-        {TIMEFD_VERSION_3, "20 MB", "", "x", "", 20000000, 1, false},
-    };
+/* A text is a front, so many times a piece, and an end. */
+static const struct row {
+    uint32_t kind;
+    const char *name, *front, *piece, *end;
+    size_t count, parts;
+    bool nests;
+} ROWS[] = {
+    {TIMEFD_VERSION_1, "70,000 items", "", "[day]-", "", 35000, 70000, false},
+    {TIMEFD_VERSION_2, "70,000 items", "", "[day]-", "", 35000, 70000, false},
+    {TIMEFD_VERSION_3, "70,000 nodes and the one around them", "", "[day]-", "", 35000, 70001, false},
+    {TIMEFD_STRFTIME, "70,000 items", "", "%d-", "", 35000, 70000, false},
+    {TIMEFD_VERSION_1, "200,000 items", "", "[day]-", "", 100000, 200000, false},
+    {TIMEFD_VERSION_2, "200,000 items", "", "[day]-", "", 100000, 200000, false},
+    {TIMEFD_VERSION_3, "200,000 nodes and the one around them", "", "[day]-", "", 100000, 200001, false},
+    {TIMEFD_STRFTIME, "200,000 items", "", "%d-", "", 100000, 200000, false},
+    {TIMEFD_VERSION_1, "200,000 components", "", "[day]", "", 200000, 200000, false},
+    {TIMEFD_VERSION_2, "200,000 components", "", "[DAY]", "", 200000, 200000, false},
+    {TIMEFD_VERSION_3, "200,000 components and the one around them", "", "[day]", "", 200000, 200001, false},
+    {TIMEFD_STRFTIME, "200,000 compounds", "", "%c", "", 200000, 200000, false},
+    {TIMEFD_VERSION_1, "brackets and escapes", "", "a]\\", "", 100000, 200001, false},
+    {TIMEFD_VERSION_1, "200,000 closing brackets", "", "]", "", 200000, 200000, false},
+    {TIMEFD_VERSION_1, "200,000 doubled brackets", "", "[[", "", 200000, 200000, false},
+    {TIMEFD_VERSION_2, "200,000 escapes", "", "\\[", "", 200000, 200000, false},
+    {TIMEFD_VERSION_2, "200,000 closing brackets", "", "]", "", 200000, 200000, false},
+    {TIMEFD_VERSION_3, "200,000 escapes and the one around them", "", "\\[", "", 200000, 200001, false},
+    {TIMEFD_STRFTIME, "200,000 percent signs", "", "%%", "", 200000, 200000, false},
+    {TIMEFD_VERSION_2, "100,000 years", "", "[year]", "", 100000, 100000, false},
+    {TIMEFD_VERSION_3, "300 optionals", "", "[optional [a]]", "", 300, 601, true},
+    {TIMEFD_VERSION_3, "100,000 optionals", "", "[optional [a]]", "", 100000, 200001, true},
+    {TIMEFD_VERSION_3, "50,000 brackets of three alternatives", "", "[first [a] [b] [c]]", "", 50000, 200001, true},
+    {TIMEFD_VERSION_3, "70,000 alternatives", "[first", " [a]", "]", 70000, 70001, true},
+    {TIMEFD_VERSION_3, "an optional of 200,000 nodes", "[optional [", "[day]-", "]]", 100000, 200002, true},
+    {TIMEFD_VERSION_1, "20 MB", "", "x", "", 20000000, 1, false},
+    {TIMEFD_VERSION_2, "20 MB", "", "x", "", 20000000, 1, false},
+    {TIMEFD_VERSION_3, "20 MB", "", "x", "", 20000000, 1, false},
+    {TIMEFD_STRFTIME, "20 MB", "", "x", "", 20000000, 1, false},
+};
+
+/* With any argument each call is told of. */
+int main(int count, char **arguments) {
+    (void)arguments;
+    tells = count > 1;
     for (size_t i = 0; i < sizeof ROWS / sizeof ROWS[0]; i++) {
-        char *text = repeated(ROWS[i].front, ROWS[i].piece, ROWS[i].count, ROWS[i].end);
-        if (ROWS[i].count > 1000000) {
-            begin();
-            timefd_answer answer = timefd_judge(ROWS[i].kind, (const uint8_t *)text, strlen(text));
-            expect("timefd_judge", ROWS[i].name, answer.status, 0, 0);
-        } else {
-            try_all(ROWS[i].kind, ROWS[i].name, text, ROWS[i].parts, ROWS[i].nests);
-        }
-        __real_free(text);
+        const struct row *row = &ROWS[i];
+        char *bytes = repeated(row->front, row->piece, row->count, row->end);
+        struct text text = {row->kind, row->name, (const uint8_t *)bytes, strlen(bytes), row->parts, row->nests};
+        try_all(&text);
+        __real_free(bytes);
     }
     try_null();
     printf("gate/library: long texts and null, %zu failed\n", failed);

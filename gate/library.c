@@ -49,11 +49,21 @@ struct sample {
 struct outcome {
     timefd_answer answer;
     timefd_read_answer read;
+    timefd_format_answer format;
     uint8_t buffer[ROOM];
     timefd_node nodes[ROOM];
 };
 
-enum call { CHECK_OR_CONVERT, READ };
+enum call { CHECK_OR_CONVERT, READ, FORMAT };
+
+/* A date and a time of day, of which a component of an offset shows nothing. */
+static const timefd_moment MOMENT = {
+    .known = TIMEFD_HAS_DATE | TIMEFD_HAS_TIME,
+    .year = 2026,
+    .month = 11,
+    .day = 23,
+    .hour = 5,
+};
 
 static const struct sample SAMPLES[] = {
     {LIFT, ""},
@@ -77,6 +87,9 @@ static const struct sample SAMPLES[] = {
     {TIMEFD_VERSION_3, "x[optional format:false [[weekday]]]y[first [a] [bcd]]"},
     {TIMEFD_VERSION_3, "[hour repr:12 repr:24]"},
     {TIMEFD_STRFTIME, "%c and %Y-%m-%d"},
+    {TIMEFD_STRFTIME, "%Y-%m-%d %z"},
+    {TIMEFD_VERSION_2, "[day] [offset_hour]"},
+    {TIMEFD_VERSION_3, "[first [[offset_hour]] [x]] [day]"},
     {TIMEFD_VERSION_3, "[first [a] [[mnth of a name that is longer than others]]]"},
     {TIMEFD_VERSION_1, "[day][year] a [hour] b [minute]: [mnth]"},
     {TIMEFD_VERSION_2, "[day][year] a [hour] \\b"},
@@ -103,6 +116,11 @@ static struct outcome outcome_of(enum call call, const struct sample *sample, si
         refused = 0;
         return outcome;
     }
+    if (call == FORMAT) {
+        outcome.format = timefd_format(sample->kind, text, len, &MOMENT, outcome.buffer, ROOM);
+        refused = 0;
+        return outcome;
+    }
     outcome.answer = sample->kind == LIFT     ? timefd_v1_to_v2(text, len, outcome.buffer, ROOM)
                      : sample->kind == MODERN ? timefd_v2_to_v3(text, len, outcome.buffer, ROOM)
                                               : timefd_check(sample->kind, text, len, outcome.buffer, ROOM);
@@ -114,8 +132,10 @@ static bool is_same(const struct outcome *a, const struct outcome *b) {
     return a->answer.status == b->answer.status && a->answer.value == b->answer.value &&
            a->answer.sentence_len == b->answer.sentence_len && a->answer.written == b->answer.written &&
            a->read.status == b->read.status && a->read.value == b->read.value && a->read.nodes == b->read.nodes &&
-           a->read.literals == b->read.literals && a->read.written == b->read.written &&
-           memcmp(a->buffer, b->buffer, ROOM) == 0 && memcmp(a->nodes, b->nodes, sizeof a->nodes) == 0;
+           a->read.literals == b->read.literals && a->read.written == b->read.written && a->read.bytes == b->read.bytes &&
+           a->format.status == b->format.status && a->format.reason == b->format.reason &&
+           a->format.component == b->format.component && a->format.value == b->format.value &&
+           a->format.written == b->format.written && memcmp(a->buffer, b->buffer, ROOM) == 0 && memcmp(a->nodes, b->nodes, sizeof a->nodes) == 0;
 }
 
 /* What a call answers whose memory ran out. */
@@ -126,6 +146,8 @@ static struct outcome out_of_memory(enum call call) {
     memset(out.nodes, '.', sizeof out.nodes);
     if (call == READ) {
         out.read.status = TIMEFD_NO_MEMORY;
+    } else if (call == FORMAT) {
+        out.format.status = TIMEFD_NO_MEMORY;
     } else {
         out.answer.status = TIMEFD_NO_MEMORY;
     }
@@ -146,7 +168,9 @@ static bool takes_little(const struct sample *sample) {
 static bool holds(enum call call, const struct sample *sample, size_t *count) {
     struct outcome ample = outcome_of(call, sample, 0);
     struct outcome out = out_of_memory(call);
-    uint32_t status = call == READ ? ample.read.status : ample.answer.status;
+    uint32_t status = call == READ     ? ample.read.status
+                      : call == FORMAT ? ample.format.status
+                                       : ample.answer.status;
     bool may_run_out = status != TIMEFD_REFUSED;
     if (is_same(&ample, &out) || held != 0) {
         return false;
@@ -211,7 +235,8 @@ int main(void) {
     size_t failed = 0;
     size_t count = 0;
     for (size_t i = 0; i < sizeof SAMPLES / sizeof SAMPLES[0]; i++) {
-        bool is_read = SAMPLES[i].kind >= LIFT || holds(READ, &SAMPLES[i], &count);
+        bool is_read = SAMPLES[i].kind >= LIFT ||
+                       (holds(READ, &SAMPLES[i], &count) && holds(FORMAT, &SAMPLES[i], &count));
         if (!holds(CHECK_OR_CONVERT, &SAMPLES[i], &count) || !is_read || !takes_little(&SAMPLES[i])) {
             failed++;
             fprintf(stderr, "gate/library: %" PRIu32 ": %s\n", SAMPLES[i].kind, SAMPLES[i].text);

@@ -41,12 +41,18 @@ static void expect(const char *what, uint32_t kind, uint32_t expected, timefd_an
 static void call_each(text given, uint32_t in_three) {
     const uint8_t *bytes = (const uint8_t *)given.bytes;
     uint8_t buffer[BUFFER] = {0};
+    timefd_moment moment = {.known = TIMEFD_HAS_DATE, .year = 2026, .month = 11, .day = 23};
     for (uint32_t kind = TIMEFD_VERSION_1; kind <= TIMEFD_VERSION_3; kind++) {
         uint32_t expected = kind == TIMEFD_VERSION_3 ? in_three : TIMEFD_REFUSED;
         expect("judge", kind, expected, timefd_judge(kind, bytes, given.len));
         expect("check", kind, expected, timefd_check(kind, bytes, given.len, buffer, BUFFER));
+        timefd_read_answer read = timefd_read(kind, bytes, given.len, NULL, 0, NULL, 0);
+        expect("read", kind, expected, (timefd_answer){.status = read.status});
+        timefd_format_answer format = timefd_format(kind, bytes, given.len, &moment, buffer, BUFFER);
+        expect("format", kind, expected, (timefd_answer){.status = format.status});
     }
     expect("v1_to_v2", TIMEFD_VERSION_1, TIMEFD_REFUSED, timefd_v1_to_v2(bytes, given.len, buffer, BUFFER));
+    expect("v2_to_v3", TIMEFD_VERSION_2, TIMEFD_REFUSED, timefd_v2_to_v3(bytes, given.len, buffer, BUFFER));
     free(given.bytes);
 }
 
