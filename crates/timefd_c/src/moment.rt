@@ -61,12 +61,7 @@ impl MomentFields {
         if self.known / 2 % 2 == 0 {
             return Ok(None);
         }
-        Ok(Some(Time::from_hms_nano(
-            self.hour,
-            self.minute,
-            self.second,
-            self.nanosecond,
-        )?))
+        Ok(Some(Time::from_hms_nano(self.hour, self.minute, self.second, self.nanosecond)?))
     }
 
     fn offset(&self) -> Result<Option<UtcOffset>, ComponentRange>

@@ -45,7 +45,10 @@ fn print_written(
     moment: Moment,
 ) -> io::Result<()> {
     match format_text(alloc, language, text, moment) {
-        Ok(shown) => println!(rt; "{text} writes {:?}", str::from_utf8(&shown).unwrap_or("no text")),
+        Ok(shown) => println!(rt;
+            "{text} writes {:?}",
+            str::from_utf8(&shown).unwrap_or("no text")
+        ),
         Err(FormatTextError::Fault(_)) => println!(rt; "{text} is no description"),
         Err(FormatTextError::Unshown(unshown)) => println!(rt; "{text}: {unshown}"),
         Err(FormatTextError::Memory(error)) => Err(io::Error::from(error)),
@@ -83,7 +86,10 @@ fn print_description(
     }
     let mut buffer = [b'.'; 16];
     match write_date_in(date, description, &mut buffer) {
-        Ok(_) => println!(rt; "in a buffer {:?}", str::from_utf8(&buffer).unwrap_or("no text")),
+        Ok(_) => println!(rt;
+            "in a buffer {:?}",
+            str::from_utf8(&buffer).unwrap_or("no text")
+        ),
         Err(error) => println!(rt; "{error}"),
     }
 }

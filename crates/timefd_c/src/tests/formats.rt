@@ -50,7 +50,10 @@ fn written(rt: HostRuntime) {
     for &(kind, text, wanted) in WRITTEN {
         let n = wanted.len();
         assert!(rt; writes(&rt, kind, text, wanted, n), "{text}");
-        assert!(rt; writes(&rt, kind, text, wanted, n.saturating_sub(1)), "{text}");
+        assert!(rt;
+            writes(&rt, kind, text, wanted, n.saturating_sub(1)),
+            "{text}"
+        );
         assert!(rt; writes(&rt, kind, text, wanted, MOST), "{text}");
     }
 }
@@ -73,12 +76,23 @@ fn not_written(rt: HostRuntime) {
     let refused = FormatAnswer::silent(REFUSED, 2);
     assert!(rt; keeps(&rt, 3, b"a[foo]", &MORNING, refused));
     assert!(rt; keeps(&rt, 3, b"\xff", &MORNING, FormatAnswer::silent(NOT_UTF8, 0)));
-    assert!(rt; keeps(&rt, 5, b"[day]", &MORNING, FormatAnswer::silent(UNKNOWN_KIND, 0)));
+    assert!(rt;
+        keeps(
+            &rt,
+            5,
+            b"[day]",
+            &MORNING,
+            FormatAnswer::silent(UNKNOWN_KIND, 0)
+        )
+    );
 }
 
 #[test]
 fn nothing_shown(rt: HostRuntime) {
-    let time = MomentFields { known: 2, ..MORNING };
+    let time = MomentFields {
+        known: 2,
+        ..MORNING
+    };
     // The month in numbers is the fourth component, and 1 says that there is no date.
     let no_date = FormatAnswer {
         reason: 1,
@@ -90,7 +104,11 @@ fn nothing_shown(rt: HostRuntime) {
 
 #[test]
 fn out_of_range(rt: HostRuntime) {
-    let later = MomentFields { month: 13, hour: 24, ..MORNING };
+    let later = MomentFields {
+        month: 13,
+        hour: 24,
+        ..MORNING
+    };
     let month = FormatAnswer {
         reason: 2,
         ..FormatAnswer::silent(OUT_OF_RANGE, 0)
