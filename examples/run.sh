@@ -11,16 +11,14 @@ fail() {
     exit 1
 }
 
-# Builds c/NAME.c and rust/NAME.rs.
+# Builds rust/NAME.rs.
 build() {
-    cc -std=c11 -Wall -Wextra -Werror -O2 -o "out/$1_c" "c/$1.c" "$library"
     rustc --edition 2024 -D warnings -O -o "out/$1_rust" "rust/$1.rs" -C link-arg="$library"
 }
 
-# Builds c/NAME.c and rust/NAME.rs, and compares what both print with a file.
+# Builds rust/NAME.rs, and compares what it prints with a file.
 build_and_compare() {
     build "$1"
-    compare "$1_c" "$2"
     compare "$1_rust" "$2"
 }
 
@@ -41,34 +39,18 @@ objdump -d "$library" > out/library.txt || fail "objdump does not read the libra
 [ "$(wc -l < out/library.txt)" -gt 1000 ] || fail "the library has no code"
 grep -qE "[[:space:]]($newer)[[:space:]]" out/library.txt && fail "the library wants more than plain x86-64"
 
+c/run.sh
 build_and_compare first expected_first.txt
 build_and_compare check expected.txt
 build_and_compare convert expected_convert.txt
 
-# Nodes come to C alone here.
-cc -std=c11 -Wall -Wextra -Werror -O2 -o out/nodes_c c/nodes.c "$library"
-compare nodes_c expected_nodes.txt
-
-# The linters end with status 1, since they find something in formats.txt.
+# The linter ends with status 1, since it finds something in formats.txt.
 build lint
-for linter in lint_c lint_rust; do
-    status=0
-    "out/$linter" formats.txt > "out/$linter.txt" || status=$?
-    [ "$status" = 1 ] || fail "out/$linter ended with status $status"
-    diff -u expected_lint.txt "out/$linter.txt" || fail "out/$linter printed something else than expected_lint.txt"
-    echo "run.sh: out/$linter printed what is expected"
-done
-
-# The library writes no timestamp of an instant that is in the year 1,000,000 of UTC; the formatter of `dates` has no such limit.
-cc -std=c11 -Wall -Wextra -Werror -O2 -o out/format_c c/format.c "$library"
-sed 's/^"31494784874398 .*/the instant is in no year that is shown/' expected_format.txt > out/expected_format_c.txt
-compare format_c out/expected_format_c.txt dates.txt
-# And what `time` 0.3.9 writes of the moments of moments.txt, a column each, by each description of its table.
-awk -F'|' 'NR == FNR { moments[NR] = $0; next }
-    { for (i = 2; i <= NF; i++) { print "1 " moments[i - 1] "|" $1 > "out/time_dates.txt"; print "\"" $i "\"" > "out/time_expected.txt" } }
-' moments.txt time-0.3.9.txt
-[ "$(wc -l < out/time_expected.txt)" = 440 ] || fail "time-0.3.9.txt is not forty rows of eleven texts"
-compare format_c out/time_expected.txt out/time_dates.txt
+status=0
+out/lint_rust formats.txt > out/lint_rust.txt || status=$?
+[ "$status" = 1 ] || fail "out/lint_rust ended with status $status"
+diff -u expected_lint.txt out/lint_rust.txt || fail "out/lint_rust printed something else than expected_lint.txt"
+echo "run.sh: out/lint_rust printed what is expected"
 
 # Formats, lints and tests a Cargo package, and builds it.
 check_package() {

@@ -4,10 +4,13 @@
 #
 #     fuzz/run.sh [COUNT] [SEED]              COUNT texts of each of four sorts: 300000, from seed 1
 #     fuzz/run.sh --valgrind [COUNT] [SEED]   the same under valgrind's memcheck: 1000
+#
+# With TIMEFD_PROCESSOR=aarch64 it takes the library for that processor, and qemu runs it.
 set -eu
 cd "$(dirname "$0")"
+. ../packages/processors
 count=300000
-checker=
+checker=$runner
 if [ "${1:-}" = --valgrind ]; then
     shift
     count=1000
@@ -18,8 +21,8 @@ if [ "${1:-}" = --valgrind ]; then
     }
 fi
 mkdir -p out
-[ -e ../crates/timefd_c/out/libtimefd_c.a ] || (cd ../crates/timefd_c && rt lib --cpu x86-64 > /dev/null)
+[ -e "../$readers/libtimefd_c.a" ] || [ "$processor" != x86_64 ] || (cd ../crates/timefd_c && rt lib --cpu x86-64 > /dev/null)
 library=$(../packages/library)
-cc -std=c11 -Wall -Wextra -Werror -g -O2 -Wl,--wrap=malloc,--wrap=realloc,--wrap=free \
-    -o out/fuzz ./*.c "$library/libtimefd.a"
-$checker out/fuzz "${1:-$count}" "${2:-1}"
+"$cc" -std=c11 -Wall -Wextra -Werror -g -O2 -Wl,--wrap=malloc,--wrap=realloc,--wrap=free \
+    -o "out/fuzz-$processor" ./*.c "$library/libtimefd.a"
+$checker "out/fuzz-$processor" "${1:-$count}" "${2:-1}"

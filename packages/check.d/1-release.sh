@@ -10,10 +10,17 @@ mkdir "$elsewhere/bindings/rust"
 (cd "$top/bindings/rust" && tar -c --exclude=./target .) | tar -x -C "$elsewhere/bindings/rust"
 cp "$top/examples/timefd.h" "$elsewhere/examples"
 cp "$top/LICENSE-MIT" "$top/LICENSE-APACHE" "$top/CHANGELOG.md" "$elsewhere"
-for file in timefd_c/out/libtimefd_c.a timefd/out/timefd.o timefd_lint/out/timefd_lint.o timefd_write/out/timefd_write.o; do
+for file in timefd/out/timefd.o timefd_lint/out/timefd_lint.o timefd_write/out/timefd_write.o; do
     mkdir -p "$elsewhere/crates/${file%/*}"
     cp "$top/crates/$file" "$elsewhere/crates/$file"
 done
+for processor in $processors; do
+    for_processor "$processor"
+    mkdir -p "$elsewhere/$readers"
+    cp "$top/$readers/libtimefd_c.a" "$elsewhere/$readers"
+    [ ! -e "$top/$readers/VERDICT" ] || cp "$top/$readers/VERDICT" "$elsewhere/$readers"
+done
+for_processor x86_64
 (
     umask 077
     export TZ=Asia/Kolkata LC_ALL=C GIT_DIR="$top/.git" GIT_WORK_TREE="$top"

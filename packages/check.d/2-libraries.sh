@@ -2,23 +2,29 @@
 
 same 'the version of the header' "$(grep -c "of this header's version, $version:" "$prefix/include/timefd.h")" 1
 declared=$(sed -n 's/^[a-z].* \(timefd_[a-z0-9_]*\)(.*/\1/p' "$prefix/include/timefd.h" | sort | tr '\n' ' ')
-defined=$(nm -g --defined-only "$prefix/lib/libtimefd.a" | sed -n 's/.* [A-Z] //p' | sort | tr '\n' ' ')
-same 'libtimefd.a shows what the header declares and nothing else' "$defined" "$declared"
-defined=$(nm -D --defined-only "$prefix/lib/libtimefd.so" | sed -n 's/.* T \([^@]*\).*/\1/p' | sort | tr '\n' ' ')
-same 'libtimefd.so shows what the header declares and nothing else' "$defined" "$declared"
-wanted=$(nm -g --undefined-only "$prefix/lib/libtimefd.a" | sed -n 's/.* U //p' | sort | tr '\n' ' ')
-# The first is of the compiler's own library: it divides numbers of 128 bits.
-same 'libtimefd.a wants of the compiler and the C library' "$wanted" '__udivti3 free malloc memcpy memmove memset realloc '
+# The newest version of glibc that a file wants.
+newest_glibc() {
+    "${tools}objdump" -T "$1" | grep -o 'GLIBC_[0-9.]*' | sort -u -V | tail -n 1
+}
+
+# What the libraries in a folder, of the processor that for_processor was given, show and want.
+check_libraries() {
+    defined=$("${tools}nm" -g --defined-only "$1/libtimefd.a" | sed -n 's/.* [A-Z] //p' | sort | tr '\n' ' ')
+    same "libtimefd.a for $processor shows what the header declares and nothing else" "$defined" "$declared"
+    defined=$("${tools}nm" -D --defined-only "$1/libtimefd.so" | sed -n 's/.* T \([^@]*\).*/\1/p' | sort | tr '\n' ' ')
+    same "libtimefd.so for $processor shows what the header declares and nothing else" "$defined" "$declared"
+    wanted=$("${tools}nm" -g --undefined-only "$1/libtimefd.a" | sed -n 's/.* U //p' | sort | tr '\n' ' ')
+    # The first is of the compiler's own library: it divides numbers of 128 bits.
+    same "libtimefd.a for $processor wants of the compiler and the C library" "$wanted" \
+        '__udivti3 free malloc memcpy memmove memset realloc '
+    same "libtimefd.so for $processor wants glibc" "$(newest_glibc "$1/libtimefd.so")" "GLIBC_$glibc"
+    soname=$("${tools}objdump" -p "$1/libtimefd.so" | sed -n 's/ *SONAME *//p')
+    same "the soname for $processor" "$soname" "libtimefd.so.$interface"
+}
+check_libraries "$prefix/lib"
 for page in $declared; do
     gzip -dc "$prefix/share/man/man3/$page.3.gz" | grep -q "$page *(" || fail "man/timefd.3 says nothing of $page"
 done
-
-# The newest version of glibc that a file wants.
-newest_glibc() {
-    objdump -T "$1" | grep -o 'GLIBC_[0-9.]*' | sort -u -V | tail -n 1
-}
-same 'libtimefd.so wants glibc' "$(newest_glibc "$prefix/lib/libtimefd.so")" GLIBC_2.14
-same 'the soname' "$(objdump -p "$prefix/lib/libtimefd.so" | sed -n 's/ *SONAME *//p')" "libtimefd.so.$interface"
 
 expected=$(cat "$top/examples/expected_first.txt")
 sed 's|"../timefd.h"|<timefd.h>|' "$top/examples/c/first.c" > "$room/first.c"

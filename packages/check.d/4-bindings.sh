@@ -1,7 +1,7 @@
 # Python's wheel, and the crate for Rust in each way that it finds the library.
 
 python3 -m venv "$room/venv"
-"$room/venv/bin/pip" install --quiet --no-index --disable-pip-version-check "$releases"/timefd-*.whl
+"$room/venv/bin/pip" install --quiet --no-index --disable-pip-version-check --find-links "$releases" timefd
 (cd "$room" && clean timeout 120 "$room/venv/bin/python" -B -m unittest discover -q -s "$top/bindings/python/tests") || fail 'the module for Python'
 
 # The crate's own tests over the library that is handed out; but for those of memory, which take the place of calls that can't
@@ -50,3 +50,4 @@ case $said in
 *'no library of timefd was found'*) ;;
 *) fail "without a library the crate says: $said" ;;
 esac
+mv "$room/native" "$crate"

@@ -1,7 +1,7 @@
 # The packages for Debian, unpacked into a folder of their own.
 
 system=$room/system
-for package in "$releases"/*.deb; do
+for package in "$releases"/*_"$architecture".deb; do
     dpkg-deb -x "$package" "$system"
 done
 libraries=$system/usr/lib/$triple
