@@ -53,10 +53,6 @@ static void call_each(text given, uint32_t in_three) {
     }
     expect("v1_to_v2", TIMEFD_VERSION_1, TIMEFD_REFUSED, timefd_v1_to_v2(bytes, given.len, buffer, BUFFER));
     expect("v2_to_v3", TIMEFD_VERSION_2, TIMEFD_REFUSED, timefd_v2_to_v3(bytes, given.len, buffer, BUFFER));
-    for (uint32_t from = TIMEFD_VERSION_1; from <= TIMEFD_VERSION_3; from++) {
-        uint32_t expected = from == TIMEFD_VERSION_3 ? in_three : TIMEFD_REFUSED;
-        expect("convert", from, expected, timefd_convert(from, TIMEFD_VERSION_3, bytes, given.len, buffer, BUFFER));
-    }
     free(given.bytes);
 }
 
