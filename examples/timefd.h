@@ -25,8 +25,8 @@ uint32_t timefd_version(void);
 #define TIMEFD_STRFTIME 4u
 
 /* The text is a description. The value is the number of its items; in version 3 it is the number of bytes that the
-   description reserves, the length of the longest text that it can be shown as. From timefd_v1_to_v2 and
-   timefd_v2_to_v3 it is the length of the text that is written, in bytes. */
+   description reserves, the length of the longest text that it can be shown as. From timefd_v1_to_v2, timefd_v2_to_v3 and
+   timefd_convert it is the length of the text that is written, in bytes. */
 #define TIMEFD_ACCEPTED 0u
 
 /* The text is no description. The value is the index of the fault: how many bytes of the text stand before it, at most as many as
@@ -49,7 +49,10 @@ uint32_t timefd_version(void);
 /* From timefd_format alone: a number of the moment is out of its range, whatever the text is. The value is 0. */
 #define TIMEFD_OUT_OF_RANGE 6u
 
-/* What is said of a text. No other status comes than the first five above. */
+/* From timefd_convert alone: there is no conversion from this language to this one, whatever the bytes are. The value is 0. */
+#define TIMEFD_NO_CONVERSION 7u
+
+/* What is said of a text. No other status comes than the first five above, and from timefd_convert the last one. */
 typedef struct timefd_answer {
     uint32_t status;
     size_t value;
@@ -94,6 +97,17 @@ timefd_answer timefd_v1_to_v2(const uint8_t *text, size_t len, uint8_t *buffer, 
    nothing. What it answers and writes is as for timefd_v1_to_v2, with the faults of version 2; but no room is always enough:
    a buffer that is too short is as it was, and the value tells how long the text is. */
 timefd_answer timefd_v2_to_v3(const uint8_t *text, size_t len, uint8_t *buffer, size_t room);
+
+/* Rewrites the `len` bytes at `text`, a description of the language `from`, as one of the language `to` that has the same items:
+   from version 1 to versions 2 and 3, from version 2 to version 3, from strftime to version 3, and from version 3 to version 3,
+   which is the description's normal form, the same for all descriptions that mean the same. Between others there is no
+   conversion, which TIMEFD_NO_CONVERSION says, and TIMEFD_UNKNOWN_KIND comes where `from` or `to` is no language.
+
+   What it answers and writes is as for timefd_v1_to_v2, with the faults of the language `from`. To version 2 it writes what
+   timefd_v1_to_v2 does, and 2 * len bytes are always room enough; from version 2 what timefd_v2_to_v3 does; and from strftime
+   53 * len bytes are always room enough. From version 3 it has 144 KiB of stack at least. Literals side by side become one in conversions from version 1, and in those from
+   strftime, where what a letter stands for comes in place of it, part by part. */
+timefd_answer timefd_convert(uint32_t from, uint32_t to, const uint8_t *text, size_t len, uint8_t *buffer, size_t room);
 
 /* What a node is. */
 #define TIMEFD_LITERAL 1u   /* bytes of the buffer of literals, as they stand */

@@ -104,6 +104,16 @@ timefd_answer convert(const struct text *text, struct buffer *buffer, size_t roo
     return answer;
 }
 
+timefd_answer modernize(uint32_t kind, const struct text *text, struct buffer *buffer, size_t room) {
+    uint8_t *bytes = lend(kind, text);
+    uint8_t *front = fill(buffer, room);
+    timefd_answer answer =
+        timefd_convert(kind, TIMEFD_VERSION_3, bytes, text->len, front, room);
+    take_back(kind, text, bytes);
+    check_filled(kind, text, buffer, room, answer.written);
+    return answer;
+}
+
 timefd_format_answer format(uint32_t kind, const struct text *text, const timefd_moment *moment,
                             struct buffer *buffer, size_t room) {
     uint8_t *bytes = lend(kind, text);

@@ -15,6 +15,10 @@ static const timefd_moment MOMENT = {
     .offset_seconds = -1800,
 };
 
+timefd_format_answer show(uint32_t kind, const struct text *text, struct buffer *buffer) {
+    return format(kind, text, &MOMENT, buffer, ROOM);
+}
+
 /* A buffer that is too short is as it was, and the same length is told. */
 static void check_too_short(uint32_t kind, const struct text *text, timefd_format_answer whole) {
     static struct buffer buffer;

@@ -214,6 +214,9 @@ static void try_null(void) {
     }
     expect("timefd_v1_to_v2", "null", timefd_v1_to_v2(NULL, 0, NULL, 0).status, 0, 0);
     expect("timefd_v2_to_v3", "null", timefd_v2_to_v3(NULL, 0, NULL, 0).status, 0, 0);
+    for (uint32_t from = TIMEFD_VERSION_1; from <= TIMEFD_STRFTIME; from++) {
+        expect("timefd_convert", "null", timefd_convert(from, TIMEFD_VERSION_3, NULL, 0, NULL, 0).status, 0, 0);
+    }
 }
 
 /* A text is a front, so many times a piece, and an end. */

@@ -8,7 +8,7 @@
 #include <stdio.h>
 #include <string.h>
 
-enum { ROOM = 128, LIFT = 100, MODERN = 101 };
+enum { ROOM = 128, LIFT = 100, MODERN = 101, ONE_TO_THREE = 102, NORMAL = 103, OF_STRFTIME = 104 };
 
 void *__real_malloc(size_t size);
 void *__real_realloc(void *block, size_t size);
@@ -41,7 +41,7 @@ void __wrap_free(void *block) {
 }
 
 struct sample {
-    uint32_t kind; /* LIFT for timefd_v1_to_v2, and MODERN for timefd_v2_to_v3 */
+    uint32_t kind; /* LIFT for timefd_v1_to_v2, MODERN for timefd_v2_to_v3, and the last three for timefd_convert to version 3 */
     const char *text;
 };
 
@@ -79,6 +79,19 @@ static const struct sample SAMPLES[] = {
     {MODERN, "[ignore count:65535][year base:iso_week sign:mandatory]"},
     {MODERN, "[foo]"},
     {MODERN, "[optional [x]]"},
+    {ONE_TO_THREE, ""},
+    {ONE_TO_THREE, "[YEAR Repr:Century] a]b [[ [hour repr:12 repr:24]"},
+    {ONE_TO_THREE, "[day][year] a [hour] b [minute]: [mnth]"},
+    {ONE_TO_THREE, "[optional [x]]"},
+    {NORMAL, ""},
+    {NORMAL, "[first [a] [[day padding:zero]] [c[optional  [[year]-[month]]]]]"},
+    {NORMAL, "\\[[ignore count:0007][year base:iso_week sign:mandatory]"},
+    {NORMAL, "[optional [[day]]] [hour repr:99]"},
+    {NORMAL, "[optional [[first [a] [[day]]"},
+    {OF_STRFTIME, ""},
+    {OF_STRFTIME, "[%c] and %Y-%m-%d"},
+    {OF_STRFTIME, "%Y-%m-%d %Q"},
+    {OF_STRFTIME, "%\xc3\xa9"},
     {TIMEFD_VERSION_1, "[[[day]"},
     {TIMEFD_VERSION_1, "[foo bar"},
     {TIMEFD_VERSION_2, "[year]-[month]-[day] at [hour]:[minute]:[second]"},
@@ -101,6 +114,23 @@ static const struct sample SAMPLES[] = {
     {TIMEFD_STRFTIME, "%\xc3\xa9"},
 };
 
+static timefd_answer answer_of(uint32_t kind, const uint8_t *text, size_t len, uint8_t *buffer) {
+    switch (kind) {
+    case LIFT:
+        return timefd_v1_to_v2(text, len, buffer, ROOM);
+    case MODERN:
+        return timefd_v2_to_v3(text, len, buffer, ROOM);
+    case ONE_TO_THREE:
+        return timefd_convert(TIMEFD_VERSION_1, TIMEFD_VERSION_3, text, len, buffer, ROOM);
+    case NORMAL:
+        return timefd_convert(TIMEFD_VERSION_3, TIMEFD_VERSION_3, text, len, buffer, ROOM);
+    case OF_STRFTIME:
+        return timefd_convert(TIMEFD_STRFTIME, TIMEFD_VERSION_3, text, len, buffer, ROOM);
+    default:
+        return timefd_check(kind, text, len, buffer, ROOM);
+    }
+}
+
 /* One call, whose allocation with this number is refused. */
 static struct outcome outcome_of(enum call call, const struct sample *sample, size_t number) {
     struct outcome outcome;
@@ -121,9 +151,7 @@ static struct outcome outcome_of(enum call call, const struct sample *sample, si
         refused = 0;
         return outcome;
     }
-    outcome.answer = sample->kind == LIFT     ? timefd_v1_to_v2(text, len, outcome.buffer, ROOM)
-                     : sample->kind == MODERN ? timefd_v2_to_v3(text, len, outcome.buffer, ROOM)
-                                              : timefd_check(sample->kind, text, len, outcome.buffer, ROOM);
+    outcome.answer = answer_of(sample->kind, text, len, outcome.buffer);
     refused = 0;
     return outcome;
 }
@@ -155,11 +183,11 @@ static struct outcome out_of_memory(enum call call) {
 }
 
 /* Whether a refused text takes no memory for its fault and its sentence: none but room for nodes in version 3, and for the
-   items of a text of version 2 that is converted. */
+   items of a text of version 2 or of strftime that is converted. */
 static bool takes_little(const struct sample *sample) {
     struct outcome ample = outcome_of(CHECK_OR_CONVERT, sample, 0);
     bool is_refused = ample.answer.status == TIMEFD_REFUSED;
-    bool has_room = sample->kind == TIMEFD_VERSION_3 || sample->kind == MODERN;
+    bool has_room = sample->kind == TIMEFD_VERSION_3 || sample->kind == MODERN || sample->kind == NORMAL || sample->kind == OF_STRFTIME;
     return !is_refused || asked <= (has_room ? 1 : 0);
 }
 

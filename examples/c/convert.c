@@ -1,5 +1,5 @@
-/* Rewrites a few texts of version 1 as ones of version 2, and one of version 2 as one of version 3. ../run.sh builds and runs
-   it. */
+/* Rewrites a few texts of version 1 as ones of version 2, one of version 2 as one of version 3, and one of each language in
+   version 3's normal form. ../run.sh builds and runs it. */
 
 #include "../timefd.h"
 
@@ -73,6 +73,33 @@ static void print_modern(const char *text) {
     free(buffer);
 }
 
+/* The same from any language to any other, where a conversion leads there. */
+static void print_between(uint32_t from, uint32_t to, const char *text) {
+    size_t len = strlen(text);
+    uint8_t none = 0;
+    timefd_answer answer = timefd_convert(from, to, (const uint8_t *)text, len, &none, 0);
+    uint8_t *buffer = calloc(answer.value + 1, 1);
+    if (buffer == NULL) {
+        puts("out of memory");
+        return;
+    }
+    answer = timefd_convert(from, to, (const uint8_t *)text, len, buffer, answer.value);
+    switch (answer.status) {
+    case TIMEFD_ACCEPTED:
+        printf("\"%s\" goes from %u to %u as \"%.*s\"\n", text, from, to, (int)answer.written, (const char *)buffer);
+        break;
+    case TIMEFD_NO_CONVERSION:
+        printf("nothing goes from %u to %u\n", from, to);
+        break;
+    case TIMEFD_UNKNOWN_KIND:
+        printf("%u or %u is no language\n", from, to);
+        break;
+    default:
+        print_refusal(answer);
+    }
+    free(buffer);
+}
+
 int main(void) {
     for (size_t i = 0; i < sizeof TEXTS / sizeof TEXTS[0]; i++) {
         print_converted(TEXTS[i]);
@@ -81,5 +108,11 @@ int main(void) {
     print_short("a]]b");
     print_modern("[YEAR] a]b");
     print_modern("a[day");
+    print_between(TIMEFD_VERSION_1, TIMEFD_VERSION_3, "[[[YEAR]]");
+    print_between(TIMEFD_VERSION_3, TIMEFD_VERSION_3, "[optional  [[ day padding:zero ]]]");
+    print_between(TIMEFD_STRFTIME, TIMEFD_VERSION_3, "%F 100%%");
+    print_between(TIMEFD_VERSION_3, TIMEFD_VERSION_3, "a[day");
+    print_between(TIMEFD_VERSION_3, TIMEFD_VERSION_2, "[day]");
+    print_between(5, TIMEFD_VERSION_3, "[day]");
     return 0;
 }

@@ -1,5 +1,5 @@
-//! Rewrites a few texts of version 1 as ones of version 2, and one of version 2 as one of version 3. `../run.sh` builds and
-//! runs it.
+//! Rewrites a few texts of version 1 as ones of version 2, one of version 2 as one of version 3, and one of each language in
+//! version 3's normal form. `../run.sh` builds and runs it.
 
 // Another program uses the rest of the module.
 #[allow(dead_code)]
@@ -69,6 +69,22 @@ fn print_modern(text: &str) {
     }
 }
 
+/// The same from any language to any other, where a conversion leads there.
+fn print_between(from: u32, to: u32, text: &str) {
+    let room = timefd::convert(from, to, text.as_bytes(), &mut []).value;
+    let mut buffer = vec![0; room];
+    let answer = timefd::convert(from, to, text.as_bytes(), &mut buffer);
+    match answer.status {
+        timefd::ACCEPTED => {
+            let converted = String::from_utf8_lossy(&buffer[..answer.written]);
+            println!("\"{text}\" goes from {from} to {to} as \"{converted}\"");
+        }
+        timefd::NO_CONVERSION => println!("nothing goes from {from} to {to}"),
+        timefd::UNKNOWN_KIND => println!("{from} or {to} is no language"),
+        _ => print_refusal(&answer),
+    }
+}
+
 fn main() {
     for text in TEXTS {
         print_converted(text);
@@ -77,4 +93,10 @@ fn main() {
     print_short("a]]b");
     print_modern("[YEAR] a]b");
     print_modern("a[day");
+    print_between(timefd::VERSION_1, timefd::VERSION_3, "[[[YEAR]]");
+    print_between(timefd::VERSION_3, timefd::VERSION_3, "[optional  [[ day padding:zero ]]]");
+    print_between(timefd::STRFTIME, timefd::VERSION_3, "%F 100%%");
+    print_between(timefd::VERSION_3, timefd::VERSION_3, "a[day");
+    print_between(timefd::VERSION_3, timefd::VERSION_2, "[day]");
+    print_between(5, timefd::VERSION_3, "[day]");
 }

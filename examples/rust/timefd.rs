@@ -9,6 +9,8 @@ pub const ACCEPTED: u32 = 0;
 pub const REFUSED: u32 = 1;
 pub const NOT_UTF8: u32 = 2;
 pub const NO_MEMORY: u32 = 3;
+pub const UNKNOWN_KIND: u32 = 4;
+pub const NO_CONVERSION: u32 = 7;
 
 #[repr(C)]
 pub struct Answer {
@@ -29,6 +31,14 @@ unsafe extern "C" {
     ) -> Answer;
     fn timefd_v1_to_v2(text: *const u8, len: usize, buffer: *mut u8, room: usize) -> Answer;
     fn timefd_v2_to_v3(text: *const u8, len: usize, buffer: *mut u8, room: usize) -> Answer;
+    fn timefd_convert(
+        from: u32,
+        to: u32,
+        text: *const u8,
+        len: usize,
+        buffer: *mut u8,
+        room: usize,
+    ) -> Answer;
 }
 
 /// What the bytes are in a language.
@@ -62,4 +72,19 @@ pub fn v1_to_v2(text: &[u8], buffer: &mut [u8]) -> Answer {
 pub fn v2_to_v3(text: &[u8], buffer: &mut [u8]) -> Answer {
     // SAFETY: as in `check`.
     unsafe { timefd_v2_to_v3(text.as_ptr(), text.len(), buffer.as_mut_ptr(), buffer.len()) }
+}
+
+/// The text of one language for a text of another, in the buffer if that has room for all of it.
+pub fn convert(from: u32, to: u32, text: &[u8], buffer: &mut [u8]) -> Answer {
+    // SAFETY: as in `check`.
+    unsafe {
+        timefd_convert(
+            from,
+            to,
+            text.as_ptr(),
+            text.len(),
+            buffer.as_mut_ptr(),
+            buffer.len(),
+        )
+    }
 }

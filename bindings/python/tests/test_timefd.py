@@ -146,6 +146,15 @@ class Conversions(unittest.TestCase):
         self.assertEqual(timefd.convert("[[[Day]]", Language.VERSION_1, Language.VERSION_3), r"\[[day]\]")
         self.assertEqual(timefd.convert("x" * 1000, Language.VERSION_2, Language.VERSION_3), "x" * 1000)
 
+    def test_from_strftime(self):
+        self.assertEqual(timefd.convert("%d/%m/%y", Language.STRFTIME, Language.VERSION_3), "[day]/[month]/[year repr:last_two]")
+        self.assertEqual(timefd.convert("100%%", Language.STRFTIME, Language.VERSION_3), "100%")
+        self.assertRaises(timefd.InvalidDescription, timefd.convert, "%Q", Language.STRFTIME, Language.VERSION_3)
+
+    def test_the_normal_form(self):
+        for text in ("[optional\n[ [day padding:zero] ]]", "[optional [ [day] ]]"):
+            self.assertEqual(timefd.convert(text, Language.VERSION_3, Language.VERSION_3), "[optional [ [day] ]]")
+
 
 if __name__ == "__main__":
     unittest.main()

@@ -59,28 +59,23 @@ case_sensitive=None, one_indexed=None, is_uppercase=None, digits=None, trailing_
 
 
 def convert(text: str, source: Language, target: Language) -> str:
-    """The text of a later version with the same items; from version 1 to 3 by way of 2.
+    """The text of a later version with the same items; from version 3 to version 3 its normal form.
 
     >>> convert("[YEAR]]", Language.VERSION_2, Language.VERSION_3)
     '[year range:extended]\\\\]'
+    >>> convert("%F", Language.STRFTIME, Language.VERSION_3)
+    '[year range:extended]-[month]-[day]'
 
-    Raises `InvalidDescription` where the text is refused, and `ValueError` where no call leads from one language to the other.
+    Raises `InvalidDescription` where the text is refused, and `ValueError` where no conversion leads from one language to the
+    other: one leads from each language to version 3, and from version 1 to version 2.
     """
-    if not Language.VERSION_1 <= source < target <= Language.VERSION_3:
-        raise ValueError("the target is a later version than the source, of versions 1 to 3")
-    if source == Language.VERSION_1:
-        text = _converted(text, Language.VERSION_1)
-        source = Language.VERSION_2
-    return text if source == target else _converted(text, Language.VERSION_2)
-
-
-def _converted(text: str, source: Language) -> str:
-    call = LIBRARY.timefd_v1_to_v2 if source == Language.VERSION_1 else LIBRARY.timefd_v2_to_v3
     given = text.encode()
     room = 64
     while True:
         buffer = ctypes.create_string_buffer(room)
-        answer = call(given, len(given), buffer, room)
+        answer = LIBRARY.timefd_convert(Language(source), Language(target), given, len(given), buffer, room)
+        if answer.status == library.NO_CONVERSION:
+            raise ValueError("a conversion leads to version 3, and from version 1 to version 2")
         if answer.status == library.NO_MEMORY:
             raise MemoryError
         if answer.status != library.ACCEPTED:

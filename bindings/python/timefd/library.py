@@ -5,7 +5,7 @@ import pathlib
 
 VERSION = 1000
 
-ACCEPTED, REFUSED, NOT_UTF8, NO_MEMORY, UNKNOWN_KIND, UNSHOWN, OUT_OF_RANGE = range(7)
+ACCEPTED, REFUSED, NOT_UTF8, NO_MEMORY, UNKNOWN_KIND, UNSHOWN, OUT_OF_RANGE, NO_CONVERSION = range(8)
 
 HAS_DATE, HAS_TIME, HAS_OFFSET = 1, 2, 4
 
@@ -84,8 +84,7 @@ def _load() -> ctypes.CDLL:
     calls = {
         "timefd_version": ([], ctypes.c_uint32),
         "timefd_check": ([kind, text, size, buffer, size], Answer),
-        "timefd_v1_to_v2": ([text, size, buffer, size], Answer),
-        "timefd_v2_to_v3": ([text, size, buffer, size], Answer),
+        "timefd_convert": ([kind, kind, text, size, buffer, size], Answer),
         "timefd_format": ([kind, text, size, moment, buffer, size], FormatAnswer),
         "timefd_read": ([kind, text, size, nodes, size, buffer, size], ReadAnswer),
     }

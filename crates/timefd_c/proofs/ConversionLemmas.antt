@@ -2,33 +2,33 @@
 use Rattle.std.proofs.Common.{ℕ, ◌≡◌, ◌≤◌, ◌<◌, ◌++◌, [], Some, length, drop, IsUtf8, refl, ap, sym, subst, ◌∙◌, arith}
 use Rattle.timefd_component.specs.Tree.{Text}
 use Rattle.timefd_fault.specs.Faults.{Fault}
-use Rattle.timefd_language.specs.declared.description_version.DescriptionVersion.{DescriptionVersion}
-use Rattle.timefd_language.specs.Broken.{FaultOf}
 use Rattle.timefd_language.specs.Grammar.{nesting_limit}
-use Rattle.timefd_parse.specs.declared.language.Language.TheVariants.{Version}
+use Rattle.timefd_parse.specs.declared.language.Language.{Language}
+use Rattle.timefd_parse.specs.Language.{FaultIn}
 use Rattle.timefd_borrowed_fault.specs.declared.borrowed_parse_error.BorrowedParseError.{BorrowedParseError}
 use Rattle.timefd_borrowed_fault.specs.declared.borrowed_parse_error.BorrowedParseError.TheVariants as errors
 use Rattle.timefd_borrowed_fault.specs.BorrowedFaults.{lent_fault, IsLent, IsLentOf, IsMemory}
+use Rattle.timefd_convert.specs.declared.conversion.Conversion.{Conversion}
 use Rattle.timefd_c.specs.Answers.{IsAnswer, error_answer, plain}
-use Rattle.timefd_c.specs.Conversions.{ConvertsBy, FitsTwice, IsConverted, IsToldOf}
+use Rattle.timefd_c.specs.Conversions.{ConvertsBy, FitsRoom, FitsTwice, IsConverted, IsToldOf}
 use Rattle.timefd_c.specs.declared.answer.TheConstants.{ACCEPTED, NO_MEMORY, REFUSED}
 use Rattle.timefd_c.proofs.AnswerLemmas as answers
 
-module _ (v : DescriptionVersion) (IsOne HasItems : Text → Text → Type 0) (bytes : Text) where
+module _ (language : Language) (IsOne HasItems : Text → Text → Type 0) (bytes : Text) where
   written_or_kept : (before after text : Text) (written : ℕ) → IsUtf8 bytes
       → IsOne bytes text → HasItems bytes text
       → ((other : Text) → IsOne bytes other → text ≡ other)
-      → ((f : Fault) → FaultOf v nesting_limit bytes f → ⊥)
+      → ((f : Fault) → FaultIn language nesting_limit bytes f → ⊥)
       → (length text ≤ length before → (after ≡ text ++ drop (length text) before)
       × (written ≡ length text))
       → (length before < length text → (after ≡ before) × (written ≡ 0))
-      → ConvertsBy v IsOne HasItems bytes before after
+      → ConvertsBy language IsOne HasItems bytes before after
       (record { status = ACCEPTED; value = length text; sentence_len = 0; written = written })
   written_or_kept before after text written utf8 is same one no_fault whole too_short = record {
-    answers = answers.accepting (Some (Version v)) bytes Text (IsConverted IsOne bytes)
+    answers = answers.accepting (Some language) bytes Text (IsConverted IsOne bytes)
         (IsToldOf HasItems bytes
         (record { status = ACCEPTED; value = length text; sentence_len = 0; written = written }))
-        (answers.some_not_none (Version v)) (length text) utf8 text (utf8, is)
+        (answers.some_not_none language) (length text) utf8 text (utf8, is)
         (λ other other_is. (
           subst (HasItems bytes) (one other other_is.1) same,
           ap length (one other other_is.1),
@@ -48,15 +48,15 @@ module _ (v : DescriptionVersion) (IsOne HasItems : Text → Text → Type 0) (b
       → lent ≡ text → value ≡ length text → IsUtf8 bytes
       → IsOne bytes text → HasItems bytes text
       → ((other : Text) → IsOne bytes other → text ≡ other)
-      → ((f : Fault) → FaultOf v nesting_limit bytes f → ⊥)
+      → ((f : Fault) → FaultIn language nesting_limit bytes f → ⊥)
       → (length lent ≤ length before → (after ≡ lent ++ drop (length lent) before)
       × (written ≡ length lent))
       → (length before < length lent → (after ≡ before) × (written ≡ 0))
-      → ConvertsBy v IsOne HasItems bytes before after
+      → ConvertsBy language IsOne HasItems bytes before after
       (record { status = ACCEPTED; value = value; sentence_len = 0; written = written })
   converted before after text lent value written lent_is value_is utf8 is same one no_fault whole
       too_short =
-      subst (λ n. ConvertsBy v IsOne HasItems bytes before after
+      subst (λ n. ConvertsBy language IsOne HasItems bytes before after
       (record { status = ACCEPTED; value = n; sentence_len = 0; written = written }))
       (sym value_is)
       (written_or_kept before after text written utf8 is same one no_fault
@@ -67,9 +67,9 @@ module _ (v : DescriptionVersion) (IsOne HasItems : Text → Text → Type 0) (b
 
   -- where nothing was written, the status and the value are all that is answered
   silent : (buffer : Text) (status value : ℕ) → (status ≡ ACCEPTED → ⊥) → status ≤ NO_MEMORY
-      → IsAnswer (Some (Version v)) bytes Text (IsConverted IsOne bytes)
+      → IsAnswer (Some language) bytes Text (IsConverted IsOne bytes)
       (IsToldOf HasItems bytes (plain status value)) status value
-      → ConvertsBy v IsOne HasItems bytes buffer buffer (plain status value)
+      → ConvertsBy language IsOne HasItems bytes buffer buffer (plain status value)
   silent buffer status value not_accepted known is = record {
     answers = is;
     status = known;
@@ -81,23 +81,28 @@ module _ (v : DescriptionVersion) (IsOne HasItems : Text → Text → Type 0) (b
 
   -- where nothing was converted, for this error
   pub unconverted : (buffer : Text) (e : BorrowedParseError) → IsUtf8 bytes
-      → IsLentOf (FaultOf v nesting_limit bytes) e
+      → IsLentOf (FaultIn language nesting_limit bytes) e
       → ((other : Text) → IsOne bytes other → IsMemory e)
-      → ((f : Fault) → FaultOf v nesting_limit bytes f → IsLent f e) → (bytes ≡ [] → ⊥)
-      → ConvertsBy v IsOne HasItems bytes buffer buffer (error_answer e)
+      → ((f : Fault) → FaultIn language nesting_limit bytes f → IsLent f e) → (bytes ≡ [] → ⊥)
+      → ConvertsBy language IsOne HasItems bytes buffer buffer (error_answer e)
   unconverted buffer (errors.Invalid f) utf8 has not_spelled one not_empty =
       silent buffer REFUSED f.index (λ e. omega (arith, e)) (omega arith)
-      (answers.refusing (Some (Version v)) bytes Text (IsConverted IsOne bytes)
-      (IsToldOf HasItems bytes (plain REFUSED f.index)) (answers.some_not_none (Version v))
+      (answers.refusing (Some language) bytes Text (IsConverted IsOne bytes)
+      (IsToldOf HasItems bytes (plain REFUSED f.index)) (answers.some_not_none language)
       (lent_fault f) (utf8, has) (λ other other_is. not_spelled other other_is.1)
       (λ g h. one g h.1) (λ some nil. not_empty nil))
   unconverted buffer (errors.Memory m) utf8 has not_spelled one not_empty =
       silent buffer NO_MEMORY 0 (λ e. omega (arith, e)) (omega arith)
-      (answers.unread (Some (Version v)) bytes Text (IsConverted IsOne bytes)
-      (IsToldOf HasItems bytes (plain NO_MEMORY 0)) (answers.some_not_none (Version v))
+      (answers.unread (Some language) bytes Text (IsConverted IsOne bytes)
+      (IsToldOf HasItems bytes (plain NO_MEMORY 0)) (answers.some_not_none language)
       (λ some invalid. invalid utf8) (λ f h. one f h.1) (λ some nil. not_empty nil))
 
 -- nothing is too long that is not accepted
 pub error_fits : (bytes : Text) (e : BorrowedParseError) → FitsTwice bytes (error_answer e)
 error_fits bytes (errors.Invalid f) = λ e. absurd (omega (arith, e))
 error_fits bytes (errors.Memory m) = λ e. absurd (omega (arith, e))
+
+pub error_has_room : (conversion : Conversion) (bytes : Text) (e : BorrowedParseError)
+    → FitsRoom conversion bytes (error_answer e)
+error_has_room conversion bytes (errors.Invalid f) = λ e. absurd (omega (arith, e))
+error_has_room conversion bytes (errors.Memory m) = λ e. absurd (omega (arith, e))

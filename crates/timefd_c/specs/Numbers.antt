@@ -2,7 +2,7 @@
 use Rattle.std.specs.Prelude.{◌≡◌, Some}
 use Rattle.timefd_language.specs.declared.description_version.DescriptionVersion.TheVariants.{One, Two, Three}
 use Rattle.timefd_parse.specs.declared.language.Language.TheVariants.{Version, Strftime}
-use Rattle.timefd_c.specs.declared.answer.TheConstants.{ACCEPTED, REFUSED, NOT_UTF8, NO_MEMORY, UNKNOWN_KIND}
+use Rattle.timefd_c.specs.declared.answer.TheConstants.{ACCEPTED, REFUSED, NOT_UTF8, NO_MEMORY, UNKNOWN_KIND, NO_CONVERSION}
 use Rattle.timefd_c.specs.declared.format_answer.TheConstants.{UNSHOWN, OUT_OF_RANGE}
 use Rattle.timefd_c.specs.declared.nodes.TheConstants.{VERSION}
 use Rattle.timefd_c.specs.Languages.{language_of}
@@ -17,6 +17,7 @@ pub record Numbers : Type 0 where
   pub unknown_kind : UNKNOWN_KIND ≡ 4
   pub unshown : UNSHOWN ≡ 5
   pub out_of_range : OUT_OF_RANGE ≡ 6
+  pub no_conversion : NO_CONVERSION ≡ 7
   -- the languages
   pub version_1 : language_of 1 ≡ Some (Version One)
   pub version_2 : language_of 2 ≡ Some (Version Two)

@@ -22,13 +22,17 @@ pub const NO_MEMORY: u32 = 3;
 /// The status where the number is that of no language. The value is 0.
 pub const UNKNOWN_KIND: u32 = 4;
 
+/// The status where there is no conversion from one language to another. The value is 0.
+pub const NO_CONVERSION: u32 = 7;
+
 /// What is said of a text.
 #[repr(C)]
 #[derive(Debug, Clone, Copy, PartialEq, Eq)]
 pub struct Answer {
-    /// One of the five statuses.
+    /// One of the first five statuses, or of a conversion any of the six.
     pub status: u32,
-    /// What the status counts: items, reserved bytes, or the bytes before the fault.
+    /// What the status counts: items, reserved bytes, the bytes of the converted text, or those before
+    /// the fault.
     pub value: usize,
     /// How many bytes the whole sentence of the fault has, where one was to be written, or else 0.
     pub sentence_len: usize,

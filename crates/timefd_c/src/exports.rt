@@ -4,9 +4,10 @@ ghost use Rattle.std.specs.Prelude.{◌≡◌, ◌≢◌, ◌<◌, ◌≤◌, �
 ghost use Rattle.std.specs.Str.{IsCharBoundary};
 ghost use Rattle.timefd_c.specs.Answers.{Judges, IfRefused};
 ghost use Rattle.timefd_c.specs.Languages.{language_of};
-ghost use Rattle.timefd_c.specs.Conversions.{Converts, Modernizes};
+ghost use Rattle.timefd_c.specs.Conversions.{Converts, ConvertsBetween, Modernizes};
 
 use crate::answer::{ACCEPTED, Answer, NOT_UTF8, REFUSED};
+use crate::conversion::convert_between;
 use crate::numbers::from_number;
 use crate::verdict::{Verdict, verdict_on};
 use crate::whole::write_whole;
@@ -98,4 +99,20 @@ pub extern "C" fn timefd_v2_to_v3(alloc: Global, text: &[u8], buffer: &mut [u8])
         },
         Err(error) => Answer::of_error(error),
     }
+}
+
+/// Rewrites a text of the language with one number as one of the language with another, and writes it
+/// over the front of the buffer, if that has room for all of it. The value is its length in bytes.
+#[unsafe(no_mangle)]
+pub extern "C" fn timefd_convert(
+    alloc: Global,
+    from: u32,
+    to: u32,
+    text: &[u8],
+    buffer: &mut [u8],
+) -> Answer
+    ensures converts { ConvertsBetween (language_of from) (language_of to) text.now buffer.old
+        buffer.new result }
+{
+    convert_between(alloc, from_number(from), from_number(to), text, buffer)
 }

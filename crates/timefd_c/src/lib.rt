@@ -1,11 +1,12 @@
 //! The readers for C, and for Rust outside of this workspace: two functions that say of the bytes
-//! of a text what they are in a language, which a number names, and one that rewrites a text of
-//! version 1 as one of version 2, one that writes the nodes of a description, and one that writes
-//! a date and time by a description.
+//! of a text what they are in a language, which a number names, three that rewrite a text as one of
+//! a later version, one that writes the nodes of a description, and one that writes a date and time
+//! by a description.
 //! `examples/timefd.h` declares them.
 #![tactic(auto)]
 
 mod answer;
+mod conversion;
 mod exports;
 mod format;
 mod format_answer;
@@ -19,8 +20,10 @@ mod tests;
 mod verdict;
 mod whole;
 
-pub use answer::{ACCEPTED, Answer, NO_MEMORY, NOT_UTF8, REFUSED, ReadAnswer, UNKNOWN_KIND};
-pub use exports::{timefd_check, timefd_judge, timefd_v1_to_v2, timefd_v2_to_v3};
+pub use answer::{
+    ACCEPTED, Answer, NO_CONVERSION, NO_MEMORY, NOT_UTF8, REFUSED, ReadAnswer, UNKNOWN_KIND,
+};
+pub use exports::{timefd_check, timefd_convert, timefd_judge, timefd_v1_to_v2, timefd_v2_to_v3};
 pub use format::timefd_format;
 pub use format_answer::{FormatAnswer, OUT_OF_RANGE, UNSHOWN};
 pub use moment::MomentFields;

@@ -1,5 +1,5 @@
 -- Items in turn, and those of a text.
-use Rattle.std.proofs.Common.{ℕ, ◌≡◌, ◌+◌, ◌<◌, ◌∙◌, List, [], ◌∷◌, ◌++◌, length, get_or, drop, refl, sym, ap, subst, append_assoc, add-one, drop-cons, IsTrue}
+use Rattle.std.proofs.Common.{ℕ, ◌≡◌, ◌+◌, ◌<◌, ◌∙◌, List, [], ◌∷◌, ◌++◌, length, get_or, drop, refl, sym, ap, subst, append_assoc, add-one, drop-cons, IsTrue, arith}
 use Rattle.std.proofs.lemmas.Bool.{and_parts}
 use Rattle.timefd_component.specs.Tree.{Text, Tree, trees}
 use Rattle.timefd_convert.specs.Leaves.{AreLeaves, AreShallow, IsLeafItem, IsShallowItem, Every, AreLeafItems, AreShallowItems}
@@ -66,3 +66,7 @@ none_spelled text nil = (no_directives, tt, nil, refl)
 pub no_items : (items : List BorrowedFormatItem) → item_trees items ≡ [] → items ≡ []
 no_items [] e = refl
 no_items (item ∷ items) e = absurd cc
+
+pub no_bytes : (text : Text) → length text ≡ 0 → text ≡ []
+no_bytes [] none = refl
+no_bytes (b ∷ bytes) none = absurd (omega (arith, none))

@@ -2,3 +2,4 @@ pub mod FlatLemmas
 pub mod LetterLemmas
 pub mod LengthLemmas
 pub mod ItemLemmas
+pub mod ConvertLemmas

@@ -2,3 +2,4 @@ pub mod Flat
 pub mod Leaves
 pub mod Laws
 pub mod Answers
+pub mod Conversions

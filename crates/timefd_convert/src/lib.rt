@@ -1,8 +1,17 @@
-//! Rewrites texts of any language as texts of a later version.
+//! Rewrites texts of any language as texts of a later version, and texts of version 3 in their normal
+//! form.
 #![tactic(auto)]
 
+mod conversion;
+mod converting;
+mod from_one;
 mod item;
 pub mod laws;
+mod normal;
 mod strftime;
 
-pub use strftime::strftime_to_v3;
+pub use conversion::{Conversion, conversion_between};
+pub use converting::{ConvertError, convert, convert_by, convert_by_borrowed};
+pub use from_one::{v1_to_v3, v1_to_v3_borrowed};
+pub use normal::{normalize_v3, normalize_v3_borrowed};
+pub use strftime::{strftime_to_v3, strftime_to_v3_borrowed};

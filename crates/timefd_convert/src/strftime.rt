@@ -2,7 +2,8 @@
 
 ghost use Rattle.std.specs.Prelude.{◌≡◌, ◌≤◌, ◌*◌, [], List, IfOk, IsOk, MatchResult, length, string_bytes};
 ghost use Rattle.std.specs.Result.{IfErr};
-ghost use Rattle.timefd_borrowed_fault.specs.Placed.{HasPlacedFault};
+ghost use Rattle.timefd_borrowed_fault.specs.BorrowedFaults.{HasShortFault, IsLent, IsLentOf, IsMemory};
+ghost use Rattle.timefd_borrowed_fault.specs.Placed.{HasPlacedFault, IsPlaced};
 ghost use Rattle.timefd_component.specs.Tree.{Tree, trees};
 ghost use Rattle.timefd_convert.specs.Answers.{HasStrftimeItems, IsPrintedOf};
 ghost use Rattle.timefd_convert.specs.Leaves.{AreShallowItems};
@@ -18,7 +19,9 @@ use crate::item::push_item;
 use crate::laws::flattening;
 use std::alloc::{AllocError, Global};
 use timefd_items::BorrowedFormatItem;
-use timefd_parse::{ParseError, StrftimeTables, parse_strftime_borrowed};
+use timefd_parse::{
+    BorrowedParseError, ParseError, StrftimeTables, count_strftime, parse_strftime_all_borrowed,
+};
 
 /// The text of version 3 that means what a text of strftime means: the components of each letter in
 /// their normal form, those of a composite letter one after another, and `[`, `]` and `\` behind a
@@ -49,15 +52,64 @@ pub fn strftime_to_v3(alloc: Global, s: &str) -> Result<String, ParseError>
     // The empty text takes no memory.
     ensures empty { s.now ≡ [] → IsOk result }
 {
+    match strftime_to_v3_borrowed(alloc, s) {
+        Ok(answer) => Ok(answer),
+        Err(error) => Err(error.into_owned(alloc)),
+    }
+}
+
+/// Converts a text of strftime as `strftime_to_v3` does, with a fault that borrows what it quotes.
+/// This call is this port's own.
+///
+/// The error is `Invalid` with the fault of the text, or `Memory` where memory ran out. A text that
+/// has a fault is refused for it even then.
+pub fn strftime_to_v3_borrowed(alloc: Global, s: &str) -> Result<String, BorrowedParseError<'_>>
+    // What is answered is printed of what strftime spells, and has the same items. What is refused is
+    // refused for the fault that the rules of strftime assign.
+    ensures printed { IfOk result (λ answer. IsPrintedOf s.now (string_bytes answer)) }
+    ensures same_items { IfOk result (λ answer. HasStrftimeItems s.now (string_bytes answer)) }
+    ensures fault { IfErr result (IsLentOf (StrftimeFaultOf s.now)) }
+
+    // What strftime spells is printed, unless memory runs out, and what has a fault is refused for it.
+    ensures spelled { (list : List Tree) → SpellsStrftime s.now list
+        → MatchResult result (λ answer. string_bytes answer ≡ printed_all (trees list)) IsMemory }
+    ensures refused { (f : spec.Fault) → StrftimeFaultOf s.now f
+        → MatchResult result (λ _. ⊥) (IsLent f) }
+
+    // The fault's index lies in the text or at its end, between two characters. Its words are short,
+    // so that its sentence can be written.
+    ensures place { IfErr result (IsLentOf (IsPlaced s.now)) }
+    ensures words { IfErr result HasShortFault }
+
+    // It has at most 53 bytes for each byte of the text, as that of `%c` has.
+    ensures within { IfOk result (λ answer. length (string_bytes answer) ≤ 53 * length s.now) }
+
+    // The empty text takes no memory.
+    ensures empty { s.now ≡ [] → IsOk result }
+{
     // The law by which version 3 spells the same items.
     flattening();
     let tables = StrftimeTables::new();
-    match parse_strftime_borrowed(alloc, &tables, s) {
+    match parse_strftime_all_borrowed(alloc, &tables, s) {
         Ok(items) => match printed(alloc, s.len(), &items) {
             Ok(answer) => Ok(answer),
-            Err(error) => Err(ParseError::Memory(error)),
+            Err(error) => Err(BorrowedParseError::Memory(error)),
         },
-        Err(error) => Err(error),
+        Err(_) => Err(strftime_error(s)),
+    }
+}
+
+/// Why a text was not read, found again as an error that doesn't borrow the tables.
+fn strftime_error(text: &str) -> BorrowedParseError<'_>
+    ensures fault { IsLentOf (StrftimeFaultOf text.now) result }
+    ensures spelled { (list : List Tree) → SpellsStrftime text.now list → IsMemory result }
+    ensures refused { (f : spec.Fault) → StrftimeFaultOf text.now f → IsLent f result }
+    ensures place { IsLentOf (IsPlaced text.now) result }
+    ensures words { HasShortFault result }
+{
+    match count_strftime(text) {
+        Ok(_) => BorrowedParseError::Memory(AllocError),
+        Err(fault) => BorrowedParseError::Invalid(fault),
     }
 }
 

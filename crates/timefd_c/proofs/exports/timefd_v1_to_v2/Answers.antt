@@ -1,5 +1,6 @@
 use Rattle.std.proofs.Common.{◌≡◌, ◌∙◌, true, false, IsUtf8, string_bytes, sym, subst, arith}
 use Rattle.timefd_language.specs.declared.description_version.DescriptionVersion.TheVariants.{One}
+use Rattle.timefd_parse.specs.declared.language.Language.TheVariants.{Version}
 use Rattle.timefd_lift.specs.Answers.{IsRewritten, HasItemsOf}
 use Rattle.timefd_c.specs.Conversions.{Converts}
 use Rattle.timefd_c.specs.declared.answer.TheConstants.{ACCEPTED}
@@ -20,7 +21,7 @@ returns-in-Ok-v1_to_v2_borrowed c =
             written =
                 c.write_whole.result;
           })) read.0 (
-            converted One IsRewritten HasItemsOf c.in-Ok.text.now c.args.buffer.now
+            converted (Version One) IsRewritten HasItemsOf c.in-Ok.text.now c.args.buffer.now
                 c.write_whole.new.buffer (string_bytes answer) c.deref.result.now c.len.result
                 c.write_whole.result
                 c.deref.ensures (c.len.ensures ∙ answer.bytes.ok.0) (subst IsUtf8 (sym read.0) read.1)
@@ -40,7 +41,7 @@ returns-in-Err c =
     record {
       converts = subst (λ bytes. Converts bytes buffer buffer c.of_error.result) read.0
           (subst (Converts text buffer buffer) (sym c.of_error.ensures) (
-            unconverted One IsRewritten HasItemsOf text buffer c.in-Err.error (subst IsUtf8 (sym read.0) read.1) v.fault
+            unconverted (Version One) IsRewritten HasItemsOf text buffer c.in-Err.error (subst IsUtf8 (sym read.0) read.1) v.fault
                 (λ other other_is. v.spelled other_is.0 other_is.1) v.refused
                 (λ nil. let no : false ≡ true = v.empty nil in absurd cc),
             error_fits text c.in-Err.error,

@@ -1,5 +1,6 @@
 use Rattle.std.proofs.Common.{◌≡◌, ◌∙◌, true, false, IsUtf8, string_bytes, sym, subst}
 use Rattle.timefd_language.specs.declared.description_version.DescriptionVersion.TheVariants.{Two}
+use Rattle.timefd_parse.specs.declared.language.Language.TheVariants.{Version}
 use Rattle.timefd_lift.specs.Modernized.{IsWrittenOf, KeepsItemsOf}
 use Rattle.timefd_c.specs.Conversions.{ConvertsBy}
 use Rattle.timefd_c.specs.declared.answer.TheConstants.{ACCEPTED}
@@ -12,7 +13,7 @@ returns-in-Ok-v2_to_v3_borrowed c =
     let v = c.in-Ok-v2_to_v3_borrowed.ensures in
     let answer = c.in-Ok-v2_to_v3_borrowed.modern in
     record {
-      converts = subst (λ bytes. ConvertsBy Two IsWrittenOf KeepsItemsOf bytes c.args.buffer.now
+      converts = subst (λ bytes. ConvertsBy (Version Two) IsWrittenOf KeepsItemsOf bytes c.args.buffer.now
           c.write_whole.new.buffer (record {
             status = ACCEPTED;
             value = c.len.result;
@@ -20,7 +21,7 @@ returns-in-Ok-v2_to_v3_borrowed c =
                 0;
             written = c.write_whole.result;
           })) read.0
-          (converted Two IsWrittenOf KeepsItemsOf c.in-Ok.text.now c.args.buffer.now
+          (converted (Version Two) IsWrittenOf KeepsItemsOf c.in-Ok.text.now c.args.buffer.now
           c.write_whole.new.buffer (string_bytes answer) c.deref.result.now c.len.result
           c.write_whole.result
           c.deref.ensures (c.len.ensures ∙ answer.bytes.ok.0) (subst IsUtf8 (sym read.0) read.1)
@@ -36,8 +37,8 @@ returns-in-Err c =
     let text = c.in-Ok.text.now in
     let buffer = c.args.buffer.now in
     record {
-      converts = subst (λ bytes. ConvertsBy Two IsWrittenOf KeepsItemsOf bytes buffer buffer c.of_error.result) read.0
-          (subst (ConvertsBy Two IsWrittenOf KeepsItemsOf text buffer buffer) (sym c.of_error.ensures) (unconverted Two IsWrittenOf KeepsItemsOf text buffer c.in-Err.error (subst IsUtf8 (sym read.0) read.1) v.fault
+      converts = subst (λ bytes. ConvertsBy (Version Two) IsWrittenOf KeepsItemsOf bytes buffer buffer c.of_error.result) read.0
+          (subst (ConvertsBy (Version Two) IsWrittenOf KeepsItemsOf text buffer buffer) (sym c.of_error.ensures) (unconverted (Version Two) IsWrittenOf KeepsItemsOf text buffer c.in-Err.error (subst IsUtf8 (sym read.0) read.1) v.fault
           (λ other other_is. v.spelled other_is.0 other_is.1) v.refused
           (λ nil. let no : false ≡ true = v.empty nil in absurd cc)));
     }

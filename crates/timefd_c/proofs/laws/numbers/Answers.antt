@@ -11,6 +11,7 @@ returns c = record {
   unknown_kind = refl;
   unshown = refl;
   out_of_range = refl;
+  no_conversion = refl;
   version_1 = refl;
   version_2 = refl;
   version_3 = refl;

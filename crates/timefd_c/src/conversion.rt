@@ -1,0 +1,51 @@
+//! Texts of one language converted to another, for C.
+
+ghost use Rattle.std.specs.Prelude.{◌≡◌};
+ghost use Rattle.timefd_c.specs.Conversions.{ConvertsBetween, ConvertsTo};
+
+use crate::answer::{ACCEPTED, Answer, NO_CONVERSION, NOT_UTF8, UNKNOWN_KIND};
+use crate::whole::write_whole;
+use std::alloc::Global;
+use timefd_convert::{Conversion, conversion_between, convert_by_borrowed};
+use timefd_parse::Language;
+
+/// Rewrites a text of one language as one of another, where there are both, and writes it over the
+/// front of the buffer, if that has room for all of it.
+pub fn convert_between(
+    alloc: Global,
+    from: Option<Language>,
+    to: Option<Language>,
+    text: &[u8],
+    buffer: &mut [u8],
+) -> Answer
+    ensures converts { ConvertsBetween from to text.now buffer.old buffer.new result }
+{
+    let Some(from) = from else {
+        return Answer::plain(UNKNOWN_KIND, 0);
+    };
+    let Some(to) = to else {
+        return Answer::plain(UNKNOWN_KIND, 0);
+    };
+    match conversion_between(from, to) {
+        Some(conversion) => convert_bytes(alloc, conversion, text, buffer),
+        None => Answer::plain(NO_CONVERSION, 0),
+    }
+}
+
+/// The same by this conversion.
+fn convert_bytes(alloc: Global, conversion: Conversion, text: &[u8], buffer: &mut [u8]) -> Answer
+    ensures converts { ConvertsTo conversion text.now buffer.old buffer.new result }
+{
+    let Ok(text) = str::from_utf8(text) else {
+        return Answer::plain(NOT_UTF8, 0);
+    };
+    match convert_by_borrowed(alloc, conversion, text) {
+        Ok(converted) => Answer {
+            status: ACCEPTED,
+            value: converted.len(),
+            sentence_len: 0,
+            written: write_whole(&converted, buffer),
+        },
+        Err(error) => Answer::of_error(error),
+    }
+}
