@@ -82,6 +82,7 @@ check_package() {
 }
 
 check_package ../bindings/rust
+(cd ../bindings/rust && cargo clippy --offline --locked --quiet --no-default-features -- -D warnings) || fail "the crate wants std"
 check_package dates
 cp dates/target/debug/format out/format_rust
 cp dates/target/debug/read out/read_rust

@@ -1,5 +1,8 @@
 //! Buffers whose length a text or the library decides.
 
+use alloc::string::String;
+use alloc::vec::Vec;
+
 /// A buffer of so many values. `None` where there is no memory for it.
 pub(crate) fn filled<T: Clone>(len: usize, value: T) -> Option<Vec<T>> {
     let mut buffer = Vec::new();

@@ -1,5 +1,7 @@
 //! Version 2 for version 1, and version 3 for version 2.
 
+use alloc::string::String;
+
 use crate::buffer;
 use crate::error::ParseError;
 use crate::sys;

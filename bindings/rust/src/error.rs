@@ -1,7 +1,9 @@
 //! Why a text is not read.
 
-use std::error::Error;
-use std::fmt;
+use alloc::boxed::Box;
+use alloc::string::String;
+use core::error::Error;
+use core::fmt;
 
 use crate::buffer;
 use crate::sys;

@@ -16,9 +16,6 @@
 /// The version of the header that this module is written for.
 const VERSION: u32 = 1000;
 
-/// The number of strftime, beside those of [`Version`](crate::Version).
-pub(crate) const STRFTIME: u32 = 4;
-
 pub(crate) const ACCEPTED: u32 = 0;
 pub(crate) const REFUSED: u32 = 1;
 pub(crate) const NO_MEMORY: u32 = 3;
@@ -53,6 +50,7 @@ pub(crate) struct RawNode {
 
 /// `timefd_answer` of the header.
 #[repr(C)]
+#[derive(Debug, Clone, Copy)]
 pub(crate) struct Answer {
     pub(crate) status: u32,
     pub(crate) value: usize,

@@ -1,16 +1,20 @@
 //! The numbers of the header `timefd.h`, each beside what this crate takes it for. The header stands
 //! in the repository, so this runs there alone.
 
+use std::borrow::ToOwned;
 use std::collections::BTreeMap;
 use std::fmt::Debug;
+use std::format;
 use std::fs;
+use std::string::String;
+use std::vec::Vec;
 
 use super::{ACCEPTED, COMPONENT, COMPOUND, FIRST, LITERAL, NO_MEMORY, OPTIONAL, REFUSED};
-use super::{OUT_OF_RANGE, RawMoment, RawNode, STRFTIME, UNSHOWN, VERSION};
+use super::{OUT_OF_RANGE, RawMoment, RawNode, UNSHOWN, VERSION};
 use crate::decode;
 use crate::format::{Lack, Number};
 use crate::modifier::{Padding, SubsecondDigits, TrailingInput, boolean};
-use crate::version::Version;
+use crate::version::{Language, Version};
 
 const HEADER: &str = concat!(env!("CARGO_MANIFEST_DIR"), "/../../examples/timefd.h");
 
@@ -73,7 +77,7 @@ fn taken() -> BTreeMap<String, u32> {
         ("VERSION_1", Version::One.number()),
         ("VERSION_2", Version::Two.number()),
         ("VERSION_3", Version::Three.number()),
-        ("STRFTIME", STRFTIME),
+        ("STRFTIME", Language::Strftime.number()),
         ("ACCEPTED", ACCEPTED),
         ("REFUSED", REFUSED),
         ("NO_MEMORY", NO_MEMORY),

@@ -2,5 +2,7 @@
 
 mod accepted;
 mod components;
+mod dates;
 mod refused;
 mod rows;
+mod values;
