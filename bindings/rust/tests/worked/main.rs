@@ -3,6 +3,7 @@
 mod accepted;
 mod components;
 mod dates;
+mod faults;
 mod refused;
 mod rows;
 mod values;
