@@ -58,7 +58,7 @@ mod version;
 mod write;
 
 pub use component::Component;
-pub use convert::{v1_to_v2, v2_to_v3};
+pub use convert::{ConvertError, convert, v1_to_v2, v2_to_v3};
 pub use description::FormatDescription;
 pub use error::ParseError;
 pub use fault::{Fault, FaultKind};

@@ -21,6 +21,7 @@ pub(crate) const REFUSED: u32 = 1;
 pub(crate) const NO_MEMORY: u32 = 3;
 pub(crate) const UNSHOWN: u32 = 5;
 pub(crate) const OUT_OF_RANGE: u32 = 6;
+pub(crate) const NO_CONVERSION: u32 = 7;
 
 pub(crate) const LITERAL: u32 = 1;
 pub(crate) const COMPONENT: u32 = 2;
@@ -178,8 +179,14 @@ unsafe extern "C" {
         word: *mut u8,
         word_room: usize,
     ) -> Diagnosis;
-    fn timefd_v1_to_v2(text: *const u8, len: usize, buffer: *mut u8, room: usize) -> Answer;
-    fn timefd_v2_to_v3(text: *const u8, len: usize, buffer: *mut u8, room: usize) -> Answer;
+    fn timefd_convert(
+        from: u32,
+        to: u32,
+        text: *const u8,
+        len: usize,
+        buffer: *mut u8,
+        room: usize,
+    ) -> Answer;
     fn timefd_format(
         kind: u32,
         text: *const u8,
@@ -247,18 +254,13 @@ pub(crate) fn diagnose(kind: u32, text: &str, sentence: &mut [u8], word: &mut [u
     }
 }
 
-/// The text of version 2 for a text of version 1, where the buffer has room for all of it.
-pub(crate) fn v1_to_v2(text: &str, buffer: &mut [u8]) -> Answer {
+/// The text of the second language for a text of the first, where the buffer has room for all of it.
+pub(crate) fn convert(from: u32, to: u32, text: &str, buffer: &mut [u8]) -> Answer {
     expect_version();
     // SAFETY: as in `check`.
-    unsafe { timefd_v1_to_v2(text.as_ptr(), text.len(), buffer.as_mut_ptr(), buffer.len()) }
-}
-
-/// The text of version 3 for a text of version 2, where the buffer has room for all of it.
-pub(crate) fn v2_to_v3(text: &str, buffer: &mut [u8]) -> Answer {
-    expect_version();
-    // SAFETY: as in `check`.
-    unsafe { timefd_v2_to_v3(text.as_ptr(), text.len(), buffer.as_mut_ptr(), buffer.len()) }
+    unsafe {
+        timefd_convert(from, to, text.as_ptr(), text.len(), buffer.as_mut_ptr(), buffer.len())
+    }
 }
 
 /// What the text writes of the moment, where the buffer has room for all of it.

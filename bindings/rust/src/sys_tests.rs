@@ -10,7 +10,7 @@ use std::string::String;
 use std::vec::Vec;
 
 use super::{ACCEPTED, COMPONENT, COMPOUND, FIRST, LITERAL, NO_MEMORY, OPTIONAL, REFUSED};
-use super::{OUT_OF_RANGE, RawMoment, RawNode, UNSHOWN, VERSION};
+use super::{NO_CONVERSION, OUT_OF_RANGE, RawMoment, RawNode, UNSHOWN, VERSION};
 use crate::decode;
 use crate::fault::FaultKind;
 use crate::format::{Lack, Number};
@@ -89,6 +89,7 @@ fn taken() -> BTreeMap<String, u32> {
         ("NO_MEMORY", NO_MEMORY),
         ("UNSHOWN", UNSHOWN),
         ("OUT_OF_RANGE", OUT_OF_RANGE),
+        ("NO_CONVERSION", NO_CONVERSION),
         ("HAS_DATE", RawMoment::HAS_DATE),
         ("HAS_TIME", RawMoment::HAS_TIME),
         ("HAS_OFFSET", RawMoment::HAS_OFFSET),

@@ -2,6 +2,7 @@
 
 mod accepted;
 mod components;
+mod conversions;
 mod dates;
 mod faults;
 mod refused;
