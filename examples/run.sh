@@ -64,7 +64,13 @@ check_package() {
 }
 
 check_package ../bindings/rust
+(cd ../bindings/rust && cargo clippy --offline --locked --quiet --no-default-features -- -D warnings) || fail "the crate wants std"
 check_package dates
+if [ -d /usr/share/cargo/registry/time-0.3.9 ]; then
+    check_package ../bindings/rust/time
+else
+    echo "run.sh: time 0.3.9 (librust-time-dev) is not installed, so bindings/rust/time is not tested"
+fi
 cp dates/target/debug/format out/format_rust
 cp dates/target/debug/read out/read_rust
 compare format_rust expected_format.txt dates.txt

@@ -82,6 +82,52 @@ timefd_answer timefd_judge(uint32_t kind, const uint8_t *text, size_t len);
    doesn't overlap the text. */
 timefd_answer timefd_check(uint32_t kind, const uint8_t *text, size_t len, uint8_t *sentence, size_t room);
 
+/* Which fault a text has. The names are those that the linter tells, in small letters and with `-`. */
+#define TIMEFD_FAULT_UNCLOSED_BRACKET 1u     /* a bracket has no end */
+#define TIMEFD_FAULT_UNKNOWN_NAME 2u         /* a bracket has the name of no component, or strftime has no such letter */
+#define TIMEFD_FAULT_INVALID_MODIFIER 3u     /* a word is no modifier of its component, or no key and value */
+#define TIMEFD_FAULT_MISSING_NAME 4u         /* a bracket has no name */
+#define TIMEFD_FAULT_MISSING_MODIFIER 5u     /* a component lacks a modifier that it has to have */
+#define TIMEFD_FAULT_INVALID_ESCAPE 6u       /* a backslash or a percent sign stands before nothing that it takes */
+#define TIMEFD_FAULT_UNESCAPED_BRACKET 7u    /* a `]` stands alone, where version 3 wants a backslash before it */
+#define TIMEFD_FAULT_MISSING_SPACE 8u        /* a nested description touches the word in front of it */
+#define TIMEFD_FAULT_MISSING_DESCRIPTION 9u  /* `optional` has no nested description */
+#define TIMEFD_FAULT_MISSING_ALTERNATIVE 10u /* `first` has none */
+#define TIMEFD_FAULT_NESTED_TOO_DEEP 11u     /* a nested description stands inside of too many */
+#define TIMEFD_FAULT_SEVERAL_DESCRIPTIONS 12u /* `optional` has more than one nested description */
+#define TIMEFD_FAULT_OPTIONAL_ITEM 13u       /* `optional` stands in a version without it */
+#define TIMEFD_FAULT_FIRST_ITEM 14u          /* `first` stands in a version without it */
+#define TIMEFD_FAULT_UNSUPPORTED_FLAG 15u    /* a flag of strftime that is not read */
+#define TIMEFD_FAULT_UNSUPPORTED_LETTER 16u  /* a letter of strftime that is not read */
+#define TIMEFD_FAULT_NESTED_IN_COMPONENT 17u /* a component has a nested description, and takes none */
+#define TIMEFD_FAULT_DUPLICATE_MODIFIER 18u  /* a bracket has a key twice, where version 3 takes it once */
+#define TIMEFD_FAULT_REFUSED_MODIFIER 19u    /* a key stands with a value of another that refuses it */
+
+/* What is told of a fault, beside its sentence. Of a text that is not refused all of it is 0. */
+typedef struct timefd_fault {
+    uint32_t code;          /* one of the faults above */
+    bool out_of_memory;     /* whether memory ran out while the nearest word was sought: then none is told, and all else is */
+    size_t start;           /* the bytes at fault, from the index of the fault on, */
+    size_t end;             /* up to the end of the name, the key or the value there, or else of the one character there */
+    size_t nearest_len;     /* how many bytes the nearest word has that is allowed there; 0 where none is near */
+    size_t nearest_written; /* how many of them were written: all of them, or none */
+} timefd_fault;
+
+/* What is said of a text, with its fault whole. */
+typedef struct timefd_diagnosis {
+    timefd_answer answer; /* what timefd_check answers */
+    timefd_fault fault;
+} timefd_diagnosis;
+
+/* Says and writes what timefd_check does, and tells of a refused text which fault it is, which bytes are at fault, and the nearest
+   of the names, keys or values that are allowed there, whatever the case of the word at fault; of strftime no word is told. The
+   nearest word is written over the front of the `word_room` bytes at `word`, with no 0 behind it, if they have room for all of
+   it; 16 bytes are. Else, and where there is none, they are as they were.
+
+   Each buffer is as that of timefd_check, and the two don't overlap. */
+timefd_diagnosis timefd_diagnose(uint32_t kind, const uint8_t *text, size_t len, uint8_t *sentence, size_t room, uint8_t *word,
+                                 size_t word_room);
+
 /* Rewrites the `len` bytes at `text`, a description of version 1, as one of version 2 that has the same items, and writes
    that to the front of the `room` bytes at `buffer`. The value is its length, whether or not it was written: a buffer that
    has no room for all of it is as it was, and 2 * len bytes are always room enough. What the text is refused for is what
@@ -284,6 +330,18 @@ TIMEFD_FIELD(timefd_answer, value, 8, 8);
 TIMEFD_FIELD(timefd_answer, sentence_len, 16, 8);
 TIMEFD_FIELD(timefd_answer, written, 24, 8);
 TIMEFD_IS(sizeof(timefd_answer) == 32);
+
+TIMEFD_FIELD(timefd_fault, code, 0, 4);
+TIMEFD_FIELD(timefd_fault, out_of_memory, 4, 1);
+TIMEFD_FIELD(timefd_fault, start, 8, 8);
+TIMEFD_FIELD(timefd_fault, end, 16, 8);
+TIMEFD_FIELD(timefd_fault, nearest_len, 24, 8);
+TIMEFD_FIELD(timefd_fault, nearest_written, 32, 8);
+TIMEFD_IS(sizeof(timefd_fault) == 40);
+
+TIMEFD_FIELD(timefd_diagnosis, answer, 0, 32);
+TIMEFD_FIELD(timefd_diagnosis, fault, 32, 40);
+TIMEFD_IS(sizeof(timefd_diagnosis) == 72);
 
 TIMEFD_FIELD(timefd_node, what, 0, 4);
 TIMEFD_FIELD(timefd_node, component, 4, 4);

@@ -95,6 +95,19 @@ timefd_answer check(uint32_t kind, const struct text *text, struct buffer *sente
     return answer;
 }
 
+timefd_diagnosis diagnose(uint32_t kind, const struct text *text, struct buffer *sentence,
+                          size_t room, struct buffer *word, size_t word_room) {
+    uint8_t *bytes = lend(kind, text);
+    uint8_t *front = fill(sentence, room);
+    uint8_t *word_front = fill(word, word_room);
+    timefd_diagnosis diagnosis =
+        timefd_diagnose(kind, bytes, text->len, front, room, word_front, word_room);
+    take_back(kind, text, bytes);
+    check_filled(kind, text, sentence, room, diagnosis.answer.written);
+    check_filled(kind, text, word, word_room, diagnosis.fault.nearest_written);
+    return diagnosis;
+}
+
 timefd_answer convert(const struct text *text, struct buffer *buffer, size_t room) {
     uint8_t *bytes = lend(0, text);
     uint8_t *front = fill(buffer, room);

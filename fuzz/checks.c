@@ -79,6 +79,7 @@ static void check_sentence(uint32_t kind, const struct text *text, timefd_answer
            "the same answer from timefd_check, and all of the sentence");
     expect(has_sentence == (answer.status == TIMEFD_REFUSED), kind, text,
            "a sentence of what is refused, and of nothing else");
+    check_diagnosis(kind, text, answer);
     if (has_sentence) {
         check_form(kind, text, bytes, answer);
         check_short(kind, text, bytes, answer);

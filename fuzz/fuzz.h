@@ -81,6 +81,8 @@ void report_ends(void);
    that are written where none may be, and for a text that has changed. */
 timefd_answer judge(uint32_t kind, const struct text *text);
 timefd_answer check(uint32_t kind, const struct text *text, struct buffer *sentence, size_t room);
+timefd_diagnosis diagnose(uint32_t kind, const struct text *text, struct buffer *sentence, size_t room,
+                          struct buffer *word, size_t word_room);
 timefd_answer convert(const struct text *text, struct buffer *buffer, size_t room);
 timefd_answer modernize(uint32_t kind, const struct text *text, struct buffer *buffer, size_t room);
 timefd_format_answer format(uint32_t kind, const struct text *text, const timefd_moment *moment,
@@ -88,10 +90,11 @@ timefd_format_answer format(uint32_t kind, const struct text *text, const timefd
 timefd_read_answer read_nodes(uint32_t kind, const struct text *text, struct node_buffers *buffers,
                               size_t node_room, size_t literal_room);
 
-/* checks.c, nodes.c, formats.c, modern.c, pairs.c and versions.c: what holds of one text, of its nodes,
-   of what it writes, of its text of version 3, of two texts, and of what becomes of a text that is
-   changed. */
+/* checks.c, diagnoses.c, nodes.c, formats.c, modern.c, pairs.c and versions.c: what holds of one text, of
+   its fault, of its nodes, of what it writes, of its text of version 3, of two texts, and of what becomes
+   of a text that is changed. */
 timefd_answer check_text(uint32_t kind, const struct text *text);
+void check_diagnosis(uint32_t kind, const struct text *text, timefd_answer answer);
 void check_nodes(uint32_t kind, const struct text *text, timefd_answer judged);
 void check_format(uint32_t kind, const struct text *text, timefd_answer judged);
 timefd_format_answer show(uint32_t kind, const struct text *text, struct buffer *buffer);

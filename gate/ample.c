@@ -147,6 +147,9 @@ static void try_counts(const struct text *text) {
     begin();
     status = timefd_check(text->kind, text->bytes, text->len, NULL, 0).status;
     expect("timefd_check without room", text->name, status, blocks, list.most);
+    begin();
+    status = timefd_diagnose(text->kind, text->bytes, text->len, NULL, 0, NULL, 0).answer.status;
+    expect("timefd_diagnose", text->name, status, blocks, list.most);
 }
 
 static void try_read(const struct text *text) {
@@ -200,6 +203,7 @@ static void try_null(void) {
         begin();
         expect("timefd_judge", "null", timefd_judge(kind, NULL, 0).status, 0, 0);
         expect("timefd_check", "null", timefd_check(kind, NULL, 0, NULL, 0).status, 0, 0);
+        expect("timefd_diagnose", "null", timefd_diagnose(kind, NULL, 0, NULL, 0, NULL, 0).answer.status, 0, 0);
         expect("timefd_read", "null", timefd_read(kind, NULL, 0, NULL, 0, NULL, 0).status, 0, 0);
         begin();
         const uint8_t *day = (const uint8_t *)(kind == TIMEFD_STRFTIME ? "%d" : "[day]");

@@ -50,11 +50,13 @@ struct outcome {
     timefd_answer answer;
     timefd_read_answer read;
     timefd_format_answer format;
+    timefd_diagnosis diagnosis;
     uint8_t buffer[ROOM];
+    uint8_t word[ROOM];
     timefd_node nodes[ROOM];
 };
 
-enum call { CHECK_OR_CONVERT, READ, FORMAT };
+enum call { CHECK_OR_CONVERT, READ, FORMAT, DIAGNOSE };
 
 /* A date and a time of day, of which a component of an offset shows nothing. */
 static const timefd_moment MOMENT = {
@@ -138,6 +140,7 @@ static struct outcome outcome_of(enum call call, const struct sample *sample, si
     size_t len = strlen(sample->text);
     memset(&outcome, 0, sizeof outcome);
     memset(outcome.buffer, '.', ROOM);
+    memset(outcome.word, '.', ROOM);
     memset(outcome.nodes, '.', sizeof outcome.nodes);
     asked = 0;
     refused = number;
@@ -151,19 +154,34 @@ static struct outcome outcome_of(enum call call, const struct sample *sample, si
         refused = 0;
         return outcome;
     }
+    if (call == DIAGNOSE) {
+        outcome.diagnosis = timefd_diagnose(sample->kind, text, len, outcome.buffer, ROOM, outcome.word, ROOM);
+        refused = 0;
+        return outcome;
+    }
     outcome.answer = answer_of(sample->kind, text, len, outcome.buffer);
     refused = 0;
     return outcome;
 }
 
+static bool is_same_answer(const timefd_answer *a, const timefd_answer *b) {
+    return a->status == b->status && a->value == b->value && a->sentence_len == b->sentence_len && a->written == b->written;
+}
+
+static bool is_same_fault(const timefd_fault *a, const timefd_fault *b) {
+    return a->code == b->code && a->out_of_memory == b->out_of_memory && a->start == b->start && a->end == b->end &&
+           a->nearest_len == b->nearest_len && a->nearest_written == b->nearest_written;
+}
+
 static bool is_same(const struct outcome *a, const struct outcome *b) {
-    return a->answer.status == b->answer.status && a->answer.value == b->answer.value &&
-           a->answer.sentence_len == b->answer.sentence_len && a->answer.written == b->answer.written &&
-           a->read.status == b->read.status && a->read.value == b->read.value && a->read.nodes == b->read.nodes &&
+    return is_same_answer(&a->answer, &b->answer) && is_same_answer(&a->diagnosis.answer, &b->diagnosis.answer) &&
+           is_same_fault(&a->diagnosis.fault, &b->diagnosis.fault) &&
+           memcmp(a->word, b->word, ROOM) == 0 && a->read.status == b->read.status && a->read.value == b->read.value && a->read.nodes == b->read.nodes &&
            a->read.literals == b->read.literals && a->read.written == b->read.written && a->read.bytes == b->read.bytes &&
            a->format.status == b->format.status && a->format.reason == b->format.reason &&
            a->format.component == b->format.component && a->format.value == b->format.value &&
-           a->format.written == b->format.written && memcmp(a->buffer, b->buffer, ROOM) == 0 && memcmp(a->nodes, b->nodes, sizeof a->nodes) == 0;
+           a->format.written == b->format.written && memcmp(a->buffer, b->buffer, ROOM) == 0 &&
+           memcmp(a->nodes, b->nodes, sizeof a->nodes) == 0;
 }
 
 /* What a call answers whose memory ran out. */
@@ -171,8 +189,11 @@ static struct outcome out_of_memory(enum call call) {
     struct outcome out;
     memset(&out, 0, sizeof out);
     memset(out.buffer, '.', ROOM);
+    memset(out.word, '.', ROOM);
     memset(out.nodes, '.', sizeof out.nodes);
-    if (call == READ) {
+    if (call == DIAGNOSE) {
+        out.diagnosis.answer.status = TIMEFD_NO_MEMORY;
+    } else if (call == READ) {
         out.read.status = TIMEFD_NO_MEMORY;
     } else if (call == FORMAT) {
         out.format.status = TIMEFD_NO_MEMORY;
@@ -191,6 +212,16 @@ static bool takes_little(const struct sample *sample) {
     return !is_refused || asked <= (has_room ? 1 : 0);
 }
 
+/* Of a fault whose nearest word found no memory all else is told as ever. */
+static void take_word(struct outcome *ample, const struct outcome *one) {
+    if (one->diagnosis.fault.out_of_memory) {
+        ample->diagnosis.fault.out_of_memory = true;
+        ample->diagnosis.fault.nearest_len = 0;
+        ample->diagnosis.fault.nearest_written = 0;
+        memset(ample->word, '.', ROOM);
+    }
+}
+
 /* Whether each outcome is the ample one, or, where the text is not refused, that memory ran out and nothing else; and how
    many were refused. */
 static bool holds(enum call call, const struct sample *sample, size_t *count) {
@@ -198,7 +229,8 @@ static bool holds(enum call call, const struct sample *sample, size_t *count) {
     struct outcome out = out_of_memory(call);
     uint32_t status = call == READ     ? ample.read.status
                       : call == FORMAT ? ample.format.status
-                                       : ample.answer.status;
+                      : call == DIAGNOSE ? ample.diagnosis.answer.status
+                                         : ample.answer.status;
     bool may_run_out = status != TIMEFD_REFUSED;
     if (is_same(&ample, &out) || held != 0) {
         return false;
@@ -207,8 +239,10 @@ static bool holds(enum call call, const struct sample *sample, size_t *count) {
         struct outcome one = outcome_of(call, sample, number);
         bool none_refused = asked < number;
         struct outcome next = outcome_of(call, sample, 0);
-        bool fits = is_same(&one, &ample) || (may_run_out && !none_refused && is_same(&one, &out));
-        if (!fits || !is_same(&next, &ample) || held != 0) {
+        struct outcome wanted = ample;
+        take_word(&wanted, &one);
+        bool fits = is_same(&one, &wanted) || (may_run_out && !none_refused && is_same(&one, &out));
+        if (!fits || (none_refused && one.diagnosis.fault.out_of_memory) || !is_same(&next, &ample) || held != 0) {
             return false;
         }
         if (none_refused) {
@@ -259,12 +293,54 @@ static bool is_laid_out(const struct layout *layout) {
            memcmp(node + 24, layout->bytes + 24, 24) == 0;
 }
 
+/* Faults, the bytes that are at fault, and the nearest word. */
+struct told {
+    uint32_t kind;
+    const char *text;
+    uint32_t code;
+    size_t start;
+    size_t end;
+    const char *nearest;
+};
+
+static const struct told TOLD[] = {
+    {TIMEFD_VERSION_3, "[year]-[mnth]", TIMEFD_FAULT_UNKNOWN_NAME, 8, 12, "month"},
+    {TIMEFD_VERSION_2, "[hour padding:zreo]", TIMEFD_FAULT_INVALID_MODIFIER, 14, 18, "zero"},
+    {TIMEFD_VERSION_2, "[hour PADING:zero]", TIMEFD_FAULT_INVALID_MODIFIER, 6, 12, "padding"},
+    {TIMEFD_VERSION_3, "[foo]", TIMEFD_FAULT_UNKNOWN_NAME, 1, 4, ""},
+    {TIMEFD_VERSION_3, "due [day", TIMEFD_FAULT_UNCLOSED_BRACKET, 4, 5, ""},
+    {TIMEFD_VERSION_1, "[ignore]", TIMEFD_FAULT_MISSING_MODIFIER, 1, 7, ""},
+    {TIMEFD_VERSION_3, "[hour repr:12 repr:24]", TIMEFD_FAULT_DUPLICATE_MODIFIER, 14, 18, ""},
+    {TIMEFD_STRFTIME, "%Y %Q", TIMEFD_FAULT_UNKNOWN_NAME, 4, 5, ""},
+    {TIMEFD_VERSION_3, "[day]", 0, 0, 0, ""},
+};
+
+/* Whether a diagnosis is so, with room for the word and with none. */
+static bool is_told(const struct told *told) {
+    struct sample sample = {told->kind, told->text};
+    struct outcome outcome = outcome_of(DIAGNOSE, &sample, 0);
+    const timefd_fault *found = &outcome.diagnosis.fault;
+    size_t len = strlen(told->nearest);
+    timefd_fault short_of_room =
+        timefd_diagnose(told->kind, (const uint8_t *)told->text, strlen(told->text), NULL, 0, NULL, 0).fault;
+    return found->code == told->code && found->start == told->start && found->end == told->end &&
+           found->nearest_len == len && found->nearest_written == len && memcmp(outcome.word, told->nearest, len) == 0 &&
+           outcome.word[len] == '.' && short_of_room.nearest_len == len && short_of_room.nearest_written == 0;
+}
+
 int main(void) {
     size_t failed = 0;
     size_t count = 0;
+    for (size_t i = 0; i < sizeof TOLD / sizeof TOLD[0]; i++) {
+        if (!is_told(&TOLD[i])) {
+            failed++;
+            fprintf(stderr, "gate/library: the fault of %s\n", TOLD[i].text);
+        }
+    }
     for (size_t i = 0; i < sizeof SAMPLES / sizeof SAMPLES[0]; i++) {
         bool is_read = SAMPLES[i].kind >= LIFT ||
-                       (holds(READ, &SAMPLES[i], &count) && holds(FORMAT, &SAMPLES[i], &count));
+                       (holds(READ, &SAMPLES[i], &count) && holds(FORMAT, &SAMPLES[i], &count) &&
+                        holds(DIAGNOSE, &SAMPLES[i], &count));
         if (!holds(CHECK_OR_CONVERT, &SAMPLES[i], &count) || !is_read || !takes_little(&SAMPLES[i])) {
             failed++;
             fprintf(stderr, "gate/library: %" PRIu32 ": %s\n", SAMPLES[i].kind, SAMPLES[i].text);

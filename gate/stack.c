@@ -46,6 +46,8 @@ static void call_each(text given, uint32_t in_three) {
         uint32_t expected = kind == TIMEFD_VERSION_3 ? in_three : TIMEFD_REFUSED;
         expect("judge", kind, expected, timefd_judge(kind, bytes, given.len));
         expect("check", kind, expected, timefd_check(kind, bytes, given.len, buffer, BUFFER));
+        timefd_diagnosis diagnosis = timefd_diagnose(kind, bytes, given.len, buffer, BUFFER / 2, buffer + BUFFER / 2, BUFFER / 2);
+        expect("diagnose", kind, expected, diagnosis.answer);
         timefd_read_answer read = timefd_read(kind, bytes, given.len, NULL, 0, NULL, 0);
         expect("read", kind, expected, (timefd_answer){.status = read.status});
         timefd_format_answer format = timefd_format(kind, bytes, given.len, &moment, buffer, BUFFER);

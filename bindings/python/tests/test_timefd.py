@@ -40,11 +40,18 @@ class Numbers(unittest.TestCase):
         components = HEADER.read_text().split(begin)[1].split(end)[0]
         self.assertEqual({it.name: it.value for it in Name}, defined(components))
 
+    def test_the_faults_are_all_of_the_header(self):
+        faults = {f"FAULT_{it.name}": it.value for it in timefd.FaultKind}
+        numbers = defined(HEADER.read_text()).items()
+        self.assertEqual(faults, {name: number for name, number in numbers if name.startswith("FAULT_")})
+
     def test_the_fields_stand_where_the_header_has_them(self):
         rows = re.findall(r"^TIMEFD_FIELD\((\w+), (\w+), (\d+), (\d+)\);", HEADER.read_text(), re.M)
         self.assertGreater(len(rows), 15)
         structs = {
             "timefd_answer": library.Answer,
+            "timefd_fault": library.Fault,
+            "timefd_diagnosis": library.Diagnosis,
             "timefd_node": library.RawNode,
             "timefd_read_answer": library.ReadAnswer,
             "timefd_moment": library.RawMoment,
@@ -127,6 +134,20 @@ class Faults(unittest.TestCase):
             self.assertEqual(str(raised.exception), "invalid component name `mnth` at byte index 4")
         with self.assertRaises(timefd.InvalidDescription):
             timefd.convert("[mnth]", Language.VERSION_1, Language.VERSION_3)
+
+    def test_a_fault_is_told_whole(self):
+        rows = [
+            ("ä [mnth]", Language.VERSION_3, timefd.FaultKind.UNKNOWN_NAME, (4, 8), "month"),
+            ("[hour padding:zreo]", Language.VERSION_2, timefd.FaultKind.INVALID_MODIFIER, (14, 18), "zero"),
+            ("due [day", Language.VERSION_3, timefd.FaultKind.UNCLOSED_BRACKET, (4, 5), None),
+            ("%Y %Q", Language.STRFTIME, timefd.FaultKind.UNKNOWN_NAME, (4, 5), None),
+        ]
+        for text, language, kind, span, nearest in rows:
+            with self.assertRaises(timefd.InvalidDescription) as raised:
+                timefd.check(text, language)
+            fault = raised.exception
+            self.assertEqual((fault.kind, fault.span, fault.nearest), (kind, span, nearest))
+        self.assertEqual(str(timefd.FaultKind.UNKNOWN_NAME), "unknown-name")
 
     def test_a_long_sentence(self):
         name = "x" * 5000

@@ -19,7 +19,7 @@ The reading is done by a library whose every function is proved; this module is 
 """
 
 from timefd.calls import check, convert, parse
-from timefd.errors import InvalidDescription, NothingShown
+from timefd.errors import FaultKind, InvalidDescription, NothingShown
 from timefd.language import Language
 from timefd.moments import format
 from timefd.nodes import Component, Compound, First, Literal, Name, Node, Optional, Padding, TrailingInput
@@ -27,6 +27,7 @@ from timefd.nodes import Component, Compound, First, Literal, Name, Node, Option
 __all__ = [
     "Component",
     "Compound",
+    "FaultKind",
     "First",
     "InvalidDescription",
     "Language",

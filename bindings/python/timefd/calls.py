@@ -3,7 +3,7 @@
 import ctypes
 
 from timefd import library, nodes
-from timefd.errors import InvalidDescription
+from timefd.errors import FaultKind, InvalidDescription
 from timefd.language import Language
 from timefd.library import LIBRARY
 
@@ -20,15 +20,20 @@ def check(text: str, language: Language = Language.VERSION_3) -> int:
     """
     given = text.encode()
     room = 128
+    word = ctypes.create_string_buffer(16)
     while True:
         sentence = ctypes.create_string_buffer(room)
-        answer = LIBRARY.timefd_check(Language(language), given, len(given), sentence, room)
-        if answer.status == library.NO_MEMORY:
+        told = LIBRARY.timefd_diagnose(Language(language), given, len(given), sentence, room, word, len(word))
+        answer, fault = told.answer, told.fault
+        if answer.status == library.NO_MEMORY or fault.out_of_memory:
             raise MemoryError
         if answer.status == library.ACCEPTED:
             return int(answer.value)
         if answer.written == answer.sentence_len:
-            raise InvalidDescription(sentence.raw[: answer.written].decode(), answer.value)
+            nearest = word.raw[: fault.nearest_written].decode() or None
+            raise InvalidDescription(
+                sentence.raw[: answer.written].decode(), FaultKind(fault.code), (fault.start, fault.end), nearest
+            )
         room = answer.sentence_len
 
 

@@ -21,6 +21,24 @@ class Answer(ctypes.Structure):
     ]
 
 
+class Fault(ctypes.Structure):
+    _fields_ = [
+        ("code", ctypes.c_uint32),
+        ("out_of_memory", ctypes.c_bool),
+        ("start", ctypes.c_size_t),
+        ("end", ctypes.c_size_t),
+        ("nearest_len", ctypes.c_size_t),
+        ("nearest_written", ctypes.c_size_t),
+    ]
+
+
+class Diagnosis(ctypes.Structure):
+    _fields_ = [
+        ("answer", Answer),
+        ("fault", Fault),
+    ]
+
+
 class ReadAnswer(ctypes.Structure):
     _fields_ = [
         ("status", ctypes.c_uint32),
@@ -83,7 +101,7 @@ def _load() -> ctypes.CDLL:
     moment = ctypes.POINTER(RawMoment)
     calls = {
         "timefd_version": ([], ctypes.c_uint32),
-        "timefd_check": ([kind, text, size, buffer, size], Answer),
+        "timefd_diagnose": ([kind, text, size, buffer, size, buffer, size], Diagnosis),
         "timefd_convert": ([kind, kind, text, size, buffer, size], Answer),
         "timefd_format": ([kind, text, size, moment, buffer, size], FormatAnswer),
         "timefd_read": ([kind, text, size, nodes, size, buffer, size], ReadAnswer),

@@ -1,5 +1,9 @@
 //! Buffers whose length a text or the library decides.
 
+use alloc::boxed::Box;
+use alloc::string::String;
+use alloc::vec::Vec;
+
 /// A buffer of so many values. `None` where there is no memory for it.
 pub(crate) fn filled<T: Clone>(len: usize, value: T) -> Option<Vec<T>> {
     let mut buffer = Vec::new();
@@ -19,4 +23,10 @@ pub(crate) fn copied<T: Copy>(values: &[T]) -> Option<Vec<T>> {
 /// A text of these bytes, with no room to spare. `None` where there is no memory for it.
 pub(crate) fn string(bytes: &[u8]) -> Option<String> {
     Some(String::from_utf8(copied(bytes)?).expect("the library writes text"))
+}
+
+/// A text of these bytes, which has no room to spare, so that nothing is moved and no memory taken.
+pub(crate) fn boxed_text(bytes: Vec<u8>) -> Box<str> {
+    debug_assert_eq!(bytes.capacity(), bytes.len());
+    String::from_utf8(bytes).expect("the library writes text").into_boxed_str()
 }

@@ -1,6 +1,6 @@
 //! The components of a description, each with its modifiers.
 
-use std::num::NonZeroU16;
+use core::num::NonZeroU16;
 
 use crate::modifier::{Padding, SubsecondDigits, TrailingInput};
 
@@ -213,4 +213,51 @@ pub enum Component {
         /// What becomes of input behind the end.
         trailing_input: TrailingInput,
     },
+}
+
+impl Component {
+    /// The greatest length of any text that the component is shown as, in bytes.
+    ///
+    /// ```
+    /// use timefd::{Component, Padding};
+    ///
+    /// assert_eq!(Component::Day { padding: Padding::Zero }.max_bytes_needed(), 2);
+    /// ```
+    pub fn max_bytes_needed(self) -> usize {
+        match self {
+            Self::Ignore { .. } | Self::End { .. } => 0,
+            Self::WeekdaySunday { .. } | Self::WeekdayMonday { .. } => 1,
+            Self::Day { .. }
+            | Self::MonthNumerical { .. }
+            | Self::WeekNumberIso { .. }
+            | Self::WeekNumberSunday { .. }
+            | Self::WeekNumberMonday { .. }
+            | Self::CalendarYearLastTwo { .. }
+            | Self::IsoYearLastTwo { .. }
+            | Self::Hour12 { .. }
+            | Self::Hour24 { .. }
+            | Self::Minute { .. }
+            | Self::Period { .. }
+            | Self::Second { .. }
+            | Self::OffsetMinute { .. }
+            | Self::OffsetSecond { .. } => 2,
+            Self::MonthShort { .. }
+            | Self::WeekdayShort { .. }
+            | Self::Ordinal { .. }
+            | Self::OffsetHour { .. }
+            | Self::CalendarYearCenturyStandardRange { .. }
+            | Self::IsoYearCenturyStandardRange { .. } => 3,
+            Self::CalendarYearFullStandardRange { .. }
+            | Self::IsoYearFullStandardRange { .. }
+            | Self::CalendarYearCenturyExtendedRange { .. }
+            | Self::IsoYearCenturyExtendedRange { .. } => 5,
+            Self::CalendarYearFullExtendedRange { .. } | Self::IsoYearFullExtendedRange { .. } => 7,
+            Self::MonthLong { .. } | Self::WeekdayLong { .. } => 9,
+            Self::Subsecond { digits } => digits.at_most(),
+            Self::UnixTimestampSecond { .. } => 15,
+            Self::UnixTimestampMillisecond { .. } => 18,
+            Self::UnixTimestampMicrosecond { .. } => 21,
+            Self::UnixTimestampNanosecond { .. } => 24,
+        }
+    }
 }

@@ -1,9 +1,52 @@
-//! Version 2 for version 1, and version 3 for version 2.
+//! Texts of one language as ones of another.
+
+use alloc::string::String;
+use core::error::Error;
+use core::fmt;
 
 use crate::buffer;
+use crate::description::FormatDescription;
 use crate::error::ParseError;
 use crate::sys;
-use crate::version::Version;
+use crate::version::{Language, Version};
+
+/// Rewrites a text of a language as one of another that has the same items: from version 1 to
+/// versions 2 and 3, from version 2 to version 3, from strftime to version 3, and from version 3 to
+/// version 3, which is the description's normal form, the same for all that mean the same.
+///
+/// # Errors
+///
+/// What the language refuses the text for, that memory ran out, or that there is no conversion
+/// between these languages.
+///
+/// ```
+/// use timefd::{ConvertError, Language, Version, convert};
+///
+/// let text = convert(Language::Strftime, Version::Three, "%d.%m.")?;
+/// assert_eq!(text, "[day].[month].");
+/// let normal = convert(Version::Three, Version::Three, "[ month  repr:numerical ]")?;
+/// assert_eq!(normal, "[month]");
+/// let error = convert(Version::Three, Version::One, "[day]");
+/// assert_eq!(error, Err(ConvertError::NoConversion));
+/// # Ok::<(), ConvertError>(())
+/// ```
+pub fn convert(
+    from: impl Into<Language>,
+    to: impl Into<Language>,
+    text: &str,
+) -> Result<String, ConvertError> {
+    let (from, to) = (from.into(), to.into());
+    let mut short = [0; SHORT];
+    let first = converted(from, to, text, &mut short)?;
+    if first.value <= SHORT {
+        return buffer::string(&short[..first.value]).ok_or(NO_MEMORY);
+    }
+    // The library is asked once more, as it has said how much room it wants.
+    let mut long = buffer::filled(first.value, 0).ok_or(NO_MEMORY)?;
+    let second = converted(from, to, text, &mut long)?;
+    assert_eq!(second.written, long.len(), "there was room for what the library told");
+    Ok(String::from_utf8(long).expect("a description is text"))
+}
 
 /// Rewrites a description of version 1 as one of version 2 that has the same items, once
 /// neighbouring literals are joined.
@@ -16,7 +59,7 @@ use crate::version::Version;
 /// assert_eq!(timefd::v1_to_v2("[[[day]]"), Ok(r"\[[day]\]".to_owned()));
 /// ```
 pub fn v1_to_v2(text: &str) -> Result<String, ParseError> {
-    converted(Version::One, text, sys::v1_to_v2)
+    convert(Version::One, Version::Two, text).map_err(ConvertError::of_text)
 }
 
 /// Writes a description of version 2 anew as one of version 3 that has the same items: in small
@@ -31,35 +74,81 @@ pub fn v1_to_v2(text: &str) -> Result<String, ParseError> {
 /// assert_eq!(timefd::v2_to_v3("[YEAR]]"), Ok(r"[year range:extended]\]".to_owned()));
 /// ```
 pub fn v2_to_v3(text: &str) -> Result<String, ParseError> {
-    converted(Version::Two, text, sys::v2_to_v3)
+    convert(Version::Two, Version::Three, text).map_err(ConvertError::of_text)
+}
+
+/// The text of version 3 that has the same items, in its normal form where the description is of
+/// version 3. Where memory runs out that is [`fmt::Error`].
+///
+/// ```
+/// use timefd::{FormatDescription, Version};
+///
+/// let description = FormatDescription::parse(Version::Three, "[ day padding:zero ]/[month]")?;
+/// assert_eq!(description.to_string(), "[day]/[month]");
+/// assert_eq!(FormatDescription::parse_strftime("%R")?.to_string(), "[hour]:[minute]");
+/// # Ok::<(), timefd::ParseError>(())
+/// ```
+impl fmt::Display for FormatDescription<'_> {
+    fn fmt(&self, f: &mut fmt::Formatter<'_>) -> fmt::Result {
+        f.pad(&convert(self.language(), Version::Three, self.text()).map_err(|_| fmt::Error)?)
+    }
+}
+
+/// Why a text is not converted.
+#[derive(Debug, Clone, PartialEq, Eq)]
+#[non_exhaustive]
+pub enum ConvertError {
+    /// The text is no text of its language, or memory ran out.
+    Parse(ParseError),
+    /// There is no conversion from this language to this one.
+    NoConversion,
+}
+
+impl ConvertError {
+    /// The error of the text, of languages between which there is a conversion.
+    fn of_text(self) -> ParseError {
+        match self {
+            Self::Parse(error) => error,
+            Self::NoConversion => unreachable!("each version leads to the next one"),
+        }
+    }
+}
+
+impl fmt::Display for ConvertError {
+    fn fmt(&self, f: &mut fmt::Formatter<'_>) -> fmt::Result {
+        match self {
+            Self::Parse(error) => error.fmt(f),
+            Self::NoConversion => f.write_str("there is no conversion between these languages"),
+        }
+    }
+}
+
+impl Error for ConvertError {
+    fn source(&self) -> Option<&(dyn Error + 'static)> {
+        match self {
+            Self::Parse(error) => Some(error),
+            Self::NoConversion => None,
+        }
+    }
 }
 
 /// Room on the stack for what most texts become.
 const SHORT: usize = 256;
 
-/// What a call of the library writes for a text of a version. Where that is long the library is
-/// asked twice, as it says how much room it wants.
-fn converted(
-    version: Version,
-    text: &str,
-    call: fn(&str, &mut [u8]) -> sys::Answer,
-) -> Result<String, ParseError> {
-    let mut short = [0; SHORT];
-    let first = accepted(version, text, call(text, &mut short))?;
-    if first.value <= SHORT {
-        return buffer::string(&short[..first.value]).ok_or(ParseError::OutOfMemory);
-    }
-    let mut long = buffer::filled(first.value, 0).ok_or(ParseError::OutOfMemory)?;
-    let second = accepted(version, text, call(text, &mut long))?;
-    assert_eq!(second.written, long.len(), "there was room for what the library told");
-    Ok(String::from_utf8(long).expect("a description is text"))
-}
+/// Memory ran out.
+const NO_MEMORY: ConvertError = ConvertError::Parse(ParseError::OutOfMemory);
 
-/// The answer where the text is accepted, else the error.
-fn accepted(version: Version, text: &str, answer: sys::Answer) -> Result<sys::Answer, ParseError> {
-    if answer.status == sys::ACCEPTED {
-        Ok(answer)
-    } else {
-        Err(ParseError::of(version.number(), text, answer.status))
+/// The library's answer where the text is converted, else the error.
+fn converted(
+    from: Language,
+    to: Language,
+    text: &str,
+    buffer: &mut [u8],
+) -> Result<sys::Answer, ConvertError> {
+    let answer = sys::convert(from.number(), to.number(), text, buffer);
+    match answer.status {
+        sys::ACCEPTED => Ok(answer),
+        sys::NO_CONVERSION => Err(ConvertError::NoConversion),
+        status => Err(ConvertError::Parse(ParseError::of(from.number(), text, status))),
     }
 }

@@ -1,7 +1,7 @@
 //! Components from the numbers of a node. They are those of the header, where the components are
 //! `TIMEFD_DAY`, 1, to `TIMEFD_END`, 37.
 
-use std::num::NonZeroU16;
+use core::num::NonZeroU16;
 
 use crate::component::Component;
 use crate::modifier::{Padding, SubsecondDigits, TrailingInput, boolean};
@@ -9,12 +9,14 @@ use crate::sys::RawNode;
 
 /// The component of a node. `None` where the numbers name none, which the library never answers.
 pub(crate) fn component(node: &RawNode) -> Option<Component> {
-    padded(node)
-        .or_else(|| padded_with_sign(node))
-        .or_else(|| named(node))
-        .or_else(|| numbered_weekday(node))
-        .or_else(|| unix_timestamp(node))
-        .or_else(|| other(node))
+    match node.component {
+        1 | 4 | 5 | 10..=12 | 21..=25 | 27 | 30 | 31 => padded(node),
+        13..=20 | 29 => padded_with_sign(node),
+        2 | 3 | 6 | 7 | 26 => named(node),
+        8 | 9 => numbered_weekday(node),
+        33..=36 => unix_timestamp(node),
+        _ => other(node),
+    }
 }
 
 /// The components with no modifier but the padding.

@@ -1,14 +1,16 @@
 //! A description that was read.
 
-use std::fmt;
+use core::fmt;
+use core::hash::{Hash, Hasher};
 
 use crate::buffer;
-use crate::entry::{self, Entry, FillError};
 use crate::error::ParseError;
-use crate::node::Members;
+use crate::literal::Literals;
+use crate::node::{Item, Members, Nodes};
+use crate::parts::Parts;
 use crate::sys::{self, COMPOUND, RawNode, ReadAnswer};
-use crate::version::Version;
-use crate::walks::{Nodes, Parts};
+use crate::tree::{BuildError, Tree};
+use crate::version::{Language, Version};
 
 /// A format description: what is written of a date or time, and what of it is read.
 ///
@@ -23,14 +25,18 @@ use crate::walks::{Nodes, Parts};
 /// assert!(items.next().is_none());
 /// # Ok::<(), timefd::ParseError>(())
 /// ```
-#[derive(Clone, PartialEq, Eq)]
-pub struct FormatDescription {
-    entries: Vec<Entry>,
-    literals: String,
+///
+/// It borrows its text. Two are equal where they have the same nodes, whatever texts and languages
+/// they were read from.
+#[derive(Clone)]
+pub struct FormatDescription<'a> {
+    text: &'a str,
+    language: Language,
+    tree: Tree<'a>,
     max_bytes: usize,
 }
 
-impl FormatDescription {
+impl<'a> FormatDescription<'a> {
     /// Reads a text of a version.
     ///
     /// # Errors
@@ -48,8 +54,8 @@ impl FormatDescription {
     /// assert_eq!(error.to_string(), "unclosed opening bracket at byte index 0");
     /// # Ok::<(), timefd::ParseError>(())
     /// ```
-    pub fn parse(version: Version, text: &str) -> Result<Self, ParseError> {
-        Self::read(version.number(), text)
+    pub fn parse(version: Version, text: &'a str) -> Result<Self, ParseError> {
+        Self::parse_in(Language::Version(version), text)
     }
 
     /// Reads conversion specifications of strftime. `%F` and others that stand for several are a
@@ -66,27 +72,78 @@ impl FormatDescription {
     /// assert_eq!(FormatDescription::parse_strftime("100%").unwrap_err().index(), Some(3));
     /// # Ok::<(), timefd::ParseError>(())
     /// ```
-    pub fn parse_strftime(text: &str) -> Result<Self, ParseError> {
-        Self::read(sys::STRFTIME, text)
+    pub fn parse_strftime(text: &'a str) -> Result<Self, ParseError> {
+        Self::parse_in(Language::Strftime, text)
     }
 
-    fn read(kind: u32, text: &str) -> Result<Self, ParseError> {
-        let raw = Raw::read(kind, text)?;
-        let is_one_tree = kind == Version::Three.number();
-        let nodes = match raw.nodes.split_last() {
+    /// Reads a text of a language, as [`parse`](Self::parse) and
+    /// [`parse_strftime`](Self::parse_strftime) do.
+    ///
+    /// # Errors
+    ///
+    /// The fault that the rules of the language assign to the text, or that memory ran out.
+    pub fn parse_in(language: Language, text: &'a str) -> Result<Self, ParseError> {
+        // Most texts have room on the stack. For a longer one there is room for all on the heap.
+        let mut nodes = [RawNode::default(); SHORT_NODES];
+        let mut literals = [0; SHORT_LITERALS];
+        let answer = accepted(language, text, &mut nodes, &mut literals)?;
+        if answer.written {
+            return Self::built(language, text, &answer, &nodes, &literals);
+        }
+        let nodes = buffer::filled(answer.nodes, RawNode::default());
+        let literals = buffer::filled(answer.literals, 0);
+        let (mut nodes, mut literals) = nodes.zip(literals).ok_or(ParseError::OutOfMemory)?;
+        let answer = accepted(language, text, &mut nodes, &mut literals)?;
+        assert!(answer.written, "there was room for what the library told");
+        Self::built(language, text, &answer, &nodes, &literals)
+    }
+
+    /// The description of what the library wrote to the fronts of two buffers.
+    fn built(
+        language: Language,
+        text: &'a str,
+        answer: &ReadAnswer,
+        nodes: &[RawNode],
+        literals: &[u8],
+    ) -> Result<Self, ParseError> {
+        let is_one_tree = language == Language::Version(Version::Three);
+        let nodes = match nodes[..answer.nodes].split_last() {
             // The members of the whole tree are the items, as in the other languages.
             Some((whole, members)) if is_one_tree && whole.what == COMPOUND => members,
-            _ => &raw.nodes,
+            _ => &nodes[..answer.nodes],
         };
-        let literals = String::from_utf8(raw.literals).expect("literals are text");
-        let mut entries =
-            buffer::filled(nodes.len(), entry::VACANT).ok_or(ParseError::OutOfMemory)?;
-        match entry::fill(&mut entries, nodes, &literals) {
-            Ok(()) => {}
-            Err(FillError::OutOfMemory) => return Err(ParseError::OutOfMemory),
-            Err(FillError::Malformed) => unreachable!("the nodes are as the header says"),
+        match Tree::build(nodes, Literals::new(text, &literals[..answer.literals])) {
+            Ok(tree) => Ok(Self { text, language, tree, max_bytes: answer.bytes }),
+            Err(BuildError::OutOfMemory) => Err(ParseError::OutOfMemory),
+            Err(BuildError::Malformed) => unreachable!("the nodes are as the header says"),
         }
-        Ok(Self { entries, literals, max_bytes: raw.bytes })
+    }
+
+    /// The text that was read.
+    pub fn text(&self) -> &'a str {
+        self.text
+    }
+
+    /// The language that it was read in.
+    pub fn language(&self) -> Language {
+        self.language
+    }
+
+    /// The version that it was read in. `None` where that is strftime.
+    ///
+    /// ```
+    /// use timefd::{FormatDescription, Version};
+    ///
+    /// let description = FormatDescription::parse(Version::Two, "[DAY]")?;
+    /// assert_eq!(description.version(), Some(Version::Two));
+    /// assert_eq!(FormatDescription::parse_strftime("%d")?.version(), None);
+    /// # Ok::<(), timefd::ParseError>(())
+    /// ```
+    pub fn version(&self) -> Option<Version> {
+        match self.language {
+            Language::Version(version) => Some(version),
+            Language::Strftime => None,
+        }
     }
 
     /// The greatest length of any text that the description is shown as, in bytes, whatever language
@@ -108,7 +165,7 @@ impl FormatDescription {
 
     /// The items in their order.
     pub fn items(&self) -> Members<'_> {
-        Members { entries: &self.entries, literals: &self.literals }
+        Members::items(&self.tree)
     }
 
     /// All nodes, each before its members.
@@ -126,7 +183,7 @@ impl FormatDescription {
     /// # Ok::<(), timefd::ParseError>(())
     /// ```
     pub fn nodes(&self) -> Nodes<'_> {
-        Nodes { rest: self.items() }
+        Nodes::new(&self.tree)
     }
 
     /// What a formatter writes, in turn: of alternatives the first, and of a part that may be
@@ -141,54 +198,54 @@ impl FormatDescription {
     /// # Ok::<(), timefd::ParseError>(())
     /// ```
     pub fn parts(&self) -> Parts<'_> {
-        Parts { entries: &self.entries, literals: &self.literals, at: 0 }
+        Parts::new(&self.tree)
     }
 }
 
-impl fmt::Debug for FormatDescription {
+impl PartialEq for FormatDescription<'_> {
+    fn eq(&self, other: &Self) -> bool {
+        self.tree == other.tree
+    }
+}
+
+impl Eq for FormatDescription<'_> {}
+
+impl Hash for FormatDescription<'_> {
+    fn hash<H: Hasher>(&self, state: &mut H) {
+        self.tree.hash(state);
+    }
+}
+
+impl<'d> IntoIterator for &'d FormatDescription<'_> {
+    type Item = Item<'d>;
+    type IntoIter = Members<'d>;
+
+    fn into_iter(self) -> Members<'d> {
+        self.items()
+    }
+}
+
+impl fmt::Debug for FormatDescription<'_> {
     fn fmt(&self, f: &mut fmt::Formatter<'_>) -> fmt::Result {
         f.debug_tuple("FormatDescription").field(&self.items()).finish()
     }
-}
-
-/// What the library answers of a text that it accepts.
-struct Raw {
-    bytes: usize,
-    nodes: Vec<RawNode>,
-    literals: Vec<u8>,
 }
 
 /// Room on the stack for what most texts have.
 const SHORT_NODES: usize = 32;
 const SHORT_LITERALS: usize = 128;
 
-impl Raw {
-    /// Reads with room on the stack, and where that is too little once more with room for all: what
-    /// is held is what the text has, however long it is.
-    fn read(kind: u32, text: &str) -> Result<Self, ParseError> {
-        let mut nodes = [RawNode::default(); SHORT_NODES];
-        let mut literals = [0; SHORT_LITERALS];
-        let answer = accepted(kind, text, sys::read(kind, text, &mut nodes, &mut literals))?;
-        if answer.written {
-            let nodes = buffer::copied(&nodes[..answer.nodes]).ok_or(ParseError::OutOfMemory)?;
-            let literals =
-                buffer::copied(&literals[..answer.literals]).ok_or(ParseError::OutOfMemory)?;
-            return Ok(Self { bytes: answer.bytes, nodes, literals });
-        }
-        let nodes = buffer::filled(answer.nodes, RawNode::default());
-        let literals = buffer::filled(answer.literals, 0);
-        let (mut nodes, mut literals) = nodes.zip(literals).ok_or(ParseError::OutOfMemory)?;
-        let answer = accepted(kind, text, sys::read(kind, text, &mut nodes, &mut literals))?;
-        assert!(answer.written, "there was room for what the library told");
-        Ok(Self { bytes: answer.bytes, nodes, literals })
-    }
-}
-
-/// The answer where the text is accepted, else the error.
-fn accepted(kind: u32, text: &str, answer: ReadAnswer) -> Result<ReadAnswer, ParseError> {
+/// The library's answer where the text is accepted, else the error.
+fn accepted(
+    language: Language,
+    text: &str,
+    nodes: &mut [RawNode],
+    literals: &mut [u8],
+) -> Result<ReadAnswer, ParseError> {
+    let answer = sys::read(language.number(), text, nodes, literals);
     if answer.status == sys::ACCEPTED {
         Ok(answer)
     } else {
-        Err(ParseError::of(kind, text, answer.status))
+        Err(ParseError::of(language.number(), text, answer.status))
     }
 }

@@ -1,9 +1,9 @@
 //! Why a text is not read.
 
-use std::error::Error;
-use std::fmt;
+use core::error::Error;
+use core::fmt;
 
-use crate::buffer;
+use crate::fault::Fault;
 use crate::sys;
 
 /// Why a text is not read. It shows itself as a sentence.
@@ -19,68 +19,52 @@ use crate::sys;
 #[non_exhaustive]
 pub enum ParseError {
     /// The text is no description.
-    Invalid {
-        /// The index of the byte at fault: how many bytes of the text stand before it. It is at
-        /// most the text's length, and stands between two characters, so that both parts of the
-        /// text can be sliced.
-        index: usize,
-        /// What is wrong there. The library writes it, and it is proved to be the sentence of the
-        /// fault that the rules assign to the text.
-        sentence: Box<str>,
-    },
-    /// Memory ran out: for what a description holds, or for the sentence of a fault, which is
+    Invalid(Fault),
+    /// Memory ran out: for what a description holds, or for what is told of a fault, which is
     /// copied. The library itself finds a fault without memory.
     OutOfMemory,
 }
 
 impl ParseError {
+    /// The fault of the text. `None` where memory ran out.
+    pub fn fault(&self) -> Option<&Fault> {
+        match self {
+            Self::Invalid(fault) => Some(fault),
+            Self::OutOfMemory => None,
+        }
+    }
+
     /// The index of the byte at fault: how many bytes of the text stand before it. `None` where
     /// memory ran out.
     pub fn index(&self) -> Option<usize> {
-        match self {
-            Self::Invalid { index, .. } => Some(*index),
-            Self::OutOfMemory => None,
-        }
+        self.fault().map(Fault::index)
     }
 
     /// What a text is not read for, from the status of a call that doesn't accept it in the
     /// language of a number.
     pub(crate) fn of(kind: u32, text: &str, status: u32) -> Self {
         match status {
-            sys::REFUSED => Self::fault(kind, text).unwrap_or(Self::OutOfMemory),
+            sys::REFUSED => Fault::of(kind, text).map_or(Self::OutOfMemory, Self::Invalid),
             sys::NO_MEMORY => Self::OutOfMemory,
             _ => unreachable!("the status {status} of a text in UTF-8"),
         }
     }
-
-    /// The fault of a text that is refused. `None` where there is no memory for its sentence.
-    fn fault(kind: u32, text: &str) -> Option<Self> {
-        let mut short = [0; SHORT];
-        let first = sys::check(kind, text, &mut short);
-        let sentence = if first.sentence_len <= SHORT {
-            buffer::string(&short[..first.sentence_len])?
-        } else {
-            let mut long = buffer::filled(first.sentence_len, 0)?;
-            let second = sys::check(kind, text, &mut long);
-            assert_eq!(second.written, long.len(), "there was room for what the library told");
-            String::from_utf8(long).expect("a sentence is text")
-        };
-        // There is no room to spare, so this moves nothing and takes no memory.
-        debug_assert_eq!(sentence.capacity(), sentence.len());
-        Some(Self::Invalid { index: first.value, sentence: sentence.into_boxed_str() })
-    }
 }
-
-/// Room on the stack for each sentence that names nothing long.
-const SHORT: usize = 128;
 
 impl fmt::Display for ParseError {
     fn fmt(&self, f: &mut fmt::Formatter<'_>) -> fmt::Result {
         match self {
-            Self::Invalid { sentence, .. } => f.write_str(sentence),
+            Self::Invalid(fault) => fault.fmt(f),
             Self::OutOfMemory => f.write_str("out of memory"),
         }
     }
 }
 
-impl Error for ParseError {}
+impl Error for ParseError {
+    fn source(&self) -> Option<&(dyn Error + 'static)> {
+        match self {
+            Self::Invalid(fault) => Some(fault),
+            Self::OutOfMemory => None,
+        }
+    }
+}

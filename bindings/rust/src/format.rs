@@ -1,13 +1,16 @@
 //! Dates and times written by descriptions.
 
-use std::error::Error;
-use std::fmt;
+use alloc::string::String;
+use core::error::Error;
+use core::fmt;
+use core::str::from_utf8;
 
 use crate::buffer;
 use crate::error::ParseError;
 use crate::moment::Moment;
-use crate::sys::{self, FormatAnswer, STRFTIME};
-use crate::version::Version;
+use crate::sys::{self, FormatAnswer, RawMoment};
+use crate::version::{Language, Version};
+use crate::write::WriteError;
 
 /// Writes the moment by a description of a version.
 ///
@@ -46,7 +49,7 @@ pub fn format(version: Version, text: &str, moment: &Moment) -> Result<String, F
 /// # Ok::<(), FormatError>(())
 /// ```
 pub fn format_strftime(text: &str, moment: &Moment) -> Result<String, FormatError> {
-    formatted(STRFTIME, text, moment)
+    formatted(Language::Strftime.number(), text, moment)
 }
 
 /// Why nothing is written.
@@ -183,17 +186,41 @@ const SHORT: usize = 128;
 /// Memory ran out.
 const NO_MEMORY: FormatError = FormatError::Parse(ParseError::OutOfMemory);
 
-/// What is written by a text in the language of a number. Where that is long the library is asked
-/// twice, as it says how much room it wants.
-fn formatted(kind: u32, text: &str, moment: &Moment) -> Result<String, FormatError> {
+/// What is written by a text in the language of a number.
+pub(crate) fn formatted(kind: u32, text: &str, moment: &Moment) -> Result<String, FormatError> {
     let moment = moment.raw();
     let mut short = [0; SHORT];
     let len = accepted(kind, text, &sys::format(kind, text, &moment, &mut short))?;
     if len <= SHORT {
-        return buffer::string(&short[..len]).ok_or(NO_MEMORY);
+        buffer::string(&short[..len]).ok_or(NO_MEMORY)
+    } else {
+        long(kind, text, &moment, len)
     }
+}
+
+/// Hands what is written by a text to an output, all at once; it takes no memory where that is
+/// short.
+pub(crate) fn format_to<E>(
+    kind: u32,
+    text: &str,
+    moment: &Moment,
+    output: impl FnOnce(&str) -> Result<(), E>,
+) -> Result<(), WriteError<E>> {
+    let moment = moment.raw();
+    let mut short = [0; SHORT];
+    let len = accepted(kind, text, &sys::format(kind, text, &moment, &mut short))?;
+    let written = if len <= SHORT {
+        output(from_utf8(&short[..len]).expect("what is written is text"))
+    } else {
+        output(&long(kind, text, &moment, len)?)
+    };
+    written.map_err(WriteError::Output)
+}
+
+/// The same of so many bytes. The library is asked once more, as it has said how much room it wants.
+fn long(kind: u32, text: &str, moment: &RawMoment, len: usize) -> Result<String, FormatError> {
     let mut long = buffer::filled(len, 0).ok_or(NO_MEMORY)?;
-    let answer = sys::format(kind, text, &moment, &mut long);
+    let answer = sys::format(kind, text, moment, &mut long);
     accepted(kind, text, &answer)?;
     assert_eq!(answer.written, long.len(), "there was room for what the library told");
     Ok(String::from_utf8(long).expect("what is written is text"))

@@ -33,28 +33,39 @@
 //! Calls may come from any thread. Reading a text that is nested as deep as it may be, 127 deep,
 //! takes some 65 KiB of stack.
 
+#![no_std]
+
+extern crate alloc;
+#[cfg(any(test, feature = "std"))]
+extern crate std;
+
 mod buffer;
 mod component;
 mod convert;
 mod decode;
 mod description;
-mod entry;
 mod error;
+mod fault;
 mod format;
+mod literal;
 mod modifier;
 mod moment;
 mod node;
+mod parts;
 mod sys;
+mod tree;
 mod version;
-mod walks;
+mod write;
 
 pub use component::Component;
-pub use convert::{v1_to_v2, v2_to_v3};
+pub use convert::{ConvertError, convert, v1_to_v2, v2_to_v3};
 pub use description::FormatDescription;
 pub use error::ParseError;
+pub use fault::{Fault, FaultKind};
 pub use format::{FormatError, Lack, Number, format, format_strftime};
 pub use modifier::{Padding, SubsecondDigits, TrailingInput};
 pub use moment::{Date, Moment, Time};
-pub use node::{Item, Members, Node};
-pub use version::Version;
-pub use walks::{Nodes, Part, Parts};
+pub use node::{Item, Members, Node, Nodes};
+pub use parts::{Part, Parts};
+pub use version::{Language, UnknownVersion, Version};
+pub use write::{Shown, WriteError};

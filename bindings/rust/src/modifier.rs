@@ -1,11 +1,12 @@
 //! The values of modifiers, each with the number that the static library gives it.
 
 /// How a number that is shorter than its field is filled on the left.
-#[derive(Debug, Clone, Copy, PartialEq, Eq, Hash)]
+#[derive(Debug, Clone, Copy, Default, PartialEq, Eq, Hash)]
 pub enum Padding {
     /// By spaces.
     Space,
     /// By zeros.
+    #[default]
     Zero,
     /// Not at all.
     None,
@@ -23,7 +24,7 @@ impl Padding {
 }
 
 /// How many digits of a fraction of a second are shown.
-#[derive(Debug, Clone, Copy, PartialEq, Eq, Hash)]
+#[derive(Debug, Clone, Copy, Default, PartialEq, Eq, Hash)]
 pub enum SubsecondDigits {
     /// One: tenths of a second.
     One,
@@ -44,6 +45,7 @@ pub enum SubsecondDigits {
     /// Nine: nanoseconds.
     Nine,
     /// As many of nine as stand before the zeros at the end, and at least one.
+    #[default]
     OneOrMore,
 }
 
@@ -65,10 +67,28 @@ impl SubsecondDigits {
     }
 }
 
+impl SubsecondDigits {
+    /// How many they are, or may be.
+    pub(crate) fn at_most(self) -> usize {
+        match self {
+            Self::One => 1,
+            Self::Two => 2,
+            Self::Three => 3,
+            Self::Four => 4,
+            Self::Five => 5,
+            Self::Six => 6,
+            Self::Seven => 7,
+            Self::Eight => 8,
+            Self::Nine | Self::OneOrMore => 9,
+        }
+    }
+}
+
 /// What becomes of input behind the end.
-#[derive(Debug, Clone, Copy, PartialEq, Eq, Hash)]
+#[derive(Debug, Clone, Copy, Default, PartialEq, Eq, Hash)]
 pub enum TrailingInput {
     /// It is refused.
+    #[default]
     Prohibit,
     /// It is dropped unread.
     Discard,

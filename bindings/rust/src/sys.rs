@@ -16,14 +16,12 @@
 /// The version of the header that this module is written for.
 const VERSION: u32 = 1000;
 
-/// The number of strftime, beside those of [`Version`](crate::Version).
-pub(crate) const STRFTIME: u32 = 4;
-
 pub(crate) const ACCEPTED: u32 = 0;
 pub(crate) const REFUSED: u32 = 1;
 pub(crate) const NO_MEMORY: u32 = 3;
 pub(crate) const UNSHOWN: u32 = 5;
 pub(crate) const OUT_OF_RANGE: u32 = 6;
+pub(crate) const NO_CONVERSION: u32 = 7;
 
 pub(crate) const LITERAL: u32 = 1;
 pub(crate) const COMPONENT: u32 = 2;
@@ -53,11 +51,30 @@ pub(crate) struct RawNode {
 
 /// `timefd_answer` of the header.
 #[repr(C)]
+#[derive(Debug, Clone, Copy)]
 pub(crate) struct Answer {
     pub(crate) status: u32,
     pub(crate) value: usize,
     pub(crate) sentence_len: usize,
     pub(crate) written: usize,
+}
+
+/// `timefd_fault` of the header, which says what each field means.
+#[repr(C)]
+pub(crate) struct RawFault {
+    pub(crate) code: u32,
+    pub(crate) out_of_memory: bool,
+    pub(crate) start: usize,
+    pub(crate) end: usize,
+    pub(crate) nearest_len: usize,
+    pub(crate) nearest_written: usize,
+}
+
+/// `timefd_diagnosis` of the header.
+#[repr(C)]
+pub(crate) struct Diagnosis {
+    pub(crate) answer: Answer,
+    pub(crate) fault: RawFault,
 }
 
 /// `timefd_read_answer` of the header.
@@ -106,6 +123,12 @@ pub(crate) struct FormatAnswer {
 const _: () = {
     use core::mem::{offset_of, size_of};
     assert!(size_of::<Answer>() == 32 && size_of::<RawNode>() == 48);
+    assert!(size_of::<RawFault>() == 40 && size_of::<Diagnosis>() == 72);
+    assert!(offset_of!(RawFault, code) == 0 && offset_of!(RawFault, out_of_memory) == 4);
+    assert!(offset_of!(RawFault, start) == 8 && offset_of!(RawFault, end) == 16);
+    assert!(offset_of!(RawFault, nearest_len) == 24);
+    assert!(offset_of!(RawFault, nearest_written) == 32);
+    assert!(offset_of!(Diagnosis, answer) == 0 && offset_of!(Diagnosis, fault) == 32);
     assert!(size_of::<ReadAnswer>() == 48 && offset_of!(ReadAnswer, written) == 32);
     assert!(offset_of!(ReadAnswer, bytes) == 40);
     assert!(offset_of!(Answer, status) == 0 && offset_of!(ReadAnswer, status) == 0);
@@ -147,8 +170,23 @@ unsafe extern "C" {
         sentence: *mut u8,
         room: usize,
     ) -> Answer;
-    fn timefd_v1_to_v2(text: *const u8, len: usize, buffer: *mut u8, room: usize) -> Answer;
-    fn timefd_v2_to_v3(text: *const u8, len: usize, buffer: *mut u8, room: usize) -> Answer;
+    fn timefd_diagnose(
+        kind: u32,
+        text: *const u8,
+        len: usize,
+        sentence: *mut u8,
+        sentence_room: usize,
+        word: *mut u8,
+        word_room: usize,
+    ) -> Diagnosis;
+    fn timefd_convert(
+        from: u32,
+        to: u32,
+        text: *const u8,
+        len: usize,
+        buffer: *mut u8,
+        room: usize,
+    ) -> Answer;
     fn timefd_format(
         kind: u32,
         text: *const u8,
@@ -197,18 +235,32 @@ pub(crate) fn check(kind: u32, text: &str, sentence: &mut [u8]) -> Answer {
     unsafe { timefd_check(kind, text.as_ptr(), text.len(), sentence.as_mut_ptr(), sentence.len()) }
 }
 
-/// The text of version 2 for a text of version 1, where the buffer has room for all of it.
-pub(crate) fn v1_to_v2(text: &str, buffer: &mut [u8]) -> Answer {
+/// What the text is in a language, with the front of the sentence of its fault, the nearest word
+/// where its buffer has room for it, and what else is told of the fault.
+pub(crate) fn diagnose(kind: u32, text: &str, sentence: &mut [u8], word: &mut [u8]) -> Diagnosis {
     expect_version();
-    // SAFETY: as in `check`.
-    unsafe { timefd_v1_to_v2(text.as_ptr(), text.len(), buffer.as_mut_ptr(), buffer.len()) }
+    // SAFETY: the pointers and the lengths are those of three slices that are borrowed for the
+    // call, two of them for it alone.
+    unsafe {
+        timefd_diagnose(
+            kind,
+            text.as_ptr(),
+            text.len(),
+            sentence.as_mut_ptr(),
+            sentence.len(),
+            word.as_mut_ptr(),
+            word.len(),
+        )
+    }
 }
 
-/// The text of version 3 for a text of version 2, where the buffer has room for all of it.
-pub(crate) fn v2_to_v3(text: &str, buffer: &mut [u8]) -> Answer {
+/// The text of the second language for a text of the first, where the buffer has room for all of it.
+pub(crate) fn convert(from: u32, to: u32, text: &str, buffer: &mut [u8]) -> Answer {
     expect_version();
     // SAFETY: as in `check`.
-    unsafe { timefd_v2_to_v3(text.as_ptr(), text.len(), buffer.as_mut_ptr(), buffer.len()) }
+    unsafe {
+        timefd_convert(from, to, text.as_ptr(), text.len(), buffer.as_mut_ptr(), buffer.len())
+    }
 }
 
 /// What the text writes of the moment, where the buffer has room for all of it.

@@ -1,16 +1,21 @@
 //! The numbers of the header `timefd.h`, each beside what this crate takes it for. The header stands
 //! in the repository, so this runs there alone.
 
+use std::borrow::ToOwned;
 use std::collections::BTreeMap;
 use std::fmt::Debug;
+use std::format;
 use std::fs;
+use std::string::String;
+use std::vec::Vec;
 
 use super::{ACCEPTED, COMPONENT, COMPOUND, FIRST, LITERAL, NO_MEMORY, OPTIONAL, REFUSED};
-use super::{OUT_OF_RANGE, RawMoment, RawNode, STRFTIME, UNSHOWN, VERSION};
+use super::{NO_CONVERSION, OUT_OF_RANGE, RawMoment, RawNode, UNSHOWN, VERSION};
 use crate::decode;
+use crate::fault::FaultKind;
 use crate::format::{Lack, Number};
 use crate::modifier::{Padding, SubsecondDigits, TrailingInput, boolean};
-use crate::version::Version;
+use crate::version::{Language, Version};
 
 const HEADER: &str = concat!(env!("CARGO_MANIFEST_DIR"), "/../../examples/timefd.h");
 
@@ -66,6 +71,11 @@ fn reason_names(number: u32) -> Vec<String> {
     [lack, range].into_iter().flatten().collect()
 }
 
+/// The fault that a number of the header is taken for.
+fn fault_name(number: u32) -> Option<String> {
+    FaultKind::from_number(number).map(|it| format!("FAULT_{}", header_name(it)))
+}
+
 /// What this crate takes the numbers for, by the header's names.
 fn taken() -> BTreeMap<String, u32> {
     let named = [
@@ -73,12 +83,13 @@ fn taken() -> BTreeMap<String, u32> {
         ("VERSION_1", Version::One.number()),
         ("VERSION_2", Version::Two.number()),
         ("VERSION_3", Version::Three.number()),
-        ("STRFTIME", STRFTIME),
+        ("STRFTIME", Language::Strftime.number()),
         ("ACCEPTED", ACCEPTED),
         ("REFUSED", REFUSED),
         ("NO_MEMORY", NO_MEMORY),
         ("UNSHOWN", UNSHOWN),
         ("OUT_OF_RANGE", OUT_OF_RANGE),
+        ("NO_CONVERSION", NO_CONVERSION),
         ("HAS_DATE", RawMoment::HAS_DATE),
         ("HAS_TIME", RawMoment::HAS_TIME),
         ("HAS_OFFSET", RawMoment::HAS_OFFSET),
@@ -95,7 +106,8 @@ fn taken() -> BTreeMap<String, u32> {
     });
     let reasons = (0..=255)
         .flat_map(|number| reason_names(number).into_iter().map(move |name| (name, number)));
-    named.into_iter().chain(components).chain(modifiers).chain(reasons).collect()
+    let faults = (0..=255).filter_map(|number| Some((fault_name(number)?, number)));
+    named.into_iter().chain(faults).chain(components).chain(modifiers).chain(reasons).collect()
 }
 
 #[test]
@@ -106,4 +118,22 @@ fn each_number_is_that_of_the_header() {
         assert!(defined.remove(name).is_some(), "the header has no {name}");
     }
     assert_eq!(taken(), defined);
+}
+
+/// The table of the linter's names.
+const CODES: &str =
+    concat!(env!("CARGO_MANIFEST_DIR"), "/../../crates/timefd_diagnosis/src/code.rt");
+
+#[test]
+fn each_fault_has_the_name_of_the_linter() {
+    let codes = fs::read_to_string(CODES).expect("the table stands in the repository");
+    let rows = codes.lines().filter_map(|line| {
+        let (code, name) = line.trim().strip_prefix("Code::")?.split_once(" => \"")?;
+        Some((code.to_owned(), name.strip_suffix("\",")?.to_owned()))
+    });
+    let rows: BTreeMap<String, String> = rows.collect();
+    let named = (0..=255).filter_map(FaultKind::from_number);
+    let named: BTreeMap<String, String> =
+        named.map(|kind| (format!("{kind:?}"), kind.name().to_owned())).collect();
+    assert_eq!(named, rows);
 }

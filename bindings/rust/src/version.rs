@@ -1,7 +1,19 @@
-//! The versions of format descriptions.
+//! The languages of texts: the versions of format descriptions, and strftime.
+
+use core::error::Error;
+use core::fmt;
+use core::str::FromStr;
 
 /// A version of the format descriptions of `time`.
-#[derive(Debug, Clone, Copy, PartialEq, Eq, Hash)]
+///
+/// ```
+/// use timefd::Version;
+///
+/// assert_eq!("3".parse(), Ok(Version::Three));
+/// assert_eq!(Version::try_from(1), Ok(Version::One));
+/// assert_eq!(Version::try_from(4).unwrap_err().to_string(), "no version is called so: 1, 2 and 3 are");
+/// ```
+#[derive(Debug, Clone, Copy, PartialEq, Eq, PartialOrd, Ord, Hash)]
 pub enum Version {
     /// Brackets are escaped as `[[`, names and values are read without regard to case.
     One,
@@ -15,10 +27,85 @@ pub enum Version {
 impl Version {
     /// The number that the library knows the version by.
     pub(crate) fn number(self) -> u32 {
-        match self {
-            Self::One => 1,
-            Self::Two => 2,
-            Self::Three => 3,
+        u8::from(self).into()
+    }
+}
+
+impl From<Version> for u8 {
+    fn from(version: Version) -> Self {
+        match version {
+            Version::One => 1,
+            Version::Two => 2,
+            Version::Three => 3,
         }
+    }
+}
+
+impl TryFrom<u8> for Version {
+    type Error = UnknownVersion;
+
+    fn try_from(number: u8) -> Result<Self, UnknownVersion> {
+        match number {
+            1 => Ok(Self::One),
+            2 => Ok(Self::Two),
+            3 => Ok(Self::Three),
+            _ => Err(UnknownVersion),
+        }
+    }
+}
+
+impl FromStr for Version {
+    type Err = UnknownVersion;
+
+    fn from_str(text: &str) -> Result<Self, UnknownVersion> {
+        match text {
+            "1" => Ok(Self::One),
+            "2" => Ok(Self::Two),
+            "3" => Ok(Self::Three),
+            _ => Err(UnknownVersion),
+        }
+    }
+}
+
+impl fmt::Display for Version {
+    fn fmt(&self, f: &mut fmt::Formatter<'_>) -> fmt::Result {
+        self.number().fmt(f)
+    }
+}
+
+/// A number or a text is that of no version.
+#[derive(Debug, Clone, Copy, PartialEq, Eq)]
+pub struct UnknownVersion;
+
+impl fmt::Display for UnknownVersion {
+    fn fmt(&self, f: &mut fmt::Formatter<'_>) -> fmt::Result {
+        f.write_str("no version is called so: 1, 2 and 3 are")
+    }
+}
+
+impl Error for UnknownVersion {}
+
+/// A language of texts.
+#[derive(Debug, Clone, Copy, PartialEq, Eq, Hash)]
+pub enum Language {
+    /// Format descriptions of a version.
+    Version(Version),
+    /// Conversion specifications of strftime.
+    Strftime,
+}
+
+impl Language {
+    /// The number that the library knows the language by.
+    pub(crate) fn number(self) -> u32 {
+        match self {
+            Self::Version(version) => version.number(),
+            Self::Strftime => 4,
+        }
+    }
+}
+
+impl From<Version> for Language {
+    fn from(version: Version) -> Self {
+        Self::Version(version)
     }
 }

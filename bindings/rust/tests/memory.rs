@@ -12,8 +12,9 @@ use timefd::{FormatDescription, ParseError, Version, v1_to_v2, v2_to_v3};
 #[derive(Clone, Copy)]
 struct Count {
     is_on: bool,
-    /// How many allocations were asked for so far.
+    /// How many allocations were asked for so far, and how many of them by the crate itself.
     asked: usize,
+    own: usize,
     /// Which of them is refused, counted from 1, or 0.
     refused: usize,
     /// How many bytes are held, and how many were held at most.
@@ -21,7 +22,7 @@ struct Count {
     most: usize,
 }
 
-const NOTHING: Count = Count { is_on: false, asked: 0, refused: 0, held: 0, most: 0 };
+const NOTHING: Count = Count { is_on: false, asked: 0, own: 0, refused: 0, held: 0, most: 0 };
 
 thread_local! {
     static COUNT: Cell<Count> = const { Cell::new(NOTHING) };
@@ -43,6 +44,13 @@ fn is_granted(old: usize, new: usize) -> bool {
     true
 }
 
+/// The same of an allocation of the crate.
+fn is_granted_here(old: usize, new: usize) -> bool {
+    let count = COUNT.get();
+    COUNT.set(Count { own: count.own + 1, ..count });
+    is_granted(old, new)
+}
+
 fn freed(bytes: usize) {
     let mut count = COUNT.get();
     if count.is_on {
@@ -59,7 +67,7 @@ static ALLOCATOR: Counting = Counting;
 // SAFETY: each call is the system allocator's, or refuses.
 unsafe impl GlobalAlloc for Counting {
     unsafe fn alloc(&self, layout: Layout) -> *mut u8 {
-        if is_granted(0, layout.size()) {
+        if is_granted_here(0, layout.size()) {
             // SAFETY: the caller keeps to what `alloc` asks for.
             unsafe { System.alloc(layout) }
         } else {
@@ -74,7 +82,7 @@ unsafe impl GlobalAlloc for Counting {
     }
 
     unsafe fn realloc(&self, block: *mut u8, layout: Layout, size: usize) -> *mut u8 {
-        if is_granted(layout.size(), size) {
+        if is_granted_here(layout.size(), size) {
             // SAFETY: the caller keeps to what `realloc` asks for.
             unsafe { System.realloc(block, layout, size) }
         } else {
@@ -155,9 +163,9 @@ fn counted<T>(refused: usize, call: impl FnOnce() -> T) -> (T, Count) {
 }
 
 /// Refuses each allocation of a call in turn: the call answers as ever, or that memory ran out.
-fn refuse_each<T: PartialEq + std::fmt::Debug>(
-    text: &str,
-    call: impl Fn(&str) -> Result<T, ParseError>,
+fn refuse_each<'a, T: PartialEq + std::fmt::Debug>(
+    text: &'a str,
+    call: impl Fn(&'a str) -> Result<T, ParseError>,
 ) -> usize {
     let (ample, _) = counted(0, || call(text));
     assert_ne!(ample.as_ref().err(), Some(&ParseError::OutOfMemory), "{text:?} with ample memory");
@@ -206,6 +214,23 @@ fn each_allocation_refused() {
     assert!(refused > 100, "only {refused} allocations were refused");
 }
 
+/// A description is one block of its nodes, and another one where it has nodes that nest others.
+#[test]
+fn what_a_description_takes() {
+    const NODE: usize = 32;
+    for text in TEXTS {
+        for version in [Version::One, Version::Two, Version::Three] {
+            let (answer, count) = counted(0, || FormatDescription::parse(version, text));
+            let Ok(description) = answer else { continue };
+            let nodes = description.nodes().len();
+            let is_flat = nodes == description.items().len();
+            assert!(count.own <= if is_flat { 1 } else { 2 }, "{text:?} took {} blocks", count.own);
+            let indices = if is_flat { 0 } else { description.parts().len() * size_of::<u32>() };
+            assert_eq!(count.held, nodes * NODE + indices, "{text:?}");
+        }
+    }
+}
+
 #[test]
 fn what_a_long_literal_holds() {
     let text = "x".repeat(1 << 20);
@@ -219,7 +244,11 @@ fn what_a_long_literal_holds() {
 
 /// Expects that a call over a long text is accepted with the memory there is, asks for few blocks
 /// and holds at most so many bytes for each byte of the text.
-fn expect_ample<T>(text: &str, bytes: usize, call: impl Fn(&str) -> Result<T, ParseError>) {
+fn expect_ample<'a, T>(
+    text: &'a str,
+    bytes: usize,
+    call: impl Fn(&'a str) -> Result<T, ParseError>,
+) {
     let front = &text[..text.len().min(20)];
     let (answer, count) = counted(0, || call(text));
     assert!(answer.is_ok(), "{front}..: {:?}", answer.err());

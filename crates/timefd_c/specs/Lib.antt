@@ -7,3 +7,4 @@ pub mod Reading
 pub mod Numbers
 pub mod Moments
 pub mod Formats
+pub mod Diagnoses

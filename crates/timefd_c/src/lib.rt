@@ -7,6 +7,8 @@
 
 mod answer;
 mod conversion;
+mod diagnose;
+mod diagnosis;
 mod exports;
 mod format;
 mod format_answer;
@@ -23,6 +25,8 @@ mod whole;
 pub use answer::{
     ACCEPTED, Answer, NO_CONVERSION, NO_MEMORY, NOT_UTF8, REFUSED, ReadAnswer, UNKNOWN_KIND,
 };
+pub use diagnose::timefd_diagnose;
+pub use diagnosis::{Diagnosis, FaultFields};
 pub use exports::{timefd_check, timefd_convert, timefd_judge, timefd_v1_to_v2, timefd_v2_to_v3};
 pub use format::timefd_format;
 pub use format_answer::{FormatAnswer, OUT_OF_RANGE, UNSHOWN};

@@ -1,5 +1,5 @@
 -- What helps against a fault.
-use Rattle.std.specs.Prelude.{ℕ, ◌≡◌, Bool, map, take, option_map}
+use Rattle.std.specs.Prelude.{ℕ, ◌≡◌, Bool, None, Option, map, take, option_map}
 use Rattle.std.specs.Char.{to_ascii_lowercase}
 use Rattle.timefd_component.specs.Tree.{Text}
 use Rattle.timefd_fault.specs.Faults.{Fault, Kind, invalid_name, invalid_modifier, invalid_combination}
@@ -60,3 +60,9 @@ IsHelpFor (Version v) text f help = IsVersionHelp v text f.index f.kind help
 IsHelpFor Strftime text f (Advice words) = words.now ≡ strftime_advice (code_of f.kind)
 IsHelpFor Strftime text f (LeaveOut key) = ⊥
 IsHelpFor Strftime text f (Words at allowed nearest) = ⊥
+
+-- the nearest of the words that a help names, if it names one
+abbrev pub nearest_in : Help → Option Text
+nearest_in (Words at allowed nearest) = option_map (λ w. w.now) nearest
+nearest_in (LeaveOut key) = None
+nearest_in (Advice words) = None

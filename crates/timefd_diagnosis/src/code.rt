@@ -2,9 +2,11 @@
 
 ghost use Rattle.std.specs.Prelude.{◌≡◌};
 ghost use Rattle.timefd_fault.specs.Faults.{fault_of};
+ghost use Rattle.timefd_language.specs.FaultMeaning.{kind_of};
 ghost use Rattle.timefd_diagnosis.specs.Codes as spec;
 
-use timefd_parse::InvalidFormatDescription;
+use crate::lent::lent;
+use timefd_parse::{FaultKind, InvalidFormatDescription};
 
 /// What a fault is, whatever word of the text it is about.
 #[derive(Clone, Copy)]
@@ -54,16 +56,23 @@ impl Code {
     pub fn of(fault: &InvalidFormatDescription) -> Code
         ensures { result ≡ spec.code_of (fault_of fault.now).kind }
     {
-        match fault {
-            InvalidFormatDescription::UnclosedOpeningBracket { .. } => Code::UnclosedBracket,
-            InvalidFormatDescription::InvalidComponentName { .. } => Code::UnknownName,
-            InvalidFormatDescription::InvalidModifier { .. } => Code::InvalidModifier,
-            InvalidFormatDescription::MissingComponentName { .. } => Code::MissingName,
-            InvalidFormatDescription::MissingRequiredModifier { .. } => Code::MissingModifier,
-            InvalidFormatDescription::Expected { what, .. } => expected(what),
-            InvalidFormatDescription::NotSupported { what, .. } => unsupported(what),
-            InvalidFormatDescription::DuplicateModifier { .. } => Code::DuplicateModifier,
-            InvalidFormatDescription::InvalidModifierCombination { .. } => Code::RefusedModifier,
+        Code::of_kind(lent(fault).kind)
+    }
+
+    /// That of a fault of this kind.
+    pub fn of_kind(kind: FaultKind<'_>) -> Code
+        ensures { result ≡ spec.code_of (kind_of kind.entry) }
+    {
+        match kind {
+            FaultKind::UnclosedBracket => Code::UnclosedBracket,
+            FaultKind::InvalidName(_) => Code::UnknownName,
+            FaultKind::InvalidModifier(_) => Code::InvalidModifier,
+            FaultKind::MissingName => Code::MissingName,
+            FaultKind::MissingModifier(_) => Code::MissingModifier,
+            FaultKind::Expected(what) => expected(what),
+            FaultKind::NotSupported(what, _) => unsupported(what),
+            FaultKind::DuplicateModifier(_) => Code::DuplicateModifier,
+            FaultKind::InvalidCombination(_, _) => Code::RefusedModifier,
         }
     }
 

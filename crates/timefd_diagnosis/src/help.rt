@@ -1,17 +1,21 @@
 //! What to write in place of what is at fault.
 
-ghost use Rattle.std.specs.Prelude.{IfOk, MatchOption};
+ghost use Rattle.std.specs.Prelude.{◌≡◌, IfOk, MatchOption, option_map};
 ghost use Rattle.std.specs.Str.{IsCharBoundary};
+ghost use Rattle.timefd_borrowed_fault.specs.BorrowedFaults.{lent_fault};
 ghost use Rattle.timefd_borrowed_fault.specs.Placed.{IsPlaced};
 ghost use Rattle.timefd_fault.specs.Faults.{fault_of};
-ghost use Rattle.timefd_diagnosis.specs.Helps.{HasNoModifierPlace, IsHelpFor, IsModifierPlace, IsWordsHelp};
+ghost use Rattle.timefd_diagnosis.specs.Helps.{HasNoModifierPlace, IsHelpFor, IsModifierPlace, IsWordsHelp, nearest_in};
 
 use crate::code::Code;
 use crate::cure::{advice, strftime_advice};
+use crate::lent::lent;
 use crate::nearest::nearest;
 use crate::place::{Place, place_behind};
 use std::alloc::{AllocError, Global};
-use timefd_parse::{DescriptionVersion, InvalidFormatDescription, Language};
+use timefd_parse::{
+    BorrowedFault, DescriptionVersion, FaultKind, InvalidFormatDescription, Language,
+};
 
 /// What helps against a fault.
 #[derive(Clone, Copy)]
@@ -31,6 +35,18 @@ pub enum Help {
     Advice(&'static str),
 }
 
+impl Help {
+    /// The nearest of the words that are allowed, where one is near.
+    pub fn nearest(self) -> Option<&'static str>
+        ensures { option_map (λ w. w.now) result ≡ nearest_in self }
+    {
+        match self {
+            Help::Words { nearest, .. } => nearest,
+            Help::LeaveOut(_) | Help::Advice(_) => None,
+        }
+    }
+}
+
 /// What helps against a fault of a text. An `Err` says that memory ran out.
 pub fn help_for(
     alloc: Global,
@@ -41,9 +57,22 @@ pub fn help_for(
     requires { IsPlaced text.now (fault_of fault.now) }
     ensures help { IfOk result (IsHelpFor language text.now (fault_of fault.now)) }
 {
+    help_against(alloc, language, text, lent(fault))
+}
+
+/// The same of a fault that borrows what it quotes.
+pub fn help_against(
+    alloc: Global,
+    language: Language,
+    text: &str,
+    fault: BorrowedFault<'_>,
+) -> Result<Help, AllocError>
+    requires { IsPlaced text.now (lent_fault fault) }
+    ensures help { IfOk result (IsHelpFor language text.now (lent_fault fault.entry)) }
+{
     match language {
         Language::Version(version) => version_help(alloc, version, text, fault),
-        Language::Strftime => Ok(Help::Advice(strftime_advice(Code::of(fault)))),
+        Language::Strftime => Ok(Help::Advice(strftime_advice(Code::of_kind(fault.kind)))),
     }
 }
 
@@ -51,31 +80,29 @@ fn version_help(
     alloc: Global,
     version: DescriptionVersion,
     text: &str,
-    fault: &InvalidFormatDescription,
+    fault: BorrowedFault<'_>,
 ) -> Result<Help, AllocError>
-    requires { IsPlaced text.now (fault_of fault.now) }
-    ensures { IfOk result (IsHelpFor (Language.Version version) text.now (fault_of fault.now)) }
+    requires { IsPlaced text.now (lent_fault fault) }
+    ensures { IfOk result (IsHelpFor (Language.Version version) text.now (lent_fault fault.entry)) }
 {
-    match fault {
-        InvalidFormatDescription::InvalidComponentName { name, .. } => {
+    match fault.kind {
+        FaultKind::InvalidName(name) => {
             words_help(alloc, version.is_strict(), Place::Name, name)
         }
-        InvalidFormatDescription::InvalidModifier { value, index } => {
-            match modifier_place(version.is_strict(), text, *index, value) {
+        FaultKind::InvalidModifier(value) => {
+            match modifier_place(version.is_strict(), text, fault.index, value) {
                 Some(place) => words_help(alloc, version.is_strict(), place, value),
                 None => Ok(Help::Advice(advice(version, Code::InvalidModifier))),
             }
         }
-        InvalidFormatDescription::InvalidModifierCombination { modifier, .. } => {
-            Ok(Help::LeaveOut(*modifier))
-        }
-        InvalidFormatDescription::UnclosedOpeningBracket { .. }
-        | InvalidFormatDescription::MissingComponentName { .. }
-        | InvalidFormatDescription::MissingRequiredModifier { .. }
-        | InvalidFormatDescription::Expected { .. }
-        | InvalidFormatDescription::NotSupported { .. }
-        | InvalidFormatDescription::DuplicateModifier { .. } => {
-            Ok(Help::Advice(advice(version, Code::of(fault))))
+        FaultKind::InvalidCombination(modifier, _) => Ok(Help::LeaveOut(modifier)),
+        FaultKind::UnclosedBracket
+        | FaultKind::MissingName
+        | FaultKind::MissingModifier(_)
+        | FaultKind::Expected(_)
+        | FaultKind::NotSupported(_, _)
+        | FaultKind::DuplicateModifier(_) => {
+            Ok(Help::Advice(advice(version, Code::of_kind(fault.kind))))
         }
     }
 }

@@ -6,6 +6,7 @@ mod code;
 mod cure;
 mod diagnostic;
 mod help;
+mod lent;
 pub mod nearest;
 pub mod place;
 mod span;
@@ -13,5 +14,5 @@ pub mod words;
 
 pub use code::{Code, code_of, names_differ};
 pub use diagnostic::{Diagnostic, diagnose};
-pub use help::Help;
-pub use span::{Extent, Span, span_of};
+pub use help::{Help, help_against};
+pub use span::{Extent, Span, borrowed_span_of, span_of};

@@ -2,13 +2,16 @@
 
 ghost use Rattle.std.specs.Prelude.{◌≡◌, ◌≤◌, chars, length};
 ghost use Rattle.std.specs.List.{prefix_len};
+ghost use Rattle.timefd_borrowed_fault.specs.BorrowedFaults.{lent_fault};
 ghost use Rattle.timefd_borrowed_fault.specs.Placed.{IsPlaced};
 ghost use Rattle.timefd_fault.specs.Faults as faults;
 ghost use Rattle.timefd_language.specs.Cut.{class_test};
+ghost use Rattle.timefd_language.specs.FaultMeaning.{kind_of};
 ghost use Rattle.timefd_diagnosis.specs.Spans as spec;
 
+use crate::lent::lent;
 use timefd_language::text::{Class, cut};
-use timefd_parse::{InvalidFormatDescription, Language};
+use timefd_parse::{BorrowedFault, FaultKind, InvalidFormatDescription, Language};
 
 /// Bytes of a text, by their indices: those from `start` on, up to `end`.
 #[derive(Debug, Clone, Copy, PartialEq, Eq)]
@@ -37,36 +40,43 @@ pub fn span_of(language: Language, text: &str, fault: &InvalidFormatDescription)
     ensures start { result.start ≡ faults.index fault.now }
     ensures end { result.end ≡ spec.end_of language text.now (faults.fault_of fault.now) }
 {
-    let start = fault.index();
+    borrowed_span_of(language, text, lent(fault))
+}
+
+/// The same of a fault that borrows what it quotes.
+pub fn borrowed_span_of(language: Language, text: &str, fault: BorrowedFault<'_>) -> Span
+    requires { IsPlaced text.now (lent_fault fault) }
+    ensures start { result.start ≡ fault.entry.index }
+    ensures end { result.end ≡ spec.end_of language text.now (lent_fault fault.entry) }
+{
+    let start = fault.index;
     let (_, rest) = text.split_at(start);
     Span {
         start,
-        end: start + measured(extent_of(language, fault), rest),
+        end: start + measured(extent_of(language, fault.kind), rest),
     }
 }
 
-fn extent_of(language: Language, fault: &InvalidFormatDescription) -> Extent
-    ensures { result ≡ spec.extent_of language (faults.fault_of fault.now).kind }
+fn extent_of(language: Language, kind: FaultKind<'_>) -> Extent
+    ensures { result ≡ spec.extent_of language (kind_of kind.entry) }
 {
     match language {
         Language::Strftime => Extent::Character,
-        Language::Version(_) => version_extent(fault),
+        Language::Version(_) => version_extent(kind),
     }
 }
 
-fn version_extent(fault: &InvalidFormatDescription) -> Extent
-    ensures { result ≡ spec.version_extent (faults.fault_of fault.now).kind }
+fn version_extent(kind: FaultKind<'_>) -> Extent
+    ensures { result ≡ spec.version_extent (kind_of kind.entry) }
 {
-    match fault {
-        InvalidFormatDescription::InvalidComponentName { .. }
-        | InvalidFormatDescription::MissingRequiredModifier { .. } => Extent::Word,
-        InvalidFormatDescription::InvalidModifier { value, .. } => modifier_extent(value),
-        InvalidFormatDescription::DuplicateModifier { .. }
-        | InvalidFormatDescription::InvalidModifierCombination { .. } => Extent::Key,
-        InvalidFormatDescription::UnclosedOpeningBracket { .. }
-        | InvalidFormatDescription::MissingComponentName { .. }
-        | InvalidFormatDescription::Expected { .. }
-        | InvalidFormatDescription::NotSupported { .. } => Extent::Character,
+    match kind {
+        FaultKind::InvalidName(_) | FaultKind::MissingModifier(_) => Extent::Word,
+        FaultKind::InvalidModifier(value) => modifier_extent(value),
+        FaultKind::DuplicateModifier(_) | FaultKind::InvalidCombination(_, _) => Extent::Key,
+        FaultKind::UnclosedBracket
+        | FaultKind::MissingName
+        | FaultKind::Expected(_)
+        | FaultKind::NotSupported(_, _) => Extent::Character,
     }
 }
 

@@ -147,9 +147,18 @@ fn each_component_is_as_expected() {
     for (text, bytes, component) in [DAYS, YEARS, CLOCKS, OTHERS].concat() {
         for language in VERSIONS {
             let row = format!("[{text}] in {language:?}");
-            let description = language.parse(&format!("[{text}]")).expect(&row);
+            let text = format!("[{text}]");
+            let description = language.parse(&text).expect(&row);
             expect_items(&row, description.items(), &[Tree::Component(component)]);
             assert_eq!(description.max_bytes_needed(), bytes, "{row}");
         }
+    }
+}
+
+/// The component tells its bytes by itself too.
+#[test]
+fn each_component_knows_its_bytes() {
+    for (text, bytes, component) in [DAYS, YEARS, CLOCKS, OTHERS].concat() {
+        assert_eq!(component.max_bytes_needed(), bytes, "[{text}]");
     }
 }

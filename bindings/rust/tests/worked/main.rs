@@ -2,5 +2,9 @@
 
 mod accepted;
 mod components;
+mod conversions;
+mod dates;
+mod faults;
 mod refused;
 mod rows;
+mod values;

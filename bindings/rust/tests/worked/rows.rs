@@ -17,7 +17,7 @@ pub const STRFTIME: Language = Language::Strftime;
 pub const VERSIONS: &[Language] = &[ONE, TWO, THREE];
 
 impl Language {
-    pub fn parse(self, text: &str) -> Result<FormatDescription, ParseError> {
+    pub fn parse(self, text: &str) -> Result<FormatDescription<'_>, ParseError> {
         match self {
             Self::Version(version) => FormatDescription::parse(version, text),
             Self::Strftime => FormatDescription::parse_strftime(text),

@@ -9,18 +9,15 @@ use std::error::Error;
 use std::{env, fs};
 
 use dates::{Civil, format};
-use timefd::{FormatDescription, Version};
+use timefd::FormatDescription;
 
 /// Room for what most descriptions need.
 const ROOM: usize = 128;
 
-fn parse(language: &str, text: &str) -> Result<FormatDescription, Box<dyn Error>> {
+fn parse<'a>(language: &str, text: &'a str) -> Result<FormatDescription<'a>, Box<dyn Error>> {
     match language {
-        "1" => Ok(FormatDescription::parse(Version::One, text)?),
-        "2" => Ok(FormatDescription::parse(Version::Two, text)?),
-        "3" => Ok(FormatDescription::parse(Version::Three, text)?),
         "strftime" => Ok(FormatDescription::parse_strftime(text)?),
-        _ => Err("there is no such language".into()),
+        version => Ok(FormatDescription::parse(version.parse()?, text)?),
     }
 }
 

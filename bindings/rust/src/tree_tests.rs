@@ -1,9 +1,14 @@
 //! Lists of nodes made by hand, as the library would answer them.
 
-use super::{FillError, VACANT, fill};
-use crate::node::Members;
+use std::format;
+use std::string::String;
+use std::vec::Vec;
+
+use super::{BuildError, Tree};
+use crate::literal::Literals;
+use crate::node::{Members, Nodes};
+use crate::parts::{Part, Parts};
 use crate::sys::RawNode;
-use crate::walks::{Nodes, Part, Parts};
 
 const LITERALS: &str = "abcdé";
 
@@ -102,18 +107,58 @@ fn literal_text(part: Part<'_>) -> &str {
     }
 }
 
+/// The tree of a list, whose literals stand in the text of all of them.
+fn build(nodes: &[RawNode]) -> Result<Tree<'static>, BuildError> {
+    Tree::build(nodes, Literals::new(LITERALS, LITERALS.as_bytes()))
+}
+
 #[test]
 fn items_and_parts() {
     for (nodes, items, written) in LISTS {
-        let mut entries = vec![VACANT; nodes.len()];
-        fill(&mut entries, nodes, LITERALS).expect("these are lists");
-        let members = Members { entries: &entries, literals: LITERALS };
+        let tree = build(nodes).expect("these are lists");
+        let members = Members::items(&tree);
         assert_eq!(format!("{members:?}"), *items);
-        let parts = Parts { entries: &entries, literals: LITERALS, at: 0 };
+        let parts = Parts::new(&tree);
         let literals: String = parts.map(literal_text).collect();
         assert_eq!(literals, *written, "{items}");
-        assert_eq!(Nodes { rest: members }.count(), nodes.len(), "{items}");
+        assert_eq!(Nodes::new(&tree).count(), nodes.len(), "{items}");
     }
+}
+
+/// Each walk goes backwards as it goes forwards, and tells how much is left.
+#[test]
+fn backwards() {
+    for (nodes, items, _) in LISTS {
+        let tree = build(nodes).expect("these are lists");
+        let mut forwards: Vec<_> = Members::items(&tree).map(|it| format!("{it:?}")).collect();
+        forwards.reverse();
+        let backwards: Vec<_> = Members::items(&tree).rev().map(|it| format!("{it:?}")).collect();
+        assert_eq!(backwards, forwards, "{items}");
+        assert_eq!(Members::items(&tree).len(), forwards.len(), "{items}");
+
+        let mut forwards: Vec<_> = Parts::new(&tree).collect();
+        forwards.reverse();
+        assert_eq!(Parts::new(&tree).rev().collect::<Vec<_>>(), forwards, "{items}");
+        assert_eq!(Parts::new(&tree).len(), forwards.len(), "{items}");
+
+        let mut nodes = Nodes::new(&tree);
+        for left in (0..nodes.len()).rev() {
+            assert!(nodes.next().is_some() && nodes.len() == left, "{items}");
+        }
+        assert!(nodes.next().is_none(), "{items}");
+    }
+}
+
+/// From both ends the same members come, each once.
+#[test]
+fn from_both_ends() {
+    let tree = build(&[A, B, compound(0, 2), C, A]).expect("this is a list");
+    let mut members = Members::items(&tree);
+    assert_eq!(format!("{:?}", members.next_back()), r#"Some(Literal("a"))"#);
+    let first = r#"Some(Compound([Literal("a"), Literal("b")]))"#;
+    assert_eq!(format!("{:?}", members.next()), first);
+    assert_eq!(format!("{:?}", members.next_back()), r#"Some(Literal("c"))"#);
+    assert!(members.next().is_none() && members.next_back().is_none());
 }
 
 /// Lists that the library doesn't answer.
@@ -134,7 +179,6 @@ const BROKEN: &[&[RawNode]] = &[
 #[test]
 fn what_is_no_list_is_not_taken() {
     for nodes in BROKEN {
-        let mut entries = vec![VACANT; nodes.len()];
-        assert_eq!(fill(&mut entries, nodes, LITERALS), Err(FillError::Malformed), "{nodes:?}");
+        assert_eq!(build(nodes).err(), Some(BuildError::Malformed), "{nodes:?}");
     }
 }

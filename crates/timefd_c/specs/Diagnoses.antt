@@ -1,0 +1,67 @@
+-- What is answered to C of a fault.
+use Rattle.std.specs.Prelude.{ℕ, ◌≡◌, ◌≤◌, ◌<◌, ◌++◌, true, false, Option, Some, None, length, drop}
+use Rattle.timefd_component.specs.Tree.{Text}
+use Rattle.timefd_fault.specs.Faults.{Fault}
+use Rattle.timefd_parse.specs.declared.language.Language.{Language}
+use Rattle.timefd_diagnosis.specs.Codes.{code_of}
+use Rattle.timefd_diagnosis.specs.Helps.{IsHelpFor, nearest_in}
+use Rattle.timefd_diagnosis.specs.Spans.{end_of}
+use Rattle.timefd_diagnosis.specs.declared.code.Code.{Code}
+use Rattle.timefd_diagnosis.specs.declared.code.Code.TheVariants.{UnclosedBracket, UnknownName, InvalidModifier, MissingName, MissingModifier, InvalidEscape, UnescapedBracket, MissingSpace, MissingDescription, MissingAlternative, NestedTooDeep, SeveralDescriptions, OptionalItem, FirstItem, UnsupportedFlag, UnsupportedLetter, NestedInComponent, DuplicateModifier, RefusedModifier}
+use Rattle.timefd_diagnosis.specs.declared.help.Help.{Help}
+use Rattle.timefd_c.specs.declared.diagnosis.FaultFields.{FaultFields}
+
+-- the numbers of the codes
+abbrev pub code_number : Code → ℕ
+code_number UnclosedBracket = 1
+code_number UnknownName = 2
+code_number InvalidModifier = 3
+code_number MissingName = 4
+code_number MissingModifier = 5
+code_number InvalidEscape = 6
+code_number UnescapedBracket = 7
+code_number MissingSpace = 8
+code_number MissingDescription = 9
+code_number MissingAlternative = 10
+code_number NestedTooDeep = 11
+code_number SeveralDescriptions = 12
+code_number OptionalItem = 13
+code_number FirstItem = 14
+code_number UnsupportedFlag = 15
+code_number UnsupportedLetter = 16
+code_number NestedInComponent = 17
+code_number DuplicateModifier = 18
+code_number RefusedModifier = 19
+
+-- what is told where there is no fault
+abbrev pub no_fault : FaultFields
+no_fault = record {
+  code = 0;
+  out_of_memory = false;
+  start = 0;
+  end = 0;
+  nearest_len = 0;
+  nearest_written = 0;
+}
+
+-- The word stands at the front of the buffer, if that has room for all of it, and what is behind it is
+-- as it was. Where there is none the length is 0.
+abbrev pub IsWordTold : Option Text → Text → Text → ℕ → ℕ → Type 0
+IsWordTold (Some word) before after len written =
+    (len ≡ length word)
+    × (length word ≤ length before
+    → (after ≡ word ++ drop (length word) before) × (written ≡ length word))
+    × (length before < length word → (after ≡ before) × (written ≡ 0))
+IsWordTold None before after len written = (after ≡ before) × (len ≡ 0) × (written ≡ 0)
+
+-- The code is that of the fault, the bytes at fault are those of the linter's diagnosis, and the word is
+-- the nearest one that its help names.
+pub record IsDiagnosed (language : Language) (text : Text) (f : Fault) (before after : Text)
+    (d : FaultFields) : Type 0 where
+  pub code : d.code ≡ code_number (code_of f.kind)
+  pub start : d.start ≡ f.index
+  pub end : d.end ≡ end_of language text f
+  pub nearest : d.out_of_memory ≡ false → (help : Help) × IsHelpFor language text f help
+      × IsWordTold (nearest_in help) before after d.nearest_len d.nearest_written
+  pub unsought : d.out_of_memory ≡ true
+      → IsWordTold None before after d.nearest_len d.nearest_written

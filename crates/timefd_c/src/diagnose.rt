@@ -1,0 +1,88 @@
+//! The function that C calls for a fault, whole.
+
+ghost use Rattle.std.specs.Prelude.{◌≡◌, ◌≢◌, ◌<◌, ◌≤◌, ◌++◌, ℕ, Some, length, take, drop};
+ghost use Rattle.std.specs.Str.{IsCharBoundary};
+ghost use Rattle.timefd_fault.specs.Faults.{Fault};
+ghost use Rattle.timefd_parse.specs.declared.language.Language.{Language};
+ghost use Rattle.timefd_c.specs.Answers.{HasFault, IfRefused, Judges};
+ghost use Rattle.timefd_c.specs.Diagnoses.{IsDiagnosed, no_fault};
+ghost use Rattle.timefd_c.specs.Languages.{language_of};
+
+use crate::answer::REFUSED;
+use crate::diagnosis::{Diagnosis, FaultFields};
+use crate::exports::timefd_check;
+use crate::numbers::from_number;
+use std::alloc::Global;
+use timefd_parse::{BorrowedParseError, Language, NESTING_LIMIT, amount_all_borrowed};
+
+/// Says what `timefd_check` says, and of a refused text which fault it is, which bytes are at fault,
+/// and the nearest of the words that are allowed there, which is written over the front of its
+/// buffer, if that has room for all of it.
+#[unsafe(no_mangle)]
+pub extern "C" fn timefd_diagnose(
+    alloc: Global,
+    kind: u32,
+    text: &[u8],
+    sentence: &mut [u8],
+    word: &mut [u8],
+) -> Diagnosis
+    ensures judges { Judges (language_of kind) text.now result.answer }
+
+    // What is wrong, where, and the nearest word.
+    ensures diagnosed { (l : Language) → language_of kind ≡ Some l
+        → (f : Fault) → HasFault (Some l) text.now f
+        → IsDiagnosed l text.now f word.old word.new result.fault }
+    ensures undiagnosed { result.answer.status ≢ REFUSED
+        → (result.fault ≡ no_fault) × (word.new ≡ word.old) }
+
+    // The length of the sentence, its front, and behind that what the buffer held.
+    ensures full_len { IfRefused (language_of kind) text.now result.answer (λ full.
+        result.answer.sentence_len ≡ length full) }
+    ensures front { IfRefused (language_of kind) text.now result.answer (λ full.
+        sentence.new ≡ take result.answer.written full
+        ++ drop result.answer.written sentence.old) }
+
+    // The front has room, ends between two characters, and no longer one does so.
+    ensures room { result.answer.written ≤ length sentence.old }
+    ensures whole { IfRefused (language_of kind) text.now result.answer (λ full.
+        IsCharBoundary full result.answer.written) }
+    ensures most { IfRefused (language_of kind) text.now result.answer (λ full. (i : ℕ) →
+        result.answer.written < i → i ≤ length sentence.old → ¬ (IsCharBoundary full i)) }
+
+    // Where nothing is refused, nothing is written.
+    ensures kept { result.answer.status ≢ REFUSED → sentence.new ≡ sentence.old }
+    ensures no_sentence { result.answer.status ≢ REFUSED
+        → (result.answer.sentence_len ≡ 0) × (result.answer.written ≡ 0) }
+{
+    let answer = timefd_check(alloc, kind, text, sentence);
+    if answer.status == REFUSED {
+        Diagnosis {
+            answer,
+            fault: fault_in(alloc, from_number(kind), text, word),
+        }
+    } else {
+        Diagnosis {
+            answer,
+            fault: FaultFields::none(),
+        }
+    }
+}
+
+// What is told of the fault that bytes have in a language.
+fn fault_in(alloc: Global, language: Option<Language>, bytes: &[u8], word: &mut [u8]) -> FaultFields
+    ensures { (l : Language) → language ≡ Some l → (f : Fault) → HasFault (Some l) bytes.now f
+        → IsDiagnosed l bytes.now f word.old word.new result }
+{
+    let Some(language) = language else {
+        return FaultFields::none();
+    };
+    let Ok(text) = str::from_utf8(bytes) else {
+        return FaultFields::none();
+    };
+    match amount_all_borrowed(alloc, language, NESTING_LIMIT, text) {
+        Err(BorrowedParseError::Invalid(fault)) => {
+            FaultFields::of(alloc, language, text, fault, word)
+        }
+        Err(BorrowedParseError::Memory(_)) | Ok(_) => FaultFields::none(),
+    }
+}
