@@ -1,7 +1,7 @@
 //! The readers for C, and for Rust outside of this workspace: two functions that say of the bytes
-//! of a text what they are in a language, which a number names, three that rewrite a text as one of
-//! a later version, one that writes the nodes of a description, and one that writes a date and time
-//! by a description.
+//! of a text what they are in a language, which a number names, one that tells the fault of a text
+//! whole, three that rewrite a text as one of a later version, one that writes the nodes of a
+//! description, and one that writes a date and time by a description.
 //! `examples/timefd.h` declares them.
 #![tactic(auto)]
 
