@@ -1,6 +1,6 @@
 #!/bin/sh
-# Compares what the library and the formatter of `examples/dates` write with what Debian's `time` 0.3.9 (librust-time-dev) writes, on
-# ten thousand random dates, of each description that `time` takes. It takes the library that `rt lib` leaves in crates/timefd_c,
+# Compares what the library writes with what Debian's `time` 0.3.9 (librust-time-dev) writes, on ten thousand random dates, of each
+# description that `time` takes. It takes the library that `rt lib` leaves in crates/timefd_c,
 # and fetches nothing.
 set -eu
 cd "$(dirname "$0")/dates"

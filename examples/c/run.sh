@@ -33,7 +33,7 @@ compare convert expected_convert.txt
 compare nodes expected_nodes.txt
 compare lint expected_lint.txt formats.txt
 
-# The library writes no timestamp of an instant that is in the year 1,000,000 of UTC; the formatter of `dates` has no such limit.
+# The script that computed what is expected has no limit; the library writes no timestamp of an instant in the year 1,000,000 of UTC.
 sed 's/^"31494784874398 .*/the instant is in no year that is shown/' expected_format.txt > "$out/expected_format.txt"
 compare format "$out/expected_format.txt" dates.txt
 # And what `time` 0.3.9 writes of the moments of moments.txt, a column each, by each description of its table.

@@ -2,7 +2,6 @@
 
 use dates::Civil;
 use time::{Date, Month, OffsetDateTime, UtcOffset};
-use timefd::Moment;
 
 /// A generator by shifts and exclusive ors, which starts with a number that isn't 0.
 pub struct Random(u64);
@@ -58,14 +57,4 @@ pub fn of_time(date: &Civil) -> Result<OffsetDateTime, time::Error> {
     let day = Date::from_calendar_date(date.year, Month::try_from(date.month)?, date.day)?;
     let time = day.with_hms_nano(date.hour, date.minute, date.second, date.nanosecond)?;
     Ok(time.assume_offset(UtcOffset::from_whole_seconds(date.offset)?))
-}
-
-/// The same date as the library takes it.
-pub fn moment(date: &Civil) -> Moment {
-    let Civil { year, month, day, hour, minute, second, nanosecond, offset } = *date;
-    Moment {
-        date: Some(timefd::Date { year, month, day }),
-        time: Some(timefd::Time { hour, minute, second, nanosecond }),
-        offset_seconds: Some(offset),
-    }
 }

@@ -20,11 +20,3 @@ pub(crate) fn days_before_year(year: i32) -> i64 {
     let leap_days = before.div_euclid(4) - before.div_euclid(100) + before.div_euclid(400);
     before * 365 + leap_days
 }
-
-/// How many weeks a year has by ISO 8601: 53 where it begins or ends on a Thursday.
-pub(crate) fn iso_weeks_in_year(year: i32) -> u8 {
-    const THURSDAY: i64 = 3;
-    let first = days_before_year(year).rem_euclid(7);
-    let last = (days_before_year(year + 1) - 1).rem_euclid(7);
-    if first == THURSDAY || last == THURSDAY { 53 } else { 52 }
-}

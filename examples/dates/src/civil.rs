@@ -1,5 +1,7 @@
 //! Dates with a time of day.
 
+use timefd::{Date, Moment, Time};
+
 use crate::calendar;
 
 /// A date of the Gregorian calendar, which is continued to all years, with a time of day and an
@@ -38,7 +40,7 @@ impl Civil {
     }
 
     /// The day of the year, from 1.
-    pub(crate) fn ordinal(&self) -> u16 {
+    fn ordinal(&self) -> u16 {
         let months = 1..self.month;
         let before: u16 =
             months.map(|month| u16::from(calendar::days_in_month(self.year, month))).sum();
@@ -54,37 +56,15 @@ impl Civil {
     pub(crate) fn days_from_monday(&self) -> u8 {
         self.day_number().rem_euclid(7) as u8
     }
+}
 
-    /// How many days the day is after a Sunday, from 0 to 6.
-    pub(crate) fn days_from_sunday(&self) -> u8 {
-        (self.days_from_monday() + 1) % 7
-    }
-
-    /// The year and the week by ISO 8601: a week belongs to the year that has its Thursday.
-    pub(crate) fn iso_week(&self) -> (i32, u8) {
-        let week = (self.ordinal() + 9 - u16::from(self.days_from_monday())) / 7;
-        if week == 0 {
-            (self.year - 1, calendar::iso_weeks_in_year(self.year - 1))
-        } else if week > u16::from(calendar::iso_weeks_in_year(self.year)) {
-            (self.year + 1, 1)
-        } else {
-            (self.year, week as u8)
+impl From<Civil> for Moment {
+    fn from(date: Civil) -> Self {
+        let Civil { year, month, day, hour, minute, second, nanosecond, offset } = date;
+        Self {
+            date: Some(Date { year, month, day }),
+            time: Some(Time { hour, minute, second, nanosecond }),
+            offset_seconds: Some(offset),
         }
-    }
-
-    /// The week of the year from 0, where the first one begins on the first day of the year that is
-    /// 0 days after its start.
-    pub(crate) fn week(&self, days_from_start: u8) -> u8 {
-        ((self.ordinal() + 6 - u16::from(days_from_start)) / 7) as u8
-    }
-
-    /// How many nanoseconds the time is after the start of 1970 in UTC.
-    pub(crate) fn unix_nanoseconds(&self) -> i128 {
-        const DAYS_BEFORE_1970: i64 = 719_162;
-        let days = self.day_number() - DAYS_BEFORE_1970;
-        let of_day =
-            i64::from(self.hour) * 3600 + i64::from(self.minute) * 60 + i64::from(self.second);
-        let seconds = days * 86_400 + of_day - i64::from(self.offset);
-        i128::from(seconds) * 1_000_000_000 + i128::from(self.nanosecond)
     }
 }

@@ -1,16 +1,11 @@
-//! A formatter and a reader of dates, both driven by the format descriptions of the crate `timefd`.
-//! `../run.sh` builds and runs them.
+//! Dates, and a reader of them that is driven by the format descriptions of the crate `timefd`, which
+//! writes them itself. `../run.sh` builds and runs the two programs.
 
 mod calendar;
 mod civil;
-mod field;
-mod format;
 mod input;
 mod names;
-mod out;
 mod read;
-mod year;
 
 pub use civil::Civil;
-pub use format::{FormatError, format};
 pub use read::{ReadError, read};

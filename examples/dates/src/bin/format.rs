@@ -8,16 +8,31 @@
 use std::error::Error;
 use std::{env, fs};
 
-use dates::{Civil, format};
-use timefd::FormatDescription;
+use dates::Civil;
+use timefd::{FormatError, Lack, Moment, Version};
 
-/// Room for what most descriptions need.
-const ROOM: usize = 128;
+/// The moment by the description in the language.
+fn formatted(language: &str, text: &str, moment: &Moment) -> Result<String, Box<dyn Error>> {
+    let shown = match language {
+        "1" => timefd::format(Version::One, text, moment),
+        "2" => timefd::format(Version::Two, text, moment),
+        "3" => timefd::format(Version::Three, text, moment),
+        "strftime" => timefd::format_strftime(text, moment),
+        _ => return Err("there is no such language".into()),
+    };
+    Ok(shown.map_err(reason)?)
+}
 
-fn parse<'a>(language: &str, text: &'a str) -> Result<FormatDescription<'a>, Box<dyn Error>> {
-    match language {
-        "strftime" => Ok(FormatDescription::parse_strftime(text)?),
-        version => Ok(FormatDescription::parse(version.parse()?, text)?),
+/// Why nothing is written, in few words.
+fn reason(error: FormatError) -> String {
+    match error {
+        FormatError::Unshown { lack: Lack::YearTooLong, .. } => {
+            "the year has too many digits".to_owned()
+        }
+        FormatError::Unshown { lack: Lack::InstantOutOfRange, .. } => {
+            "the instant is in no year that is shown".to_owned()
+        }
+        _ => error.to_string(),
     }
 }
 
@@ -44,19 +59,7 @@ fn written(line: &str) -> Result<String, Box<dyn Error>> {
     let (numbers, text) = line.split_once('|').ok_or("a line has a bar")?;
     let words: Vec<&str> = numbers.split(' ').collect();
     let (language, numbers) = words.split_first().ok_or("a line begins with a language")?;
-    let description = parse(language, text)?;
-    let date = date(numbers)?;
-    let most = description.max_bytes_needed();
-    let mut on_the_stack = [0; ROOM];
-    let mut given = Vec::new();
-    let buffer = match on_the_stack.get_mut(..most) {
-        Some(front) => front,
-        None => {
-            given.resize(most, 0);
-            &mut given[..]
-        }
-    };
-    Ok(format(&description, &date, buffer)?.to_owned())
+    formatted(language, text, &date(numbers)?.into())
 }
 
 fn main() -> Result<(), Box<dyn Error>> {

@@ -1,0 +1,3 @@
+//! The library's calls that write dates, as they are called from C.
+
+pub mod library;
