@@ -1,0 +1,5 @@
+pub mod DigitLemmas
+pub mod NameLemmas
+pub mod FrontLemmas
+pub mod BackLemmas
+pub mod RelationLemmas

@@ -1,0 +1,9 @@
+pub mod Fields
+pub mod Numbers
+pub mod Names
+pub mod Readings
+pub mod Rules
+pub mod Inputs
+pub mod Reads
+pub mod Laws
+pub mod Relations

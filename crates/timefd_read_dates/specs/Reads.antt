@@ -1,0 +1,110 @@
+-- How a tree reads a text: what is left and which fields were read, or the first part that does not
+-- read. Each component takes the longest front that it can, and nothing is tried twice.
+use Rattle.std.specs.Prelude.{ℕ, ◌≡◌, ◌==◌, ◌-◌, eqb, if◌then◌else◌, drop, length, Option, Some, None, Result, Ok, Err}
+use Rattle.std.specs.List.{starts_with}
+use Rattle.timefd_component.specs.declared.component.Component.{Component}
+use Rattle.timefd_component.specs.Modern.{modern}
+use Rattle.timefd_component.specs.Tree.{Text, Tree, component, literal, compound, optional, first, Trees, no_trees, more_trees}
+use Rattle.timefd_read_dates.specs.declared.fault.Fault.{Fault}
+use Rattle.timefd_read_dates.specs.declared.fault.Reason.{Reason}
+use Rattle.timefd_read_dates.specs.declared.fault.Reason.TheVariants as for
+use Rattle.timefd_read_dates.specs.declared.fault.ReadError.{ReadError}
+use Rattle.timefd_read_dates.specs.declared.fields.Fields.{Fields}
+use Rattle.timefd_read_dates.specs.declared.reading.Reading.{Reading}
+use Rattle.timefd_read_dates.specs.declared.state.State.{State}
+use Rattle.timefd_read_dates.specs.Fields.{no_fields}
+use Rattle.timefd_read_dates.specs.Inputs.{input}
+use Rattle.timefd_read_dates.specs.Readings.{with_reading}
+use Rattle.timefd_read_dates.specs.Rules.{rule_of}
+
+-- the text that is left, and what was read
+pub record Point : Type 0 where
+  pub rest : Text
+  pub fields : Fields
+
+abbrev pub point : State → Point
+point s = record { rest = s.rest.now; fields = s.fields }
+
+-- the fault of a part, which begins here
+abbrev pub fault_at : Point → Reason → Result Point Fault
+fault_at p reason = Err (record { reason = reason; left = length p.rest })
+
+abbrev pub agreed : Component → Point → ℕ → Option Fields → Result Point Fault
+agreed c p len None = fault_at p (for.Contradiction c)
+agreed c p len (Some fields) = Ok (record { rest = drop len p.rest; fields = fields })
+
+abbrev pub taken : Component → Point → Option (Reading × ℕ) → Result Point Fault
+taken c p None = fault_at p (for.Unread c)
+taken c p (Some r) = agreed c p r.1 (with_reading p.fields r.0)
+
+-- a modern component reads what stands at the front, and that is no other value than was read before
+abbrev pub read_component : Component → Point → Result Point Fault
+read_component c p = taken c p (input (rule_of c) p.rest)
+
+abbrev pub read_literal : Text → Point → Result Point Fault
+read_literal bytes p = if starts_with eqb p.rest bytes
+    then Ok (record { rest = drop (length bytes) p.rest; fields = p.fields })
+    else fault_at p for.Literal
+
+-- one part behind another
+abbrev pub followed : Result Point Fault → (Point → Result Point Fault) → Result Point Fault
+followed (Ok p) next = next p
+followed (Err f) next = Err f
+
+-- a part that may be left out: where it does not read, all is as it was in front of it
+abbrev pub perhaps : Point → Result Point Fault → Result Point Fault
+perhaps p (Ok q) = Ok q
+perhaps p (Err f) = Ok p
+
+-- an alternative, and what is done where it does not read
+abbrev pub unless_read : Result Point Fault → (Fault → Result Point Fault) → Result Point Fault
+unless_read (Ok p) others = Ok p
+unless_read (Err f) others = others f
+
+abbrev pub earlier : Option Fault → Fault → Option Fault
+earlier None f = Some f
+earlier (Some e) f = Some e
+
+-- no alternative reads: the fault is that of the first; none at all read nothing
+abbrev pub none_reads : Point → Option Fault → Result Point Fault
+none_reads p None = Ok p
+none_reads p (Some f) = Err f
+
+abbrev mutual
+  pub read : Tree → Point → Result Point Fault
+  read (component c) p = read_component (modern c) p
+  read (literal bytes) p = read_literal bytes p
+  read (compound ts) p = read_all ts p
+  read (optional format t) p = perhaps p (read t p)
+  read (first ts) p = read_first None ts p
+
+  pub read_all : Trees → Point → Result Point Fault
+  read_all no_trees p = Ok p
+  read_all (more_trees t ts) p = followed (read t p) (λ q. read_all ts q)
+
+  -- of alternatives the first that reads, behind these of which the first has this fault
+  pub read_first : Option Fault → Trees → Point → Result Point Fault
+  read_first fault no_trees p = none_reads p fault
+  read_first fault (more_trees t ts) p =
+      unless_read (read t p) (λ f. read_first (earlier fault f) ts p)
+
+abbrev pub start : Text → Point
+start text = record { rest = text; fields = no_fields }
+
+-- where the description has been read, the text ends
+abbrev pub ended : ℕ → Text → Fields → Result Fields ReadError
+ended size rest fields = if length rest == 0 then Ok fields
+    else Err (record { reason = for.Trailing; index = size - length rest })
+
+abbrev pub whole : ℕ → Result Point Fault → Result Fields ReadError
+whole size (Ok p) = ended size p.rest p.fields
+whole size (Err f) = Err (record { reason = f.reason; index = size - f.left })
+
+-- THE answer: the fields that the whole text shows by the description, or the first fault
+abbrev pub fields_of : Tree → Text → Result Fields ReadError
+fields_of t text = whole (length text) (read t (start text))
+
+-- What a reader is left with is what was to be read.
+abbrev pub Gives : Result Point Fault → Result State Fault → Type 0
+Gives read (Ok s) = read ≡ Ok (point s)
+Gives read (Err f) = read ≡ Err f

@@ -1,0 +1,86 @@
+//! Runs of digits and of spaces at the front of a text.
+
+ghost use Rattle.std.specs.Prelude.{◌≡◌, ◌≤◌, ◌<◌, ◌^◌, IfSome, length, min, take};
+ghost use Rattle.std.specs.Char.{is_ascii_digit};
+ghost use Rattle.std.specs.List.{prefix_len};
+ghost use Rattle.std.specs.Str.Parse.{digits_value};
+ghost use Rattle.timefd_read_dates.specs.Numbers as spec;
+ghost use Rattle.timefd_read_dates.specs.Numbers.{IsDigitAt, IsSpaceAt, is_space};
+
+/// The digits that stand at the front, as many as there are up to `most`: their number, and how many
+/// they are.
+fn leading_digits(text: &[u8], most: usize) -> (u128, usize)
+    requires { most ≤ 23 }
+    ensures count { result.1 ≡ min most (prefix_len is_ascii_digit text.now) }
+    ensures value { result.0 ≡ digits_value 10 (take result.1 text.now) }
+    ensures small { result.0 < 10 ^ 23 }
+{
+    let mut value = 0;
+    let mut count = 0;
+    'digits: while count < most {
+        match digit_at(text, count) {
+            Some(digit) => {
+                value = value * 10 + digit as u128;
+                count += 1;
+            }
+            None => return (value, count),
+        }
+    }
+    (value, count)
+}
+
+/// The digit at a place.
+#[tactic(auto, using(crate::proofs::DigitLemmas::digit_found, crate::proofs::DigitLemmas::digit_lacks, crate::proofs::DigitLemmas::digit_ends))]
+fn digit_at(text: &[u8], at: usize) -> Option<u8>
+    ensures { IsDigitAt text.now at result }
+{
+    if at >= text.len() {
+        return None;
+    }
+    let byte = text[at];
+    if byte.is_ascii_digit() {
+        Some(byte - b'0')
+    } else {
+        None
+    }
+}
+
+/// A number of so many digits, from `least` to `most`.
+#[tactic(auto, using(crate::proofs::DigitLemmas::digits_within))]
+pub(crate) fn digits(text: &[u8], least: usize, most: usize) -> Option<(u128, usize)>
+    requires { most ≤ 23 }
+    ensures value { result ≡ spec.digits least most text.now }
+    ensures within { IfSome result (λ r. r.1 ≤ length text.now) }
+    ensures small { IfSome result (λ r. r.0 < 10 ^ 23) }
+{
+    let (value, count) = leading_digits(text, most);
+    if count < least {
+        return None;
+    }
+    Some((value, count))
+}
+
+/// How many spaces stand at the front, up to `most`.
+pub(crate) fn leading_spaces(text: &[u8], most: usize) -> usize
+    ensures { result ≡ min most (prefix_len is_space text.now) }
+{
+    let mut count = 0;
+    'spaces: while count < most {
+        if !is_space_at(text, count) {
+            return count;
+        }
+        count += 1;
+    }
+    count
+}
+
+/// Whether a space stands at a place.
+#[tactic(auto, using(crate::proofs::DigitLemmas::space_is, crate::proofs::DigitLemmas::space_ends))]
+fn is_space_at(text: &[u8], at: usize) -> bool
+    ensures { IsSpaceAt text.now at result }
+{
+    if at >= text.len() {
+        return false;
+    }
+    text[at] == b' '
+}

@@ -1,0 +1,280 @@
+//! What was read of a text.
+
+ghost use Rattle.std.specs.Prelude.{◌≡◌};
+ghost use Rattle.timefd_read_dates.specs.Fields as spec;
+
+/// What was read of a text. A field of which no component was read is `None`. It stands for `Parsed`
+/// of `time`.
+#[derive(Debug, Clone, Copy)]
+pub struct Fields {
+    pub year: Option<Signed>,
+    /// The hundreds of the year.
+    pub century: Option<Signed>,
+    pub year_last_two: Option<u16>,
+    pub iso_year: Option<Signed>,
+    /// The hundreds of the ISO week-numbering year.
+    pub iso_century: Option<Signed>,
+    pub iso_year_last_two: Option<u16>,
+    /// The month, from 1.
+    pub month: Option<u16>,
+    /// The day of the month, from 1.
+    pub day: Option<u16>,
+    /// The day of the year, from 1.
+    pub ordinal: Option<u16>,
+    /// The days after Monday.
+    pub weekday: Option<u16>,
+    pub iso_week: Option<u16>,
+    /// The week of the year, where weeks begin on Sunday.
+    pub sunday_week: Option<u16>,
+    /// The week of the year, where weeks begin on Monday.
+    pub monday_week: Option<u16>,
+    /// The hour of the 24-hour clock.
+    pub hour: Option<u16>,
+    /// The hour of the 12-hour clock, from 1.
+    pub hour_12: Option<u16>,
+    pub is_afternoon: Option<bool>,
+    pub minute: Option<u16>,
+    pub second: Option<u16>,
+    pub subsecond: Option<Fraction>,
+    /// The hours of the offset, with the sign of the whole offset.
+    pub offset_hour: Option<Signed>,
+    pub offset_minute: Option<u16>,
+    pub offset_second: Option<u16>,
+    pub unix_second: Option<Signed>,
+    pub unix_millisecond: Option<Signed>,
+    pub unix_microsecond: Option<Signed>,
+    pub unix_nanosecond: Option<Signed>,
+}
+
+/// A number with its sign, which 0 may have too: of half an hour behind UTC the hours are -0.
+#[derive(Debug, Clone, Copy)]
+pub struct Signed {
+    pub is_negative: bool,
+    pub magnitude: u128,
+}
+
+/// A part of a second of which so many digits are known.
+#[derive(Debug, Clone, Copy)]
+pub struct Fraction {
+    /// How many digits are known, from 1 to 9.
+    pub digits: u16,
+    /// The nanoseconds, with 0 for each digit that is not known.
+    pub nanosecond: u128,
+}
+
+/// A field that holds a number without a sign.
+#[derive(Clone, Copy)]
+pub(crate) enum Count {
+    YearLastTwo,
+    IsoYearLastTwo,
+    Month,
+    Day,
+    Ordinal,
+    Weekday,
+    IsoWeek,
+    SundayWeek,
+    MondayWeek,
+    Hour,
+    Hour12,
+    Minute,
+    Second,
+    OffsetMinute,
+    OffsetSecond,
+}
+
+/// A field that holds a number with its sign.
+#[derive(Clone, Copy)]
+pub(crate) enum Amount {
+    Year,
+    Century,
+    IsoYear,
+    IsoCentury,
+    OffsetHour,
+    UnixSecond,
+    UnixMillisecond,
+    UnixMicrosecond,
+    UnixNanosecond,
+}
+
+/// Nothing was read.
+pub(crate) const NO_FIELDS: Fields = Fields {
+    year: None,
+    century: None,
+    year_last_two: None,
+    iso_year: None,
+    iso_century: None,
+    iso_year_last_two: None,
+    month: None,
+    day: None,
+    ordinal: None,
+    weekday: None,
+    iso_week: None,
+    sunday_week: None,
+    monday_week: None,
+    hour: None,
+    hour_12: None,
+    is_afternoon: None,
+    minute: None,
+    second: None,
+    subsecond: None,
+    offset_hour: None,
+    offset_minute: None,
+    offset_second: None,
+    unix_second: None,
+    unix_millisecond: None,
+    unix_microsecond: None,
+    unix_nanosecond: None,
+};
+
+impl Fields {
+    /// What was read of a field without a sign.
+    pub(crate) fn count(self, field: Count) -> Option<u16>
+        ensures { result ≡ spec.count self field }
+    {
+        match field {
+            Count::YearLastTwo => self.year_last_two,
+            Count::IsoYearLastTwo => self.iso_year_last_two,
+            Count::Month => self.month,
+            Count::Day => self.day,
+            Count::Ordinal => self.ordinal,
+            Count::Weekday => self.weekday,
+            Count::IsoWeek => self.iso_week,
+            Count::SundayWeek => self.sunday_week,
+            Count::MondayWeek => self.monday_week,
+            Count::Hour => self.hour,
+            Count::Hour12 => self.hour_12,
+            Count::Minute => self.minute,
+            Count::Second => self.second,
+            Count::OffsetMinute => self.offset_minute,
+            Count::OffsetSecond => self.offset_second,
+        }
+    }
+
+    /// The same fields with this one.
+    pub(crate) fn with_count(self, field: Count, number: u16) -> Fields
+        ensures { result ≡ spec.with_count self field number }
+    {
+        let value = Some(number);
+        match field {
+            Count::YearLastTwo => Fields {
+                year_last_two: value,
+                ..self
+            },
+            Count::IsoYearLastTwo => Fields {
+                iso_year_last_two: value,
+                ..self
+            },
+            Count::Month => Fields {
+                month: value,
+                ..self
+            },
+            Count::Day => Fields { day: value, ..self },
+            Count::Ordinal => Fields {
+                ordinal: value,
+                ..self
+            },
+            Count::Weekday => Fields {
+                weekday: value,
+                ..self
+            },
+            Count::IsoWeek => Fields {
+                iso_week: value,
+                ..self
+            },
+            Count::SundayWeek => Fields {
+                sunday_week: value,
+                ..self
+            },
+            Count::MondayWeek => Fields {
+                monday_week: value,
+                ..self
+            },
+            Count::Hour => Fields {
+                hour: value,
+                ..self
+            },
+            Count::Hour12 => Fields {
+                hour_12: value,
+                ..self
+            },
+            Count::Minute => Fields {
+                minute: value,
+                ..self
+            },
+            Count::Second => Fields {
+                second: value,
+                ..self
+            },
+            Count::OffsetMinute => Fields {
+                offset_minute: value,
+                ..self
+            },
+            Count::OffsetSecond => Fields {
+                offset_second: value,
+                ..self
+            },
+        }
+    }
+
+    /// What was read of a field with a sign.
+    pub(crate) fn amount(self, field: Amount) -> Option<Signed>
+        ensures { result ≡ spec.amount self field }
+    {
+        match field {
+            Amount::Year => self.year,
+            Amount::Century => self.century,
+            Amount::IsoYear => self.iso_year,
+            Amount::IsoCentury => self.iso_century,
+            Amount::OffsetHour => self.offset_hour,
+            Amount::UnixSecond => self.unix_second,
+            Amount::UnixMillisecond => self.unix_millisecond,
+            Amount::UnixMicrosecond => self.unix_microsecond,
+            Amount::UnixNanosecond => self.unix_nanosecond,
+        }
+    }
+
+    /// The same fields with this one.
+    pub(crate) fn with_amount(self, field: Amount, number: Signed) -> Fields
+        ensures { result ≡ spec.with_amount self field number }
+    {
+        let value = Some(number);
+        match field {
+            Amount::Year => Fields {
+                year: value,
+                ..self
+            },
+            Amount::Century => Fields {
+                century: value,
+                ..self
+            },
+            Amount::IsoYear => Fields {
+                iso_year: value,
+                ..self
+            },
+            Amount::IsoCentury => Fields {
+                iso_century: value,
+                ..self
+            },
+            Amount::OffsetHour => Fields {
+                offset_hour: value,
+                ..self
+            },
+            Amount::UnixSecond => Fields {
+                unix_second: value,
+                ..self
+            },
+            Amount::UnixMillisecond => Fields {
+                unix_millisecond: value,
+                ..self
+            },
+            Amount::UnixMicrosecond => Fields {
+                unix_microsecond: value,
+                ..self
+            },
+            Amount::UnixNanosecond => Fields {
+                unix_nanosecond: value,
+                ..self
+            },
+        }
+    }
+}
