@@ -151,8 +151,10 @@ timefd_answer timefd_v2_to_v3(const uint8_t *text, size_t len, uint8_t *buffer, 
 
    What it answers and writes is as for timefd_v1_to_v2, with the faults of the language `from`. To version 2 it writes what
    timefd_v1_to_v2 does, and 2 * len bytes are always room enough; from version 2 what timefd_v2_to_v3 does; and from strftime
-   53 * len bytes are always room enough. From version 3 it has 144 KiB of stack at least. Literals side by side become one in conversions from version 1, and in those from
-   strftime, where what a letter stands for comes in place of it, part by part. */
+   53 * len bytes are always room enough. Literals side by side become one in conversions from version 1, and in those from
+   strftime, where what a letter stands for comes in place of it, part by part.
+
+   From version 3 it has 192 KiB of stack at least: a text that is nested 127 deep takes some 150 of them. */
 timefd_answer timefd_convert(uint32_t from, uint32_t to, const uint8_t *text, size_t len, uint8_t *buffer, size_t room);
 
 /* What a node is. */

@@ -1,5 +1,5 @@
-/* Calls the library on a thread with a stack of 128 KiB, a common default, over texts nested as deep as they may be, and deeper.
-   A stack that is too small ends the process by a signal. */
+/* Calls the library on a thread with a stack of 128 KiB, a common default, over texts nested as deep as they may be, and deeper;
+   and timefd_convert, which wants more, on one of 208 KiB. A stack that is too small ends the process by a signal. */
 #include "../examples/timefd.h"
 
 #include <pthread.h>
@@ -7,7 +7,7 @@
 #include <stdlib.h>
 #include <string.h>
 
-enum { STACK = 128 * 1024, DEEPEST = 127, DEEPER = 20000, BUFFER = 256 };
+enum { STACK = 128 * 1024, CONVERTING = 208 * 1024, DEEPEST = 127, DEEPER = 20000, BUFFER = 256 };
 
 typedef struct text {
     char *bytes;
@@ -58,6 +58,16 @@ static void call_each(text given, uint32_t in_three) {
     free(given.bytes);
 }
 
+static void convert_each(text given, uint32_t in_three) {
+    uint8_t buffer[BUFFER] = {0};
+    for (uint32_t kind = TIMEFD_VERSION_1; kind <= TIMEFD_VERSION_3; kind++) {
+        uint32_t expected = kind == TIMEFD_VERSION_3 ? in_three : TIMEFD_REFUSED;
+        expect("convert", kind, expected,
+               timefd_convert(kind, TIMEFD_VERSION_3, (const uint8_t *)given.bytes, given.len, buffer, BUFFER));
+    }
+    free(given.bytes);
+}
+
 static void *run(void *unused) {
     call_each(nested(DEEPEST, 1), TIMEFD_ACCEPTED);
     call_each(nested(DEEPEST, 0), TIMEFD_REFUSED);
@@ -65,14 +75,26 @@ static void *run(void *unused) {
     return unused;
 }
 
-int main(void) {
+static void *run_conversions(void *unused) {
+    convert_each(nested(DEEPEST, 1), TIMEFD_ACCEPTED);
+    convert_each(nested(DEEPEST, 0), TIMEFD_REFUSED);
+    convert_each(nested(DEEPER, 1), TIMEFD_REFUSED);
+    return unused;
+}
+
+/* Whether the function could be run to its end on a thread with so much stack. */
+static int runs(void *(*function)(void *), size_t stack) {
     pthread_attr_t attributes;
     pthread_t thread;
-    if (pthread_attr_init(&attributes) != 0 || pthread_attr_setstacksize(&attributes, STACK) != 0)
-        return 2;
-    if (pthread_create(&thread, &attributes, run, NULL) != 0 || pthread_join(thread, NULL) != 0)
+    return pthread_attr_init(&attributes) == 0 && pthread_attr_setstacksize(&attributes, stack) == 0 &&
+           pthread_create(&thread, &attributes, function, NULL) == 0 && pthread_join(thread, NULL) == 0;
+}
+
+int main(void) {
+    if (!runs(run, STACK) || !runs(run_conversions, CONVERTING))
         return 2;
     if (!failed)
-        printf("stack: texts nested %d deep and deeper were read on a stack of %d bytes\n", DEEPEST, STACK);
+        printf("stack: texts nested %d deep and deeper were read on a stack of %d bytes, and converted on one of %d\n", DEEPEST,
+               STACK, CONVERTING);
     return failed;
 }
