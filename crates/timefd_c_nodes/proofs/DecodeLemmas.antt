@@ -1,18 +1,18 @@
 -- The nodes of some trees read as these.
-use Rattle.std.proofs.Common.{◌≡◌, ◌∙◌, ℕ, ◌+◌, List, [], ◌∷◌, ◌++◌, Option, Some, length, take, drop, refl, sym, ap, append_assoc, arith, length-append}
+use Rattle.std.proofs.Common.{◌≡◌, ◌∙◌, ℕ, ◌+◌, ◌-◌, ◌≤◌, if◌then◌else◌, List, [], ◌∷◌, ◌++◌, Option, Some, None, length, take, drop, refl, sym, ap, append_assoc, arith, length-append}
+use Rattle.std.proofs.lemmas.Bool.{le-leb}
 use Rattle.std.proofs.lemmas.List.{append-nil}
 use Rattle.std.proofs.Math.Seq.{drop-append_seam, take-append_seam}
 use Rattle.timefd_component.specs.declared.component.Component.{Component}
 use Rattle.timefd_component.specs.declared.component.Component.TheVariants.{Subsecond}
 use Rattle.timefd_component.specs.Modern.{modern, IsModern, AreModern}
-use Rattle.timefd_node_list.specs.Nodes.{Role, text, shown, together, perhaps, either, arity, made, ending, grown}
-use Rattle.timefd_component.specs.Tree.{Text, Tree, component, literal, compound, optional, first, Trees, no_trees, more_trees, trees}
+use Rattle.timefd_component.specs.Tree.{Text, Tree, component, literal, compound, optional, first, pack, Trees, no_trees, more_trees, trees}
 use Rattle.timefd_node_list.specs.Views.{walked, walked_all}
-use Rattle.timefd_node_list.proofs.NodeLemmas.{before-append, ending-append, before_zero}
+use Rattle.timefd_node_list.proofs.NodeLemmas.{before-append, ending-append}
 use Rattle.timefd_c_nodes.specs.declared.node.Node.{Node}
 use Rattle.timefd_c_nodes.specs.declared.node.TheConstants.{COMPONENT}
 use Rattle.timefd_c_nodes.specs.Encoding.{component_table, component_node, node_for, nodes_from, own_text, literals_of, trees_len}
-use Rattle.timefd_c_nodes.specs.Decoding.{shown_role, perhaps_role, role_as, role_of, grown_with, read_on, read_nodes}
+use Rattle.timefd_c_nodes.specs.Decoding.{with_component, with_members, with_node, with_optional, grown_with, read_on, read_nodes}
 use Rattle.timefd_c_nodes.proofs.WriteLemmas.{literals_of-append}
 use Rattle.timefd_c_nodes.proofs.ComponentLemmas.{flag_back, component_back}
 
@@ -37,17 +37,19 @@ nodes_from-append (t ∷ xs) ys at used =
 read_on-append : (l : Text) (ns ms : List Node) (ts : Option (List Tree))
     → read_on l (ns ++ ms) ts ≡ read_on l ms (read_on l ns ts)
 read_on-append l [] ms ts = refl
-read_on-append l (n ∷ ns) ms ts = read_on-append l ns ms (grown_with (role_of l n) ts)
+read_on-append l (n ∷ ns) ms ts = read_on-append l ns ms (grown_with l n ts)
 
 -- what the table calls each component
 table_what : (c : Component) → (component_table c).what ≡ COMPONENT
 table_what (Subsecond s) = refl
 table_what c = refl
 
-component_role : (c : Component) (at : ℕ) (l : Text) → modern c ≡ c
-    → role_of l (component_node c at) ≡ Some (shown c)
-component_role c at l h = ap (λ what. role_as what l (component_node c at)) (table_what c) ∙
-    ap shown_role (component_back c at h)
+component_more : (c : Component) (at : ℕ) (l : Text) (ts : List Tree) → modern c ≡ c
+    → grown_with l (component_node c at) (Some ts) ≡ Some (ts ++ component c ∷ [])
+component_more c at l ts h =
+    ap (λ what. with_node what l (component_node c at) ts) (table_what c)
+    ∙ ap (λ o. with_component o ts) (component_back c at h)
+    ∙ ap (λ d. Some (ts ++ component d ∷ [])) h
 
 -- the trees of a list of members
 abbrev listed : Trees → List Tree
@@ -73,11 +75,16 @@ literal_back l front bytes back used e u =
     ∙ take-append_seam bytes back
 
 -- a node that takes these members
-grown_members : (r : Role) (ts us : List Tree) → arity r ≡ length us
-    → grown (ts ++ us) (record { role = r; nodes = 0; bytes = 0 }) ≡ ts ++ made r us ∷ []
-grown_members r ts us e =
-    ap (λ xs. xs ++ made r (ending (arity r) (ts ++ us)) ∷ []) (before-append ts us (arity r) e)
-    ∙ ap (λ xs. ts ++ made r xs ∷ []) (ending-append ts us (arity r) e)
+taken : (count : ℕ) (make : List Tree → Tree) (ts us : List Tree) → count ≡ length us
+    → with_members count make (ts ++ us) ≡ Some (ts ++ make us ∷ [])
+taken count make ts us e =
+    let there : count ≤ length (ts ++ us) = omega (arith, e, length-append ts us) in
+    ap (λ b. if b then Some (take (length (ts ++ us) - count) (ts ++ us) ++ make
+    (drop (length (ts ++ us) - count) (ts ++ us)) ∷ []) else None)
+    (le-leb count (length (ts ++ us)) there)
+    ∙ ap (λ xs. Some (xs ++ make (drop (length (ts ++ us) - count) (ts ++ us)) ∷ []))
+    (before-append ts us count e)
+    ∙ ap (λ xs. Some (ts ++ make xs ∷ [])) (ending-append ts us count e)
 
 -- the literals of the members are those of the whole
 inner_literals : (xs : List Tree) (t : Tree) (l front back : Text) → own_text t ≡ []
@@ -89,18 +96,19 @@ inner_literals xs t l front back none e =
     ∙ ap (λ x. front ++ x ++ back) (append-nil (literals_of xs))
 
 -- members that were read, and then the node around them
-around : (l : Text) (xs : List Tree) (t : Tree) (at used : ℕ) (ts us : List Tree) (r : Role)
-    → read_on l (nodes_from at used xs) (Some ts) ≡ Some (ts ++ us)
-    → role_of l (node_for (at + length xs) (used + length (literals_of xs)) t) ≡ Some r
-    → arity r ≡ length us → made r us ≡ t
+around : (l : Text) (xs : List Tree) (t : Tree) (at used : ℕ) (ts us : List Tree) (count : ℕ)
+    (make : List Tree → Tree) → read_on l (nodes_from at used xs) (Some ts) ≡ Some (ts ++ us)
+    → grown_with l (node_for (at + length xs) (used + length (literals_of xs)) t) (Some (ts ++ us))
+    ≡ with_members count make (ts ++ us)
+    → count ≡ length us → make us ≡ t
     → read_on l (nodes_from at used (xs ++ t ∷ [])) (Some ts) ≡ Some (ts ++ t ∷ [])
-around l xs t at used ts us r members role count is =
+around l xs t at used ts us count make members node counted is =
     let n : Node = node_for (at + length xs) (used + length (literals_of xs)) t in
     ap (λ ns. read_on l ns (Some ts)) (nodes_from-append xs (t ∷ []) at used)
     ∙ read_on-append l (nodes_from at used xs) (n ∷ []) (Some ts)
-    ∙ ap (λ o. grown_with (role_of l n) o) members
-    ∙ ap (λ o. grown_with o (Some (ts ++ us))) role
-    ∙ ap (λ x. Some x) (grown_members r ts us count)
+    ∙ ap (λ o. grown_with l n o) members
+    ∙ node
+    ∙ taken count make ts us counted
     ∙ ap (λ x. Some (ts ++ x ∷ [])) is
 
 mutual
@@ -108,24 +116,24 @@ mutual
       → l ≡ front ++ literals_of (walked t) ++ back → used ≡ length front
       → read_on l (nodes_from at used (walked t)) (Some ts) ≡ Some (ts ++ t ∷ [])
   tree_read (component c) at used l front back ts h e u =
-      ap (λ o. grown_with o (Some ts)) (component_role c at l h)
-      ∙ ap (λ xs. Some (xs ++ component (modern c) ∷ [])) (before_zero ts)
-      ∙ ap (λ d. Some (ts ++ component d ∷ [])) h
+      component_more c at l ts h
   tree_read (literal bytes) at used l front back ts h e u =
-      ap (λ b. grown_with (Some (text b)) (Some ts)) (literal_back l front bytes back used e u)
-      ∙ ap (λ xs. Some (xs ++ literal bytes ∷ [])) (before_zero ts)
+      ap (λ b. Some (ts ++ literal b ∷ [])) (literal_back l front bytes back used e u)
   tree_read (compound us) at used l front back ts h e u =
-      around l (walked_all us) (compound us) at used ts (listed us) (together (trees_len us))
+      around l (walked_all us) (compound us) at used ts (listed us) (trees_len us)
+      (λ xs. compound (trees xs))
       (trees_read us at used l front back ts h
       (inner_literals (walked_all us) (compound us) l front back refl e) u)
       refl (listed_length us) (ap (λ x. compound x) (trees_listed us))
   tree_read (optional format t) at used l front back ts h e u =
-      around l (walked t) (optional format t) at used ts (t ∷ []) (perhaps format)
+      around l (walked t) (optional format t) at used ts (t ∷ []) 1
+      (λ xs. optional format (pack xs))
       (tree_read t at used l front back ts h
       (inner_literals (walked t) (optional format t) l front back refl e) u)
-      (ap perhaps_role (flag_back format)) refl refl
+      (ap (λ o. with_optional o (ts ++ t ∷ [])) (flag_back format)) refl refl
   tree_read (first us) at used l front back ts h e u =
-      around l (walked_all us) (first us) at used ts (listed us) (either (trees_len us))
+      around l (walked_all us) (first us) at used ts (listed us) (trees_len us)
+      (λ xs. first (trees xs))
       (trees_read us at used l front back ts h
       (inner_literals (walked_all us) (first us) l front back refl e) u)
       refl (listed_length us) (ap (λ x. first x) (trees_listed us))

@@ -1,5 +1,5 @@
 -- What nodes say. A number that means nothing says nothing.
-use Rattle.std.specs.Prelude.{ℕ, zero, suc, ◌==◌, if◌then◌else◌, Bool, true, false, List, [], ◌∷◌, Option, Some, None, take, drop}
+use Rattle.std.specs.Prelude.{ℕ, zero, suc, ◌-◌, ◌==◌, nat_le, if◌then◌else◌, Bool, true, false, List, [], ◌∷◌, ◌++◌, Option, Some, None, length, take, drop}
 use native.Mathlib.Nat.{zero-lt-suc}
 use Rattle.std.specs.declared.num.NonZeroU16.{NonZeroU16}
 use Rattle.timefd_modifier.specs.declared.enums.Padding.{Padding}
@@ -7,8 +7,8 @@ use Rattle.timefd_modifier.specs.declared.enums.SubsecondDigits.{SubsecondDigits
 use Rattle.timefd_modifier.specs.declared.enums.TrailingInput.{TrailingInput}
 use Rattle.timefd_component.specs.declared.component.Component.{Component}
 use Rattle.timefd_component.specs.declared.component.Component.TheVariants.{Day, MonthShort, MonthLong, MonthNumerical, Ordinal, WeekdayShort, WeekdayLong, WeekdaySunday, WeekdayMonday, WeekNumberIso, WeekNumberSunday, WeekNumberMonday, CalendarYearFullExtendedRange, CalendarYearFullStandardRange, CalendarYearCenturyExtendedRange, CalendarYearCenturyStandardRange, IsoYearFullExtendedRange, IsoYearFullStandardRange, IsoYearCenturyExtendedRange, IsoYearCenturyStandardRange, CalendarYearLastTwo, IsoYearLastTwo, Hour12, Hour24, Minute, Period, Second, Subsecond, OffsetHour, OffsetMinute, OffsetSecond, Ignore, UnixTimestampSecond, UnixTimestampMillisecond, UnixTimestampMicrosecond, UnixTimestampNanosecond, End}
-use Rattle.timefd_node_list.specs.Nodes.{Role, text, shown, together, perhaps, either, grown}
-use Rattle.timefd_component.specs.Tree.{Text, Tree}
+use Rattle.timefd_component.specs.Modern.{modern}
+use Rattle.timefd_component.specs.Tree.{Text, Tree, component, literal, compound, optional, first, pack, trees}
 use Rattle.timefd_c_nodes.specs.declared.node.Node.{Node}
 use Rattle.timefd_c_nodes.specs.declared.node.TheConstants.{LITERAL, COMPONENT, COMPOUND, OPTIONAL, FIRST}
 
@@ -144,37 +144,39 @@ component_of n =
     (trailing_input_of n.trailing_input)
     else None
 
-abbrev pub shown_role : Option Component → Option Role
-shown_role None = None
-shown_role (Some c) = Some (shown c)
-
-abbrev pub perhaps_role : Option Bool → Option Role
-perhaps_role None = None
-perhaps_role (Some format) = Some (perhaps format)
-
--- what a node makes of its members, where it is this and the literals are these
-abbrev pub role_as : ℕ → Text → Node → Option Role
-role_as what literals n =
-    if what == LITERAL then Some (text (take n.count (drop n.start literals)))
-    else if what == COMPONENT then shown_role (component_of n)
-    else if what == COMPOUND then Some (together n.count)
-    else if what == OPTIONAL then perhaps_role (flag_of n.format)
-    else if what == FIRST then Some (either n.count)
+-- the trees so far, with the last ones, so many, become one, where they are there
+abbrev pub with_members : ℕ → (List Tree → Tree) → List Tree → Option (List Tree)
+with_members count make ts =
+    if nat_le count (length ts) then Some
+    (take (length ts - count) ts ++ make (drop (length ts - count) ts) ∷ [])
     else None
 
-abbrev pub role_of : Text → Node → Option Role
-role_of literals n = role_as n.what literals n
+abbrev pub with_component : Option Component → List Tree → Option (List Tree)
+with_component None ts = None
+with_component (Some c) ts = Some (ts ++ component (modern c) ∷ [])
 
--- the trees so far, and one node more
-abbrev pub grown_with : Option Role → Option (List Tree) → Option (List Tree)
-grown_with None ts = None
-grown_with (Some r) None = None
-grown_with (Some r) (Some ts) = Some (grown ts (record { role = r; nodes = 0; bytes = 0 }))
+abbrev pub with_optional : Option Bool → List Tree → Option (List Tree)
+with_optional None ts = None
+with_optional (Some format) ts = with_members 1 (λ us. optional format (pack us)) ts
+
+-- the trees so far, and one node more, where it is this and the literals are these
+abbrev pub with_node : ℕ → Text → Node → List Tree → Option (List Tree)
+with_node what literals n ts =
+    if what == LITERAL then Some (ts ++ literal (take n.count (drop n.start literals)) ∷ [])
+    else if what == COMPONENT then with_component (component_of n) ts
+    else if what == COMPOUND then with_members n.count (λ us. compound (trees us)) ts
+    else if what == OPTIONAL then with_optional (flag_of n.format) ts
+    else if what == FIRST then with_members n.count (λ us. first (trees us)) ts
+    else None
+
+abbrev pub grown_with : Text → Node → Option (List Tree) → Option (List Tree)
+grown_with literals n None = None
+grown_with literals n (Some ts) = with_node n.what literals n ts
 
 -- the trees so far, and these nodes more
 abbrev pub read_on : Text → List Node → Option (List Tree) → Option (List Tree)
 read_on literals [] ts = ts
-read_on literals (n ∷ ns) ts = read_on literals ns (grown_with (role_of literals n) ts)
+read_on literals (n ∷ ns) ts = read_on literals ns (grown_with literals n ts)
 
 -- the trees that nodes read as: each takes its members off the end of those so far, and puts its
 -- own tree there

@@ -8,3 +8,4 @@ pub mod WayLemmas
 pub mod EditLemmas
 pub mod DistanceLemmas
 pub mod LackingLemmas
+pub mod ModifierPlaceLemmas

@@ -7,3 +7,4 @@ pub mod Codes
 pub mod Advice
 pub mod Helps
 pub mod Diagnoses
+pub mod Laws

@@ -6,6 +6,7 @@ mod code;
 mod cure;
 mod diagnostic;
 mod help;
+pub mod laws;
 mod lent;
 pub mod nearest;
 pub mod place;

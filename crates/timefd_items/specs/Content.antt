@@ -1,8 +1,8 @@
--- The tree of what a description is, its parts lent.
-use Rattle.std.specs.Prelude.{map}
+-- The tree of what a description is, its parts lent, and how many of them are owned.
+use Rattle.std.specs.Prelude.{ℕ, ◌≡◌, ◌+◌, map, sum}
 use Rattle.timefd_items.specs.declared.format_description_v3.content.Content.{Content}
 use Rattle.timefd_items.specs.declared.format_description_v3.content.Content.TheVariants as content
-use Rattle.timefd_items.specs.Meaning.{inner_tree}
+use Rattle.timefd_items.specs.Meaning.{inner_tree, owned_parts}
 use Rattle.timefd_component.specs.Modern.{modern}
 use Rattle.timefd_component.specs.Tree.{Tree, component, literal, compound, optional, first, trees}
 
@@ -12,3 +12,11 @@ content_tree (content.Literal text) = literal text.now
 content_tree (content.Compound items) = compound (trees (map inner_tree items.now))
 content_tree (content.Optional format item) = optional format (inner_tree item.now)
 content_tree (content.First items) = first (trees (map inner_tree items.now))
+
+-- what an owned part is that has so many owned parts, itself among them
+abbrev pub IsOwned : Content → ℕ → Type 0
+IsOwned (content.Component c) count = ⊥
+IsOwned (content.Literal text) count = count ≡ 1
+IsOwned (content.Compound items) count = count ≡ 1 + sum (map owned_parts items.now)
+IsOwned (content.Optional format item) count = count ≡ 1 + owned_parts item.now
+IsOwned (content.First items) count = count ≡ 1 + sum (map owned_parts items.now)

@@ -1,5 +1,5 @@
 -- The tree that a description means.
-use Rattle.std.specs.Prelude.{Bool, true, false, string_bytes, box_value}
+use Rattle.std.specs.Prelude.{ℕ, ◌+◌, Bool, true, false, sum, string_bytes, box_value}
 use Rattle.timefd_component.specs.declared.component.Component.TheVariants.{Day, MonthShort, MonthLong, MonthNumerical, Ordinal}
 use Rattle.timefd_component.specs.declared.component.Component.TheVariants.{WeekdayShort, WeekdayLong, WeekdaySunday, WeekdayMonday}
 use Rattle.timefd_component.specs.declared.component.Component.TheVariants.{WeekNumberIso, WeekNumberSunday, WeekNumberMonday}
@@ -81,3 +81,14 @@ owns_step other = false
 
 abbrev pub owns : FormatDescriptionV3Inner → Bool
 owns = fold-FormatDescriptionV3Inner Bool owns_step
+
+-- how many owned parts it has, at any depth: each has memory of its own
+abbrev pub owned_step : FormatDescriptionV3Inner-F ℕ → ℕ
+owned_step (inner.OwnedLiteral text) = 1
+owned_step (inner.OwnedCompound members) = 1 + sum members.items
+owned_step (inner.OwnedOptional format member) = 1 + box_value member
+owned_step (inner.OwnedFirst members) = 1 + sum members.items
+owned_step other = 0
+
+abbrev pub owned_parts : FormatDescriptionV3Inner → ℕ
+owned_parts = fold-FormatDescriptionV3Inner ℕ owned_step

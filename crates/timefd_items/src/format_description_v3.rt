@@ -33,7 +33,7 @@ pub struct FormatDescriptionV3<'a> {
 
 impl<'a> FormatDescriptionV3<'a> {
     ghost use Rattle.std.specs.Prelude.{◌≡◌, IfOk};
-    ghost use Rattle.timefd_items.specs.Description.{description_tree};
+    ghost use Rattle.timefd_items.specs.Description.{description_owners, description_tree, unused_parts};
     ghost use Rattle.timefd_items.specs.Meaning.{inner_tree};
     ghost use Rattle.timefd_component.specs.Texts.{Renders};
     ghost use Rattle.timefd_component.specs.Tree.{Text, compound, no_trees};
@@ -78,17 +78,21 @@ impl<'a> FormatDescriptionV3<'a> {
     /// A description of the same meaning that borrows nothing, so it may outlive the text. An `Err`
     /// comes where there is no memory left for it.
     pub fn to_owned(&self, alloc: Global) -> Result<FormatDescriptionV3<'static>, AllocError>
-        ensures { IfOk result (λ copy. description_tree copy ≡ description_tree self.now) }
+        ensures same { IfOk result (λ copy. description_tree copy ≡ description_tree self.now) }
+        ensures exact { IfOk result (λ copy. unused_parts copy ≡ 0) }
     {
         Ok(FormatDescriptionV3 {
             list: self.list.owned(alloc)?,
         })
     }
 
-    /// A description of the same meaning, which borrows what this one borrows. An `Err` comes where
-    /// there is no memory left for it.
+    /// A description of the same meaning, which borrows what this one borrows and owns what it owns:
+    /// it takes one block for its parts, of just their size, and one for each text that is owned. An
+    /// `Err` comes where there is no memory left for it.
     pub fn clone(&self, alloc: Global) -> Result<Self, AllocError>
-        ensures { IfOk result (λ copy. description_tree copy ≡ description_tree self.now) }
+        ensures same { IfOk result (λ copy. description_tree copy ≡ description_tree self.now) }
+        ensures owners { IfOk result (λ copy. description_owners copy ≡ description_owners self.now) }
+        ensures exact { IfOk result (λ copy. unused_parts copy ≡ 0) }
     {
         Ok(FormatDescriptionV3 {
             list: self.list.copied(alloc)?,

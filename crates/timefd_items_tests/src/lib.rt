@@ -18,6 +18,8 @@ mod items;
 #[cfg(test)]
 mod lent;
 #[cfg(test)]
+mod many_parts;
+#[cfg(test)]
 mod modifiers;
 #[cfg(test)]
 mod printed;

@@ -7,3 +7,4 @@ pub mod ViewLemmas
 pub mod WalkLemmas
 pub mod TurnLemmas
 pub mod LeafLemmas
+pub mod OwnerLemmas

@@ -1,4 +1,5 @@
 pub mod Nodes
+pub mod Owners
 pub mod NodeTrees
 pub mod Tallies
 pub mod Views

@@ -1,7 +1,8 @@
 -- The trees that a list of nodes is, and how it grows.
-use Rattle.std.specs.Prelude.{ℕ, ◌≡◌, ◌+◌, ◌-◌, ◌≤◌, List, [], ◌++◌, map, vec_len, vec_capacity}
+use Rattle.std.specs.Prelude.{Bool, ℕ, ◌≡◌, ◌+◌, ◌-◌, ◌≤◌, List, [], ◌++◌, map, vec_len, vec_capacity}
 use Rattle.timefd_node_list.specs.declared.node_list.NodeList.{NodeList}
 use Rattle.timefd_node_list.specs.Nodes.{Part, part, grown_by}
+use Rattle.timefd_node_list.specs.Owners.{owns_text}
 use Rattle.timefd_component.specs.Reserved.{trees_count}
 use Rattle.timefd_component.specs.Tree.{Tree, trees}
 
@@ -10,6 +11,10 @@ list_parts l = map part l.nodes.items
 
 abbrev pub list_trees : NodeList → List Tree
 list_trees l = grown_by [] (list_parts l)
+
+-- which of its nodes own their text
+abbrev pub list_owners : NodeList → List Bool
+list_owners l = map owns_text l.nodes.items
 
 abbrev pub node_count : NodeList → ℕ
 node_count l = vec_len l.nodes

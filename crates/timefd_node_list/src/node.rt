@@ -44,6 +44,7 @@ pub struct Members {
 
 impl<'a> Node<'a> {
     ghost use Rattle.timefd_node_list.specs.Nodes.{part};
+    ghost use Rattle.timefd_node_list.specs.Owners.{is_text, owns_text};
 
     /// How many bytes its tree reserves, at most `usize::MAX`.
     pub fn bytes(&self) -> usize
@@ -74,7 +75,8 @@ impl<'a> Node<'a> {
     /// A copy that borrows what this one borrows and owns what it owns. An `Err` comes where there
     /// is no memory left for its text.
     pub fn copied(&self, alloc: Global) -> Result<Node<'a>, AllocError>
-        ensures { IfOk result (λ copy. part copy ≡ part self.now) }
+        ensures part { IfOk result (λ copy. part copy ≡ part self.now) }
+        ensures owner { IfOk result (λ copy. owns_text copy ≡ owns_text self.now) }
     {
         match self {
             &Node::Literal(text) => Ok(Node::Literal(text)),
@@ -84,7 +86,8 @@ impl<'a> Node<'a> {
 
     /// A copy that borrows nothing. An `Err` comes where there is no memory left for its text.
     pub fn owned(&self, alloc: Global) -> Result<Node<'static>, AllocError>
-        ensures { IfOk result (λ copy. part copy ≡ part self.now) }
+        ensures part { IfOk result (λ copy. part copy ≡ part self.now) }
+        ensures owner { IfOk result (λ copy. owns_text copy ≡ is_text (part self.now).role) }
     {
         match self {
             &Node::Literal(text) => Ok(Node::OwnedLiteral(String::from_str(alloc, text)?)),

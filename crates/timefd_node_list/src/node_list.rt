@@ -1,7 +1,9 @@
 //! Trees as one list of nodes, each behind its members.
 
 ghost use Rattle.std.specs.Prelude.{◌≡◌, ◌∷◌, ◌++◌, ◌≤◌, [], length, map, IfOk, string_bytes, vec_capacity, IsOk, OnOk};
+ghost use Rattle.std.specs.Bool.{IsFalse, IsTrue};
 ghost use Rattle.timefd_node_list.specs.Nodes.{Fit, Fit-prop, Fits, arity, before, ending, grown, last_kept, part};
+ghost use Rattle.timefd_node_list.specs.Owners.{IsFlag, IsFlag-prop, owns_text};
 ghost use Rattle.timefd_component.specs.Modern.{modern};
 ghost use Rattle.timefd_component.specs.Reserved.{reserve_all, reserved};
 ghost use Rattle.timefd_component.specs.Tree as spec;
@@ -17,9 +19,10 @@ use timefd_component::reserved::reserved_bytes;
 /// Trees side by side. Nothing is moved where some of them become one: its node comes behind.
 pub struct NodeList<'a> {
     nodes: Vec<Node<'a>>,
-    // Whether a node owns its text.
+    // Whether a node may own its text.
     owns: bool,
     ghost fit: { Fit [] (map part nodes.items) } by { Fit-prop [] (map part nodes.items) },
+    ghost flag: { IsFlag owns nodes.items } by { IsFlag-prop owns nodes.items },
 }
 
 /// Where no node owns its text there is nothing to drop but the list, and none is looked at.
@@ -28,14 +31,22 @@ impl Drop for NodeList<'_> {
         let NodeList { mut nodes, owns } = self;
         if !owns {
             'lent: while let Some(node) = nodes.pop() {
-                forget(node);
+                forget_lent(node);
             }
         }
     }
 }
 
+/// Leaves a node that owns nothing as it is: there is nothing to free.
+#[inline(always)]
+fn forget_lent(node: Node<'_>)
+    requires { IsFalse (owns_text node) }
+{
+    forget(node);
+}
+
 impl<'a> NodeList<'a> {
-    ghost use Rattle.timefd_node_list.specs.NodeTrees.{Adds, AddsNode, HasRoom, list_parts, list_trees, node_count, room};
+    ghost use Rattle.timefd_node_list.specs.NodeTrees.{Adds, AddsNode, HasRoom, list_owners, list_parts, list_trees, node_count, room};
 
     /// No trees.
     pub fn new(alloc: Global) -> Self
@@ -83,15 +94,17 @@ impl<'a> NodeList<'a> {
         last_kept_bytes(&self.nodes)
     }
 
-    /// A copy that borrows what this one borrows. An `Err` comes where there is no memory left for
-    /// it.
+    /// A copy that borrows what this one borrows and owns what it owns, with no room for more. An
+    /// `Err` comes where there is no memory left for it.
     pub fn copied(&self, alloc: Global) -> Result<Self, AllocError>
-        ensures { IfOk result (λ copy. list_parts copy ≡ list_parts self.now) }
+        ensures parts { IfOk result (λ copy. list_parts copy ≡ list_parts self.now) }
+        ensures owners { IfOk result (λ copy. list_owners copy ≡ list_owners self.now) }
+        ensures exact { IfOk result (λ copy. room copy ≡ 0) }
     {
         let mut copies = Vec::with_capacity(alloc, self.nodes.len())?;
         'nodes: for at in 0..self.nodes.len() {
             let copy = self.nodes[at].copied(alloc)?;
-            copies.push(copy)?;
+            copies.push_reserved(copy);
         }
         Ok(NodeList {
             nodes: copies,
@@ -99,14 +112,16 @@ impl<'a> NodeList<'a> {
         })
     }
 
-    /// A copy that borrows nothing. An `Err` comes where there is no memory left for it.
+    /// A copy that borrows nothing, with no room for more. An `Err` comes where there is no memory
+    /// left for it.
     pub fn owned(&self, alloc: Global) -> Result<NodeList<'static>, AllocError>
-        ensures { IfOk result (λ copy. list_parts copy ≡ list_parts self.now) }
+        ensures parts { IfOk result (λ copy. list_parts copy ≡ list_parts self.now) }
+        ensures exact { IfOk result (λ copy. room copy ≡ 0) }
     {
         let mut copies = Vec::with_capacity(alloc, self.nodes.len())?;
         'nodes: for at in 0..self.nodes.len() {
             let copy = self.nodes[at].owned(alloc)?;
-            copies.push(copy)?;
+            copies.push_reserved(copy);
         }
         Ok(NodeList {
             nodes: copies,
@@ -220,6 +235,7 @@ impl<'a> NodeList<'a> {
 
     fn push(&mut self, node: Node<'a>)
         requires fits { Fits (list_trees self.old) (part node) }
+        requires flag { IsTrue (owns_text node) → IsTrue self.old.owns }
         requires room { HasRoom self.old 1 }
         ensures trees { list_trees self.new ≡ grown (list_trees self.old) (part node.entry) }
         ensures node { AddsNode self.old self.new }

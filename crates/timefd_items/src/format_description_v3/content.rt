@@ -1,9 +1,9 @@
 //! What a tree is, whether its parts are lent or owned.
 
-ghost use Rattle.std.specs.Prelude.{◌≡◌, IfSome};
+ghost use Rattle.std.specs.Prelude.{◌≡◌, IfSome, IsTrue};
 ghost use Rattle.std.specs.Option.{is_none};
-ghost use Rattle.timefd_items.specs.Content.{content_tree};
-ghost use Rattle.timefd_items.specs.Meaning.{inner_tree, owns};
+ghost use Rattle.timefd_items.specs.Content.{content_tree, IsOwned};
+ghost use Rattle.timefd_items.specs.Meaning.{inner_tree, owned_parts, owns};
 
 use super::inner::FormatDescriptionV3Inner;
 use timefd_component::Component;
@@ -36,6 +36,15 @@ impl<'a> FormatDescriptionV3Inner<'a> {
         if let Some(content) = self.borrowed_content() {
             return content;
         }
+        self.owned_content()
+    }
+
+    /// What this tree is where it is an owned part.
+    pub(super) fn owned_content(&self) -> Content<'_, 'a>
+        requires { IsTrue (owns self.now) }
+        ensures same { content_tree result ≡ inner_tree self.now }
+        ensures owned { IsOwned result (owned_parts self.now) }
+    {
         match self {
             FormatDescriptionV3Inner::OwnedLiteral(text) => Content::Literal(text.as_str()),
             FormatDescriptionV3Inner::OwnedCompound(items) => Content::Compound(items),
@@ -52,6 +61,7 @@ impl<'a> FormatDescriptionV3Inner<'a> {
     pub(super) fn borrowed_content(&self) -> Option<Content<'a, 'a>>
         ensures same { IfSome result (λ content. content_tree content ≡ inner_tree self.now) }
         ensures owns { is_none result ≡ owns self.now }
+        ensures none_owned { IfSome result (λ content. owned_parts self.now ≡ 0) }
     {
         match self {
             FormatDescriptionV3Inner::Day(fields) => Some(Content::Component(Component::Day(

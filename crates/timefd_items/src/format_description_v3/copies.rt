@@ -1,8 +1,8 @@
 //! Copies of descriptions, of the same meaning.
 
-ghost use Rattle.std.specs.Prelude.{◌≡◌, IfOk, IsFalse, IsOk, map};
+ghost use Rattle.std.specs.Prelude.{◌≡◌, ◌+◌, IfOk, IsFalse, IsOk, map};
 ghost use Rattle.timefd_items.specs.Content.{content_tree};
-ghost use Rattle.timefd_items.specs.Meaning.{inner_tree, owns};
+ghost use Rattle.timefd_items.specs.Meaning.{inner_tree, owned_parts, owns};
 ghost use Rattle.timefd_component.specs.Tree.{optional};
 
 use super::content::Content;
@@ -15,13 +15,14 @@ impl<'a> FormatDescriptionV3Inner<'a> {
     #[cycle(clone)]
     pub fn clone(&self, alloc: Global) -> Result<Self, AllocError>
         ensures same { IfOk result (λ copy. inner_tree copy ≡ inner_tree self.now) }
+        ensures owned { IfOk result (λ copy. owned_parts copy ≡ owned_parts self.now) }
         ensures no_memory { IsFalse (owns self.now) → IsOk result }
     {
         if let Some(content) = self.borrowed_content() {
-            return Ok(Self::from(content));
+            return Ok(Self::of_lent(content));
         }
-        match self.content() {
-            Content::Component(component) => Ok(Self::from(component)),
+        match self.owned_content() {
+            Content::Component(_) => unreachable!(),
             Content::Literal(text) => {
                 Ok(FormatDescriptionV3Inner::OwnedLiteral(String::from_str(alloc, text)?))
             }
@@ -41,7 +42,9 @@ impl<'a> FormatDescriptionV3Inner<'a> {
 
     #[cycle(clone)]
     fn clone_all(items: &[Self], alloc: Global) -> Result<Vec<Self>, AllocError>
-        ensures { IfOk result (λ copies. map inner_tree copies.items ≡ map inner_tree items.now) }
+        ensures same { IfOk result (λ copies. map inner_tree copies.items ≡ map inner_tree items.now) }
+        ensures owned { IfOk result (λ copies. map owned_parts copies.items ≡ map owned_parts
+            items.now) }
     {
         let mut copies = Vec::with_capacity(alloc, items.len())?;
         'items: for at in 0..items.len() {
@@ -50,12 +53,12 @@ impl<'a> FormatDescriptionV3Inner<'a> {
         }
         Ok(copies)
     }
-}
 
-impl<'a> From<Content<'a, 'a>> for FormatDescriptionV3Inner<'a> {
-    ghost from_gives = { λ content description. inner_tree description ≡ content_tree content };
-
-    fn from(content: Content<'a, 'a>) -> Self {
+    // The part that lends this.
+    fn of_lent(content: Content<'a, 'a>) -> Self
+        ensures same { inner_tree result ≡ content_tree content.entry }
+        ensures lent { owned_parts result ≡ 0 }
+    {
         match content {
             Content::Component(component) => FormatDescriptionV3Inner::from(component),
             Content::Literal(text) => FormatDescriptionV3Inner::BorrowedLiteral(text),
@@ -74,7 +77,8 @@ pub(super) fn owned_optional(
     format: bool,
     item: FormatDescriptionV3Inner<'_>,
 ) -> Result<FormatDescriptionV3Inner<'_>, AllocError>
-    ensures { IfOk result (λ made. inner_tree made ≡ optional format (inner_tree item.entry)) }
+    ensures same { IfOk result (λ made. inner_tree made ≡ optional format (inner_tree item.entry)) }
+    ensures owned { IfOk result (λ made. owned_parts made ≡ 1 + owned_parts item.entry) }
 {
     Ok(FormatDescriptionV3Inner::OwnedOptional {
         format,

@@ -1,12 +1,15 @@
 use Rattle.std.proofs.Common.{◌≡◌, ◌+◌, ◌*◌, map, take}
-use Rattle.timefd_items.specs.Meaning.{inner_tree}
+use Rattle.timefd_items.specs.Meaning.{inner_tree, owned_parts}
 use Rattle.timefd_component.specs.Reserved.{tree_count, trees_count}
 use Rattle.timefd_component.specs.Tree.{trees}
 use Rattle.timefd_items.proofs.format_description_v3.inner.FormatDescriptionV3Inner.+clone.Given as goal
 
 -- the copies are of those before this one
 abbrev pub invariant-clone_all-items : goal.invariant-clone_all-items
-invariant-clone_all-items l = map inner_tree l.copies.items ≡ map inner_tree (take l.at l.items)
+invariant-clone_all-items l = record {
+  same : map inner_tree l.copies.items ≡ map inner_tree (take l.at l.items);
+  owned : map owned_parts l.copies.items ≡ map owned_parts (take l.at l.items);
+}
 
 -- a list is one step in front of its first
 abbrev pub decreases-clone : goal.decreases-clone

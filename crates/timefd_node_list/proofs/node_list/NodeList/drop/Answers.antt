@@ -1,0 +1,13 @@
+use Rattle.std.proofs.Common.{◌∙◌, ◌++◌, ap, subst}
+use Rattle.std.specs.Bool.{IsFalse}
+use Rattle.std.specs.List.{list_any}
+use Rattle.std.specs.Option.{option_to_list}
+use Rattle.timefd_node_list.specs.Owners.{owns_text}
+use Rattle.timefd_node_list.proofs.OwnerLemmas.{lent_last}
+use Rattle.timefd_node_list.proofs.node_list.NodeList.drop.Goals as goal
+
+pub forget_lent-requires : goal.forget_lent-requires
+forget_lent-requires c =
+    lent_last c.pop.new.self.items c.in-Some.node
+    (subst (λ ns. IsFalse (list_any owns_text ns)) (c.pop.ensures.items
+    ∙ ap (λ o. c.pop.new.self.items ++ option_to_list o) c.in-Some.is) c.lent.invariant)
