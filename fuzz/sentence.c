@@ -8,7 +8,7 @@
 
 static const char MARK[] = " at byte index ";
 
-/* The sentence of a refused text. False where it has not the form that TABLES.md gives. */
+/* The sentence of a refused text. False where it has not the form that docs/proof/TABLES.md gives. */
 bool cut_sentence(const uint8_t *bytes, size_t len, size_t index, struct sentence *sentence) {
     char number[24];
     size_t digits = (size_t)snprintf(number, sizeof number, "%zu", index);

@@ -1,5 +1,5 @@
 #!/usr/bin/env python3
-"""Draws the grammars of docs/LANGUAGE.md as railroad diagrams: one SVG for each language, and one for components.
+"""Draws the grammars of docs/LANGUAGES.md as railroad diagrams: one SVG for each language, and one for components.
 
     docs/pictures/grammar.py            writes the files beside this script
     docs/pictures/grammar.py --check    fails where a file would change

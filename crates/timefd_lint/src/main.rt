@@ -1,5 +1,5 @@
 //! `timefd_lint [OPTION].. [FILE]..`: reads format descriptions, one a line, and shows which are
-//! none, where, why, and what to write in their place. `docs/LINT.md` has the options and the names
+//! none, where, why, and what to write in their place. `docs/LINTER.md` has the options and the names
 //! of the faults.
 #![tactic(auto)]
 

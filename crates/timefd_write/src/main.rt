@@ -1,5 +1,5 @@
 //! `timefd_format [OPTION].. [--] DESCRIPTION [MOMENT]..`: writes moments by a format description,
-//! a line each. `docs/WRITE.md` has the options, and what moments are read.
+//! a line each. `docs/proof/COMMANDS.md` has the options, and what moments are read.
 #![tactic(auto)]
 
 mod asked;
