@@ -31,7 +31,7 @@
 //! ```
 //!
 //! Calls may come from any thread. Reading a text that is nested as deep as it may be, 127 deep,
-//! takes some 65 KiB of stack.
+//! takes some 63 KiB of stack.
 
 #![no_std]
 
