@@ -1,0 +1,117 @@
+#!/usr/bin/env python3
+"""Draws the crates of crates.txt, without those of tests: each above all that it stands on. The picture is crates.svg.
+
+    docs/pictures/crates.py            writes the file beside this script
+    docs/pictures/crates.py --check    fails where the file would change
+
+A line leads from a crate to one that it stands on, but for those that it also reaches by another. Dark boxes are programs and the
+crates that people call; the others are parts that the prover or the gate wants apart.
+"""
+import pathlib
+import sys
+
+HERE = pathlib.Path(__file__).resolve().parent
+TOP = HERE.parent.parent
+PEOPLE = set(
+    "timefd lint write c parse items format format_text moment jiff read_dates convert print lift laws uses".split()
+)
+PREFIX, WIDE, ROW, HIGH, GAP, CHAR, PAD = "timefd_", 800, 62, 26, 16, 8, 20
+STYLE = (
+    "rect{fill:#fff;stroke:#333;stroke-width:1.2}.people{fill:#1f5fa8}.page{stroke:none}line{stroke:#9aa5b1;stroke-width:1.2}"
+    "text{font:13px sans-serif;fill:#111;text-anchor:middle}.of{fill:#fff}"
+)
+
+
+def crates():
+    """What each crate stands on, of this repository's own."""
+    found = {}
+    for line in (TOP / "crates.txt").read_text().split("\n"):
+        head, colon, rest = line.partition(":")
+        if colon and not head.startswith("#") and not head.split()[0].endswith("_tests"):
+            found[head.split()[0]] = rest.split()
+    return {short(name): [short(it) for it in below if it in found] for name, below in found.items()}
+
+
+def short(name):
+    return name.removeprefix(PREFIX)
+
+
+def reach(below, name, known):
+    """All crates that one stands on, straight or not."""
+    if name not in known:
+        known[name] = set()
+        for it in below[name]:
+            known[name] |= {it} | reach(below, it, known)
+    return known[name]
+
+
+def lines(below, known):
+    """Of what each crate stands on, those that no other of them leads to."""
+    return {name: [it for it in its if not any(it in known[other] for other in its)] for name, its in below.items()}
+
+
+def heights(below, known):
+    found = {}
+    for name in sorted(below, key=lambda it: len(known[it])):
+        found[name] = 1 + max((found[it] for it in below[name]), default=-1)
+    return found
+
+
+def rows(below, height):
+    """The crates of each height, each about above what it stands on and below what stands on it."""
+    levels = [sorted(it for it in below if height[it] == level) for level in range(max(height.values()) + 1)]
+    place = {it: at / len(level) for level in levels for at, it in enumerate(level)}
+    above = {it: [up for up in below if it in below[up]] for it in below}
+    for turn in range(40):
+        for level in levels if turn % 2 else levels[::-1]:
+            wanted = {it: [place[near] for near in below[it] + above[it]] for it in level}
+            level.sort(key=lambda it: (sum(wanted[it]) / len(wanted[it]) if wanted[it] else place[it], it))
+            place.update({it: (at + 0.5) / len(level) for at, it in enumerate(level)})
+    return levels
+
+
+def drawn():
+    below = crates()
+    known = {}
+    for name in below:
+        reach(below, name, known)
+    straight = lines(below, known)
+    levels = rows(straight, heights(below, known))
+    size = {it: len(it) * CHAR + PAD for it in below}
+    width = max(WIDE, *(sum(size[it] + GAP for it in level) + GAP for level in levels))
+    tall = len(levels) * ROW
+    at = {}
+    for number, level in enumerate(levels):
+        room = (width - sum(size[it] for it in level)) / (len(level) + 1)
+        x = room
+        for it in level:
+            at[it] = (x + size[it] / 2, tall - ROW / 2 - number * ROW)
+            x += size[it] + room
+    out = [
+        f'<svg xmlns="http://www.w3.org/2000/svg" viewBox="0 0 {width:.0f} {tall}" width="{width:.0f}" height="{tall}">',
+        f"<style>{STYLE}</style>",
+        f'<rect class="page" width="{width:.0f}" height="{tall}"/>',
+    ]
+    for name in sorted(straight):
+        for it in straight[name]:
+            (x, y), (to_x, to_y) = at[name], at[it]
+            out.append(f'<line x1="{x:.0f}" y1="{y + HIGH / 2:.0f}" x2="{to_x:.0f}" y2="{to_y - HIGH / 2:.0f}"/>')
+    for name, (x, y) in sorted(at.items()):
+        box, words = ("people", "of") if name in PEOPLE else ("part", "in")
+        out.append(f'<rect class="{box}" x="{x - size[name] / 2:.0f}" y="{y - HIGH / 2:.0f}" width="{size[name]}" height="{HIGH}" rx="4"/>')
+        out.append(f'<text class="{words}" x="{x:.0f}" y="{y + 5:.0f}">{name}</text>')
+    return "\n".join(out + ["</svg>", ""])
+
+
+def main():
+    file, now = HERE / "crates.svg", drawn()
+    if "--check" not in sys.argv:
+        file.write_text(now)
+    elif not file.exists() or file.read_text() != now:
+        print("docs/pictures/crates.py: crates.svg would change: call it without --check")
+        return 1
+    return 0
+
+
+if __name__ == "__main__":
+    sys.exit(main())
