@@ -1,5 +1,5 @@
-/* What texts are as format descriptions, the nodes of such a description, texts of one version as ones of the next, and dates
-   written by a description: the functions of the static library libtimefd_c.a. */
+/* The functions of the static library libtimefd_c.a: they parse format descriptions, give their nodes, convert them, and write
+   dates by them. */
 
 #ifndef TIMEFD_H
 #define TIMEFD_H
@@ -74,9 +74,9 @@ typedef struct timefd_answer {
    threads. It has 112 KiB of stack at least: a text that is nested 127 deep takes some 63 of them. */
 timefd_answer timefd_judge(uint32_t kind, const uint8_t *text, size_t len);
 
-/* Says the same, and of a refused text writes the sentence of the fault, in UTF-8, to the front of the `room` bytes at
-   `sentence`: all of it, or the most characters that there is room for. No 0 is written behind it. The rest of the buffer
-   is as it was, and all of it is where the status is not TIMEFD_REFUSED.
+/* Says the same, and writes the sentence of a refused text's fault, in UTF-8, to the front of the `room` bytes at `sentence`: all
+   of it, or as many characters as there is room for. No 0 follows it. The rest of the buffer stays as it was, and so does all of
+   it unless the status is TIMEFD_REFUSED.
 
    The buffer's bytes have been set to something before, and while the call runs nobody else reads or writes them. It
    doesn't overlap the text. */
@@ -128,33 +128,33 @@ typedef struct timefd_diagnosis {
 timefd_diagnosis timefd_diagnose(uint32_t kind, const uint8_t *text, size_t len, uint8_t *sentence, size_t room, uint8_t *word,
                                  size_t word_room);
 
-/* Rewrites the `len` bytes at `text`, a description of version 1, as one of version 2 that has the same items, and writes
-   that to the front of the `room` bytes at `buffer`. The value is its length, whether or not it was written: a buffer that
-   has no room for all of it is as it was, and 2 * len bytes are always room enough. What the text is refused for is what
-   timefd_judge refuses it for as version 1, and then the buffer is as it was too. TIMEFD_UNKNOWN_KIND never comes. No 0 is
-   written behind the text, and the rest of the buffer is as it was.
+/* Converts the `len` bytes at `text` from version 1 to version 2, with the same items, and writes the result to the front of the
+   `room` bytes at `buffer`. The value is the result's length, written or not: a buffer without room for all of it stays as it
+   was, and 2 * len bytes always suffice. A text that timefd_judge refuses as version 1 is refused for the same fault, and then
+   the buffer stays as it was too. TIMEFD_UNKNOWN_KIND never comes. No 0 follows the text, and the rest of the buffer stays as it
+   was.
 
    The buffer is as that of timefd_check. */
 timefd_answer timefd_v1_to_v2(const uint8_t *text, size_t len, uint8_t *buffer, size_t room);
 
-/* Writes the `len` bytes at `text`, a description of version 2, anew as one of version 3 that has the same items: small
-   letters, the modifiers in one order, those alone that aren't version 3's default and the range of each year that has one,
-   and `[`, `]` and `\` of literals behind a `\`. Versions 2 and 3 read the answer alike, and a second conversion changes
-   nothing. What it answers and writes is as for timefd_v1_to_v2, with the faults of version 2; but no room is always enough:
-   a buffer that is too short is as it was, and the value tells how long the text is. */
+/* Converts the `len` bytes at `text` from version 2 to version 3, with the same items. The result has small letters, its modifiers
+   in one order, only those that differ from version 3's default and the range of each year that has one, and `[`, `]` and `\` of
+   literals behind a `\`. Versions 2 and 3 parse it alike, and a second conversion changes nothing. It answers and writes as
+   timefd_v1_to_v2 does, with the faults of version 2; but no room always suffices: a buffer that is too short stays as it was,
+   and the value is the length that it wants. */
 timefd_answer timefd_v2_to_v3(const uint8_t *text, size_t len, uint8_t *buffer, size_t room);
 
-/* Rewrites the `len` bytes at `text`, a description of the language `from`, as one of the language `to` that has the same items:
-   from version 1 to versions 2 and 3, from version 2 to version 3, from strftime to version 3, and from version 3 to version 3,
-   which is the description's normal form, the same for all descriptions that mean the same. Between others there is no
-   conversion, which TIMEFD_NO_CONVERSION says, and TIMEFD_UNKNOWN_KIND comes where `from` or `to` is no language.
+/* Converts the `len` bytes at `text` from the language `from` to the language `to`, with the same items: from version 1 to versions
+   2 and 3, from version 2 and from strftime to version 3, and from version 3 to its normal form, which is the same for all
+   descriptions that mean the same. No other pair has a conversion: the status is TIMEFD_NO_CONVERSION then, and
+   TIMEFD_UNKNOWN_KIND where `from` or `to` is no language.
 
-   What it answers and writes is as for timefd_v1_to_v2, with the faults of the language `from`. To version 2 it writes what
-   timefd_v1_to_v2 does, and 2 * len bytes are always room enough; from version 2 what timefd_v2_to_v3 does; and from strftime
-   53 * len bytes are always room enough. Literals side by side become one in conversions from version 1, and in those from
+   It answers and writes as timefd_v1_to_v2 does, with the faults of the language `from`. To version 2 it writes what
+   timefd_v1_to_v2 does, and 2 * len bytes always suffice; from version 2 what timefd_v2_to_v3 does; and from strftime 53 * len
+   bytes always suffice. Literals side by side become one in conversions from version 1, and in those from
    strftime, where what a letter stands for comes in place of it, part by part.
 
-   From version 3 it has 192 KiB of stack at least: a text that is nested 127 deep takes some 150 of them. */
+   From version 3 it wants 192 KiB of stack: a text that is nested 127 deep takes some 150 of them. */
 timefd_answer timefd_convert(uint32_t from, uint32_t to, const uint8_t *text, size_t len, uint8_t *buffer, size_t room);
 
 /* What a node is. */
