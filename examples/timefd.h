@@ -324,10 +324,10 @@ timefd_format_answer timefd_format(uint32_t kind, const uint8_t *text, size_t le
                                    size_t room);
 
 /* Writes the moment by nodes that timefd_read wrote, or by others of that form, and the bytes of their literals, as timefd_format
-   writes it by the text that they were read of. It takes no memory, and no more stack for
-   a deeper nesting. Of a node of members `count` is looked at, and neither `start` nor `bytes`; a number that its component
-   doesn't have is not looked at either. The only statuses are TIMEFD_ACCEPTED, TIMEFD_UNSHOWN, TIMEFD_OUT_OF_RANGE and
-   TIMEFD_NO_DESCRIPTION. Where the text would have more than SIZE_MAX bytes, the value is SIZE_MAX.
+   writes it by the text that they were read of. It takes no memory, and no more stack for a deeper nesting. Of a node of members
+   `count` is looked at, and neither `start` nor `bytes`; a number that its component doesn't have is not looked at either. The
+   only statuses are TIMEFD_ACCEPTED, TIMEFD_UNSHOWN, TIMEFD_OUT_OF_RANGE and TIMEFD_NO_DESCRIPTION. Where the text would have
+   more than SIZE_MAX bytes, the value is SIZE_MAX.
 
    What is written is UTF-8 where the literals are. The buffer is as that of timefd_format, and overlaps neither nodes nor
    literals. There are at most PTRDIFF_MAX / sizeof(timefd_node) nodes. */

@@ -10,7 +10,8 @@ use Rattle.timefd_node_list.proofs.NodeLemmas.{before-one_more, before_zero, len
 use Rattle.timefd_c_nodes.specs.declared.node.Node.{Node}
 use Rattle.timefd_c_nodes.specs.Decoding.{component_of, flag_of, grown_with, read_on, read_nodes, with_component, with_members, with_optional}
 use Rattle.timefd_c_format.specs.Nodes.{count_behind, fault_behind, fault_from, node_fault, node_trees, trees_of}
-use Rattle.timefd_c_format.specs.Parts.{part_role, perhaps_role, role, role_in, shown_role}
+use Rattle.timefd_c_format.specs.Parts.{by_kind, part_role, perhaps_role, role, role_in, shown_role}
+use Rattle.timefd_c_format.specs.declared.part.Kind.TheVariants as kind
 use Rattle.timefd_c_format.specs.declared.part.Part.{Part as NodePart}
 use Rattle.std.specs.Prelude.{IsSome}
 
@@ -33,9 +34,10 @@ leaf_more ts t = ap (λ us. Some (us ++ t ∷ [])) (sym (before_zero ts))
 -- What a node makes of the trees so far, where it is this and its bytes are these.
 more_by : (ts : List Tree) (a b c d e far big : Bool) (bytes : Text) (co : Option Component) (k : ℕ)
     (fl : Option Bool) (r : Role) → arity r ≤ length ts
-    → (if a then (if far then None else Some (text bytes))
-    else if b then (if big then None else shown_role co)
-    else if c then Some (together k) else if d then perhaps_role fl else if e then Some (either k) else None) ≡ Some r
+    → by_kind (if a then Some kind.Literal else if b then Some kind.Component
+    else if c then Some kind.Compound else if d then Some kind.Optional
+    else if e then Some kind.First else None)
+    (if far then None else Some (text bytes)) (if big then None else shown_role co) k (perhaps_role fl) ≡ Some r
     → (if a then Some (ts ++ literal bytes ∷ []) else if b then with_component co ts
     else if c then with_members k (λ us. compound (trees us)) ts else if d then with_optional fl ts
     else if e then with_members k (λ us. first (trees us)) ts else None) ≡ Some (grown ts (as_part r))

@@ -5,6 +5,8 @@ use Rattle.timefd_component.specs.Tree.{Text}
 use Rattle.timefd_node_list.specs.Nodes.{Role, text, shown, together, perhaps, either}
 use Rattle.timefd_c_nodes.specs.declared.node.Node.{Node}
 use Rattle.timefd_c_nodes.specs.Decoding.{component_of, flag_of}
+use Rattle.timefd_c_format.specs.declared.part.Kind.{Kind}
+use Rattle.timefd_c_format.specs.declared.part.Kind.TheVariants as kind
 use Rattle.timefd_c_format.specs.declared.part.Part.{Part}
 use Rattle.timefd_c_format.specs.declared.part.Part.TheVariants as part
 
@@ -38,13 +40,24 @@ abbrev pub component_role : Node → Option Role
 component_role n =
     if (n.component == 32) && nat_lt 65535 n.ignored then None else shown_role (component_of n)
 
--- What a node is, a literal, a component, a compound, an optional or alternatives, where its bytes are all
--- among the literals and its numbers mean something.
+abbrev pub kind_of : ℕ → Option Kind
+kind_of n =
+    if n == 1 then Some kind.Literal else if n == 2 then Some kind.Component
+    else if n == 3 then Some kind.Compound else if n == 4 then Some kind.Optional
+    else if n == 5 then Some kind.First else None
+
+-- What a node of this kind is, by what its literal, its component, the number of its members and its flag
+-- are.
+abbrev pub by_kind : Option Kind → Option Role → Option Role → ℕ → Option Role → Option Role
+by_kind None l c n o = None
+by_kind (Some kind.Literal) l c n o = l
+by_kind (Some kind.Component) l c n o = c
+by_kind (Some kind.Compound) l c n o = Some (together n)
+by_kind (Some kind.Optional) l c n o = o
+by_kind (Some kind.First) l c n o = Some (either n)
+
+-- What a node is, where its bytes are all among the literals and its numbers mean something.
 abbrev pub role_in : Text → Node → Option Role
 role_in literals n =
-    if n.what == 1 then literal_role n.start n.count literals
-    else if n.what == 2 then component_role n
-    else if n.what == 3 then Some (together n.count)
-    else if n.what == 4 then perhaps_role (flag_of n.format)
-    else if n.what == 5 then Some (either n.count)
-    else None
+    by_kind (kind_of n.what) (literal_role n.start n.count literals) (component_role n) n.count
+    (perhaps_role (flag_of n.format))

@@ -50,6 +50,7 @@ fn last_node<'n, 'l>(nodes: &'n [Node], literals: &'l [u8]) -> (&'n [Node], Part
     requires there { 1 ≤ length nodes.now }
     ensures sound { spec.node_fault literals.now result.0.now ≡ None }
     ensures shorter { length result.0.now < length nodes.now }
+    ensures small { length result.0.now < 18446744073709551615 }
     ensures members { arity (role result.1) ≤ length (node_trees literals.now result.0.now) }
     ensures trees { node_trees literals.now nodes.now ≡ grown (node_trees literals.now result.0.now)
         (record { role = role result.1; nodes = 0; bytes = 0 }) }
@@ -72,8 +73,6 @@ fn in_front<'n>(nodes: &'n [Node], literals: &[u8], count: usize) -> &'n [Node]
     let mut left = count;
     'nodes: while left > 0 {
         let (rest, last) = last_node(front, literals);
-        // The trees that are left are among these nodes.
-        let _most = rest.len();
         front = rest;
         left = left - 1 + members(last);
     }

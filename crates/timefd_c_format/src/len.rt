@@ -1,6 +1,6 @@
 //! How long a text of nodes is.
 
-ghost use Rattle.std.specs.Prelude.{◌≡◌, None, Result};
+ghost use Rattle.std.specs.Prelude.{◌≡◌, None, Result, length};
 ghost use Rattle.timefd_c_format.specs.Nodes as spec;
 ghost use Rattle.timefd_c_format.specs.Nodes.{leaf_tree, node_trees};
 ghost use Rattle.timefd_c_format.specs.Texts.{IsLen};
@@ -56,16 +56,19 @@ fn leaf_len(moment: Moment, leaf: Leaf<'_>) -> Result<usize, Unshown>
     }
 }
 
-#[tactic(auto, using(crate::proofs::WriteLemmas::counted_alone, crate::proofs::WriteLemmas::unshown_alone, crate::proofs::WriteLemmas::room_alone))]
 fn component_len(moment: Moment, component: Component) -> Result<usize, Unshown>
     ensures { IsLen (shown moment component) result }
 {
-    let mut text = [0; MOST];
-    match write_items(
-        moment,
-        &[BorrowedFormatItem::Component(component)],
-        &mut text,
-    ) {
+    len_in(moment, component, &mut [0; MOST])
+}
+
+/// The length of what a component shows, written in a buffer that is long enough for any.
+#[tactic(auto, using(crate::proofs::WriteLemmas::counted_alone, crate::proofs::WriteLemmas::unshown_alone))]
+fn len_in(moment: Moment, component: Component, buffer: &mut [u8]) -> Result<usize, Unshown>
+    requires { length buffer.old ≡ 32 }
+    ensures { IsLen (shown moment component) result }
+{
+    match write_items(moment, &[BorrowedFormatItem::Component(component)], buffer) {
         Ok(at) => Ok(MOST - at),
         Err(FormatError::Unshown(unshown)) => Err(unshown),
         Err(FormatError::Room) => unreachable!(),

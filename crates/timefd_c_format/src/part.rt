@@ -11,6 +11,16 @@ use crate::modifier::flag_of;
 use timefd_c_nodes::Node;
 use timefd_component::Component;
 
+/// Which of the five a node is.
+#[derive(Clone, Copy)]
+enum Kind {
+    Literal,
+    Component,
+    Compound,
+    Optional,
+    First,
+}
+
 /// What a node is, where it is a part of a description.
 #[derive(Clone, Copy)]
 pub enum Part<'l> {
@@ -29,12 +39,24 @@ pub enum Part<'l> {
 pub(crate) fn part_of<'l>(node: &Node, literals: &'l [u8]) -> Option<Part<'l>>
     ensures { spec.part_role result ≡ spec.role_in literals.now node.now }
 {
-    match node.what {
-        1 => literal_of(node.start, node.count, literals),
-        2 => shown_of(node),
-        3 => Some(Part::Compound(node.count)),
-        4 => optional_of(node.format),
-        5 => Some(Part::First(node.count)),
+    match kind_of(node.what)? {
+        Kind::Literal => literal_of(node.start, node.count, literals),
+        Kind::Component => shown_of(node),
+        Kind::Compound => Some(Part::Compound(node.count)),
+        Kind::Optional => optional_of(node.format),
+        Kind::First => Some(Part::First(node.count)),
+    }
+}
+
+fn kind_of(number: u32) -> Option<Kind>
+    ensures { result ≡ spec.kind_of number }
+{
+    match number {
+        1 => Some(Kind::Literal),
+        2 => Some(Kind::Component),
+        3 => Some(Kind::Compound),
+        4 => Some(Kind::Optional),
+        5 => Some(Kind::First),
         _ => None,
     }
 }

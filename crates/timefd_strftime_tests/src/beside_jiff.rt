@@ -13,9 +13,7 @@ const ALIKE: &[&str] = &[
 ];
 
 /// Texts that both write alike of the years 1 to 9999.
-const ALIKE_LATE: &[&str] = &[
-    "%c", "%D", "%F", "%g", "%G", "%x", "%y", "%Y", "%-y", "%_g",
-];
+const ALIKE_LATE: &[&str] = &["%c", "%D", "%F", "%g", "%G", "%x", "%y", "%Y", "%-y", "%_g"];
 
 fn expect_alike(rt: &impl Abort, alloc: Global, numbers: Numbers, text: &str) {
     let ours = here(rt, alloc, numbers, text);
@@ -33,7 +31,11 @@ fn expect_both(
     theirs: &str,
 ) {
     assert_eq!(rt; here(rt, alloc, numbers, text).as_str(), ours, "{text}");
-    assert_eq!(rt; by_jiff(rt, alloc, numbers, text).as_str(), theirs, "{text}, jiff");
+    assert_eq!(rt;
+        by_jiff(rt, alloc, numbers, text).as_str(),
+        theirs,
+        "{text}, jiff"
+    );
 }
 
 #[test]

@@ -11,7 +11,7 @@ overflow_add-left c =
     let there = subst (λ ts. c.nodes.left ≤ length ts) c.last_node.ensures.trees c.nodes.invariant.1 in
     omega (
       arith,
-      c.len.ensures,
+      c.last_node.ensures.small,
       c.members.ensures,
       few c.args.literals.now c.last_node.result.0.now c.last_node.ensures.sound,
       skipped_fits rest (role c.last_node.result.1) c.nodes.left (omega (arith, c.nodes-test.true))
