@@ -28,10 +28,6 @@ use Rattle.timefd_c_format.specs.Texts.{IsLen, IsShown, ShowsNodes}
 use Rattle.timefd_c_format.specs.declared.format.NodesText.{NodesText}
 use Rattle.timefd_c_format.specs.declared.format.NodesError.TheVariants as answers
 
-followed-none : (x : Result Text Unshown) → followed x (Ok []) ≡ x
-followed-none (Ok a) = ap Ok (append-nil a)
-followed-none (Err u) = refl
-
 -- the texts of all leaves are those of the trees
 by_leaves_in : (m : Moment) (ts : List Tree) → written_all m (trees (leaves_in ts)) ≡ written_all m (trees ts)
 by_leaves_in m ts = by_leaves m (compound (trees ts))
@@ -109,11 +105,6 @@ pub told_nowhere : (x : Result Text Unshown) (old new other : Text) (p : Place) 
     → IsOutcome x [] other (Err (fails.Unshown u)) → Writes x old p new (place.Unshown u)
 told_nowhere (Ok text) old new other p u o = absurd o
 told_nowhere (Err v) old new other p u o = ap (λ w. place.Unshown w) o
-
--- one part by itself
-pub alone : (x : Result Text Unshown) (old new : Text) (r : Result ℕ FormatError)
-    → IsOutcome (followed x (Ok [])) old new r → IsOutcome x old new r
-alone x old new r o = subst (λ y. IsOutcome y old new r) (followed-none x) o
 
 -- A text that has the buffer's length is all of the buffer.
 pub exact : (text old new : Text) (p : Place) → length text ≡ length old
@@ -197,26 +188,26 @@ shown_short m c =
     by (Ok text) h = omega (arith, h, short (modern c))
     by (Err u) h = tt
 
--- a component by itself, at the end of 32 bytes
+-- a component at the end of 32 bytes
 pub counted_alone : (m : Moment) (c : Component) (old new : Text) (at : ℕ) → length old ≡ 32
-    → IsOutcome (followed (shown m c) (Ok [])) old new (Ok at) → IsLen (shown m c) (Ok (32 - at))
-counted_alone m c old new at size o = by (shown m c) (alone (shown m c) old new (Ok at) o)
+    → IsOutcome (shown m c) old new (Ok at) → IsLen (shown m c) (Ok (32 - at))
+counted_alone m c old new at size o = by (shown m c) o
   where
     by : (x : Result Text Unshown) → IsOutcome x old new (Ok at) → IsLen x (Ok (32 - at))
     by (Ok text) o = omega (arith, size, o.0)
     by (Err u) o = absurd o
 
 pub unshown_alone : (m : Moment) (c : Component) (old new : Text) (u : Unshown)
-    → IsOutcome (followed (shown m c) (Ok [])) old new (Err (fails.Unshown u)) → IsLen (shown m c) (Err u)
-unshown_alone m c old new u o = by (shown m c) (alone (shown m c) old new (Err (fails.Unshown u)) o)
+    → IsOutcome (shown m c) old new (Err (fails.Unshown u)) → IsLen (shown m c) (Err u)
+unshown_alone m c old new u o = by (shown m c) o
   where
     by : (x : Result Text Unshown) → IsOutcome x old new (Err (fails.Unshown u)) → IsLen x (Err u)
     by (Ok text) o = absurd o
     by (Err v) o = o
 
 pub room_alone : (m : Moment) (c : Component) (old new : Text) → length old ≡ 32
-    → IsOutcome (followed (shown m c) (Ok [])) old new (Err fails.Room) → ⊥
-room_alone m c old new size o = by (shown m c) (shown_short m c) (alone (shown m c) old new (Err fails.Room) o)
+    → IsOutcome (shown m c) old new (Err fails.Room) → ⊥
+room_alone m c old new size o = by (shown m c) (shown_short m c) o
   where
     by : (x : Result Text Unshown) → IfOk x (λ text. length text ≤ 32) → IsOutcome x old new (Err fails.Room) → ⊥
     by (Ok text) h o = omega (arith, size, h, o)

@@ -1,5 +1,5 @@
 -- The days before a date, counted from the year -1,000,000 on and from the year -10,000 on.
-use Rattle.std.proofs.Common.{ℕ, zero, suc, ◌≡◌, ◌∙◌, ◌+◌, ◌-◌, ◌*◌, ◌%◌, ◌≤◌, Bool, true, false, cond, if◌then◌else◌, ℤ, pos, ◌+ℤ◌, unsigned_abs, refl, sym, ap, arith}
+use Rattle.std.proofs.Common.{ℕ, zero, suc, ◌≡◌, ◌∙◌, ◌+◌, ◌-◌, ◌*◌, ◌%◌, ◌≤◌, Bool, true, false, cond, if◌then◌else◌, ℤ, pos, negsuc, ◌+ℤ◌, unsigned_abs, refl, sym, ap, arith}
 use Rattle.jiff_core.specs.declared.civil.date.Date.{Date as JiffDate}
 use Rattle.jiff_core.specs.Calendar.{IsYear, day_count, day_of_year, days_from_civil, days_of_months as jiff_months, days_of_years as jiff_years}
 use Rattle.jiff_core.specs.Date.{epoch_day, weekday_of}
@@ -57,11 +57,18 @@ count_is : (y : ℤ) (m d : ℕ)
 unfolding day_count
 count_is y m d = refl
 
+shifted : (y : ℤ) → IsYear y → pos (unsigned_abs (y +ℤ pos 10000)) ≡ y +ℤ pos 10000
+shifted (pos n) is = omega (arith, signed_arith)
+shifted (negsuc n) is =
+    let small : IsYear (negsuc n) = is in
+    let e : negsuc n +ℤ pos 10000 ≡ pos (9999 - n) = omega (arith, signed_arith, small) in
+    ap pos (ap unsigned_abs e) ∙ sym e
+
 days_apart : (y : ℤ) (years m d : ℕ) → years ≡ counted y → IsYear y
     → days_of_years years + (ordinal years m d - 1) ≡ day_count y m d + 361590075
 days_apart y years m d e is =
     let n : ℕ = unsigned_abs (y +ℤ pos 10000) in
-    let at : years ≡ n + 990000 = omega (arith, signed_arith, is, e, counted_is y is) in
+    let at : years ≡ n + 990000 = omega (arith, signed_arith, is, e, counted_is y is, shifted y is) in
     let months : days_of_months years (m - 1) ≡ jiff_months y (m - 1) =
     ap (λ x. days_of_months x (m - 1)) e ∙ months_apart y (m - 1) is in
     omega (arith, ap days_of_years at, years_apart n, months, count_is y m d)
