@@ -1,0 +1,4 @@
+pub mod Parts
+pub mod Nodes
+pub mod Places
+pub mod Texts
