@@ -4,7 +4,7 @@ complete -c timefd_lint -l color -x -a 'always never auto' -d 'whether the drawi
 complete -c timefd_lint -l comment -x -d 'what lines begin with that are passed over'
 complete -c timefd_lint -l whole -d 'a file is one text'
 complete -c timefd_lint -l explain -d 'show each accepted text as its tree'
-complete -c timefd_lint -l to -x -a '2 3' -d 'show what would change in a later version'
+complete -c timefd_lint -l to -x -a '2 3' -d 'show what would change in a later version or the normal form'
 complete -c timefd_lint -l write -d 'write the named files back'
 complete -c timefd_lint -l partial -d 'write files back some of whose lines are refused'
 complete -c timefd_lint -s q -l quiet -d 'leave out the last line, on how much was looked at'

@@ -28,8 +28,9 @@ use std::io::{BufReader, BufWriter, ErrorKind, IsTerminal, Write};
 use std::process::ExitCode;
 use summary::summary;
 use tally::Tally;
+use timefd_convert::conversion_between;
 use timefd_lint_options::{Asked, Color, OptionError, Settings, options_of};
-use timefd_rewrite::conversion_between;
+use timefd_parse::Language;
 
 // The statuses of runs that did not come to their end.
 const WRONG_ARGUMENTS: u8 = 2;
@@ -123,7 +124,7 @@ fn status(rt: &HostRuntime, words: &[&str]) -> u8 {
 // How files are rewritten, where they are.
 fn rewriting_of(settings: Settings<'_>) -> Option<Rewriting> {
     Some(Rewriting {
-        conversion: conversion_between(settings.language, settings.to?)?,
+        conversion: conversion_between(settings.language, Language::Version(settings.to?))?,
         writes: settings.writes,
         is_partial: settings.is_partial,
     })

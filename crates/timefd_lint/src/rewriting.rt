@@ -1,4 +1,4 @@
-//! The named files in a later version of the language: shown as changes, or written back.
+//! The named files in a later version of the language, or in the normal form of version 3: shown as changes, or written back.
 
 ghost use Rattle.std.specs.Prelude.{Option, Some, [], IfOk};
 ghost use Rattle.timefd_component.specs.Tree.{Text};
@@ -15,8 +15,9 @@ use std::fs;
 use std::io::{Eprint, Write};
 use std::os::unix::fs::MetadataExt;
 use std::rt::Files;
+use timefd_convert::Conversion;
 use timefd_drawing::shown::safe;
-use timefd_rewrite::{Conversion, Counts, RewriteError, rewrite_lines, write_diff};
+use timefd_rewrite::{Counts, RewriteError, rewrite_lines, write_diff};
 
 /// How files are rewritten.
 #[derive(Clone, Copy)]

@@ -20,6 +20,7 @@ are none, where, why, and what to write in their place. The file - is the standa
   --whole                      takes a file as one text, each newline in it counted
   --explain                    shows each accepted text as its tree
   --to 2|3                     shows what would change in a later version; writes no file
+  --to 3                       of version 3: shows what would change in the normal form
   --to 2|3 --write             writes the named files back in it
   --partial                    with --write: also files some of whose lines are refused
   --quiet, -q                  leaves out the last line, which tells how much was looked at
@@ -87,7 +88,7 @@ fn conflict_sentence(conflict: Conflict) -> &'static str {
         Conflict::WriteWithoutVersion => "`--write` wants the version: `--to 2` or `--to 3`",
         Conflict::PartialWithoutWrite => "`--partial` goes with `--write` alone",
         Conflict::NoConversion => {
-            "no rewriting leads there: `--language 1` goes `--to 2` or `3`, `--language 2` goes `--to 3`"
+            "no rewriting leads there: each language goes `--to 3`, and `--language 1` goes `--to 2` too"
         }
         Conflict::RewritesWhole => "`--to` rewrites line by line, and doesn't go with `--whole`",
         Conflict::RewritesNoFile => "`--to` wants the name of a file",

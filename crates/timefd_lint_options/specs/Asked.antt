@@ -33,7 +33,7 @@ is_drawn Human = true
 is_drawn Json = false
 is_drawn Short = false
 
--- from version 1 to 2 and 3, and from 2 to 3
+-- from version 1 to 2, and from each language to 3
 abbrev pub is_rewritten : Language → DescriptionVersion → Bool
 is_rewritten (languages.Version One) One = false
 is_rewritten (languages.Version One) Two = true
@@ -43,10 +43,10 @@ is_rewritten (languages.Version Two) Two = false
 is_rewritten (languages.Version Two) Three = true
 is_rewritten (languages.Version Three) One = false
 is_rewritten (languages.Version Three) Two = false
-is_rewritten (languages.Version Three) Three = false
+is_rewritten (languages.Version Three) Three = true
 is_rewritten languages.Strftime One = false
 is_rewritten languages.Strftime Two = false
-is_rewritten languages.Strftime Three = false
+is_rewritten languages.Strftime Three = true
 
 -- whether one of the names is that of the standard input
 abbrev pub has_input : List (Bor Text) → Bool

@@ -255,9 +255,6 @@ fn is_rewritten(language: Language, version: DescriptionVersion) -> bool
     match version {
         DescriptionVersion::One => false,
         DescriptionVersion::Two => matches!(language, Language::Version(DescriptionVersion::One)),
-        DescriptionVersion::Three => matches!(
-            language,
-            Language::Version(DescriptionVersion::One | DescriptionVersion::Two)
-        ),
+        DescriptionVersion::Three => true,
     }
 }

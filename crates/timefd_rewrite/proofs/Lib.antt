@@ -1,3 +1,2 @@
-pub mod ConversionLemmas
 pub mod LineLemmas
 pub mod RewriteLemmas

@@ -14,20 +14,19 @@ use denote.Ref.{Bor}
 use Rattle.timefd_component.specs.Tree.{Text}
 use Rattle.timefd_fault.specs.Faults.{fault_of}
 use Rattle.timefd_fault.specs.declared.invalid_format_description.InvalidFormatDescription.{InvalidFormatDescription}
-use Rattle.timefd_language.specs.Broken.{FaultOf}
 use Rattle.timefd_language.specs.Grammar.{nesting_limit}
 use Rattle.timefd_language.specs.declared.parse_error.ParseError.{ParseError}
 use Rattle.timefd_language.specs.declared.parse_error.ParseError.TheVariants.{Invalid}
-use Rattle.timefd_parse.specs.Answers.{IsAssigned}
-use Rattle.timefd_rewrite.specs.declared.convert.Conversion.{Conversion}
+use Rattle.timefd_parse.specs.Language.{FaultIn, IsAssignedIn}
+use Rattle.timefd_convert.specs.declared.conversion.Conversion.{Conversion}
+use Rattle.timefd_convert.specs.Conversions.{IsConversion, KeepsItems, language_of}
 use Rattle.timefd_rewrite.specs.declared.counts.Counts.{Counts}
 use Rattle.timefd_rewrite.specs.declared.counts.Outcome.{Outcome}
-use Rattle.timefd_rewrite.specs.declared.counts.Outcome.TheVariants.{Rewritten, Refused, NotText}
+use Rattle.timefd_rewrite.specs.declared.counts.Outcome.TheVariants.{PassedOver, Same, Rewritten, Refused, NotText, NotALine}
 use Rattle.timefd_rewrite.specs.declared.rewrite.RewriteError.{RewriteError}
 use Rattle.timefd_rewrite.specs.declared.rewrite.RewriteError.TheVariants.{Memory, Read, Write}
-use Rattle.timefd_rewrite.specs.Conversions.{version_of}
-use Rattle.timefd_rewrite.specs.Lines.{AreLinesUpTo, is_passed_over, without_newline}
-use Rattle.timefd_rewrite.specs.Rewriting.{AreCutShort, AreFront, AreRewritten, AreWritten, IsNext, IsPlaced, IsUnwritten, Placed, Places, PlacesAnswer, counts_of, is_refusing, is_rewriting, lines_of, places_of, with_one}
+use Rattle.timefd_rewrite.specs.Lines.{AreLinesUpTo, has_newline, is_passed_over, without_newline}
+use Rattle.timefd_rewrite.specs.Rewriting.{AreCutShort, AreFront, AreRewritten, AreWritten, IsConverted, IsNext, IsPlaced, IsUnwritten, Placed, Places, PlacesAnswer, counts_of, is_refusing, is_rewriting, lines_of, places_of, with_one}
 use Rattle.timefd_rewrite.proofs.LineLemmas.{all_lines, front_lines, no_line, up_to_more}
 
 other_text : (a b : Text) → pointwise nat_eq a b ≡ false → a ≢ b
@@ -38,21 +37,73 @@ other_text a b differs same =
 pub answer_placed : (line answer text : Text) (before between behind : Option Text)
     (r : Result Outcome RewriteError)
     → text ≡ without_newline line → pointwise nat_eq answer text ≡ false
+    → has_newline answer ≡ false
     → Appends before between answer → IfOk r (λ o. o ≡ Rewritten)
     → OnOk r (Appends between behind (take (length line - length text) (drop (length text) line)))
     → IfOk r (PlacesAnswer line answer before behind)
-answer_placed line answer text before between behind (Ok o) is other first outcome second =
+answer_placed line answer text before between behind (Ok o) is other one first outcome second =
     let rest = take (length line - length text) (drop (length text) line) in
     subst (λ x. PlacesAnswer line answer before behind x) (sym outcome) (
       answer ++ rest,
       (
         subst (λ t. answer ≢ t) is (other_text answer text other),
+        one,
         ap (λ e. answer ++ e)
             (take_rest line (length text) ∙ ap (λ t. drop (length t) line) is),
       ),
       Appends-trans before between behind answer rest first second,
     )
-answer_placed line answer text before between behind (Err e) is other first outcome second = tt
+answer_placed line answer text before between behind (Err e) is other one first outcome second =
+    tt
+
+-- A text that is converted is answered in the line's place, or the line itself is.
+pub converted_placed : (conversion : Conversion) (comment : Option (Bor Text))
+    (line text string answer : Text) (before behind : Option Text) (r : Result Outcome RewriteError)
+    → text ≡ without_newline line → false ≡ is_passed_over comment text → string ≡ text
+    → IsConversion conversion string answer → KeepsItems conversion string answer
+    → IfOk r (PlacesAnswer line answer before behind)
+    → IfOk r (Places conversion comment line before behind)
+converted_placed conversion comment line text string answer before behind (Ok o) is looked_at
+    same_text to means told =
+    let converted : IsConverted conversion (without_newline line) answer =
+    subst (λ t. IsConverted conversion t answer) (same_text ∙ is) (to, means) in
+    by o told converted
+  where
+    by : (o : Outcome) → PlacesAnswer line answer before behind o
+        → IsConverted conversion (without_newline line) answer
+        → Places conversion comment line before behind o
+    by PassedOver placed converted = absurd placed.1
+    by Same placed converted = (
+      placed.0,
+      record {
+        passed_over = looked_at ∙ ap (is_passed_over comment) is;
+        stands = (
+          subst (IsConverted conversion (without_newline line)) placed.1.0 converted,
+          placed.1.1,
+        );
+      },
+      placed.2,
+    )
+    by Rewritten placed converted = (
+      placed.0,
+      record {
+        passed_over = looked_at ∙ ap (is_passed_over comment) is;
+        stands = (answer, converted, placed.1.0, placed.1.1, placed.1.2);
+      },
+      placed.2,
+    )
+    by Refused placed converted = absurd placed.1
+    by NotText placed converted = absurd placed.1
+    by NotALine placed converted = (
+      placed.0,
+      record {
+        passed_over = looked_at ∙ ap (is_passed_over comment) is;
+        stands = (answer, converted, placed.1.0, placed.1.1);
+      },
+      placed.2,
+    )
+converted_placed conversion comment line text string answer before behind (Err e) is looked_at
+    same_text to means told = tt
 
 -- A line that is refused is in its own place.
 pub refused_placed : (conversion : Conversion) (comment : Option (Bor Text))
@@ -60,13 +111,13 @@ pub refused_placed : (conversion : Conversion) (comment : Option (Bor Text))
     (e : ParseError) (f : InvalidFormatDescription)
     → text ≡ without_newline line → false ≡ is_passed_over comment text
     → string ≡ text → IsUtf8 text
-    → e ≡ Invalid f → IsAssigned (version_of conversion) nesting_limit string e
+    → e ≡ Invalid f → IsAssignedIn (language_of conversion) nesting_limit string e
     → IfOk r (λ o. o ≡ Refused) → OnOk r (Appends before behind line)
     → IfOk r (Places conversion comment line before behind)
 refused_placed conversion comment line text string before behind (Ok o) e f is looked_at same_text
     utf8 which assigned outcome same =
-    let fault : FaultOf (version_of conversion) nesting_limit string (fault_of f) =
-    subst (λ x. IsAssigned (version_of conversion) nesting_limit string x) which assigned in
+    let fault : FaultIn (language_of conversion) nesting_limit string (fault_of f) =
+    subst (λ x. IsAssignedIn (language_of conversion) nesting_limit string x) which assigned in
     subst (λ x. Places conversion comment line before behind x) (sym outcome) (
       line,
       record {
@@ -75,7 +126,7 @@ refused_placed conversion comment line text string before behind (Ok o) e f is l
           subst (λ t. IsUtf8 t) is utf8,
           (
             fault_of f,
-            subst (λ t. FaultOf (version_of conversion) nesting_limit t (fault_of f))
+            subst (λ t. FaultIn (language_of conversion) nesting_limit t (fault_of f))
                 (same_text ∙ is) fault,
           ),
           refl,

@@ -3,27 +3,45 @@ use Rattle.std.specs.Prelude.{◌≡◌, ◌≢◌, ◌+◌, Bool, true, false, 
 use Rattle.std.specs.Io.KnownBytes.{Appends, Keeps, IsAtEnd}
 use denote.Ref.{Bor}
 use Rattle.timefd_component.specs.Tree.{Text}
-use Rattle.timefd_rewrite.specs.declared.convert.Conversion.{Conversion}
+use Rattle.timefd_fault.specs.Faults.{Fault}
+use Rattle.timefd_language.specs.Grammar.{nesting_limit}
+use Rattle.timefd_parse.specs.Language.{FaultIn}
+use Rattle.timefd_convert.specs.declared.conversion.Conversion.{Conversion}
+use Rattle.timefd_convert.specs.Conversions.{IsConversion, KeepsItems, language_of}
 use Rattle.timefd_rewrite.specs.declared.counts.Counts.{Counts}
 use Rattle.timefd_rewrite.specs.declared.counts.Outcome.{Outcome}
-use Rattle.timefd_rewrite.specs.declared.counts.Outcome.TheVariants.{PassedOver, Same, Rewritten, Refused, NotText}
+use Rattle.timefd_rewrite.specs.declared.counts.Outcome.TheVariants.{PassedOver, Same, Rewritten, Refused, NotText, NotALine}
 use Rattle.timefd_rewrite.specs.declared.rewrite.RewriteError.{RewriteError}
 use Rattle.timefd_rewrite.specs.declared.rewrite.RewriteError.TheVariants.{Memory, Read, Write}
-use Rattle.timefd_rewrite.specs.Conversions.{IsDescription, IsRefused, KeepsItems}
-use Rattle.timefd_rewrite.specs.Lines.{AreLinesOf, IsNextLine, end_of, is_passed_over, without_newline}
+use Rattle.timefd_rewrite.specs.Lines.{AreLinesOf, IsNextLine, end_of, has_newline, is_passed_over, without_newline}
 
--- What stands in the place of a line: the text of the later version and the line's own end, where it
--- is a description of the earlier one; and else the line itself, byte by byte.
+-- The text is a description of the language that is converted from, and this is what it is converted
+-- to, with the same items.
+abbrev pub IsConverted : Conversion → Text → Text → Type 0
+IsConverted conversion text answer =
+    IsConversion conversion text answer × KeepsItems conversion text answer
+
+-- The rules of that language assign a fault to the text.
+abbrev pub IsRefused : Conversion → Text → Type 0
+IsRefused conversion text =
+    (f : Fault) × FaultIn (language_of conversion) nesting_limit text f
+
+-- What stands in the place of a line: the text that it is converted to and the line's own end, where
+-- it is a description and that text is a line; and else the line itself, byte by byte.
 abbrev pub StandsFor : Conversion → Text → Outcome → Text → Type 0
 StandsFor conversion line PassedOver place = place ≡ line
-StandsFor conversion line Same place = IsDescription conversion (without_newline line)
-    × KeepsItems conversion (without_newline line) (without_newline line) × (place ≡ line)
-StandsFor conversion line Rewritten place = IsDescription conversion (without_newline line)
-    × ((answer : Text) × KeepsItems conversion (without_newline line) answer
-    × (answer ≢ without_newline line) × (place ≡ answer ++ end_of line))
+StandsFor conversion line Same place =
+    IsConverted conversion (without_newline line) (without_newline line) × (place ≡ line)
+StandsFor conversion line Rewritten place =
+    (answer : Text) × IsConverted conversion (without_newline line) answer
+    × (answer ≢ without_newline line) × (has_newline answer ≡ false)
+    × (place ≡ answer ++ end_of line)
 StandsFor conversion line Refused place = IsUtf8 (without_newline line)
     × IsRefused conversion (without_newline line) × (place ≡ line)
 StandsFor conversion line NotText place = (¬ IsUtf8 (without_newline line)) × (place ≡ line)
+StandsFor conversion line NotALine place =
+    (answer : Text) × IsConverted conversion (without_newline line) answer
+    × (has_newline answer ≡ true) × (place ≡ line)
 
 abbrev pub is_passing_over : Outcome → Bool
 is_passing_over PassedOver = true
@@ -31,6 +49,7 @@ is_passing_over Same = false
 is_passing_over Rewritten = false
 is_passing_over Refused = false
 is_passing_over NotText = false
+is_passing_over NotALine = false
 
 abbrev pub is_rewriting : Outcome → Bool
 is_rewriting PassedOver = false
@@ -38,14 +57,16 @@ is_rewriting Same = false
 is_rewriting Rewritten = true
 is_rewriting Refused = false
 is_rewriting NotText = false
+is_rewriting NotALine = false
 
--- Those that are no UTF-8 count as refused.
+-- Those that are no UTF-8 or would be no line count as refused.
 abbrev pub is_refusing : Outcome → Bool
 is_refusing PassedOver = false
 is_refusing Same = false
 is_refusing Rewritten = false
 is_refusing Refused = true
 is_refusing NotText = true
+is_refusing NotALine = true
 
 -- a line with its newline, what came of it, and what stands in its place
 pub record Placed : Type 0 where
@@ -125,14 +146,16 @@ Places conversion comment line before behind outcome =
     × IsPlaced conversion comment (record { line = line; outcome = outcome; place = place })
     × Appends before behind place
 
--- an answer in the place of a line: with the line's end, or the line itself if it has that text
+-- an answer in the place of a line: with the line's end, or the line itself if it has that text or
+-- that is no line
 abbrev pub IsAnswer : Text → Text → Outcome → Text → Type 0
 IsAnswer line answer PassedOver place = ⊥
 IsAnswer line answer Same place = (answer ≡ without_newline line) × (place ≡ line)
 IsAnswer line answer Rewritten place = (answer ≢ without_newline line)
-    × (place ≡ answer ++ end_of line)
+    × (has_newline answer ≡ false) × (place ≡ answer ++ end_of line)
 IsAnswer line answer Refused place = ⊥
 IsAnswer line answer NotText place = ⊥
+IsAnswer line answer NotALine place = (has_newline answer ≡ true) × (place ≡ line)
 
 abbrev pub PlacesAnswer : Text → Text → Option Text → Option Text → Outcome → Type 0
 PlacesAnswer line answer before behind outcome =

@@ -6,12 +6,12 @@ ghost use Rattle.std.specs.Io.KnownBytes.{Appends};
 ghost use Rattle.timefd_rewrite.specs.Rewriting.{AreCutShort, AreRewritten, IsNext, IsUnwritten, Places, PlacesAnswer};
 ghost use Rattle.timefd_rewrite.specs.declared.rewrite.RewriteError.TheVariants as errors;
 
-use crate::convert::{Conversion, converted};
 use crate::counts::{Counts, Outcome};
-use crate::lines::{is_passed_over, without_newline};
+use crate::lines::{has_newline, is_passed_over, without_newline};
 use std::alloc::Global;
 use std::io::{BufRead, ErrorKind, Write};
 use std::str;
+use timefd_convert::{Conversion, convert_by};
 use timefd_parse::ParseError;
 
 /// Why not all lines of a reader are rewritten.
@@ -25,8 +25,9 @@ pub enum RewriteError {
     Write,
 }
 
-/// Writes each line of a reader, and where it can be rewritten, its text in the later version with
-/// the line's own end. Lines that are passed over, refused or no UTF-8 are written as they are.
+/// Writes each line of a reader, and where it is a description, what that is converted to with the
+/// line's own end. Lines that are passed over, refused or no UTF-8, or that would be two lines, are
+/// written as they are.
 pub fn rewrite_lines<R: BufRead, W: Write>(
     alloc: Global,
     comment: Option<&str>,
@@ -82,6 +83,7 @@ fn rewrite_next<R: BufRead, W: Write>(
 }
 
 // Writes what stands in the place of a line.
+#[tactic(auto, using(crate::proofs::RewriteLemmas::converted_placed))]
 fn rewrite_line<W: Write>(
     alloc: Global,
     comment: Option<&str>,
@@ -101,7 +103,7 @@ fn rewrite_line<W: Write>(
     let Ok(text) = str::from_utf8(text) else {
         return keep(line, Outcome::NotText, writer);
     };
-    match converted(alloc, conversion, text) {
+    match convert_by(alloc, conversion, text) {
         Ok(answer) => write_answer(line, answer.as_bytes(), writer),
         Err(ParseError::Invalid(_)) => keep(line, Outcome::Refused, writer),
         Err(ParseError::Memory(_)) => Err(RewriteError::Memory),
@@ -120,7 +122,8 @@ fn keep<W: Write>(line: &[u8], outcome: Outcome, writer: &mut W) -> Result<Outco
     }
 }
 
-// Writes a text in the place of a line, with the line's own end; or the line, if it has that text.
+// Writes a text in the place of a line, with the line's own end; or the line, if it has that text or
+// that is no line.
 fn write_answer<W: Write>(
     line: &[u8],
     answer: &[u8],
@@ -133,6 +136,9 @@ fn write_answer<W: Write>(
     let text = without_newline(line);
     if answer == text {
         return keep(line, Outcome::Same, writer);
+    }
+    if has_newline(answer) {
+        return keep(line, Outcome::NotALine, writer);
     }
     keep(answer, Outcome::Rewritten, writer)?;
     keep(&line[text.len()..], Outcome::Rewritten, writer)

@@ -16,5 +16,5 @@ returns-in-Err-Invalid-clause-places g c =
     (g.W.Write.contents c.keep-in-Err-Invalid.new.writer) c.keep-in-Err-Invalid.result
     c.in-Err-Invalid.field-0 c.in-Err-Invalid.field-0-0 c.without_newline-text.ensures
     c.if-is_passed_over.ensures c.in-Ok.ensures.cases.0 c.in-Ok.ensures.cases.1
-    c.in-Err-Invalid.field-0-is c.in-Err-Invalid.ensures.refused
+    c.in-Err-Invalid.field-0-is c.in-Err-Invalid.ensures.fault
     c.keep-in-Err-Invalid.ensures.outcome c.keep-in-Err-Invalid.ensures.kept
