@@ -6,41 +6,36 @@ use Rattle.timefd_component.specs.Tree.{Text}
 use Rattle.timefd_fault.specs.Faults.{Fault}
 use Rattle.timefd_language.specs.Grammar.{nesting_limit}
 use Rattle.timefd_parse.specs.Language.{FaultIn}
-use Rattle.timefd_convert.specs.declared.conversion.Conversion.{Conversion}
-use Rattle.timefd_convert.specs.Conversions.{IsConversion, KeepsItems, language_of}
+use Rattle.timefd_convert.specs.Conversions.{language_of}
 use Rattle.timefd_rewrite.specs.declared.counts.Counts.{Counts}
 use Rattle.timefd_rewrite.specs.declared.counts.Outcome.{Outcome}
 use Rattle.timefd_rewrite.specs.declared.counts.Outcome.TheVariants.{PassedOver, Same, Rewritten, Refused, NotText, NotALine}
+use Rattle.timefd_rewrite.specs.declared.layout.Layout.{Layout}
 use Rattle.timefd_rewrite.specs.declared.rewrite.RewriteError.{RewriteError}
 use Rattle.timefd_rewrite.specs.declared.rewrite.RewriteError.TheVariants.{Memory, Read, Write}
+use Rattle.timefd_rewrite.specs.Layouts.{IsConverted, conversion_of}
 use Rattle.timefd_rewrite.specs.Lines.{AreLinesOf, IsNextLine, end_of, has_newline, is_passed_over, without_newline}
 
--- The text is a description of the language that is converted from, and this is what it is converted
--- to, with the same items.
-abbrev pub IsConverted : Conversion → Text → Text → Type 0
-IsConverted conversion text answer =
-    IsConversion conversion text answer × KeepsItems conversion text answer
-
--- The rules of that language assign a fault to the text.
-abbrev pub IsRefused : Conversion → Text → Type 0
-IsRefused conversion text =
-    (f : Fault) × FaultIn (language_of conversion) nesting_limit text f
+-- The rules of the language that is converted from assign a fault to the text.
+abbrev pub IsRefused : Layout → Text → Type 0
+IsRefused layout text =
+    (f : Fault) × FaultIn (language_of (conversion_of layout)) nesting_limit text f
 
 -- What stands in the place of a line: the text that it is converted to and the line's own end, where
 -- it is a description and that text is a line; and else the line itself, byte by byte.
-abbrev pub StandsFor : Conversion → Text → Outcome → Text → Type 0
-StandsFor conversion line PassedOver place = place ≡ line
-StandsFor conversion line Same place =
-    IsConverted conversion (without_newline line) (without_newline line) × (place ≡ line)
-StandsFor conversion line Rewritten place =
-    (answer : Text) × IsConverted conversion (without_newline line) answer
+abbrev pub StandsFor : Layout → Text → Outcome → Text → Type 0
+StandsFor layout line PassedOver place = place ≡ line
+StandsFor layout line Same place =
+    IsConverted layout (without_newline line) (without_newline line) × (place ≡ line)
+StandsFor layout line Rewritten place =
+    (answer : Text) × IsConverted layout (without_newline line) answer
     × (answer ≢ without_newline line) × (has_newline answer ≡ false)
     × (place ≡ answer ++ end_of line)
-StandsFor conversion line Refused place = IsUtf8 (without_newline line)
-    × IsRefused conversion (without_newline line) × (place ≡ line)
-StandsFor conversion line NotText place = (¬ IsUtf8 (without_newline line)) × (place ≡ line)
-StandsFor conversion line NotALine place =
-    (answer : Text) × IsConverted conversion (without_newline line) answer
+StandsFor layout line Refused place = IsUtf8 (without_newline line)
+    × IsRefused layout (without_newline line) × (place ≡ line)
+StandsFor layout line NotText place = (¬ IsUtf8 (without_newline line)) × (place ≡ line)
+StandsFor layout line NotALine place =
+    (answer : Text) × IsConverted layout (without_newline line) answer
     × (has_newline answer ≡ true) × (place ≡ line)
 
 abbrev pub is_passing_over : Outcome → Bool
@@ -75,10 +70,10 @@ pub record Placed : Type 0 where
   pub place : Text
 
 -- A line is passed over exactly where it is empty or a comment.
-pub record IsPlaced (conversion : Conversion) (comment : Option (Bor Text)) (p : Placed) : Type 0
+pub record IsPlaced (layout : Layout) (comment : Option (Bor Text)) (p : Placed) : Type 0
   where
     pub passed_over : is_passing_over p.outcome ≡ is_passed_over comment (without_newline p.line)
-    pub stands : StandsFor conversion p.line p.outcome p.place
+    pub stands : StandsFor layout p.line p.outcome p.place
 
 -- the lines, and what stands in their places, in turn
 abbrev pub lines_of : List Placed → List Text
@@ -103,34 +98,34 @@ with_one counts outcome = record {
 }
 
 -- What stands in the places of these lines is written behind what was there, and nothing else is.
-pub record AreWritten (conversion : Conversion) (comment : Option (Bor Text))
+pub record AreWritten (layout : Layout) (comment : Option (Bor Text))
     (before behind : Option Text) (placed : List Placed) : Type 0 where
-  pub each : All (IsPlaced conversion comment) placed
+  pub each : All (IsPlaced layout comment) placed
   pub written : Appends before behind (places_of placed)
 
 -- All lines of a reader are rewritten, and counted.
-pub record AreRewritten (conversion : Conversion) (comment : Option (Bor Text))
+pub record AreRewritten (layout : Layout) (comment : Option (Bor Text))
     (bytes before behind : Option Text) (counts : Counts) : Type 0 where
   pub placed : List Placed
-  pub are_written : AreWritten conversion comment before behind placed
+  pub are_written : AreWritten layout comment before behind placed
   pub all_lines : AreLinesOf bytes (lines_of placed) false
   pub counted : counts ≡ counts_of placed
 
 -- Only those in front of a rest are.
-pub record AreFront (conversion : Conversion) (comment : Option (Bor Text))
+pub record AreFront (layout : Layout) (comment : Option (Bor Text))
     (bytes before behind : Option Text) : Type 0 where
   pub placed : List Placed
-  pub are_written : AreWritten conversion comment before behind placed
+  pub are_written : AreWritten layout comment before behind placed
   pub lines_in_front : AreLinesOf bytes (lines_of placed) true
 
 -- Where memory runs out or a read fails, nothing is written behind that.
-abbrev pub AreCutShort : Conversion → Option (Bor Text) → Option Text → Option Text → Option Text
+abbrev pub AreCutShort : Layout → Option (Bor Text) → Option Text → Option Text → Option Text
     → RewriteError → Type 0
-AreCutShort conversion comment bytes before behind Memory =
-    AreFront conversion comment bytes before behind
-AreCutShort conversion comment bytes before behind Read =
-    AreFront conversion comment bytes before behind
-AreCutShort conversion comment bytes before behind Write = ⊤
+AreCutShort layout comment bytes before behind Memory =
+    AreFront layout comment bytes before behind
+AreCutShort layout comment bytes before behind Read =
+    AreFront layout comment bytes before behind
+AreCutShort layout comment bytes before behind Write = ⊤
 
 -- The same of one line: nothing is written.
 abbrev pub IsUnwritten : Option Text → Option Text → RewriteError → Type 0
@@ -139,11 +134,11 @@ IsUnwritten before behind Read = Keeps before behind
 IsUnwritten before behind Write = ⊤
 
 -- what stands in the place of one line is written
-abbrev pub Places : Conversion → Option (Bor Text) → Text → Option Text → Option Text → Outcome
+abbrev pub Places : Layout → Option (Bor Text) → Text → Option Text → Option Text → Outcome
     → Type 0
-Places conversion comment line before behind outcome =
+Places layout comment line before behind outcome =
     (place : Text)
-    × IsPlaced conversion comment (record { line = line; outcome = outcome; place = place })
+    × IsPlaced layout comment (record { line = line; outcome = outcome; place = place })
     × Appends before behind place
 
 -- an answer in the place of a line: with the line's end, or the line itself if it has that text or
@@ -162,9 +157,9 @@ PlacesAnswer line answer before behind outcome =
     (place : Text) × IsAnswer line answer outcome place × Appends before behind place
 
 -- What one more line comes to: nothing at the end of the bytes.
-abbrev pub IsNext : Conversion → Option (Bor Text) → Option Text → Option Text → Option Text
+abbrev pub IsNext : Layout → Option (Bor Text) → Option Text → Option Text → Option Text
     → Option Text → Option Outcome → Type 0
-IsNext conversion comment bytes rest before behind None = IsAtEnd bytes × Keeps before behind
-IsNext conversion comment bytes rest before behind (Some outcome) =
+IsNext layout comment bytes rest before behind None = IsAtEnd bytes × Keeps before behind
+IsNext layout comment bytes rest before behind (Some outcome) =
     (line : Text) × IsNextLine bytes line rest
-    × Places conversion comment line before behind outcome
+    × Places layout comment line before behind outcome
