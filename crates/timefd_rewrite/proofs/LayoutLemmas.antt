@@ -1,5 +1,7 @@
 -- A text that may stand for what another is converted to.
-use Rattle.std.proofs.Common.{◌≡◌, List, refl, sym, subst}
+use Rattle.std.proofs.Common.{◌≡◌, ◌∙◌, Bool, true, List, refl, sym, subst}
+use Rattle.std.specs.Str.{bytes_eq}
+use Rattle.std.proofs.lemmas.Slice.Eq.{bytes_eq-Decides}
 use Rattle.timefd_component.specs.Tree.{Text, Tree}
 use Rattle.timefd_convert.specs.declared.conversion.Conversion.{Conversion}
 use Rattle.timefd_convert.specs.declared.conversion.Conversion.TheVariants.{OneToTwo, OneToThree, TwoToThree, ThreeToThree, StrftimeToThree}
@@ -11,13 +13,20 @@ use Rattle.timefd_language.proofs.LawLemmas.{one_answer_law}
 use Rattle.timefd_rewrite.specs.Layouts.{IsLeast, IsNearer, ReadsAs}
 
 -- Version 3 reads a text as it reads that text's normal form.
-pub reads_as_normal : (text normal anew : Text) → IsNormalOf text normal → KeepsTree text normal
+as_normal : (text normal anew : Text) → IsNormalOf text normal → KeepsTree text normal
     → normal ≡ anew → ReadsAs anew text
-reads_as_normal text normal anew is keeps same = λ list spelled.
+as_normal text normal anew is means equal = λ list spelled.
     subst (Spells Three nesting_limit 0 text)
-    ((one_answer_law Three nesting_limit normal).1.one_list is.0 list (keeps is.0 is.1)
-    (subst (λ t. Spells Three nesting_limit 0 t list) (sym same) spelled))
+    ((one_answer_law Three nesting_limit normal).1.one_list is.0 list (means is.0 is.1)
+    (subst (λ t. Spells Three nesting_limit 0 t list) (sym equal) spelled))
     is.1
+
+pub reads_as_normal : (text normal shown anew : Text) (b : Bool) → IsNormalOf text normal
+    → KeepsTree text normal → shown ≡ normal → b ≡ bytes_eq shown anew → b ≡ true
+    → ReadsAs anew text
+reads_as_normal text normal shown anew b is means same tested found =
+    as_normal text normal anew is means
+    (sym same ∙ (bytes_eq-Decides shown anew).0 (sym tested ∙ found))
 
 keeps : (conversion : Conversion) (text anew answer : Text) → KeepsItems conversion text anew
     → IsNearer conversion anew answer → KeepsItems conversion text answer

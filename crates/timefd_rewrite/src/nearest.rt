@@ -63,7 +63,6 @@ fn like(alloc: Global, text: String, anew: &str) -> Result<Option<String>, Alloc
 }
 
 // Whether a text has the other one as its normal form.
-#[tactic(auto, using(crate::proofs::LayoutLemmas::reads_as_normal))]
 fn reads_as(alloc: Global, text: &str, anew: &str) -> Result<bool, AllocError>
     ensures { IfOk result (λ same. same ≡ true → ReadsAs anew.now text.now) }
 {
