@@ -42,8 +42,12 @@ keeps StrftimeToThree text anew answer means nearer =
 pub nearer_is_least : (conversion : Conversion) (text anew answer : Text)
     → IsConversion conversion text anew → KeepsItems conversion text anew
     → IsNearer conversion anew answer → IsLeast conversion text answer
-nearer_is_least conversion text anew answer to means nearer =
-    (anew, to, nearer, keeps conversion text anew answer means nearer)
+nearer_is_least conversion text anew answer to means nearer = record {
+  anew = anew;
+  converted = to;
+  nearer = nearer;
+  same_items = keeps conversion text anew answer means nearer;
+}
 
 same : (conversion : Conversion) (anew : Text) → IsNearer conversion anew anew
 same OneToTwo anew = refl

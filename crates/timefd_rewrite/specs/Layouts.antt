@@ -26,14 +26,18 @@ IsNearer TwoToThree anew answer = ReadsAs anew answer
 IsNearer ThreeToThree anew answer = ReadsAs anew answer
 IsNearer StrftimeToThree anew answer = answer ≡ anew
 
--- The text is a description of the language that is converted from. What it is converted to, the
--- answer is, or may stand for; it has the same items.
-abbrev pub IsLeast : Conversion → Text → Text → Type 0
-IsLeast conversion text answer =
-    (anew : Text) × IsConversion conversion text anew × IsNearer conversion anew answer
-    × KeepsItems conversion text answer
+-- The answer is what the text is converted to, with the same items.
+abbrev pub IsAnew : Conversion → Text → Text → Type 0
+IsAnew conversion text answer =
+    IsConversion conversion text answer × KeepsItems conversion text answer
+
+-- The answer may stand for what the text is converted to, and has the same items.
+pub record IsLeast (conversion : Conversion) (text answer : Text) : Type 0 where
+  pub anew : Text
+  pub converted : IsConversion conversion text anew
+  pub nearer : IsNearer conversion anew answer
+  pub same_items : KeepsItems conversion text answer
 
 abbrev pub IsConverted : Layout → Text → Text → Type 0
 IsConverted (Least conversion) text answer = IsLeast conversion text answer
-IsConverted (Normal conversion) text answer =
-    IsConversion conversion text answer × KeepsItems conversion text answer
+IsConverted (Normal conversion) text answer = IsAnew conversion text answer

@@ -5,7 +5,7 @@ ghost use Rattle.std.specs.Result.{IfErr};
 ghost use Rattle.timefd_language.specs.Grammar.{nesting_limit};
 ghost use Rattle.timefd_parse.specs.Language.{IsAssignedIn};
 ghost use Rattle.timefd_convert.specs.Conversions.{language_of};
-ghost use Rattle.timefd_rewrite.specs.Layouts.{IsConverted, IsLeast, conversion_of};
+ghost use Rattle.timefd_rewrite.specs.Layouts.{IsAnew, IsConverted, IsLeast, conversion_of};
 
 use crate::nearest::nearest_to;
 use std::alloc::Global;
@@ -33,7 +33,18 @@ pub fn lay_out(alloc: Global, layout: Layout, text: &str) -> Result<String, Pars
 {
     match layout {
         Layout::Least(conversion) => convert_least(alloc, conversion, text),
-        Layout::Normal(conversion) => convert_by(alloc, conversion, text),
+        Layout::Normal(conversion) => convert_anew(alloc, conversion, text),
+    }
+}
+
+// Converts a text as `convert_by` does.
+fn convert_anew(alloc: Global, conversion: Conversion, text: &str) -> Result<String, ParseError>
+    ensures anew { IfOk result (λ answer. IsAnew conversion text.now (string_bytes answer)) }
+    ensures fault { IfErr result (IsAssignedIn (language_of conversion) nesting_limit text.now) }
+{
+    match convert_by(alloc, conversion, text) {
+        Ok(answer) => Ok(answer),
+        Err(error) => Err(error),
     }
 }
 

@@ -23,21 +23,13 @@ pub fn nearest_to(
         Conversion::OneToTwo => Ok(None),
         Conversion::OneToThree => match v1_to_v2_borrowed(alloc, text) {
             Ok(between) => pieces_like(alloc, &between, anew),
-            Err(error) => unread(error),
+            Err(BorrowedParseError::Memory(error)) => Err(error),
+            // A text that is converted has no fault.
+            Err(BorrowedParseError::Invalid(_)) => Ok(None),
         },
         Conversion::TwoToThree => pieces_like(alloc, text, anew),
         Conversion::ThreeToThree => like(alloc, String::from_str(alloc, text)?, anew),
         Conversion::StrftimeToThree => Ok(None),
-    }
-}
-
-// `None` of a text that has a fault, which none that was converted has.
-fn unread(error: BorrowedParseError<'_>) -> Result<Option<String>, AllocError>
-    ensures { IfOk result (λ found. found ≡ None) }
-{
-    match error {
-        BorrowedParseError::Memory(error) => Err(error),
-        BorrowedParseError::Invalid(_) => Ok(None),
     }
 }
 
