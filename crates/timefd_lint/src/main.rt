@@ -28,8 +28,10 @@ use std::io::{BufReader, BufWriter, ErrorKind, IsTerminal, Write};
 use std::process::ExitCode;
 use summary::summary;
 use tally::Tally;
-use timefd_lint_options::{Asked, Color, OptionError, Settings, options_of};
-use timefd_rewrite::conversion_between;
+use timefd_convert::conversion_between;
+use timefd_lint_options::{Asked, Color, OptionError, Settings, options_of, target};
+use timefd_parse::Language;
+use timefd_rewrite::Layout;
 
 // The statuses of runs that did not come to their end.
 const WRONG_ARGUMENTS: u8 = 2;
@@ -120,10 +122,21 @@ fn status(rt: &HostRuntime, words: &[&str]) -> u8 {
     }
 }
 
+// How descriptions are laid out, where they are rewritten.
+fn layout_of(settings: Settings<'_>) -> Option<Layout> {
+    let to = Language::Version(target(settings)?);
+    let conversion = conversion_between(settings.language, to)?;
+    if settings.is_normal {
+        Some(Layout::Normal(conversion))
+    } else {
+        Some(Layout::Least(conversion))
+    }
+}
+
 // How files are rewritten, where they are.
 fn rewriting_of(settings: Settings<'_>) -> Option<Rewriting> {
     Some(Rewriting {
-        conversion: conversion_between(settings.language, settings.to?)?,
+        layout: layout_of(settings)?,
         writes: settings.writes,
         is_partial: settings.is_partial,
     })

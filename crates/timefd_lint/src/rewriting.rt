@@ -1,4 +1,5 @@
-//! The named files in a later version of the language: shown as changes, or written back.
+//! The named files in a later version of the language, or in the normal form of version 3: shown as
+//! changes, or written back.
 
 ghost use Rattle.std.specs.Prelude.{Option, Some, [], IfOk};
 ghost use Rattle.timefd_component.specs.Tree.{Text};
@@ -16,12 +17,12 @@ use std::io::{Eprint, Write};
 use std::os::unix::fs::MetadataExt;
 use std::rt::Files;
 use timefd_drawing::shown::safe;
-use timefd_rewrite::{Conversion, Counts, RewriteError, rewrite_lines, write_diff};
+use timefd_rewrite::{Counts, Layout, RewriteError, rewrite_lines, write_diff};
 
 /// How files are rewritten.
 #[derive(Clone, Copy)]
 pub struct Rewriting {
-    pub conversion: Conversion,
+    pub layout: Layout,
     /// Whether they are written back, and not shown as changes.
     pub writes: bool,
     /// Whether a file is also rewritten where some of its lines are refused.
@@ -101,14 +102,7 @@ fn rewrite_file<R: Files + Eprint, W: Write>(
         Ok(old) => old,
         Err(error) => return noted(alloc, options, name, error, writer),
     };
-    let found = looked_at(
-        alloc,
-        options,
-        rewriting.conversion,
-        name,
-        &old.bytes,
-        writer,
-    )?;
+    let found = looked_at(alloc, options, rewriting.layout, name, &old.bytes, writer)?;
     match shown_or_written(rt, alloc, rewriting, name, &old, &found, writer) {
         Ok(()) => Ok(found.tally),
         Err(error) => Ok(found.tally.and(noted(alloc, options, name, error, writer)?)),
@@ -145,7 +139,7 @@ struct Found {
 fn looked_at<W: Write>(
     alloc: Global,
     options: Options<'_>,
-    conversion: Conversion,
+    layout: Layout,
     name: &str,
     old: &[u8],
     writer: &mut W,
@@ -153,14 +147,14 @@ fn looked_at<W: Write>(
     ensures told { IfOk result (λ found. (rest : Option Text) × IsRunOver options.entry.language
         options.entry.comment options.entry.explains (Some old.now) rest
         (W.contents writer.old) (W.contents writer.new) found.tally) }
-    ensures rewritten { IfOk result (λ found. AreRewritten conversion options.entry.comment
+    ensures rewritten { IfOk result (λ found. AreRewritten layout options.entry.comment
         (Some old.now) (Some []) (Some found.bytes.items) found.counts) }
 {
     let mut lines = old;
     let tally = lint_lines(alloc, options, name, &mut lines, writer)?;
     let mut lines = old;
     let mut bytes = Vec::new(alloc);
-    match rewrite_lines(alloc, options.comment, conversion, &mut lines, &mut bytes) {
+    match rewrite_lines(alloc, options.comment, layout, &mut lines, &mut bytes) {
         Ok(counts) => Ok(Found {
             tally,
             counts,

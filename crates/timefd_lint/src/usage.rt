@@ -19,8 +19,9 @@ are none, where, why, and what to write in their place. The file - is the standa
   --comment MARK               passes over the lines that begin with the mark
   --whole                      takes a file as one text, each newline in it counted
   --explain                    shows each accepted text as its tree
-  --to 2|3                     shows what would change in a later version; writes no file
-  --to 2|3 --write             writes the named files back in it
+  --to 2|3                     shows what has to change in a later version; writes no file
+  --normal                     shows what would change in the normal form of version 3
+  --write                      with --to or --normal: writes the named files back so
   --partial                    with --write: also files some of whose lines are refused
   --quiet, -q                  leaves out the last line, which tells how much was looked at
   --help, -h                   writes this
@@ -84,13 +85,18 @@ fn conflict_sentence(conflict: Conflict) -> &'static str {
     match conflict {
         Conflict::ExplainUndrawn =>
             "`--explain` draws trees, and doesn't go with `--format json` or `short`",
-        Conflict::WriteWithoutVersion => "`--write` wants the version: `--to 2` or `--to 3`",
+        Conflict::WriteWithoutVersion => "`--write` wants `--to 2`, `--to 3` or `--normal`",
         Conflict::PartialWithoutWrite => "`--partial` goes with `--write` alone",
-        Conflict::NoConversion => {
-            "no rewriting leads there: `--language 1` goes `--to 2` or `3`, `--language 2` goes `--to 3`"
+        Conflict::NormalOfAnother => {
+            "`--normal` is the form of version 3, and doesn't go with `--to 2`"
         }
-        Conflict::RewritesWhole => "`--to` rewrites line by line, and doesn't go with `--whole`",
-        Conflict::RewritesNoFile => "`--to` wants the name of a file",
-        Conflict::RewritesInput => "`--to` rewrites files, and `-` is the standard input",
+        Conflict::NoConversion => {
+            "no rewriting leads there: `--language 1` goes `--to 2` or `3`, `2` and `strftime` go `--to 3`; `--normal` lays out version 3"
+        }
+        Conflict::RewritesWhole =>
+            "`--to` and `--normal` rewrite line by line, and don't go with `--whole`",
+        Conflict::RewritesNoFile => "`--to` and `--normal` want the name of a file",
+        Conflict::RewritesInput =>
+            "`--to` and `--normal` rewrite files, and `-` is the standard input",
     }
 }

@@ -15,14 +15,14 @@ use Rattle.timefd_lint_options.specs.declared.asked.State.{State}
 use Rattle.timefd_lint_options.specs.declared.asked.Step.{Step}
 use Rattle.timefd_lint_options.specs.declared.asked.Step.TheVariants.{Next, Done}
 use Rattle.timefd_lint_options.specs.declared.error.Conflict.{Conflict}
-use Rattle.timefd_lint_options.specs.declared.error.Conflict.TheVariants.{ExplainUndrawn, WriteWithoutVersion, PartialWithoutWrite, NoConversion, RewritesWhole, RewritesNoFile, RewritesInput}
+use Rattle.timefd_lint_options.specs.declared.error.Conflict.TheVariants.{ExplainUndrawn, WriteWithoutVersion, PartialWithoutWrite, NormalOfAnother, NoConversion, RewritesWhole, RewritesNoFile, RewritesInput}
 use Rattle.timefd_lint_options.specs.declared.error.OptionError.{OptionError}
 use Rattle.timefd_lint_options.specs.declared.error.OptionError.TheVariants as errors
 use Rattle.timefd_lint_options.specs.declared.settings.Settings.{Settings}
 use Rattle.timefd_lint_options.specs.declared.word.Valued.{Valued}
 use Rattle.timefd_lint_options.specs.declared.word.Word.{Word}
 use Rattle.timefd_lint_options.specs.declared.word.Word.TheVariants.{Flag, Valued as HasValue, Help, Version, Fix, End, Unknown, File}
-use Rattle.timefd_lint_options.specs.Settings.{initial, with_flag, with_value}
+use Rattle.timefd_lint_options.specs.Settings.{initial, target, with_flag, with_value}
 use Rattle.timefd_lint_options.specs.Words.{word_of, is_option, is_input}
 
 abbrev pub Answer : Type 0
@@ -33,7 +33,7 @@ is_drawn Human = true
 is_drawn Json = false
 is_drawn Short = false
 
--- from version 1 to 2 and 3, and from 2 to 3
+-- from version 1 to 2, and from each other language to 3
 abbrev pub is_rewritten : Language → DescriptionVersion → Bool
 is_rewritten (languages.Version One) One = false
 is_rewritten (languages.Version One) Two = true
@@ -46,7 +46,12 @@ is_rewritten (languages.Version Three) Two = false
 is_rewritten (languages.Version Three) Three = false
 is_rewritten languages.Strftime One = false
 is_rewritten languages.Strftime Two = false
-is_rewritten languages.Strftime Three = false
+is_rewritten languages.Strftime Three = true
+
+abbrev pub is_three : DescriptionVersion → Bool
+is_three One = false
+is_three Two = false
+is_three Three = true
 
 -- whether one of the names is that of the standard input
 abbrev pub has_input : List (Bor Text) → Bool
@@ -64,12 +69,12 @@ names_from name behind = record {
 
 abbrev pub rewriting_conflict : Settings → DescriptionVersion → Names → Option Conflict
 rewriting_conflict s version names =
-    if is_rewritten s.language version then
-    if s.is_whole then Some RewritesWhole
+    if s.is_normal && not (is_three version) then Some NormalOfAnother
+    else if not s.is_normal && not (is_rewritten s.language version) then Some NoConversion
+    else if s.is_whole then Some RewritesWhole
     else if names.count == 0 then Some RewritesNoFile
     else if names.has_input then Some RewritesInput
     else None
-    else Some NoConversion
 
 abbrev pub version_conflict : Settings → Names → Option DescriptionVersion → Option Conflict
 version_conflict s names (Some version) = rewriting_conflict s version names
@@ -79,7 +84,7 @@ abbrev pub conflict : Settings → Names → Option Conflict
 conflict s names =
     if s.explains && not (is_drawn s.format) then Some ExplainUndrawn
     else if s.is_partial && not s.writes then Some PartialWithoutWrite
-    else version_conflict s names s.to
+    else version_conflict s names (target s)
 
 abbrev pub unless : Option Conflict → Settings → Names → Answer
 unless (Some conflict) s names = Err (errors.Conflict conflict)

@@ -1,8 +1,9 @@
 -- What each option sets.
-use Rattle.std.specs.Prelude.{true, false, Option, Some, None, option_map, Result, Ok, Err, if◌then◌else◌}
+use Rattle.std.specs.Prelude.{Bool, true, false, Option, Some, None, option_map, Result, Ok, Err, if◌then◌else◌}
 use denote.Ref.{Bor}
 use Rattle.timefd_component.specs.Tree.{Text}
 use Rattle.timefd_drawing.specs.declared.draw.Format.TheVariants as formats
+use Rattle.timefd_language.specs.declared.description_version.DescriptionVersion.{DescriptionVersion}
 use Rattle.timefd_language.specs.declared.description_version.DescriptionVersion.TheVariants.{Three}
 use Rattle.timefd_language.specs.Grammar.{is_empty}
 use Rattle.timefd_parse.specs.declared.language.Language.TheVariants as languages
@@ -11,7 +12,7 @@ use Rattle.timefd_lint_options.specs.declared.error.OptionError.TheVariants.{Not
 use Rattle.timefd_lint_options.specs.declared.settings.Color.TheVariants as colors
 use Rattle.timefd_lint_options.specs.declared.settings.Settings.{Settings}
 use Rattle.timefd_lint_options.specs.declared.word.Flag.{Flag}
-use Rattle.timefd_lint_options.specs.declared.word.Flag.TheVariants.{Whole, Explain, Write, Partial, Quiet}
+use Rattle.timefd_lint_options.specs.declared.word.Flag.TheVariants.{Whole, Explain, Normal, Write, Partial, Quiet}
 use Rattle.timefd_lint_options.specs.declared.word.Valued.{Valued}
 use Rattle.timefd_lint_options.specs.declared.word.Valued.TheVariants.{Language, Format, Color, Comment, To}
 use Rattle.timefd_lint_options.specs.Values.{language_named, format_named, color_named, version_named}
@@ -25,14 +26,24 @@ initial = record {
   is_whole = false;
   explains = false;
   to = None;
+  is_normal = false;
   writes = false;
   is_partial = false;
   is_quiet = false;
 }
 
+abbrev pub target_by : Option DescriptionVersion → Bool → Option DescriptionVersion
+target_by (Some version) is_normal = Some version
+target_by None is_normal = if is_normal then Some Three else None
+
+-- the version that descriptions are rewritten in: version 3 where only their normal form is asked for
+abbrev pub target : Settings → Option DescriptionVersion
+target s = target_by s.to s.is_normal
+
 abbrev pub with_flag : Settings → Flag → Settings
 with_flag s Whole = record s { is_whole = true }
 with_flag s Explain = record s { explains = true }
+with_flag s Normal = record s { is_normal = true }
 with_flag s Write = record s { writes = true }
 with_flag s Partial = record s { is_partial = true }
 with_flag s Quiet = record s { is_quiet = true }

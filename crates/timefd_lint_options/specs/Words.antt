@@ -2,7 +2,7 @@
 use Rattle.std.specs.Prelude.{Bool, true, false, codes, bytes_eq, nat_eq, if◌then◌else◌}
 use Rattle.std.specs.List.{starts_with}
 use Rattle.timefd_component.specs.Tree.{Text}
-use Rattle.timefd_lint_options.specs.declared.word.Flag.TheVariants.{Whole, Explain, Write, Partial, Quiet}
+use Rattle.timefd_lint_options.specs.declared.word.Flag.TheVariants.{Whole, Explain, Normal, Write, Partial, Quiet}
 use Rattle.timefd_lint_options.specs.declared.word.Valued.TheVariants.{Language, Format, Color, Comment, To}
 use Rattle.timefd_lint_options.specs.declared.word.Word.{Word}
 use Rattle.timefd_lint_options.specs.declared.word.Word.TheVariants.{Flag, Valued, Help, Version, Fix, End, Unknown, File}
@@ -15,6 +15,7 @@ abbrev pub word_of : Text → Word
 word_of word =
     if bytes_eq word (codes "--whole") then Flag Whole
     else if bytes_eq word (codes "--explain") then Flag Explain
+    else if bytes_eq word (codes "--normal") then Flag Normal
     else if bytes_eq word (codes "--write") then Flag Write
     else if bytes_eq word (codes "--partial") then Flag Partial
     else if bytes_eq word (codes "--quiet") then Flag Quiet

@@ -4,7 +4,7 @@ ghost use Rattle.std.specs.Prelude.{◌≡◌, length};
 ghost use Rattle.timefd_lint_options.specs.Asked as spec;
 
 use crate::error::{Conflict, OptionError};
-use crate::settings::{Settings, with_flag, with_value};
+use crate::settings::{Settings, target, with_flag, with_value};
 use crate::word::{Valued, Word, is_input, is_option, word_of};
 use timefd_drawing::Format;
 use timefd_parse::{DescriptionVersion, Language};
@@ -209,7 +209,7 @@ fn conflict(settings: Settings<'_>, names: Names) -> Option<Conflict>
     if settings.is_partial && !settings.writes {
         return Some(Conflict::PartialWithoutWrite);
     }
-    match settings.to {
+    match target(settings) {
         Some(version) => rewriting_conflict(settings, version, names),
         None if settings.writes => Some(Conflict::WriteWithoutVersion),
         None => None,
@@ -224,7 +224,10 @@ fn rewriting_conflict(
 ) -> Option<Conflict>
     ensures { result ≡ spec.rewriting_conflict settings.entry version names }
 {
-    if !is_rewritten(settings.language, version) {
+    if settings.is_normal && !is_three(version) {
+        return Some(Conflict::NormalOfAnother);
+    }
+    if !settings.is_normal && !is_rewritten(settings.language, version) {
         return Some(Conflict::NoConversion);
     }
     if settings.is_whole {
@@ -248,7 +251,16 @@ fn is_drawn(format: Format) -> bool
     }
 }
 
-// Whether descriptions of a language are rewritten in a version.
+fn is_three(version: DescriptionVersion) -> bool
+    ensures { result ≡ spec.is_three version }
+{
+    match version {
+        DescriptionVersion::One | DescriptionVersion::Two => false,
+        DescriptionVersion::Three => true,
+    }
+}
+
+// Whether descriptions of a language are rewritten in a version, with something to change.
 fn is_rewritten(language: Language, version: DescriptionVersion) -> bool
     ensures { result ≡ spec.is_rewritten language version }
 {
@@ -258,6 +270,7 @@ fn is_rewritten(language: Language, version: DescriptionVersion) -> bool
         DescriptionVersion::Three => matches!(
             language,
             Language::Version(DescriptionVersion::One | DescriptionVersion::Two)
+                | Language::Strftime
         ),
     }
 }

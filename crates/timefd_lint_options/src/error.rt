@@ -24,10 +24,12 @@ pub enum OptionError<'a> {
 pub enum Conflict {
     /// Trees are drawn, and are neither objects of JSON nor short.
     ExplainUndrawn,
-    /// `--write` without `--to`.
+    /// `--write` with neither `--to` nor `--normal`.
     WriteWithoutVersion,
     /// `--partial` without `--write`.
     PartialWithoutWrite,
+    /// The normal form is one of version 3, and another is asked for.
+    NormalOfAnother,
     /// No rewriting leads from the language to the version.
     NoConversion,
     /// A file is rewritten line by line.

@@ -10,6 +10,6 @@ mod word;
 
 pub use asked::{Asked, Options, options_of};
 pub use error::{Conflict, OptionError};
-pub use settings::{Color, Settings};
+pub use settings::{Color, Settings, target};
 pub use suggestion::nearest_option;
 pub use word::{Flag, Valued, is_input};

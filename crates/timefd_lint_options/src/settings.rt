@@ -35,6 +35,8 @@ pub struct Settings<'a> {
     pub explains: bool,
     /// The version that descriptions are rewritten in.
     pub to: Option<DescriptionVersion>,
+    /// Whether they are laid out in the normal form of version 3.
+    pub is_normal: bool,
     /// Whether files are written back.
     pub writes: bool,
     /// Whether a file is also written back where some of its lines are refused.
@@ -56,10 +58,23 @@ impl Settings<'_> {
             is_whole: false,
             explains: false,
             to: None,
+            is_normal: false,
             writes: false,
             is_partial: false,
             is_quiet: false,
         }
+    }
+}
+
+/// The version that descriptions are rewritten in: version 3 where only their normal form is asked
+/// for. `None` where none are rewritten.
+pub fn target(settings: Settings<'_>) -> Option<DescriptionVersion>
+    ensures { result ≡ spec.target settings.entry }
+{
+    match settings.to {
+        Some(version) => Some(version),
+        None if settings.is_normal => Some(DescriptionVersion::Three),
+        None => None,
     }
 }
 
@@ -74,6 +89,10 @@ pub fn with_flag<'a>(settings: Settings<'a>, flag: Flag) -> Settings<'a>
         },
         Flag::Explain => Settings {
             explains: true,
+            ..settings
+        },
+        Flag::Normal => Settings {
+            is_normal: true,
             ..settings
         },
         Flag::Write => Settings {

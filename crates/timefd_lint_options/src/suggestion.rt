@@ -21,6 +21,7 @@ fn long_names() -> &'static [&'static str]
         "--whole",
         "--explain",
         "--to",
+        "--normal",
         "--write",
         "--partial",
         "--quiet",

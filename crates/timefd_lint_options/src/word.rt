@@ -8,6 +8,7 @@ ghost use Rattle.timefd_lint_options.specs.Words as spec;
 pub enum Flag {
     Whole,
     Explain,
+    Normal,
     Write,
     Partial,
     Quiet,
@@ -49,6 +50,7 @@ pub fn word_of(word: &str) -> Word
     match word {
         "--whole" => Word::Flag(Flag::Whole),
         "--explain" => Word::Flag(Flag::Explain),
+        "--normal" => Word::Flag(Flag::Normal),
         "--write" => Word::Flag(Flag::Write),
         "--partial" => Word::Flag(Flag::Partial),
         "--quiet" | "-q" => Word::Flag(Flag::Quiet),

@@ -1,3 +1,3 @@
-pub mod ConversionLemmas
 pub mod LineLemmas
+pub mod LayoutLemmas
 pub mod RewriteLemmas

@@ -1,3 +1,3 @@
 pub mod Lines
-pub mod Conversions
+pub mod Layouts
 pub mod Rewriting

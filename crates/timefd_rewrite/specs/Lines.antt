@@ -1,7 +1,7 @@
 -- The lines of a file.
 use Rattle.std.specs.Prelude.{◌≡◌, ◌≢◌, Bool, true, false, ◌||◌, List, [], ◌∷◌, Option, Some, None, length, drop, nat_eq, if◌then◌else◌, ⊤}
 use Rattle.std.specs.Io.BufRead.{ends_with_byte, strip_last, take_through, drop_through}
-use Rattle.std.specs.List.{starts_with}
+use Rattle.std.specs.List.{list_any, starts_with}
 use denote.Ref.{Bor}
 use Rattle.timefd_component.specs.Tree.{Text}
 use Rattle.timefd_language.specs.Grammar.{is_empty}
@@ -13,6 +13,10 @@ without_newline line = if ends_with_byte 10 line then strip_last 13 (strip_last 
 -- what it ends with behind that
 abbrev pub end_of : Text → Text
 end_of line = drop (length (without_newline line)) line
+
+-- whether a text is more than a line
+abbrev pub has_newline : Text → Bool
+has_newline text = list_any (λ b. nat_eq b 10) text
 
 -- an empty line, and one that begins with the mark of comments
 abbrev pub is_passed_over : Option (Bor Text) → Text → Bool

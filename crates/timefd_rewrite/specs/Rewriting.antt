@@ -3,27 +3,40 @@ use Rattle.std.specs.Prelude.{◌≡◌, ◌≢◌, ◌+◌, Bool, true, false, 
 use Rattle.std.specs.Io.KnownBytes.{Appends, Keeps, IsAtEnd}
 use denote.Ref.{Bor}
 use Rattle.timefd_component.specs.Tree.{Text}
-use Rattle.timefd_rewrite.specs.declared.convert.Conversion.{Conversion}
+use Rattle.timefd_fault.specs.Faults.{Fault}
+use Rattle.timefd_language.specs.Grammar.{nesting_limit}
+use Rattle.timefd_parse.specs.Language.{FaultIn}
+use Rattle.timefd_convert.specs.Conversions.{language_of}
 use Rattle.timefd_rewrite.specs.declared.counts.Counts.{Counts}
 use Rattle.timefd_rewrite.specs.declared.counts.Outcome.{Outcome}
-use Rattle.timefd_rewrite.specs.declared.counts.Outcome.TheVariants.{PassedOver, Same, Rewritten, Refused, NotText}
+use Rattle.timefd_rewrite.specs.declared.counts.Outcome.TheVariants.{PassedOver, Same, Rewritten, Refused, NotText, NotALine}
+use Rattle.timefd_rewrite.specs.declared.layout.Layout.{Layout}
 use Rattle.timefd_rewrite.specs.declared.rewrite.RewriteError.{RewriteError}
 use Rattle.timefd_rewrite.specs.declared.rewrite.RewriteError.TheVariants.{Memory, Read, Write}
-use Rattle.timefd_rewrite.specs.Conversions.{IsDescription, IsRefused, KeepsItems}
-use Rattle.timefd_rewrite.specs.Lines.{AreLinesOf, IsNextLine, end_of, is_passed_over, without_newline}
+use Rattle.timefd_rewrite.specs.Layouts.{IsConverted, conversion_of}
+use Rattle.timefd_rewrite.specs.Lines.{AreLinesOf, IsNextLine, end_of, has_newline, is_passed_over, without_newline}
 
--- What stands in the place of a line: the text of the later version and the line's own end, where it
--- is a description of the earlier one; and else the line itself, byte by byte.
-abbrev pub StandsFor : Conversion → Text → Outcome → Text → Type 0
-StandsFor conversion line PassedOver place = place ≡ line
-StandsFor conversion line Same place = IsDescription conversion (without_newline line)
-    × KeepsItems conversion (without_newline line) (without_newline line) × (place ≡ line)
-StandsFor conversion line Rewritten place = IsDescription conversion (without_newline line)
-    × ((answer : Text) × KeepsItems conversion (without_newline line) answer
-    × (answer ≢ without_newline line) × (place ≡ answer ++ end_of line))
-StandsFor conversion line Refused place = IsUtf8 (without_newline line)
-    × IsRefused conversion (without_newline line) × (place ≡ line)
-StandsFor conversion line NotText place = (¬ IsUtf8 (without_newline line)) × (place ≡ line)
+-- The rules of the language that is converted from assign a fault to the text.
+abbrev pub IsRefused : Layout → Text → Type 0
+IsRefused layout text =
+    (f : Fault) × FaultIn (language_of (conversion_of layout)) nesting_limit text f
+
+-- What stands in the place of a line: the text that it is converted to and the line's own end, where
+-- it is a description and that text is a line; and else the line itself, byte by byte.
+abbrev pub StandsFor : Layout → Text → Outcome → Text → Type 0
+StandsFor layout line PassedOver place = place ≡ line
+StandsFor layout line Same place =
+    IsConverted layout (without_newline line) (without_newline line) × (place ≡ line)
+StandsFor layout line Rewritten place =
+    (answer : Text) × IsConverted layout (without_newline line) answer
+    × (answer ≢ without_newline line) × (has_newline answer ≡ false)
+    × (place ≡ answer ++ end_of line)
+StandsFor layout line Refused place = IsUtf8 (without_newline line)
+    × IsRefused layout (without_newline line) × (place ≡ line)
+StandsFor layout line NotText place = (¬ IsUtf8 (without_newline line)) × (place ≡ line)
+StandsFor layout line NotALine place =
+    (answer : Text) × IsConverted layout (without_newline line) answer
+    × (has_newline answer ≡ true) × (place ≡ line)
 
 abbrev pub is_passing_over : Outcome → Bool
 is_passing_over PassedOver = true
@@ -31,6 +44,7 @@ is_passing_over Same = false
 is_passing_over Rewritten = false
 is_passing_over Refused = false
 is_passing_over NotText = false
+is_passing_over NotALine = false
 
 abbrev pub is_rewriting : Outcome → Bool
 is_rewriting PassedOver = false
@@ -38,14 +52,16 @@ is_rewriting Same = false
 is_rewriting Rewritten = true
 is_rewriting Refused = false
 is_rewriting NotText = false
+is_rewriting NotALine = false
 
--- Those that are no UTF-8 count as refused.
+-- Those that are no UTF-8 or would be no line count as refused.
 abbrev pub is_refusing : Outcome → Bool
 is_refusing PassedOver = false
 is_refusing Same = false
 is_refusing Rewritten = false
 is_refusing Refused = true
 is_refusing NotText = true
+is_refusing NotALine = true
 
 -- a line with its newline, what came of it, and what stands in its place
 pub record Placed : Type 0 where
@@ -54,10 +70,10 @@ pub record Placed : Type 0 where
   pub place : Text
 
 -- A line is passed over exactly where it is empty or a comment.
-pub record IsPlaced (conversion : Conversion) (comment : Option (Bor Text)) (p : Placed) : Type 0
+pub record IsPlaced (layout : Layout) (comment : Option (Bor Text)) (p : Placed) : Type 0
   where
     pub passed_over : is_passing_over p.outcome ≡ is_passed_over comment (without_newline p.line)
-    pub stands : StandsFor conversion p.line p.outcome p.place
+    pub stands : StandsFor layout p.line p.outcome p.place
 
 -- the lines, and what stands in their places, in turn
 abbrev pub lines_of : List Placed → List Text
@@ -82,34 +98,34 @@ with_one counts outcome = record {
 }
 
 -- What stands in the places of these lines is written behind what was there, and nothing else is.
-pub record AreWritten (conversion : Conversion) (comment : Option (Bor Text))
+pub record AreWritten (layout : Layout) (comment : Option (Bor Text))
     (before behind : Option Text) (placed : List Placed) : Type 0 where
-  pub each : All (IsPlaced conversion comment) placed
+  pub each : All (IsPlaced layout comment) placed
   pub written : Appends before behind (places_of placed)
 
 -- All lines of a reader are rewritten, and counted.
-pub record AreRewritten (conversion : Conversion) (comment : Option (Bor Text))
+pub record AreRewritten (layout : Layout) (comment : Option (Bor Text))
     (bytes before behind : Option Text) (counts : Counts) : Type 0 where
   pub placed : List Placed
-  pub are_written : AreWritten conversion comment before behind placed
+  pub are_written : AreWritten layout comment before behind placed
   pub all_lines : AreLinesOf bytes (lines_of placed) false
   pub counted : counts ≡ counts_of placed
 
 -- Only those in front of a rest are.
-pub record AreFront (conversion : Conversion) (comment : Option (Bor Text))
+pub record AreFront (layout : Layout) (comment : Option (Bor Text))
     (bytes before behind : Option Text) : Type 0 where
   pub placed : List Placed
-  pub are_written : AreWritten conversion comment before behind placed
+  pub are_written : AreWritten layout comment before behind placed
   pub lines_in_front : AreLinesOf bytes (lines_of placed) true
 
 -- Where memory runs out or a read fails, nothing is written behind that.
-abbrev pub AreCutShort : Conversion → Option (Bor Text) → Option Text → Option Text → Option Text
+abbrev pub AreCutShort : Layout → Option (Bor Text) → Option Text → Option Text → Option Text
     → RewriteError → Type 0
-AreCutShort conversion comment bytes before behind Memory =
-    AreFront conversion comment bytes before behind
-AreCutShort conversion comment bytes before behind Read =
-    AreFront conversion comment bytes before behind
-AreCutShort conversion comment bytes before behind Write = ⊤
+AreCutShort layout comment bytes before behind Memory =
+    AreFront layout comment bytes before behind
+AreCutShort layout comment bytes before behind Read =
+    AreFront layout comment bytes before behind
+AreCutShort layout comment bytes before behind Write = ⊤
 
 -- The same of one line: nothing is written.
 abbrev pub IsUnwritten : Option Text → Option Text → RewriteError → Type 0
@@ -118,30 +134,32 @@ IsUnwritten before behind Read = Keeps before behind
 IsUnwritten before behind Write = ⊤
 
 -- what stands in the place of one line is written
-abbrev pub Places : Conversion → Option (Bor Text) → Text → Option Text → Option Text → Outcome
+abbrev pub Places : Layout → Option (Bor Text) → Text → Option Text → Option Text → Outcome
     → Type 0
-Places conversion comment line before behind outcome =
+Places layout comment line before behind outcome =
     (place : Text)
-    × IsPlaced conversion comment (record { line = line; outcome = outcome; place = place })
+    × IsPlaced layout comment (record { line = line; outcome = outcome; place = place })
     × Appends before behind place
 
--- an answer in the place of a line: with the line's end, or the line itself if it has that text
+-- an answer in the place of a line: with the line's end, or the line itself if it has that text or
+-- that is no line
 abbrev pub IsAnswer : Text → Text → Outcome → Text → Type 0
 IsAnswer line answer PassedOver place = ⊥
 IsAnswer line answer Same place = (answer ≡ without_newline line) × (place ≡ line)
 IsAnswer line answer Rewritten place = (answer ≢ without_newline line)
-    × (place ≡ answer ++ end_of line)
+    × (has_newline answer ≡ false) × (place ≡ answer ++ end_of line)
 IsAnswer line answer Refused place = ⊥
 IsAnswer line answer NotText place = ⊥
+IsAnswer line answer NotALine place = (has_newline answer ≡ true) × (place ≡ line)
 
 abbrev pub PlacesAnswer : Text → Text → Option Text → Option Text → Outcome → Type 0
 PlacesAnswer line answer before behind outcome =
     (place : Text) × IsAnswer line answer outcome place × Appends before behind place
 
 -- What one more line comes to: nothing at the end of the bytes.
-abbrev pub IsNext : Conversion → Option (Bor Text) → Option Text → Option Text → Option Text
+abbrev pub IsNext : Layout → Option (Bor Text) → Option Text → Option Text → Option Text
     → Option Text → Option Outcome → Type 0
-IsNext conversion comment bytes rest before behind None = IsAtEnd bytes × Keeps before behind
-IsNext conversion comment bytes rest before behind (Some outcome) =
+IsNext layout comment bytes rest before behind None = IsAtEnd bytes × Keeps before behind
+IsNext layout comment bytes rest before behind (Some outcome) =
     (line : Text) × IsNextLine bytes line rest
-    × Places conversion comment line before behind outcome
+    × Places layout comment line before behind outcome

@@ -8,14 +8,17 @@ ghost use Rattle.timefd_rewrite.specs.Rewriting as spec;
 pub enum Outcome {
     /// It is empty or a comment, and stays as it is.
     PassedOver,
-    /// It is the same in the later version.
+    /// It is converted to itself.
     Same,
-    /// Its text in the later version stands in its place.
+    /// What it is converted to stands in its place.
     Rewritten,
-    /// The earlier version refuses it, and it stays as it is.
+    /// The language that is converted from refuses it, and it stays as it is.
     Refused,
     /// It is no UTF-8, and stays as it is.
     NotText,
+    /// What it is converted to has a newline, as that of strftime's `%n` has, and is no line: so it
+    /// stays as it is.
+    NotALine,
 }
 
 /// How many lines there are.
@@ -25,7 +28,7 @@ pub struct Counts {
     pub lines: u64,
     /// Those in whose place another text stands.
     pub rewritten: u64,
-    /// Those that are refused or no UTF-8.
+    /// Those that are refused or no UTF-8, or would be no line.
     pub refused: u64,
 }
 
@@ -52,12 +55,14 @@ impl Counts {
             lines: self.lines + 1,
             rewritten: match outcome {
                 Outcome::Rewritten => self.rewritten + 1,
-                Outcome::PassedOver | Outcome::Same | Outcome::Refused | Outcome::NotText => {
-                    self.rewritten
-                }
+                Outcome::PassedOver
+                | Outcome::Same
+                | Outcome::Refused
+                | Outcome::NotText
+                | Outcome::NotALine => self.rewritten,
             },
             refused: match outcome {
-                Outcome::Refused | Outcome::NotText => self.refused + 1,
+                Outcome::Refused | Outcome::NotText | Outcome::NotALine => self.refused + 1,
                 Outcome::PassedOver | Outcome::Same | Outcome::Rewritten => self.refused,
             },
         }

@@ -44,3 +44,10 @@ pub fn without_newline(line: &[u8]) -> &[u8]
         line
     }
 }
+
+/// Whether a text has a newline, and is more than a line.
+pub fn has_newline(text: &[u8]) -> bool
+    ensures { result ≡ spec.has_newline text.now }
+{
+    text.contains(&b'\n')
+}

@@ -6,9 +6,9 @@ ghost use Rattle.std.specs.Io.KnownBytes.{Appends};
 ghost use Rattle.timefd_rewrite.specs.Rewriting.{AreCutShort, AreRewritten, IsNext, IsUnwritten, Places, PlacesAnswer};
 ghost use Rattle.timefd_rewrite.specs.declared.rewrite.RewriteError.TheVariants as errors;
 
-use crate::convert::{Conversion, converted};
 use crate::counts::{Counts, Outcome};
-use crate::lines::{is_passed_over, without_newline};
+use crate::layout::{Layout, lay_out};
+use crate::lines::{has_newline, is_passed_over, without_newline};
 use std::alloc::Global;
 use std::io::{BufRead, ErrorKind, Write};
 use std::str;
@@ -25,24 +25,25 @@ pub enum RewriteError {
     Write,
 }
 
-/// Writes each line of a reader, and where it can be rewritten, its text in the later version with
-/// the line's own end. Lines that are passed over, refused or no UTF-8 are written as they are.
+/// Writes each line of a reader, and where it is a description, what that is converted to with the
+/// line's own end. Lines that are passed over, refused or no UTF-8, or that would be two lines, are
+/// written as they are.
 pub fn rewrite_lines<R: BufRead, W: Write>(
     alloc: Global,
     comment: Option<&str>,
-    conversion: Conversion,
+    layout: Layout,
     reader: &mut R,
     writer: &mut W,
 ) -> Result<Counts, RewriteError>
-    ensures all { IfOk result (AreRewritten conversion comment.entry (R.remaining reader.old)
+    ensures all { IfOk result (AreRewritten layout comment.entry (R.remaining reader.old)
         (W.contents writer.old) (W.contents writer.new)) }
-    ensures cut_short { IfErr result (AreCutShort conversion comment.entry (R.remaining reader.old)
+    ensures cut_short { IfErr result (AreCutShort layout comment.entry (R.remaining reader.old)
         (W.contents writer.old) (W.contents writer.new)) }
 {
     let mut counts = Counts::new();
     let mut bytes = Vec::new(alloc);
     'lines: for _line in 0..u64::MAX {
-        match rewrite_next(alloc, comment, conversion, &mut bytes, reader, writer)? {
+        match rewrite_next(alloc, comment, layout, &mut bytes, reader, writer)? {
             None => return Ok(counts),
             Some(outcome) => counts = counts.with(outcome),
         }
@@ -54,12 +55,12 @@ pub fn rewrite_lines<R: BufRead, W: Write>(
 fn rewrite_next<R: BufRead, W: Write>(
     alloc: Global,
     comment: Option<&str>,
-    conversion: Conversion,
+    layout: Layout,
     bytes: &mut Vec<u8>,
     reader: &mut R,
     writer: &mut W,
 ) -> Result<Option<Outcome>, RewriteError>
-    ensures next { IfOk result (IsNext conversion comment.entry (R.remaining reader.old)
+    ensures next { IfOk result (IsNext layout comment.entry (R.remaining reader.old)
         (R.remaining reader.new) (W.contents writer.old) (W.contents writer.new)) }
     ensures unwritten { IfErr result (IsUnwritten (W.contents writer.old)
         (W.contents writer.new)) }
@@ -70,7 +71,7 @@ fn rewrite_next<R: BufRead, W: Write>(
             if count == 0 {
                 return Ok(None);
             }
-            Ok(Some(rewrite_line(alloc, comment, conversion, bytes, writer)?))
+            Ok(Some(rewrite_line(alloc, comment, layout, bytes, writer)?))
         }
         Err(error) => {
             if error.kind() == ErrorKind::OutOfMemory {
@@ -82,14 +83,15 @@ fn rewrite_next<R: BufRead, W: Write>(
 }
 
 // Writes what stands in the place of a line.
+#[tactic(auto, using(crate::proofs::RewriteLemmas::converted_placed))]
 fn rewrite_line<W: Write>(
     alloc: Global,
     comment: Option<&str>,
-    conversion: Conversion,
+    layout: Layout,
     line: &[u8],
     writer: &mut W,
 ) -> Result<Outcome, RewriteError>
-    ensures places { IfOk result (Places conversion comment.entry line.now (W.contents writer.old)
+    ensures places { IfOk result (Places layout comment.entry line.now (W.contents writer.old)
         (W.contents writer.new)) }
     ensures unwritten { IfErr result (IsUnwritten (W.contents writer.old)
         (W.contents writer.new)) }
@@ -101,7 +103,7 @@ fn rewrite_line<W: Write>(
     let Ok(text) = str::from_utf8(text) else {
         return keep(line, Outcome::NotText, writer);
     };
-    match converted(alloc, conversion, text) {
+    match lay_out(alloc, layout, text) {
         Ok(answer) => write_answer(line, answer.as_bytes(), writer),
         Err(ParseError::Invalid(_)) => keep(line, Outcome::Refused, writer),
         Err(ParseError::Memory(_)) => Err(RewriteError::Memory),
@@ -120,7 +122,8 @@ fn keep<W: Write>(line: &[u8], outcome: Outcome, writer: &mut W) -> Result<Outco
     }
 }
 
-// Writes a text in the place of a line, with the line's own end; or the line, if it has that text.
+// Writes a text in the place of a line, with the line's own end; or the line, if it has that text or
+// that is no line.
 fn write_answer<W: Write>(
     line: &[u8],
     answer: &[u8],
@@ -133,6 +136,9 @@ fn write_answer<W: Write>(
     let text = without_newline(line);
     if answer == text {
         return keep(line, Outcome::Same, writer);
+    }
+    if has_newline(answer) {
+        return keep(line, Outcome::NotALine, writer);
     }
     keep(answer, Outcome::Rewritten, writer)?;
     keep(&line[text.len()..], Outcome::Rewritten, writer)

@@ -3,7 +3,7 @@ use Rattle.timefd_rewrite.proofs.rewrite.rewrite_line.Goals as goal
 
 pub returns-in_default-clause-places : goal.returns-in_default-clause-places
 returns-in_default-clause-places g c =
-    no_text_placed c.args.conversion c.args.comment c.args.line.now
+    no_text_placed c.args.layout c.args.comment c.args.line.now
     c.without_newline-text.result.now (g.W.Write.contents c.args.writer.now)
     (g.W.Write.contents c.keep-in_default.new.writer) c.keep-in_default.result
     c.without_newline-text.ensures c.if-is_passed_over.ensures c.in_default.ensures.cases.0
@@ -11,10 +11,10 @@ returns-in_default-clause-places g c =
 
 pub returns-in-Err-Invalid-clause-places : goal.returns-in-Err-Invalid-clause-places
 returns-in-Err-Invalid-clause-places g c =
-    refused_placed c.args.conversion c.args.comment c.args.line.now
+    refused_placed c.args.layout c.args.comment c.args.line.now
     c.without_newline-text.result.now c.in-Ok.text.now (g.W.Write.contents c.args.writer.now)
     (g.W.Write.contents c.keep-in-Err-Invalid.new.writer) c.keep-in-Err-Invalid.result
     c.in-Err-Invalid.field-0 c.in-Err-Invalid.field-0-0 c.without_newline-text.ensures
     c.if-is_passed_over.ensures c.in-Ok.ensures.cases.0 c.in-Ok.ensures.cases.1
-    c.in-Err-Invalid.field-0-is c.in-Err-Invalid.ensures.refused
+    c.in-Err-Invalid.field-0-is c.in-Err-Invalid.ensures.fault
     c.keep-in-Err-Invalid.ensures.outcome c.keep-in-Err-Invalid.ensures.kept

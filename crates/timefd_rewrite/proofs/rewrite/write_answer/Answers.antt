@@ -7,5 +7,5 @@ returns-clause-places g c =
     answer_placed c.args.line.now c.args.answer.now c.without_newline-text.result.now
     (g.W.Write.contents c.args.writer.now) (g.W.Write.contents c.keep-2.new.writer)
     (g.W.Write.contents c.keep-3.new.writer) c.keep-3.result c.without_newline-text.ensures
-    (sym c.if-eq.ensures) c.in_ok-keep.ensures.kept c.keep-3.ensures.outcome
+    (sym c.if-eq.ensures) (sym c.if-has_newline.ensures) c.in_ok-keep.ensures.kept c.keep-3.ensures.outcome
     c.keep-3.ensures.kept
