@@ -12,14 +12,15 @@ mod head;
 mod head_verdict;
 mod language;
 mod leading;
+mod modified;
 mod modifier;
 mod modifiers;
-mod one_modifier;
 mod parsing;
 mod piece;
 mod places;
 mod read;
 mod verdict;
+mod words;
 
 pub use borrowing::parse_all_borrowed;
 pub use bracket::{bracket_name, first_modifier, first_nested};
