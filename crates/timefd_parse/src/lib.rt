@@ -19,6 +19,8 @@ mod parsing;
 mod piece;
 mod places;
 mod read;
+mod reprs;
+mod values;
 mod verdict;
 mod words;
 

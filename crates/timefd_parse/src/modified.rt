@@ -9,7 +9,8 @@ ghost use Rattle.timefd_parse.specs.Read.{IsBare};
 
 use crate::head_verdict::combination_fault;
 use crate::places::Places;
-use crate::words::{behind, key_in, name_in, value_in};
+use crate::values::value_in;
+use crate::words::{behind, key_in, name_in};
 use timefd_items::Component;
 use timefd_language::component::component_of;
 use timefd_language::description_version::DescriptionVersion;
