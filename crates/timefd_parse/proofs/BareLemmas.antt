@@ -2,7 +2,6 @@
 use Rattle.std.proofs.Common.{◌≡◌, ℕ, ◌+◌, Bool, true, false, List, [], ◌∷◌, ◌++◌, length, Option, Some, None, is_some, Ok, refl, sym, ap, ◌∙◌, subst, arith, append_assoc, append-nil, length-append, take, drop, take-append-drop, ◌<◌, ◌≤◌, IsTrue, IsUtf8}
 use Rattle.std.proofs.lemmas.Str.{IsCharBoundary-from_take}
 use Rattle.std.specs.Str.{IsCharBoundary}
-use Rattle.timefd_language.proofs.Lookup.{equal-true}
 use Rattle.timefd_component.specs.declared.component.Component.{Component}
 use Rattle.timefd_component.specs.Tree.{Text, component}
 use Rattle.timefd_language.specs.declared.description_version.DescriptionVersion.{DescriptionVersion}
@@ -13,7 +12,7 @@ use Rattle.timefd_language.specs.declared.name.Name.{Name}
 use Rattle.timefd_language.specs.declared.setting.Setting.{Setting}
 use Rattle.timefd_language.specs.declared.setting.Settings.{Settings}
 use Rattle.timefd_parse.specs.declared.places.Places.{Places}
-use Rattle.timefd_language.specs.Bytes.{left, right, colon, equal, is_word_byte, is_key_byte, is_version_three, OneOrMore}
+use Rattle.timefd_language.specs.Bytes.{left, right, colon, is_word_byte, is_key_byte, is_version_three, OneOrMore}
 use Rattle.timefd_language.specs.Combinations.{Refusal, refusals}
 use Rattle.timefd_language.specs.Head.{Head, Modifier, AreModifiers, Placed, modifiers_text, name_index, placed, placed_at, placed_from}
 use Rattle.timefd_language.specs.Names.{row_for}
@@ -26,7 +25,7 @@ use Rattle.timefd_language.specs.Verdict.{unless, behind, combination, combined,
 use Rattle.timefd_parse.specs.Checked.{Checks, ShowsFault, ShowsPlace}
 use Rattle.timefd_parse.specs.Judged.{ShowsPlaces}
 use Rattle.timefd_parse.specs.Places.{no_places, place, with_place}
-use Rattle.timefd_parse.specs.Quick.{BeginsWithValue, IsModified, TakenBefore, Takes, TakesModifiers}
+use Rattle.timefd_parse.specs.Quick.{BeginsWithValue, IsModified, IsNoted, TakenBefore, Takes, TakesModifiers}
 use Rattle.timefd_parse.specs.Read.{LeadsOn, IsBare}
 use Rattle.timefd_parse.proofs.CheckLemmas.{good_one, none_shown, place_known, take_good}
 use Rattle.timefd_parse.proofs.HeadLemmas.{modifiers_more, modifiers_text_more, placed_more}
@@ -206,10 +205,9 @@ pub one_taken : (strict : Bool) (name : ComponentName) (text front word rest : T
     (places places' : Places) (key : code_key.Key) (setting : Setting)
     → TakenBefore strict name text s places front → front ≡ 32 ∷ word
     → IsModified name word key setting rest
-    → (strict ≡ true → is_some (place places key) ≡ false)
-    → s' ≡ with s setting → places' ≡ with_place places key (length word)
+    → (IsTrue strict → IsNoted places key (length word) places') → s' ≡ with s setting
     → TakenBefore strict name text s' places' rest
-one_taken strict name text front word rest s s' places places' key setting before e is new set put =
+one_taken strict name text front word rest s s' places places' key setting before e is noted set =
     let value = is.3 in
     let m : Modifier = record { white = 32 ∷ []; key = (key_for key).key; value = value.value } in
     let lengths : length text ≡ length (modifiers_text before.list) + (length word + 1) =
@@ -241,7 +239,8 @@ one_taken strict name text front word rest s s' places places' key setting befor
           (good_one strict (Some (Name.Component name)) total key setting
           (placed_from k before.list) (placed_at place_at m) (taken_key strict name key is.1)
           (taken_value strict key is.0 rest setting value)
-          (λ exact. place_known total _ _ false (old.places refl exact key) (new exact))) set put);
+          (λ exact. place_known total _ _ false (old.places refl exact key) (noted exact).0)) set
+          (λ exact. (noted exact).1));
     }
 
 -- all of them, where a `]` stands next
@@ -355,31 +354,26 @@ is_modified v strict inside after rest name s places c o exact shows taken made 
       is_modern = name_modern name _ c made;
     }
 
-same_front : (text word x y : Text) (tested : Bool) → x ≡ word → y ≡ text
-    → tested ≡ equal x (take (length word) y) → tested ≡ true → word ≡ take (length word) text
-same_front text word x y tested first second test is =
-    equal-true word (take (length word) text)
-    (ap (λ t. equal t (take (length word) text)) (sym first) ∙
-    ap (λ t. equal x (take (length word) t)) (sym second) ∙ sym test ∙ is)
+front_is : (text word x y : Text) → x ≡ word → y ≡ text → x ≡ take (length x) y
+    → word ≡ take (length word) text
+front_is text word x y first second begins =
+    subst (λ w. w ≡ take (length w) text) first (subst (λ t. x ≡ take (length x) t) second begins)
 
 -- what follows the word
-pub word_before : (text word x y : Text) (tested : Bool) → x ≡ word → y ≡ text
-    → tested ≡ equal x (take (length word) y) → tested ≡ true
+pub word_before : (text word x y : Text) → x ≡ word → y ≡ text → x ≡ take (length x) y
     → text ≡ word ++ drop (length word) text
-word_before text word x y tested first second test is =
+word_before text word x y first second begins =
     sym (take-append-drop (length word) text) ∙
-    ap (λ t. t ++ drop (length word) text)
-    (sym (same_front text word x y tested first second test is))
+    ap (λ t. t ++ drop (length word) text) (sym (front_is text word x y first second begins))
 
 -- Where a word ends that a text begins with, a character ends.
-pub word_ends : (text word x y : Text) (tested : Bool) → x ≡ word → y ≡ text
-    → tested ≡ equal x (take (length word) y) → tested ≡ true → IsUtf8 text → IsUtf8 word
-    → IsCharBoundary text (length word)
-word_ends text word x y tested first second test is utf8 whole =
+pub word_ends : (text word x y : Text) → x ≡ word → y ≡ text → x ≡ take (length x) y
+    → IsUtf8 text → IsUtf8 word → IsCharBoundary text (length word)
+word_ends text word x y first second begins utf8 whole =
     IsCharBoundary-from_take text (length word) utf8
     (omega (
       arith,
-      ap length (word_before text word x y tested first second test is),
+      ap length (word_before text word x y first second begins),
       length-append word (drop (length word) text),
     ))
-    (subst IsUtf8 (same_front text word x y tested first second test is) whole)
+    (subst IsUtf8 (front_is text word x y first second begins) whole)

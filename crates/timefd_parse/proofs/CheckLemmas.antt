@@ -1,5 +1,5 @@
 -- Modifiers, taken one at a time.
-use Rattle.std.proofs.Common.{◌≡◌, ℕ, ◌+◌, Bool, true, false, not, ◌&&◌, ◌||◌, if◌then◌else◌, List, [], ◌∷◌, ◌++◌, Option, Some, None, is_some, option_map, Ok, refl, sym, ap, ◌∙◌, subst, append_assoc, append-nil}
+use Rattle.std.proofs.Common.{◌≡◌, ℕ, ◌+◌, Bool, true, false, not, ◌&&◌, ◌||◌, if◌then◌else◌, List, [], ◌∷◌, ◌++◌, Option, Some, None, is_some, option_map, Ok, refl, sym, ap, ◌∙◌, subst, append_assoc, append-nil, IsTrue}
 use Rattle.std.specs.Borrow.{Bor}
 use Rattle.std.specs.Bool.{⊤}
 use Rattle.std.proofs.lemmas.Bool.{true≢false}
@@ -351,7 +351,7 @@ pub take_good : (strict : Bool) (name : Option Name) (total : ℕ) (c : Modifier
     (places' : Places)
     → Checks strict name total c ps → c.fault ≡ None → p.key_index + r ≡ total
     → ChecksOne strict name total (Ok (key, setting)) ps p
-    → settings' ≡ with c.settings setting → places' ≡ with_place c.places key r
+    → settings' ≡ with c.settings setting → (IsTrue strict → places' ≡ with_place c.places key r)
     → Checks strict name total (record { settings = settings'; places = places'; fault = c.fault })
     (ps ++ p ∷ [])
 take_good strict name total c r ps p key setting settings' places' checks none is one s q = record {
@@ -365,7 +365,8 @@ take_good strict name total c r ps p key setting settings' places' checks none i
       (sym (ap (λ k. setting_of strict k p.value) one.0 ∙ one.2))
       ∙ sym (settings_more strict (keys_of name) _ ps p);
   places = λ e exact k.
-      subst (λ x. ShowsPlace total (place x k) (first_place (key_for k).key (ps ++ p ∷ []))) (sym q)
+      subst (λ x. ShowsPlace total (place x k) (first_place (key_for k).key (ps ++ p ∷ [])))
+      (sym (q exact))
       (place_more total c.places key k r ps p (named strict exact one.0) (one.3 exact) is
       (checks.places none exact k));
 }

@@ -1,5 +1,5 @@
 -- Brackets with the name of a component and modifiers, with one space before each.
-use Rattle.std.specs.Prelude.{ℕ, ◌≡◌, ◌+◌, Bool, true, false, List, ◌∷◌, ◌++◌, length, Some, None}
+use Rattle.std.specs.Prelude.{ℕ, ◌≡◌, ◌+◌, Bool, true, false, List, ◌∷◌, ◌++◌, length, Some, None, is_some}
 use Rattle.std.specs.Str.{IsUtf8}
 use Rattle.timefd_component.specs.Tree.{Text}
 use Rattle.timefd_language.specs.declared.key.Key as code_key
@@ -14,6 +14,7 @@ use Rattle.timefd_language.specs.Lookup.{key_for}
 use Rattle.timefd_language.specs.Names.{row_for}
 use Rattle.timefd_language.specs.Values.{key_in, setting_in}
 use Rattle.timefd_parse.specs.Checked.{Checks}
+use Rattle.timefd_parse.specs.Places.{place, with_place}
 
 -- the inside of a bracket begins with this name, and the rest follows
 abbrev pub BeginsWithName : Text → ComponentName → Text → Type 0
@@ -55,6 +56,11 @@ pub record TakenBefore (strict : Bool) (name : ComponentName) (text : Text) (set
   pub checks : (k total : ℕ) → k + length text ≡ total
       → Checks strict (Some (Name.Component name)) total
       (record { settings = settings; places = places; fault = None }) (placed_from k list)
+
+-- a key that stands nowhere is noted here
+abbrev pub IsNoted : Places → code_key.Key → ℕ → Places → Type 0
+IsNoted places key remaining noted =
+    (is_some (place places key) ≡ false) × (noted ≡ with_place places key remaining)
 
 -- modifiers up to a `]`, and the rest behind that
 abbrev pub TakesModifiers : Bool → ComponentName → Text → Settings → Places → Text → Type 0

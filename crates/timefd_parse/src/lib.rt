@@ -4,6 +4,7 @@
 #![tactic(auto)]
 
 mod bare;
+mod begins;
 mod borrowing;
 mod bracket;
 mod building;

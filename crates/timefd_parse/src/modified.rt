@@ -1,10 +1,10 @@
 //! Brackets that hold the name of a component and modifiers, in the letters of the tables and with one
 //! space before each.
 
-ghost use Rattle.std.specs.Prelude.{◌≡◌, MatchOption, ⊤};
+ghost use Rattle.std.specs.Prelude.{◌≡◌, IsFalse, IsTrue, MatchOption, ⊤};
 ghost use Rattle.timefd_language.specs.Settings.{defaults};
 ghost use Rattle.timefd_parse.specs.Places.{no_places};
-ghost use Rattle.timefd_parse.specs.Quick.{IsModified, TakesModifiers};
+ghost use Rattle.timefd_parse.specs.Quick.{IsModified, IsNoted, TakesModifiers};
 ghost use Rattle.timefd_parse.specs.Read.{IsBare};
 
 use crate::head_verdict::combination_fault;
@@ -59,13 +59,28 @@ fn take<'a>(
         }
         let word = behind(rest, " ")?;
         let (key, setting, after) = modifier(name, word)?;
-        if strict && places.of(key).is_some() {
+        if repeated(strict, places, key, word.len()) {
             return None;
         }
         settings.set(setting);
-        places.set(key, word.len());
         rest = after;
     }
+}
+
+/// Whether the key stands in these places, where version 3 is read, which refuses that; if not, its place
+/// is noted. The other versions ask for no places.
+#[inline(always)]
+fn repeated(strict: bool, places: &mut Places, key: Key, remaining: usize) -> bool
+    ensures { IsFalse result → IsTrue strict → IsNoted places.old key remaining places.new }
+{
+    if !strict {
+        return false;
+    }
+    if places.of(key).is_some() {
+        return true;
+    }
+    places.set(key, remaining);
+    false
 }
 
 /// The modifier that a text begins with, and what follows it.

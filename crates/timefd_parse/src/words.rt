@@ -9,9 +9,9 @@ ghost use Rattle.timefd_language.specs.Names.{row_for};
 ghost use Rattle.timefd_language.specs.Values as spec;
 ghost use Rattle.timefd_parse.specs.Quick.{BeginsWithName, BeginsWithKey, BeginsWithValue};
 
+use crate::begins::begins;
 use timefd_language::key::Key;
 use timefd_language::name::ComponentName;
-use timefd_language::same::equal;
 use timefd_language::setting::Setting;
 
 /// What follows the word, if the text begins with it. Its bytes are compared in place, where its
@@ -23,7 +23,7 @@ pub fn behind<'a>(text: &'a str, word: &str) -> Option<&'a str>
     if text.len() < word.len() {
         return None;
     }
-    if equal(word.as_bytes(), &text.as_bytes()[..word.len()]) {
+    if begins(word.as_bytes(), text.as_bytes()) {
         Some(&text[word.len()..])
     } else {
         None
