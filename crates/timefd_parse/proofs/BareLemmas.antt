@@ -1,5 +1,5 @@
 -- Brackets that hold the name of a component, alone or with modifiers behind it.
-use Rattle.std.proofs.Common.{◌≡◌, ℕ, ◌+◌, Bool, true, false, List, [], ◌∷◌, ◌++◌, length, Option, Some, None, is_some, Ok, refl, sym, ap, ◌∙◌, subst, arith, append_assoc, append-nil, length-append, take, drop, take-append-drop, ◌<◌, ◌≤◌, IsTrue, IsUtf8}
+use Rattle.std.proofs.Common.{◌≡◌, ℕ, ◌+◌, Bool, true, false, List, [], ◌∷◌, ◌++◌, length, Option, Some, None, Ok, refl, sym, ap, ◌∙◌, subst, arith, append_assoc, append-nil, length-append, take, drop, take-append-drop, ◌<◌, IsTrue, IsUtf8}
 use Rattle.std.proofs.lemmas.Str.{IsCharBoundary-from_take}
 use Rattle.std.specs.Str.{IsCharBoundary}
 use Rattle.timefd_component.specs.declared.component.Component.{Component}
@@ -24,7 +24,7 @@ use Rattle.timefd_language.specs.Verdict as rules
 use Rattle.timefd_language.specs.Verdict.{unless, behind, combination, combined, component_verdict, settings, verdict}
 use Rattle.timefd_parse.specs.Checked.{Checks, ShowsFault, ShowsPlace}
 use Rattle.timefd_parse.specs.Judged.{ShowsPlaces}
-use Rattle.timefd_parse.specs.Places.{no_places, place, with_place}
+use Rattle.timefd_parse.specs.Places.{no_places, place}
 use Rattle.timefd_parse.specs.Quick.{BeginsWithValue, IsModified, IsNoted, TakenBefore, Takes, TakesModifiers}
 use Rattle.timefd_parse.specs.Read.{LeadsOn, IsBare}
 use Rattle.timefd_parse.proofs.CheckLemmas.{good_one, none_shown, place_known, take_good}

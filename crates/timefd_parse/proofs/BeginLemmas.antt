@@ -1,5 +1,5 @@
 -- Bytes that begin with a word, by lanes that are compared.
-use Rattle.std.proofs.Common.{◌≡◌, ℕ, ◌+◌, ◌-◌, ◌*◌, ◌%◌, ◌^◌, ◌≤◌, Bool, true, false, not, eqb, eqb-true, cond, List, [], ◌∷◌, ◌++◌, length, map, take, drop, nat_eq, w8, refl, sym, ap, ap₂, ◌∙◌, subst, arith, take-take, IsTrue}
+use Rattle.std.proofs.Common.{◌≡◌, ℕ, ◌+◌, ◌*◌, ◌%◌, ◌^◌, ◌≤◌, Bool, true, false, not, eqb, eqb-true, cond, List, [], ◌∷◌, ◌++◌, length, map, take, nat_eq, w8, refl, sym, ap, ap₂, ◌∙◌, arith, take-take, IsTrue}
 use Rattle.std.proofs.Math.Seq.{take-add, take-length}
 use Rattle.std.proofs.lemmas.Simd.{tops_compared, mask_l-mod, length-zip2}
 use Rattle.std.specs.Simd.Lanes.{zip2, mask_l, top, chunk}
