@@ -1,35 +1,34 @@
--- Brackets that hold the name of a component and at most one modifier.
-use Rattle.std.proofs.Common.{◌≡◌, ℕ, ◌+◌, Bool, true, false, not, List, [], ◌∷◌, ◌++◌, length, None, Some, Ok, is_some, refl, sym, ap, ◌∙◌, subst, arith, append_assoc, append-nil, length-append, take, drop, take-append-drop, get_or, lit<, ◌<◌, IsTrue, IsUtf8}
-use Rattle.std.proofs.lemmas.Bool.{true≢false}
-use Rattle.std.proofs.lemmas.Str.{IsCharBoundary-after_ascii}
+-- Brackets that hold the name of a component, alone or with modifiers behind it.
+use Rattle.std.proofs.Common.{◌≡◌, ℕ, ◌+◌, Bool, true, false, List, [], ◌∷◌, ◌++◌, length, Option, Some, None, Ok, refl, sym, ap, ◌∙◌, subst, arith, append_assoc, append-nil, length-append, take, drop, take-append-drop, ◌<◌, IsTrue, IsUtf8}
+use Rattle.std.proofs.lemmas.Str.{IsCharBoundary-from_take}
 use Rattle.std.specs.Str.{IsCharBoundary}
-use Rattle.timefd_language.proofs.Lookup.{equal-true}
 use Rattle.timefd_component.specs.declared.component.Component.{Component}
 use Rattle.timefd_component.specs.Tree.{Text, component}
 use Rattle.timefd_language.specs.declared.description_version.DescriptionVersion.{DescriptionVersion}
+use Rattle.timefd_language.specs.declared.fault.Fault as code_fault
+use Rattle.timefd_language.specs.declared.key.Key as code_key
 use Rattle.timefd_language.specs.declared.name.ComponentName.{ComponentName}
 use Rattle.timefd_language.specs.declared.name.Name.{Name}
 use Rattle.timefd_language.specs.declared.setting.Setting.{Setting}
 use Rattle.timefd_language.specs.declared.setting.Settings.{Settings}
-use Rattle.timefd_fault.specs.Faults.{invalid_modifier, invalid_combination}
-use Rattle.timefd_language.specs.Bytes.{left, right, colon, equal, is_white, is_word_byte, is_version_three, OneOrMore}
+use Rattle.timefd_parse.specs.declared.places.Places.{Places}
+use Rattle.timefd_language.specs.Bytes.{left, right, colon, is_word_byte, is_key_byte, is_version_three, OneOrMore}
 use Rattle.timefd_language.specs.Combinations.{Refusal, refusals}
-use Rattle.timefd_language.specs.Head.{Head, Modifier, IsModifier, Placed, modifier_text, name_index, placed_at}
+use Rattle.timefd_language.specs.Head.{Head, Modifier, AreModifiers, Placed, modifiers_text, name_index, placed, placed_at, placed_from}
 use Rattle.timefd_language.specs.Names.{row_for}
 use Rattle.timefd_language.specs.Settings.{defaults, with}
-use Rattle.timefd_language.specs.Values.{Key, key_in, setting_in}
+use Rattle.timefd_language.specs.Values.{key_in, setting_in}
 use Rattle.timefd_language.specs.Grammar.{bracket, no_nested, spelling}
-use Rattle.timefd_language.specs.Cut.{IsCut}
 use Rattle.timefd_language.specs.Lookup.{IsNameOf, key_for}
-use Rattle.timefd_language.specs.declared.key.Key as code_key
-use Rattle.timefd_parse.specs.declared.modifier.Modifier as code
-use Rattle.timefd_parse.specs.ReadModifiers.{BeginsWithWord, IsWord}
-use Rattle.timefd_parse.proofs.ModifierLemmas.{one_or_more}
-use Rattle.timefd_parse.proofs.ReadLemmas.{utf8_after}
 use Rattle.timefd_language.specs.Verdict as rules
-use Rattle.timefd_language.specs.Verdict.{◌or◌, refuse, unless, behind, bad_value, bad_modifier, combination, combined, component_verdict, setting_of, settings, verdict, with_option}
-use Rattle.timefd_parse.specs.Quick.{IsOnlyModifier, any_refused}
+use Rattle.timefd_language.specs.Verdict.{unless, behind, combination, combined, component_verdict, settings, verdict}
+use Rattle.timefd_parse.specs.Checked.{Checks, ShowsFault, ShowsPlace}
+use Rattle.timefd_parse.specs.Judged.{ShowsPlaces}
+use Rattle.timefd_parse.specs.Places.{no_places, place}
+use Rattle.timefd_parse.specs.Quick.{BeginsWithValue, IsModified, IsNoted, TakenBefore, Takes, TakesModifiers}
 use Rattle.timefd_parse.specs.Read.{LeadsOn, IsBare}
+use Rattle.timefd_parse.proofs.CheckLemmas.{good_one, none_shown, place_known, take_good}
+use Rattle.timefd_parse.proofs.HeadLemmas.{modifiers_more, modifiers_text_more, placed_more}
 use Rattle.timefd_language.proofs.ModernPieces.{name_modern}
 
 named_itself : (strict : Bool) (n : ComponentName)
@@ -146,97 +145,179 @@ is_bare v strict inside rest name s c exact shows new made =
       is_modern = name_modern name _ c made;
     }
 
--- One modifier.
+-- Modifiers.
 
-one_head : Text → Modifier → Head
-one_head name m = record { white = []; name = name; modifiers = m ∷ [] }
+modified_head : Text → List Modifier → Head
+modified_head name ms = record { white = []; name = name; modifiers = ms }
 
-good_value : (strict : Bool) (k : Key) (s : Setting) (p : Placed)
-    → setting_in strict k.values p.value ≡ Some s → bad_value strict k p ≡ None
-good_value strict k s p e =
-    ap (λ v. refuse (not (is_some v)) (invalid_modifier p.value) p.value_index) e
+is_key : (k : code_key.Key) → OneOrMore is_key_byte (key_for k).key
+is_key code_key.Key.Padding = refl
+is_key code_key.Key.TrailingInput = refl
+is_key code_key.Key.HourRepr = refl
+is_key code_key.Key.Count = refl
+is_key code_key.Key.MonthRepr = refl
+is_key code_key.Key.CaseSensitive = refl
+is_key code_key.Key.Sign = refl
+is_key code_key.Key.Case = refl
+is_key code_key.Key.Digits = refl
+is_key code_key.Key.Precision = refl
+is_key code_key.Key.WeekdayRepr = refl
+is_key code_key.Key.OneIndexed = refl
+is_key code_key.Key.WeekNumberRepr = refl
+is_key code_key.Key.YearRepr = refl
+is_key code_key.Key.Range = refl
+is_key code_key.Key.Base = refl
+is_key code_key.Key.Format = refl
 
--- nothing stands before it
-alone_is_good : (strict : Bool) (k : Key) (p : Placed) → bad_value strict k p ≡ None
-    → (bad_modifier strict (Some k) [] p or None) ≡ None
-alone_is_good true k p e = ap (λ f. f or None) e
-alone_is_good false k p e = ap (λ f. f or None) e
-
-not_refused : (rs : List Refusal) (p : Placed) → any_refused rs p.key ≡ false
-    → combined rs (p ∷ []) ≡ None
-not_refused [] p e = refl
-not_refused (r ∷ rs) p e = by (equal r.key p.key) (not_refused rs p) e
+-- no modifiers yet
+pub none_taken : (strict : Bool) (name : ComponentName) (text : Text) (s : Settings)
+    (places : Places) → s ≡ defaults strict → places ≡ no_places
+    → TakenBefore strict name text s places text
+none_taken strict name text s places new empty = record {
+  list = [];
+  are = tt;
+  whole = refl;
+  checks = λ k total e. record {
+    fault = tt;
+    settings = λ none. new;
+    places = λ none exact key.
+        subst (λ p. ShowsPlace total (place p key) None) (sym empty) (no_place total key);
+  };
+}
   where
-    by : (t : Bool) → (any_refused rs p.key ≡ false → combined rs (p ∷ []) ≡ None)
-        → elim t as (λ _. Bool) [ true ↦ true | false ↦ any_refused rs p.key ] ≡ false
-        → ((refuse t (invalid_combination r.key r.context) p.key_index or None) or combined rs
-        (p ∷ [])) ≡ None
-    by true more e = absurd (true≢false e)
-    by false more e = more e
+    no_place : (total : ℕ) (key : code_key.Key) → ShowsPlace total (place no_places key) None
+    no_place total code_key.Key.Padding = tt
+    no_place total _ = tt
 
--- version 3 doesn't refuse the key, or it is another version
-abbrev pub IsFree : Bool → Component → Text → Type 0
-IsFree strict c key = IsTrue strict → any_refused (refusals c) key ≡ false
+taken_key : (strict : Bool) (name : ComponentName) (key : code_key.Key) → Takes name key
+    → key_in strict (key_for key).key (row_for name).keys ≡ Some (key_for key)
+taken_key true name key takes = takes.0
+taken_key false name key takes = takes.1
 
-free : (strict : Bool) (c : Component) (p : Placed) → IsFree strict c p.key
-    → combination strict c (p ∷ []) ≡ None
-free true c p is = not_refused (refusals c) p (is refl)
-free false c p is = refl
+taken_value : (strict : Bool) (key : code_key.Key) (text rest : Text) (setting : Setting)
+    (is : BeginsWithValue key text setting rest)
+    → setting_in strict (key_for key).values is.value ≡ Some setting
+taken_value true key text rest setting is = is.exactly
+taken_value false key text rest setting is = is.anyhow
 
-one_component : (strict : Bool) (n : ComponentName) (m : Modifier) (k : Key) (s : Setting)
-    (c : Component) → key_in strict m.key (row_for n).keys ≡ Some k
-    → setting_in strict k.values m.value ≡ Some s
-    → (row_for n).component (with (defaults strict) s) ≡ Ok c → IsFree strict c m.key
-    → component_verdict strict (one_head (row_for n).name m) (Some (row_for n)) ≡ Ok (component c)
-unfolding one_head
-one_component strict n m k s c known sets made is =
-    let h : Head = one_head (row_for n).name m in
-    let p : Placed = placed_at (name_index h + length h.name) m in
-    ap (λ b. behind b (rules.made strict h ((row_for n).component (settings strict (row_for n).keys
-    (p ∷ [])))))
-    (ap (λ o. bad_modifier strict o [] p or None) known ∙
-    alone_is_good strict k p (good_value strict k s p sets))
-    ∙ ap (λ x. rules.made strict h ((row_for n).component x))
-    (ap (λ o. with_option (defaults strict) (setting_of strict o m.value)) known ∙
-    ap (with_option (defaults strict)) sets)
-    ∙ ap (rules.made strict h) made
-    ∙ ap (λ f. unless f (component c)) (free strict c p is)
+-- one more
+pub one_taken : (strict : Bool) (name : ComponentName) (text front word rest : Text) (s s' : Settings)
+    (places places' : Places) (key : code_key.Key) (setting : Setting)
+    → TakenBefore strict name text s places front → front ≡ 32 ∷ word
+    → IsModified name word key setting rest
+    → (IsTrue strict → IsNoted places key (length word) places') → s' ≡ with s setting
+    → TakenBefore strict name text s' places' rest
+one_taken strict name text front word rest s s' places places' key setting before e is noted set =
+    let value = is.3 in
+    let m : Modifier = record { white = 32 ∷ []; key = (key_for key).key; value = value.value } in
+    let lengths : length text ≡ length (modifiers_text before.list) + (length word + 1) =
+    omega (
+      arith,
+      ap length before.whole,
+      length-append (modifiers_text before.list) front,
+      ap length e,
+    ) in
+    record {
+      list = before.list ++ m ∷ [];
+      are = modifiers_more before.list m before.are
+          (record { white = refl; key = is_key key; value = value.is_word });
+      whole = before.whole ∙ ap (λ t. modifiers_text before.list ++ t)
+          (e ∙ ap (λ t. 32 ∷ t) (is.2 ∙
+          ap (λ t. (key_for key).key ++ colon ∷ t) value.whole)) ∙
+          rw (modifiers_text_more before.list m) (simp append_assoc);
+      checks = λ k total f.
+          let place_at : ℕ = k + length (modifiers_text before.list) in
+          let remaining : place_at + 1 + length word ≡ total = omega (arith, f, lengths) in
+          let old = before.checks k total f in
+          subst (Checks strict (Some (Name.Component name)) total
+          (record { settings = s'; places = places'; fault = None }))
+          (sym (placed_more k before.list m))
+          (take_good strict (Some (Name.Component name)) total
+          (record { settings = s; places = places; fault = None }) (length word)
+          (placed_from k before.list) (placed_at place_at m) key setting s' places' old refl
+          remaining
+          (good_one strict (Some (Name.Component name)) total key setting
+          (placed_from k before.list) (placed_at place_at m) (taken_key strict name key is.1)
+          (taken_value strict key is.0 rest setting value)
+          (λ exact. place_known total _ _ false (old.places refl exact key) (noted exact).0)) set
+          (λ exact. (noted exact).1));
+    }
 
-one_verdict : (strict : Bool) (n : ComponentName) (m : Modifier) (c : Component) (place : ℕ)
-    → component_verdict strict (one_head (row_for n).name m) (Some (row_for n)) ≡ Ok (component c)
-    → verdict strict (one_head (row_for n).name m) [] place ≡ Ok (component c)
-unfolding one_head
-one_verdict strict n m c place e =
+-- all of them, where a `]` stands next
+pub all_taken : (strict : Bool) (name : ComponentName) (text front rest : Text) (s : Settings)
+    (places : Places) → TakenBefore strict name text s places front → front ≡ right ∷ rest
+    → IsUtf8 rest → TakesModifiers strict name text s places rest
+all_taken strict name text front rest s places before e utf8 =
+    (subst (TakenBefore strict name text s places) e before, utf8)
+
+-- less is left behind each
+pub less_left : (name : ComponentName) (front word rest : Text) (key : code_key.Key)
+    (setting : Setting) → front ≡ 32 ∷ word → IsModified name word key setting rest
+    → length rest < length front
+less_left name front word rest key setting e is =
+    omega (
+      arith,
+      ap length e,
+      ap length is.2,
+      length-append (key_for key).key (colon ∷ is.0),
+      ap length is.3.whole,
+      length-append is.3.value rest,
+    )
+
+modified_verdict : (strict : Bool) (n : ComponentName) (ms : List Modifier) (c : Component)
+    (place : ℕ)
+    → component_verdict strict (modified_head (row_for n).name ms) (Some (row_for n)) ≡ Ok
+    (component c)
+    → verdict strict (modified_head (row_for n).name ms) [] place ≡ Ok (component c)
+unfolding modified_head
+modified_verdict strict n ms c place e =
     let is = named_itself strict n in
     rw (is.0, is.1, is.2) e
+
+-- modifiers that were taken make a component
+judged : (strict : Bool) (n : ComponentName) (ms : List Modifier) (total : ℕ) (s : Settings)
+    (places : Places) (c : Component) (o : Option code_fault.Fault)
+    → Checks strict (Some (Name.Component n)) total
+    (record { settings = s; places = places; fault = None })
+    (placed (modified_head (row_for n).name ms))
+    → (row_for n).component s ≡ Ok c → o ≡ None
+    → ShowsFault total o (combination strict c (placed (modified_head (row_for n).name ms)))
+    → component_verdict strict (modified_head (row_for n).name ms) (Some (row_for n)) ≡ Ok
+    (component c)
+judged strict n ms total s places c o checks e none free =
+    let h : Head = modified_head (row_for n).name ms in
+    ap (λ b. behind b (rules.made strict h ((row_for n).component (settings strict (row_for n).keys
+    (placed h))))) (none_shown total None _ checks.fault refl)
+    ∙ ap (rules.made strict h) (ap (row_for n).component (sym (checks.settings refl)) ∙ e)
+    ∙ ap (λ f. unless f (component c)) (none_shown total o _ free none)
 
 -- what is put together, as it was read
 joined : (name text front tail : Text)
     → left ∷ (name ++ (text ++ right ∷ (front ++ tail))) ≡ left ∷
-    (((((name ++ (text ++ [])) ++ []) ++ []) ++ right ∷ front) ++ tail)
+    (((((name ++ text) ++ []) ++ []) ++ right ∷ front) ++ tail)
 joined name text front tail = simp (append_assoc, append-nil)
 
-one_leads : (v : DescriptionVersion) (limit n : ℕ) (inside after rest : Text)
-    (name : ComponentName) (m : Modifier) (c : Component)
-    → inside ≡ (row_for name).name ++ after → IsModifier m
-    → after ≡ modifier_text m ++ right ∷ rest → IsUtf8 rest
-    → component_verdict (is_version_three v) (one_head (row_for name).name m)
+modified_leads : (v : DescriptionVersion) (limit n : ℕ) (inside after rest : Text)
+    (name : ComponentName) (ms : List Modifier) (c : Component)
+    → inside ≡ (row_for name).name ++ after → AreModifiers ms
+    → after ≡ modifiers_text ms ++ right ∷ rest → IsUtf8 rest
+    → component_verdict (is_version_three v) (modified_head (row_for name).name ms)
     (Some (row_for name)) ≡ Ok (component c)
     → LeadsOn v limit n (left ∷ inside) (component c) rest
-unfolding one_head
-one_leads v limit n inside after rest name m c e is d utf8 made = record {
-  leads = λ front tail are f. (
-    bracket (one_head (row_for name).name m) no_nested [] (component c) front,
+unfolding modified_head
+modified_leads v limit n inside after rest name ms c e are d utf8 made = record {
+  leads = λ front tail others f. (
+    bracket (modified_head (row_for name).name ms) no_nested [] (component c) front,
     (
-      record { white = refl; name = is_word name; modifiers = (is, tt) },
+      record { white = refl; name = is_word name; modifiers = are },
       tt,
       refl,
-      one_verdict (is_version_three v) name m c _ made,
-      are,
+      modified_verdict (is_version_three v) name ms c _ made,
+      others,
     ),
     ap (λ t. left ∷ t) (e ∙ ap (λ t. (row_for name).name ++ t)
-        (d ∙ ap (λ t. modifier_text m ++ right ∷ t) f)) ∙
-        joined (row_for name).name (modifier_text m) (spelling front) tail,
+        (d ∙ ap (λ t. modifiers_text ms ++ right ∷ t) f)) ∙
+        joined (row_for name).name (modifiers_text ms) (spelling front) tail,
     refl,
   );
   shorter = omega (
@@ -244,117 +325,55 @@ one_leads v limit n inside after rest name m c e is d utf8 made = record {
     ap length e,
     length-append (row_for name).name after,
     ap length d,
-    length-append (modifier_text m) (right ∷ rest),
+    length-append (modifiers_text ms) (right ∷ rest),
   );
   utf8 = utf8;
 }
 
-pub is_one : (v : DescriptionVersion) (strict : Bool) (inside after word rest : Text)
-    (name : ComponentName) (setting : Setting) (s s' : Settings) (c : Component)
-    → strict ≡ is_version_three v → (inside ≡ (row_for name).name ++ after) × IsUtf8 after
-    → IsOnlyModifier strict name after word setting rest
-    → s ≡ defaults strict → s' ≡ with s setting
-    → (row_for name).component s' ≡ Ok c → IsFree strict c word
+pub is_modified : (v : DescriptionVersion) (strict : Bool) (inside after rest : Text)
+    (name : ComponentName) (s : Settings) (places : Places) (c : Component)
+    (o : Option code_fault.Fault) → strict ≡ is_version_three v
+    → (inside ≡ (row_for name).name ++ after) × IsUtf8 after
+    → TakesModifiers strict name after s places rest → (row_for name).component s ≡ Ok c
+    → o ≡ None
+    → ((total : ℕ) (ps : List Placed) → (IsTrue strict → ShowsPlaces total places ps)
+    → ShowsFault total o (combination strict c ps))
     → IsBare v inside c rest
-is_one v strict inside after word rest name setting s s' c exact shows only new set made
-    is =
-    let m = only.modifier in
-    let made' : (row_for name).component (with (defaults strict) setting) ≡ Ok c =
-    ap (λ x. (row_for name).component (with x setting)) (sym new) ∙
-    ap (row_for name).component (sym set) ∙ made in
-    let judged : component_verdict strict (one_head (row_for name).name m) (Some (row_for name)) ≡ Ok
-    (component c) = one_component strict name m only.key setting c only.known only.sets made'
-    (subst (IsFree strict c) (sym only.is_word) is) in
+unfolding modified_head
+is_modified v strict inside after rest name s places c o exact shows taken made none free =
+    let ms = taken.0.list in
+    let h : Head = modified_head (row_for name).name ms in
+    let start : ℕ = name_index h + length (row_for name).name in
+    let checks = taken.0.checks start (start + length after) refl in
+    let good = judged strict name ms (start + length after) s places c o checks made none
+    (free (start + length after) (placed h) (λ is. checks.places refl is)) in
     record {
-      leads = λ limit n. one_leads v limit n inside after rest name m c shows.0 only.is only.whole
-          only.utf8 (subst (λ b. component_verdict b (one_head (row_for name).name m)
-          (Some (row_for name)) ≡ Ok (component c)) exact judged);
+      leads = λ limit n. modified_leads v limit n inside after rest name ms c shows.0 taken.0.are
+          taken.0.whole taken.1 (subst (λ b. component_verdict b h (Some (row_for name)) ≡ Ok
+          (component c)) exact good);
       is_modern = name_modern name _ c made;
     }
 
--- Where a name ends, a character ends.
+front_is : (text word x y : Text) → x ≡ word → y ≡ text → x ≡ take (length x) y
+    → word ≡ take (length word) text
+front_is text word x y first second begins =
+    subst (λ w. w ≡ take (length w) text) first (subst (λ t. x ≡ take (length x) t) second begins)
 
-ends_ascii : (text front rest : Text) (k : ℕ) → text ≡ front ++ rest → IsUtf8 text
-    → k < length (front ++ rest) → get_or (front ++ rest) k 0 < 128 → IsCharBoundary text (k + 1)
-ends_ascii text front rest k e utf8 within ascii =
-    subst (λ t. IsCharBoundary t (k + 1)) (sym e)
-    (IsCharBoundary-after_ascii (front ++ rest) k (subst IsUtf8 e utf8) within ascii)
-
-name_ends : (n : ComponentName) (text rest : Text) → text ≡ (row_for n).name ++ rest → IsUtf8 text
-    → IsCharBoundary text (length (row_for n).name)
-name_ends ComponentName.Day text rest e utf8 =
-    ends_ascii text (row_for ComponentName.Day).name rest 2 e utf8 (omega arith) (lit< tt)
-name_ends ComponentName.End text rest e utf8 =
-    ends_ascii text (row_for ComponentName.End).name rest 2 e utf8 (omega arith) (lit< tt)
-name_ends ComponentName.Hour text rest e utf8 =
-    ends_ascii text (row_for ComponentName.Hour).name rest 3 e utf8 (omega arith) (lit< tt)
-name_ends ComponentName.Ignore text rest e utf8 =
-    ends_ascii text (row_for ComponentName.Ignore).name rest 5 e utf8 (omega arith) (lit< tt)
-name_ends ComponentName.Minute text rest e utf8 =
-    ends_ascii text (row_for ComponentName.Minute).name rest 5 e utf8 (omega arith) (lit< tt)
-name_ends ComponentName.Month text rest e utf8 =
-    ends_ascii text (row_for ComponentName.Month).name rest 4 e utf8 (omega arith) (lit< tt)
-name_ends ComponentName.OffsetHour text rest e utf8 =
-    ends_ascii text (row_for ComponentName.OffsetHour).name rest 10 e utf8 (omega arith) (lit< tt)
-name_ends ComponentName.OffsetMinute text rest e utf8 =
-    ends_ascii text (row_for ComponentName.OffsetMinute).name rest 12 e utf8 (omega arith) (lit< tt)
-name_ends ComponentName.OffsetSecond text rest e utf8 =
-    ends_ascii text (row_for ComponentName.OffsetSecond).name rest 12 e utf8 (omega arith) (lit< tt)
-name_ends ComponentName.Ordinal text rest e utf8 =
-    ends_ascii text (row_for ComponentName.Ordinal).name rest 6 e utf8 (omega arith) (lit< tt)
-name_ends ComponentName.Period text rest e utf8 =
-    ends_ascii text (row_for ComponentName.Period).name rest 5 e utf8 (omega arith) (lit< tt)
-name_ends ComponentName.Second text rest e utf8 =
-    ends_ascii text (row_for ComponentName.Second).name rest 5 e utf8 (omega arith) (lit< tt)
-name_ends ComponentName.Subsecond text rest e utf8 =
-    ends_ascii text (row_for ComponentName.Subsecond).name rest 8 e utf8 (omega arith) (lit< tt)
-name_ends ComponentName.UnixTimestamp text rest e utf8 =
-    ends_ascii text (row_for ComponentName.UnixTimestamp).name rest 13 e utf8 (omega arith) (lit< tt)
-name_ends ComponentName.Weekday text rest e utf8 =
-    ends_ascii text (row_for ComponentName.Weekday).name rest 6 e utf8 (omega arith) (lit< tt)
-name_ends ComponentName.WeekNumber text rest e utf8 =
-    ends_ascii text (row_for ComponentName.WeekNumber).name rest 10 e utf8 (omega arith) (lit< tt)
-name_ends ComponentName.Year text rest e utf8 =
-    ends_ascii text (row_for ComponentName.Year).name rest 3 e utf8 (omega arith) (lit< tt)
-
--- a text whose front was compared with a name
-pub begins_with_name : (n : ComponentName) (text word x y : Text) (tested : Bool)
-    → word ≡ (row_for n).name → x ≡ word → y ≡ text → tested ≡ equal x (take (length word) y)
-    → tested ≡ true → text ≡ (row_for n).name ++ drop (length word) text
-begins_with_name n text word x y tested spelled first second test is =
-    let same_front : word ≡ take (length word) text =
-    equal-true word (take (length word) text)
-    (ap (λ t. equal t (take (length word) text)) (sym first) ∙
-    ap (λ t. equal x (take (length word) t)) (sym second) ∙ sym test ∙ is) in
+-- what follows the word
+pub word_before : (text word x y : Text) → x ≡ word → y ≡ text → x ≡ take (length x) y
+    → text ≡ word ++ drop (length word) text
+word_before text word x y first second begins =
     sym (take-append-drop (length word) text) ∙
-    ap (λ t. t ++ drop (length word) text) (sym same_front ∙ spelled)
+    ap (λ t. t ++ drop (length word) text) (sym (front_is text word x y first second begins))
 
-pub behind_name : (n : ComponentName) (text word : Text) → word ≡ (row_for n).name
-    → text ≡ (row_for n).name ++ drop (length word) text → IsUtf8 text
-    → IsCharBoundary text (length word)
-behind_name n text word spelled e utf8 =
-    subst (λ w. IsCharBoundary text (length w)) (sym spelled) (name_ends n text _ e utf8)
-
--- what was read behind a name
-pub only_modifier : (strict : Bool) (name : ComponentName) (text white word end rest : Text)
-    (m : code.Modifier) (key : code_key.Key) (setting : Setting)
-    → IsCut is_white text white word → 0 < length white
-    → ((u : Text) × BeginsWithWord word u end × IsWord u (length word) m × IsUtf8 end)
-    → end ≡ right ∷ rest → Some (key_for key) ≡ key_in strict m.key.now (row_for name).keys
-    → Some setting ≡ setting_in strict (key_for key).values m.value.now
-    → IsOnlyModifier strict name text m.key.now setting rest
-only_modifier strict name text white word end rest m key setting w some u e known sets = record {
-  modifier = record { white = white; key = m.key.now; value = m.value.now };
-  is = record {
-    white = one_or_more is_white white some w.passes;
-    key = u.2.key;
-    value = u.2.value;
-  };
-  is_word = refl;
-  whole = w.whole ∙ ap (λ t. white ++ t) (u.1.cut.whole ∙ ap (λ t. t ++ end) u.2.whole ∙
-      ap (λ t. (m.key.now ++ colon ∷ m.value.now) ++ t) e) ∙ simp append_assoc;
-  key = key_for key;
-  known = sym known;
-  sets = sym sets;
-  utf8 = utf8_after _ _ _ e (lit< tt) u.3;
-}
+-- Where a word ends that a text begins with, a character ends.
+pub word_ends : (text word x y : Text) → x ≡ word → y ≡ text → x ≡ take (length x) y
+    → IsUtf8 text → IsUtf8 word → IsCharBoundary text (length word)
+word_ends text word x y first second begins utf8 whole =
+    IsCharBoundary-from_take text (length word) utf8
+    (omega (
+      arith,
+      ap length (word_before text word x y first second begins),
+      length-append word (drop (length word) text),
+    ))
+    (subst IsUtf8 (front_is text word x y first second begins) whole)

@@ -1,5 +1,5 @@
 -- Modifiers, taken one at a time.
-use Rattle.std.proofs.Common.{◌≡◌, ℕ, ◌+◌, Bool, true, false, not, ◌&&◌, ◌||◌, if◌then◌else◌, List, [], ◌∷◌, ◌++◌, Option, Some, None, is_some, option_map, Ok, refl, sym, ap, ◌∙◌, subst, append_assoc, append-nil}
+use Rattle.std.proofs.Common.{◌≡◌, ℕ, ◌+◌, Bool, true, false, not, ◌&&◌, ◌||◌, if◌then◌else◌, List, [], ◌∷◌, ◌++◌, Option, Some, None, is_some, option_map, Ok, refl, sym, ap, ◌∙◌, subst, append_assoc, append-nil, IsTrue}
 use Rattle.std.specs.Borrow.{Bor}
 use Rattle.std.specs.Bool.{⊤}
 use Rattle.std.proofs.lemmas.Bool.{true≢false}
@@ -126,6 +126,33 @@ some_shown total (Some r) (Some i) is = refl
 
 -- Looking at one modifier.
 
+not_again : (strict : Bool) (key : code_key.Key) (ps : List Placed)
+    → (strict ≡ true → is_some (first_place (key_for key).key ps) ≡ false)
+    → (strict && is_set strict (key_for key).key ps) ≡ false
+not_again true key ps new = is_set_place (key_for key).key ps ∙ new refl
+not_again false key ps new = refl
+
+-- a good modifier, told by its key and its value
+pub good_one : (strict : Bool) (name : Option Name) (total : ℕ) (key : code_key.Key)
+    (setting : Setting) (ps : List Placed) (p : Placed)
+    → key_in strict p.key (keys_of name) ≡ Some (key_for key)
+    → setting_in strict (key_for key).values p.value ≡ Some setting
+    → (strict ≡ true → is_some (first_place (key_for key).key ps) ≡ false)
+    → ChecksOne strict name total (Ok (key, setting)) ps p
+good_one strict name total key setting ps p known sets new = (
+  known,
+  subst (λ k. bad_modifier strict k ps p ≡ None) (sym known)
+      (subst (λ b. (refuse b (duplicate_modifier (key_for key).key) p.key_index or bad_value strict
+      (key_for key) p) ≡ None) (sym (not_again strict key ps new))
+      (ap (λ w. refuse (not (is_some w)) (invalid_modifier p.value) p.value_index) sets)),
+  sets,
+  λ exact. none_of (first_place (key_for key).key ps) (new exact),
+)
+  where
+    none_of : (i : Option ℕ) → is_some i ≡ false → i ≡ None
+    none_of None h = refl
+    none_of (Some i) h = absurd (true≢false h)
+
 module _ (strict : Bool) (name : Option Name) (total : ℕ) (m : code.Modifier) (ps : List Placed)
     (p : Placed) (is : IsPlaced total m p) where
   abbrev Refused : code_fault.Fault → Type 0
@@ -175,16 +202,6 @@ module _ (strict : Bool) (name : Option Name) (total : ℕ) (m : code.Modifier) 
       set_again true e = is_set_place (key_for key).key ps ∙ there
       set_again false e = absurd (true≢false (sym e))
 
-  not_again : (key : code_key.Key) → (strict ≡ true
-      → is_some (first_place (key_for key).key ps) ≡ false)
-      → (strict && is_set strict (key_for key).key ps) ≡ false
-  not_again key new = by strict new
-    where
-      by : (s : Bool) → (s ≡ true → is_some (first_place (key_for key).key ps) ≡ false)
-          → (s && is_set s (key_for key).key ps) ≡ false
-      by true h = is_set_place (key_for key).key ps ∙ h refl
-      by false h = refl
-
   checked : (o : Option code_key.Key) (key : code_key.Key) (v : Option Setting)
       → option_map key_for o ≡ key_in strict m.key.now (keys_of name) → o ≡ Some key
       → (strict ≡ true → is_some (first_place (key_for key).key ps) ≡ false)
@@ -196,7 +213,7 @@ module _ (strict : Bool) (name : Option Name) (total : ℕ) (m : code.Modifier) 
       p.value_index) (sym (found o key known e))
       (subst (λ b. (refuse b (duplicate_modifier (key_for key).key) p.key_index or bad_value strict
       (key_for key) p) ≡ refuse (not (is_some v)) (invalid_modifier p.value) p.value_index)
-      (sym (not_again key new))
+      (sym (not_again strict key ps new))
       (ap (λ w. refuse (not (is_some w)) (invalid_modifier p.value) p.value_index)
       (ap (setting_in strict (key_for key).values) is.value ∙ sym valued)))
 
@@ -220,17 +237,9 @@ module _ (strict : Bool) (name : Option Name) (total : ℕ) (m : code.Modifier) 
       → (strict ≡ true → is_some (first_place (key_for key).key ps) ≡ false)
       → v ≡ setting_in strict (key_for key).values m.value.now → v ≡ Some setting
       → ChecksOne strict name total (Ok (key, setting)) ps p
-  at_good o key v setting known e new valued some = (
-    found o key known e,
-    checked o key v known e new valued ∙
-        ap (λ w. refuse (not (is_some w)) (invalid_modifier p.value) p.value_index) some,
-    ap (setting_in strict (key_for key).values) is.value ∙ sym valued ∙ some,
-    λ exact. none_of (first_place (key_for key).key ps) (new exact),
-  )
-    where
-      none_of : (i : Option ℕ) → is_some i ≡ false → i ≡ None
-      none_of None h = refl
-      none_of (Some i) h = absurd (true≢false h)
+  at_good o key v setting known e new valued some =
+      good_one strict name total key setting ps p (found o key known e)
+      (ap (setting_in strict (key_for key).values) is.value ∙ sym valued ∙ some) new
 
 pub place_known : (total : ℕ) (o i : Option ℕ) (b : Bool) → ShowsPlace total o i → is_some o ≡ b
     → is_some i ≡ b
@@ -337,15 +346,15 @@ place_more total places key j r ps p is_named none at before =
         before
 
 -- the parts of Modifiers that one more good modifier leaves
-pub take_good : (strict : Bool) (name : Option Name) (total : ℕ) (c : Modifiers) (m : code.Modifier)
+pub take_good : (strict : Bool) (name : Option Name) (total : ℕ) (c : Modifiers) (r : ℕ)
     (ps : List Placed) (p : Placed) (key : code_key.Key) (setting : Setting) (settings' : Settings)
     (places' : Places)
-    → Checks strict name total c ps → c.fault ≡ None → IsPlaced total m p
+    → Checks strict name total c ps → c.fault ≡ None → p.key_index + r ≡ total
     → ChecksOne strict name total (Ok (key, setting)) ps p
-    → settings' ≡ with c.settings setting → places' ≡ with_place c.places key m.key_remaining
+    → settings' ≡ with c.settings setting → (IsTrue strict → places' ≡ with_place c.places key r)
     → Checks strict name total (record { settings = settings'; places = places'; fault = c.fault })
     (ps ++ p ∷ [])
-take_good strict name total c m ps p key setting settings' places' checks none is one s q = record {
+take_good strict name total c r ps p key setting settings' places' checks none is one s q = record {
   fault = shows_none total c.fault _ none
       (bad_more strict (keys_of name) [] ps p ∙
       ap (λ b. b or bad_modifier strict (key_in strict p.key (keys_of name)) ps p)
@@ -356,9 +365,10 @@ take_good strict name total c m ps p key setting settings' places' checks none i
       (sym (ap (λ k. setting_of strict k p.value) one.0 ∙ one.2))
       ∙ sym (settings_more strict (keys_of name) _ ps p);
   places = λ e exact k.
-      subst (λ x. ShowsPlace total (place x k) (first_place (key_for k).key (ps ++ p ∷ []))) (sym q)
-      (place_more total c.places key k m.key_remaining ps p (named strict exact one.0) (one.3 exact)
-      is.key_place (checks.places none exact k));
+      subst (λ x. ShowsPlace total (place x k) (first_place (key_for k).key (ps ++ p ∷ [])))
+      (sym (q exact))
+      (place_more total c.places key k r ps p (named strict exact one.0) (one.3 exact) is
+      (checks.places none exact k));
 }
   where
     named : (b : Bool) → b ≡ true → key_in b p.key (keys_of name) ≡ Some (key_for key)

@@ -47,18 +47,18 @@ no_modifiers strict name start c stops new =
           λ k total e. new name total;
     }
 
-modifiers_more : (ms : List Modifier) (m : Modifier) → AreModifiers ms → IsModifier m
+pub modifiers_more : (ms : List Modifier) (m : Modifier) → AreModifiers ms → IsModifier m
     → AreModifiers (ms ++ m ∷ [])
 modifiers_more [] m are is = (is, tt)
 modifiers_more (x ∷ ms) m are is = (are.0, modifiers_more ms m are.1 is)
 
-modifiers_text_more : (ms : List Modifier) (m : Modifier)
+pub modifiers_text_more : (ms : List Modifier) (m : Modifier)
     → modifiers_text (ms ++ m ∷ []) ≡ modifiers_text ms ++ modifier_text m
 modifiers_text_more [] m = append-nil (modifier_text m)
 modifiers_text_more (x ∷ ms) m = ap (λ t. modifier_text x ++ t) (modifiers_text_more ms m) ∙
     sym (append_assoc (modifier_text x) (modifiers_text ms) (modifier_text m))
 
-placed_more : (k : ℕ) (ms : List Modifier) (m : Modifier)
+pub placed_more : (k : ℕ) (ms : List Modifier) (m : Modifier)
     → placed_from k (ms ++ m ∷ []) ≡ placed_from k ms ++ placed_at (k + length (modifiers_text ms))
     m ∷ []
 placed_more k [] m = ap (λ j. placed_at j m ∷ []) (omega arith)

@@ -1,9 +1,9 @@
 -- What a head is by itself, rule by rule.
-use Rattle.std.proofs.Common.{◌≡◌, ℕ, Bool, true, false, not, if◌then◌else◌, codes, List, [], ◌∷◌, map, Option, Some, None, option_map, Result, Ok, Err, refl, sym, ap, ◌∙◌, subst}
+use Rattle.std.proofs.Common.{◌≡◌, ℕ, Bool, true, false, not, if◌then◌else◌, codes, List, [], ◌∷◌, ◌++◌, length, map, Option, Some, None, option_map, Result, Ok, Err, IsUtf8, refl, sym, ap, ◌∙◌, subst, append_assoc}
 use Rattle.std.specs.Borrow.{Bor}
 use Rattle.timefd_component.specs.declared.component.Component.{Component}
 use Rattle.timefd_fault.specs.Faults.{Kind, Fault, fault, missing_modifier, invalid_combination, invalid_name}
-use Rattle.timefd_component.specs.Tree.{Tree, component, optional, first, trees, pack}
+use Rattle.timefd_component.specs.Tree.{Text, Tree, component, optional, first, trees, pack}
 use Rattle.timefd_language.specs.declared.fault.Fault as code_fault
 use Rattle.timefd_language.specs.declared.fault.FaultKind.TheVariants as kinds
 use Rattle.timefd_parse.specs.declared.head.Head as code_head
@@ -16,7 +16,7 @@ use Rattle.timefd_language.specs.declared.name.Name.TheVariants as names
 use Rattle.timefd_parse.specs.declared.places.Places.{Places}
 use Rattle.timefd_language.specs.declared.combination.Refusal as code_refusal
 use Rattle.timefd_language.specs.declared.key.Key as code_key
-use Rattle.timefd_language.specs.Bytes.{equal, same}
+use Rattle.timefd_language.specs.Bytes.{equal, same, left, is_white, is_word_byte, OneOrMore, StopsBefore}
 use Rattle.timefd_language.specs.Fault.{expected_white, expected_nested, expected_alternative, optional_item, first_item, nested_here}
 use Rattle.timefd_language.specs.Head.{Head, Placed, placed, name_index}
 use Rattle.timefd_language.specs.Names.{Row, row_for, row_of}
@@ -27,7 +27,7 @@ use Rattle.timefd_language.specs.Verdict.{PlacedDescription, ◌or◌, unless, b
 use Rattle.timefd_language.specs.FaultMeaning.{IsFault}
 use Rattle.timefd_parse.specs.Checked.{Checks, ShowsFault, ShowsPlace, first_place}
 use Rattle.timefd_parse.specs.Heads.{ShowsHead}
-use Rattle.timefd_parse.specs.HeadVerdicts.{IsVerdict, Decides, nests, refused_unless, placing}
+use Rattle.timefd_parse.specs.HeadVerdicts.{BeginsJudged, IsPlain, IsVerdict, Decides, nests, refused_unless, placing}
 use Rattle.timefd_parse.specs.Judged.{ShowsPlaces, JudgedFault}
 use Rattle.timefd_parse.proofs.CheckLemmas.{none_shown, shows_none}
 use Rattle.timefd_parse.proofs.VerdictLemmas.{any_is_bad}
@@ -305,6 +305,67 @@ is_first strict total head modifiers h shows is none = (
   none_shown total _ _ (checked strict total head modifiers h names.First shows is).fault none,
   decided strict total head modifiers h (Some names.First) _ shows is (λ parts place. refl),
 )
+
+-- Heads that are a word and a space.
+
+plain : Text → Head
+plain name = record { white = []; name = name; modifiers = [] }
+
+by_optional : (strict : Bool) → Decides strict (plain (codes "optional")) true (optional_verdict strict
+    (plain (codes "optional")))
+unfolding plain
+by_optional true = λ parts place.
+    behind_both (touching parts) None (optional_verdict true (plain (codes "optional")) parts place)
+by_optional false = λ parts place.
+    behind_both (touching parts) None (optional_verdict false (plain (codes "optional")) parts place)
+
+by_first : (strict : Bool) → Decides strict (plain (codes "first")) true (first_verdict strict
+    (plain (codes "first")))
+unfolding plain
+by_first true = λ parts place.
+    behind_both (touching parts) None (first_verdict true (plain (codes "first")) parts place)
+by_first false = λ parts place.
+    behind_both (touching parts) None (first_verdict false (plain (codes "first")) parts place)
+
+begins_plainly : (strict : Bool) (inside name rest tail : Text) (verdict : HeadVerdict)
+    → OneOrMore is_word_byte name → inside ≡ name ++ 32 ∷ rest → rest ≡ left ∷ tail
+    → IsVerdict strict (length (left ∷ inside)) (plain name) true verdict → IsUtf8 rest
+    → BeginsJudged strict inside (record { verdict = verdict; nests = true; spaced = true }) rest
+unfolding plain
+begins_plainly strict inside name rest tail verdict word e f is utf8 = (
+  (
+    plain name,
+    record {
+      white = 32 ∷ [];
+      is = record { white = refl; name = word; modifiers = tt };
+      verdict = is;
+      whole = ap (λ t. left ∷ t) e ∙ simp append_assoc;
+      all_white = refl;
+      stops_white = subst (StopsBefore is_white) (sym f) refl;
+      stops_word = subst (StopsBefore is_word_byte) (sym f) refl;
+      spaced = refl;
+    },
+  ),
+  utf8,
+)
+
+-- what begins with one of the words
+pub plainly : (strict : Bool) (inside word rest tail : Text) (verdict : HeadVerdict)
+    → IsPlain word verdict → (inside ≡ word ++ rest) × IsUtf8 rest → rest ≡ left ∷ tail
+    → BeginsJudged strict inside (record { verdict = verdict; nests = true; spaced = true }) rest
+unfolding plain
+plainly strict inside word rest tail (verdicts.Optional formatted) is e f =
+    begins_plainly strict inside (codes "optional") rest tail (verdicts.Optional formatted) refl
+    (e.0 ∙ ap (λ w. w ++ rest) is.0) f (refl, is.1 ∙ formatted_by strict, by_optional strict) e.1
+  where
+    formatted_by : (b : Bool) → true ≡ is_formatted b []
+    formatted_by true = refl
+    formatted_by false = refl
+plainly strict inside word rest tail verdicts.First is e f =
+    begins_plainly strict inside (codes "first") rest tail verdicts.First refl
+    (e.0 ∙ ap (λ w. w ++ rest) is) f (refl, by_first strict) e.1
+plainly strict inside word rest tail (verdicts.Component c) is e f = absurd is
+plainly strict inside word rest tail (verdicts.Refused g) is e f = absurd is
 
 -- What a verdict on a head makes of its bracket.
 

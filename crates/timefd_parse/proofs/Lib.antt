@@ -3,6 +3,7 @@ pub mod CheckLemmas
 pub mod HeadLemmas
 pub mod VerdictLemmas
 pub mod HeadVerdictLemmas
+pub mod BeginLemmas
 pub mod BareLemmas
 pub mod BuildingLemmas
 pub mod ReadLemmas

@@ -1,5 +1,5 @@
 -- How what the code makes of a head by itself stands to the rules.
-use Rattle.std.specs.Prelude.{ℕ, ◌≡◌, ◌==◌, Bool, true, false, not, List, [], ◌∷◌, ◌++◌, length, Option, Some, None, Result, Ok, Err, MatchResult}
+use Rattle.std.specs.Prelude.{ℕ, ◌≡◌, ◌==◌, Bool, true, false, not, codes, List, [], ◌∷◌, ◌++◌, length, Option, Some, None, Result, Ok, Err, MatchResult}
 use Rattle.std.specs.Borrow.{Bor}
 use Rattle.std.specs.Str.{IsUtf8}
 use Rattle.timefd_component.specs.Modern.{modern}
@@ -66,11 +66,24 @@ pub record BeginsWithJudged (strict : Bool) (text : Text) (judged : JudgedHead) 
   pub stops_word : StopsBefore is_word_byte rest
   pub spaced : judged.spaced ≡ not (length white == 0)
 
+-- the text behind a `[` begins with a judged head
+abbrev pub BeginsJudged : Bool → Text → JudgedHead → Text → Type 0
+BeginsJudged strict inside judged rest =
+    ((h : Head) × BeginsWithJudged strict (left ∷ inside) judged rest h) × IsUtf8 rest
+
 -- a judged head, or the fault of a bracket that has none
 abbrev pub ReadsJudgedHead : Bool → Text → Result (JudgedHead × Bor (List ℕ)) code_fault.Fault
     → Type 0
 ReadsJudgedHead strict inside r =
     MatchResult r
-    (λ x. ((h : Head) × BeginsWithJudged strict (left ∷ inside) x.0 x.1.now h) × IsUtf8 x.1.now)
+    (λ x. BeginsJudged strict inside x.0 x.1.now)
     (λ f. (v : DescriptionVersion) (limit n : ℕ) → BeginsNoEscape v inside
     → IsFaultAt v limit n (left ∷ inside) f)
+
+-- the word and a space, and what a head with no modifiers is by that word
+abbrev pub IsPlain : Text → HeadVerdict → Type 0
+IsPlain word (verdicts.Optional formatted) =
+    (word ≡ codes "optional" ++ 32 ∷ []) × (formatted ≡ true)
+IsPlain word verdicts.First = word ≡ codes "first" ++ 32 ∷ []
+IsPlain word (verdicts.Component c) = ⊥
+IsPlain word (verdicts.Refused f) = ⊥

@@ -1,33 +1,68 @@
--- Brackets with the name of a component and at most one modifier.
-use Rattle.std.specs.Prelude.{◌≡◌, Bool, true, false, List, [], ◌∷◌, ◌++◌, Some}
+-- Brackets with the name of a component and modifiers, with one space before each.
+use Rattle.std.specs.Prelude.{ℕ, ◌≡◌, ◌+◌, Bool, true, false, List, ◌∷◌, ◌++◌, length, Some, None, is_some}
 use Rattle.std.specs.Str.{IsUtf8}
 use Rattle.timefd_component.specs.Tree.{Text}
+use Rattle.timefd_language.specs.declared.key.Key as code_key
 use Rattle.timefd_language.specs.declared.name.ComponentName.{ComponentName}
+use Rattle.timefd_language.specs.declared.name.Name.{Name}
 use Rattle.timefd_language.specs.declared.setting.Setting.{Setting}
-use Rattle.timefd_language.specs.Bytes.{right, equal}
-use Rattle.timefd_language.specs.Combinations.{Refusal}
-use Rattle.timefd_language.specs.Head.{Modifier, IsModifier, modifier_text}
+use Rattle.timefd_language.specs.declared.setting.Settings.{Settings}
+use Rattle.timefd_parse.specs.declared.places.Places.{Places}
+use Rattle.timefd_language.specs.Bytes.{right, colon, is_word_byte, OneOrMore}
+use Rattle.timefd_language.specs.Head.{Modifier, AreModifiers, modifiers_text, placed_from}
+use Rattle.timefd_language.specs.Lookup.{key_for}
 use Rattle.timefd_language.specs.Names.{row_for}
-use Rattle.timefd_language.specs.Values.{Key, key_in, setting_in}
+use Rattle.timefd_language.specs.Values.{key_in, setting_in}
+use Rattle.timefd_parse.specs.Checked.{Checks}
+use Rattle.timefd_parse.specs.Places.{place, with_place}
 
 -- the inside of a bracket begins with this name, and the rest follows
 abbrev pub BeginsWithName : Text → ComponentName → Text → Type 0
 BeginsWithName inside name rest = (inside ≡ (row_for name).name ++ rest) × IsUtf8 rest
 
--- The text is one modifier and `]`, and the rest. A component of this name takes the modifier's key,
--- and its value sets this.
-pub record IsOnlyModifier (strict : Bool) (name : ComponentName) (text word : Text)
-    (setting : Setting) (rest : Text) : Type 0 where
-  pub modifier : Modifier
-  pub is : IsModifier modifier
-  pub is_word : modifier.key ≡ word
-  pub whole : text ≡ modifier_text modifier ++ right ∷ rest
-  pub key : Key
-  pub known : key_in strict modifier.key (row_for name).keys ≡ Some key
-  pub sets : setting_in strict key.values modifier.value ≡ Some setting
+-- in every version a component of the name takes this key
+abbrev pub Takes : ComponentName → code_key.Key → Type 0
+Takes name key =
+    (key_in true (key_for key).key (row_for name).keys ≡ Some (key_for key))
+    × (key_in false (key_for key).key (row_for name).keys ≡ Some (key_for key))
+
+-- the text begins with this key, which the name takes, and the rest follows
+abbrev pub BeginsWithKey : ComponentName → Text → code_key.Key → Text → Type 0
+BeginsWithKey name text key rest =
+    Takes name key × (text ≡ (key_for key).key ++ rest) × IsUtf8 rest
+
+-- the text begins with a word that sets the key to this in every version, and the rest follows
+pub record BeginsWithValue (key : code_key.Key) (text : Text) (setting : Setting) (rest : Text)
+    : Type 0 where
+  pub value : Text
+  pub is_word : OneOrMore is_word_byte value
+  pub exactly : setting_in true (key_for key).values value ≡ Some setting
+  pub anyhow : setting_in false (key_for key).values value ≡ Some setting
+  pub whole : text ≡ value ++ rest
   pub utf8 : IsUtf8 rest
 
--- a key stands in refusals
-abbrev pub any_refused : List Refusal → Text → Bool
-any_refused [] key = false
-any_refused (r ∷ rs) key = elim (equal r.key key) [ true ↦ true | false ↦ any_refused rs key ]
+-- the text begins with a modifier, whose key the name takes, and the rest follows
+abbrev pub IsModified : ComponentName → Text → code_key.Key → Setting → Text → Type 0
+IsModified name text key setting rest =
+    (after : Text) × Takes name key × (text ≡ (key_for key).key ++ colon ∷ after)
+    × BeginsWithValue key after setting rest
+
+-- the modifiers that were taken from a text, all of them good, and the rest of it
+pub record TakenBefore (strict : Bool) (name : ComponentName) (text : Text) (settings : Settings)
+    (places : Places) (rest : Text) : Type 0 where
+  pub list : List Modifier
+  pub are : AreModifiers list
+  pub whole : text ≡ modifiers_text list ++ rest
+  pub checks : (k total : ℕ) → k + length text ≡ total
+      → Checks strict (Some (Name.Component name)) total
+      (record { settings = settings; places = places; fault = None }) (placed_from k list)
+
+-- a key that stands nowhere is noted here
+abbrev pub IsNoted : Places → code_key.Key → ℕ → Places → Type 0
+IsNoted places key remaining noted =
+    (is_some (place places key) ≡ false) × (noted ≡ with_place places key remaining)
+
+-- modifiers up to a `]`, and the rest behind that
+abbrev pub TakesModifiers : Bool → ComponentName → Text → Settings → Places → Text → Type 0
+TakesModifiers strict name text settings places rest =
+    TakenBefore strict name text settings places (right ∷ rest) × IsUtf8 rest

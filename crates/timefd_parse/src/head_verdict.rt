@@ -1,6 +1,6 @@
 //! What the head of a bracket is by itself, whatever is nested behind it.
 
-ghost use Rattle.std.specs.Prelude.{ℕ, ◌≡◌, Some, IfOk, IsTrue, List};
+ghost use Rattle.std.specs.Prelude.{ℕ, ◌≡◌, Some, IfOk, IsTrue, List, MatchOption, ⊤};
 ghost use Rattle.timefd_component.specs.Modern.{modern};
 ghost use Rattle.timefd_language.specs.Head as spec;
 ghost use Rattle.timefd_language.specs.Head.{Placed};
@@ -10,17 +10,19 @@ ghost use Rattle.timefd_language.specs.declared.name.Name as spec_name;
 ghost use Rattle.timefd_parse.specs.Checked.{ShowsFault};
 ghost use Rattle.timefd_parse.specs.Heads.{ShowsHead};
 ghost use Rattle.timefd_parse.specs.HeadVerdicts as judging;
-ghost use Rattle.timefd_parse.specs.HeadVerdicts.{IsVerdict, ReadsJudgedHead};
+ghost use Rattle.timefd_parse.specs.HeadVerdicts.{BeginsJudged, IsPlain, IsVerdict, ReadsJudgedHead};
 ghost use Rattle.timefd_parse.specs.Judged.{JudgedComponent, ShowsPlaces};
 
 use crate::head::{Head, read_head};
 use crate::modifiers::Modifiers;
 use crate::places::Places;
+use crate::words::behind;
 use timefd_items::Component;
 use timefd_language::combination::refusals;
 use timefd_language::component::component_of;
 use timefd_language::fault::{Fault, FaultKind};
 use timefd_language::name::{ComponentName, Name};
+use timefd_language::text::{Start, start_of};
 
 /// What a head is by itself.
 #[derive(Clone, Copy)]
@@ -52,6 +54,9 @@ pub fn judged_head<'a>(
 ) -> Result<(JudgedHead<'a>, &'a str), Fault<'a>>
     ensures { ReadsJudgedHead strict inside.now result }
 {
+    if let Some(plain) = plain_head(strict, inside) {
+        return Ok(plain);
+    }
     let mut modifiers = Modifiers::new(strict);
     let (head, rest) = read_head(strict, inside, &mut modifiers)?;
     let judged = JudgedHead {
@@ -60,6 +65,41 @@ pub fn judged_head<'a>(
         spaced: !head.white.is_empty(),
     };
     Ok((judged, rest))
+}
+
+/// The head of a bracket that begins with `optional [` or `first [`, and the text from that `[` on.
+#[inline(always)]
+fn plain_head<'a>(strict: bool, inside: &'a str) -> Option<(JudgedHead<'a>, &'a str)>
+    ensures { MatchOption result ⊤ (λ x. BeginsJudged strict inside.now x.0 x.1.now) }
+{
+    match inside.as_bytes() {
+        [b'o', b'p', ..] => plainly(strict, inside, "optional ", HeadVerdict::Optional(true)),
+        [b'f', ..] => plainly(strict, inside, "first ", HeadVerdict::First),
+        _ => None,
+    }
+}
+
+/// The same of one of the words with a space behind it, whose verdict this is.
+#[inline(always)]
+fn plainly<'a>(
+    strict: bool,
+    inside: &'a str,
+    word: &str,
+    verdict: HeadVerdict<'a>,
+) -> Option<(JudgedHead<'a>, &'a str)>
+    requires { IsPlain word.now verdict }
+    ensures { MatchOption result ⊤ (λ x. BeginsJudged strict inside.now x.0 x.1.now) }
+{
+    let rest = behind(inside, word)?;
+    let Start::Opening(_) = start_of(rest) else {
+        return None;
+    };
+    let judged = JudgedHead {
+        verdict,
+        nests: true,
+        spaced: true,
+    };
+    Some((judged, rest))
 }
 
 /// Whether nested descriptions may stand behind this name.
@@ -100,7 +140,11 @@ fn head_verdict<'a>(strict: bool, head: &Head<'a>, modifiers: &Modifiers<'a>) ->
 }
 
 /// The first key that version 3 refuses with the component.
-fn combination_fault(strict: bool, component: Component, places: &Places) -> Option<Fault<'static>>
+pub fn combination_fault(
+    strict: bool,
+    component: Component,
+    places: &Places,
+) -> Option<Fault<'static>>
     ensures { (total : ℕ) (ps : List Placed) → (IsTrue strict → ShowsPlaces total places.now ps)
         → ShowsFault total result (rules.combination strict component ps) }
 {

@@ -4,6 +4,7 @@
 #![tactic(auto)]
 
 mod bare;
+mod begins;
 mod borrowing;
 mod bracket;
 mod building;
@@ -12,14 +13,17 @@ mod head;
 mod head_verdict;
 mod language;
 mod leading;
+mod modified;
 mod modifier;
 mod modifiers;
-mod one_modifier;
 mod parsing;
 mod piece;
 mod places;
 mod read;
+mod reprs;
+mod values;
 mod verdict;
+mod words;
 
 pub use borrowing::parse_all_borrowed;
 pub use bracket::{bracket_name, first_modifier, first_nested};

@@ -17,7 +17,7 @@ ghost use Rattle.timefd_component.specs.Tree.{literal};
 use crate::bare::bare;
 use crate::building::{add, pack};
 use crate::head_verdict::judged_head;
-use crate::one_modifier::with_modifier;
+use crate::modified::with_modifiers;
 use crate::piece::{Piece, component_piece};
 use crate::verdict::{Nested, Span, verdict};
 use std::alloc::Global;
@@ -244,7 +244,7 @@ fn bracket<'a, const BUILDS: bool>(
         (built builder.new) result }
     ensures invalid { IsFalse BUILDS → IfErr result IsInvalid }
 {
-    if let Some((component, rest)) = with_modifier(version, inside) {
+    if let Some((component, rest)) = with_modifiers(version, inside) {
         return Ok((component_piece::<BUILDS>(component), rest));
     }
     let start = inside.len() + 1;

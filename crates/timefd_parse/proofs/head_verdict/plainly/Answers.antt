@@ -1,0 +1,7 @@
+use Rattle.timefd_parse.proofs.HeadVerdictLemmas as lemmas
+use Rattle.timefd_parse.proofs.head_verdict.plainly.Goals as goal
+
+pub returns : goal.returns
+returns c =
+    lemmas.plainly c.args.strict c.args.inside.now c.args.word.now _ _ c.args.verdict c.requires
+    c.in_ok-rest.ensures c.in-Opening.ensures

@@ -1,0 +1,21 @@
+use Rattle.timefd_parse.proofs.BareLemmas.{all_taken, none_taken, one_taken}
+use Rattle.timefd_parse.proofs.modified.take.Goals as goal
+
+pub modifiers-init : goal.modifiers-init
+modifiers-init c = record {
+  text = c.utf8.text;
+  before =
+      none_taken c.args.strict c.args.name c.args.text.now _ _ c.requires.settings c.requires.places;
+}
+
+pub returns-in-Some : goal.returns-in-Some
+returns-in-Some c =
+    all_taken _ _ _ _ _ _ _ c.modifiers.invariant.before c.in-Some.ensures.0 c.in-Some.ensures.1
+
+pub modifiers-preserved : goal.modifiers-preserved
+modifiers-preserved c = record {
+  text = c.in_ok-key.ensures.3.utf8;
+  before =
+      one_taken _ _ _ _ _ _ _ _ _ _ _ _ c.modifiers.invariant.before c.in_ok-word.ensures.0
+      c.in_ok-key.ensures (c.repeated.ensures c.if-repeated.false) c.set.ensures;
+}

@@ -1,0 +1,40 @@
+//! Whether bytes begin with a word, four or eight of them compared at once.
+
+ghost use Rattle.std.specs.Prelude.{◌≡◌, ◌≤◌, ◌+◌, IsTrue, length, take};
+ghost use Rattle.std.specs.Simd.Lanes.{chunk};
+
+use std::simd::prelude::*;
+use timefd_language::same::equal;
+
+/// Whether the bytes begin with the word, which has at most sixteen. Where it is a constant, its front
+/// and its end are compared with no loop and no call.
+#[inline(always)]
+pub fn begins(word: &[u8], bytes: &[u8]) -> bool
+    requires { length word.now ≤ length bytes.now }
+    ensures { IsTrue result → word.now ≡ take (length word.now) bytes.now }
+{
+    let len = word.len();
+    if len > 16 {
+        return false;
+    }
+    if len >= 8 {
+        return same_at::<8>(word, bytes, 0) && same_at::<8>(word, bytes, len - 8);
+    }
+    if len >= 4 {
+        return same_at::<4>(word, bytes, 0) && same_at::<4>(word, bytes, len - 4);
+    }
+    equal(word, &bytes[..len])
+}
+
+/// Whether the `N` bytes at a place are the same in both.
+#[inline(always)]
+fn same_at<const N: usize>(word: &[u8], bytes: &[u8], at: usize) -> bool
+    requires lanes { N ≤ 64 }
+    requires word { at + N ≤ length word.now }
+    requires bytes { at + N ≤ length bytes.now }
+    ensures { IsTrue result → chunk at N word.now ≡ chunk at N bytes.now }
+{
+    let word = Simd::<u8, N>::from_slice(&word[at..]);
+    let bytes = Simd::<u8, N>::from_slice(&bytes[at..]);
+    !word.simd_ne(bytes).any()
+}

@@ -1,0 +1,94 @@
+//! Brackets that hold the name of a component and modifiers, in the letters of the tables and with one
+//! space before each.
+
+ghost use Rattle.std.specs.Prelude.{◌≡◌, IsFalse, IsTrue, MatchOption, ⊤};
+ghost use Rattle.timefd_language.specs.Settings.{defaults};
+ghost use Rattle.timefd_parse.specs.Places.{no_places};
+ghost use Rattle.timefd_parse.specs.Quick.{IsModified, IsNoted, TakesModifiers};
+ghost use Rattle.timefd_parse.specs.Read.{IsBare};
+
+use crate::head_verdict::combination_fault;
+use crate::places::Places;
+use crate::values::value_in;
+use crate::words::{behind, key_in, name_in};
+use timefd_items::Component;
+use timefd_language::component::component_of;
+use timefd_language::description_version::DescriptionVersion;
+use timefd_language::key::Key;
+use timefd_language::name::ComponentName;
+use timefd_language::setting::{Setting, Settings};
+use timefd_language::text::behind_colon;
+
+/// The component of the bracket that has this inside, if that is a name and modifiers, and what
+/// follows the bracket.
+#[inline(never)]
+pub fn with_modifiers(version: DescriptionVersion, inside: &str) -> Option<(Component, &str)>
+    ensures { MatchOption result ⊤ (λ x. IsBare version inside.now x.0 x.1.now) }
+{
+    let strict = version.is_strict();
+    let (name, text) = name_in(inside)?;
+    let mut settings = Settings::new(strict);
+    let mut places = Places::new();
+    let rest = take(strict, name, text, &mut settings, &mut places)?;
+    let component = component_of(name, settings)?;
+    if combination_fault(strict, component, &places).is_some() {
+        return None;
+    }
+    Some((component, rest))
+}
+
+/// Takes the modifiers that the text behind a name begins with, up to the `]`, and answers what
+/// follows that.
+#[inline(always)]
+fn take<'a>(
+    strict: bool,
+    name: ComponentName,
+    text: &'a str,
+    settings: &mut Settings,
+    places: &mut Places,
+) -> Option<&'a str>
+    requires settings { settings.old ≡ defaults strict }
+    requires places { places.old ≡ no_places }
+    ensures { MatchOption result ⊤ (λ rest. TakesModifiers strict name text.now settings.new
+        places.new rest.now) }
+{
+    let mut rest = text;
+    'modifiers: loop {
+        if let Some(after) = behind(rest, "]") {
+            return Some(after);
+        }
+        let word = behind(rest, " ")?;
+        let (key, setting, after) = modifier(name, word)?;
+        if repeated(strict, places, key, word.len()) {
+            return None;
+        }
+        settings.set(setting);
+        rest = after;
+    }
+}
+
+/// Whether the key stands in these places, where version 3 is read, which refuses that; if not, its place
+/// is noted. The other versions ask for no places.
+#[inline(always)]
+fn repeated(strict: bool, places: &mut Places, key: Key, remaining: usize) -> bool
+    ensures { IsFalse result → IsTrue strict → IsNoted places.old key remaining places.new }
+{
+    if !strict {
+        return false;
+    }
+    if places.of(key).is_some() {
+        return true;
+    }
+    places.set(key, remaining);
+    false
+}
+
+/// The modifier that a text begins with, and what follows it.
+#[inline(always)]
+fn modifier(name: ComponentName, text: &str) -> Option<(Key, Setting, &str)>
+    ensures { MatchOption result ⊤ (λ x. IsModified name text.now x.0 x.1 x.2.now) }
+{
+    let (key, after) = key_in(name, text)?;
+    let (setting, rest) = value_in(key, behind_colon(after)?)?;
+    Some((key, setting, rest))
+}
