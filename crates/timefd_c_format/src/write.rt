@@ -59,7 +59,11 @@ fn put_leaf(
 }
 
 /// Writes what a part shows at the end of the buffer, and answers where it begins there.
-pub(crate) fn write_leaf(moment: Moment, leaf: Leaf<'_>, buffer: &mut [u8]) -> Result<usize, FormatError>
+pub(crate) fn write_leaf(
+    moment: Moment,
+    leaf: Leaf<'_>,
+    buffer: &mut [u8],
+) -> Result<usize, FormatError>
     ensures { IsOutcome (written moment (leaf_tree leaf.entry)) buffer.old buffer.new result }
 {
     match leaf {
