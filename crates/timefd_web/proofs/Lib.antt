@@ -1,0 +1,4 @@
+pub mod ReportLemmas
+pub mod AnswerLemmas
+pub mod LaterLemmas
+pub mod WrittenLemmas
