@@ -14,6 +14,13 @@ const EXAMPLES = [
     ["A mistake", 3, "[year]-[mnth]-[day]"],
 ];
 
+// What may be put into a description. The page shows those that the language accepts.
+const PARTS = ["[year]", "[year repr:last_two]", "[month]", "[month repr:long]", "[month repr:short]", "[day]", "[day padding:none]", "[weekday]",
+    "[weekday repr:short]", "[ordinal]", "[week_number]", "[hour]", "[hour repr:12]", "[period]", "[period case:lower]", "[minute]", "[second]",
+    "[subsecond]", "[subsecond digits:3]", "[offset_hour sign:mandatory]", "[offset_minute]", "[offset_second]", "[unix_timestamp]",
+    "[unix_timestamp precision:millisecond]", "[ignore count:1]", "[end]", "[optional [:[second]]]", "[first [[period]] [[hour]]]"];
+const LETTERS = "%Y %y %C %G %g %m %B %b %h %d %e %j %A %a %u %w %U %V %W %H %I %k %l %M %S %p %P %r %R %T %c %D %F %x %X %s %z %n %t %%";
+
 // The most parts that are shown, and how long a text may be to be read at each key. It is read a little later else.
 const MOST_PARTS = 300;
 const LONG = 20000;
@@ -105,7 +112,7 @@ function showFault(kind, text, fault) {
     const where = fault.end > fault.start ? `bytes ${fault.start} to ${fault.end}` : `byte ${fault.start}`;
     const buttons = made("div", undefined, "mends");
     for (const { words, changed, whole } of mends(kind, text, fault)) {
-        buttons.append(button(words, () => show(kind, changed, true), whole ? "whole" : "partly"));
+        buttons.append(button(words, () => show(kind, changed, true), whole && buttons.childElementCount === 0 ? "whole" : "partly"));
     }
     by("fault").replaceChildren(excerpt, made("p", fault.help, "help"), made("p", `${where}, ${fault.code}`, "where"), buttons);
 }
@@ -118,16 +125,26 @@ function colours(nodes) {
     return nodes.map((node) => (node.kind === "component" || node.kind === "several" ? `c${next++ % 6}` : "lit"));
 }
 
-// What each node writes by itself.
+// What a part of the text writes by itself, and what the members of a composite letter do: these have no text of their own, but the
+// letter's text of version 3 has one for each.
 function writer(kind, text, at) {
     const { cut } = cutter(text);
     const known = new Map();
-    return (node) => {
-        if (node.kind === "literal" || node.start === node.end) return node.example;
-        const part = node.kind === "description" ? cut(node.start + 1, node.end - 1) : cut(node.start, node.end);
-        const language = node.depth > 0 ? 3 : kind;
-        if (!known.has(part)) known.set(part, timefd.report(language, at, part).said?.written ?? "");
-        return known.get(part);
+    const written = (language, part) => {
+        const key = `${language}:${part}`;
+        if (!known.has(key)) known.set(key, timefd.report(language, at, part).said?.written ?? "");
+        return known.get(key);
+    };
+    const memberOf = (letter, which) => {
+        const { said } = timefd.report(4, at, letter);
+        const later = timefd.report(3, at, said.version_3).said;
+        const node = later.nodes[which];
+        return later.nodes.length !== said.nodes.length - 1 ? "" : node.kind === "literal" ? node.example : written(3, cutter(said.version_3).cut(node.start, node.end));
+    };
+    return (node, letter, which) => {
+        if (letter !== undefined) return memberOf(cut(letter.start, letter.end), which);
+        if (node.kind === "literal") return node.example;
+        return node.kind === "description" ? written(3, cut(node.start + 1, node.end - 1)) : written(node.depth > 0 ? 3 : kind, cut(node.start, node.end));
     };
 }
 
@@ -168,6 +185,9 @@ function showOutput(said, at, writes, names) {
     }
 }
 
+// A text of nothing but spaces, so that it is seen.
+const seen = (text) => (/^\s+$/.test(text) ? text.replace(/ /g, "\u2423").replace(/\n/g, "\u23ce").replace(/\t/g, "\u21e5") : text);
+
 function inked(text, name, place) {
     const it = made("b", text, name);
     it.dataset.place = place;
@@ -176,15 +196,19 @@ function inked(text, name, place) {
 
 function showRows(text, said, writes, names) {
     const { cut } = cutter(text);
+    let letter = 0;
     const rows = said.nodes.slice(0, MOST_PARTS).map((node, place) => {
         const row = document.createElement("tr");
-        const piece = node.start === node.end ? made("span", "") : button(cut(node.start, node.end), () => selectBytes(text, node), `text ${names[place]}`);
-        if (node.start !== node.end) piece.setAttribute("aria-label", `Select ${cut(node.start, node.end)}`);
+        const isMember = node.start === node.end;
+        if (!isMember) letter = place;
+        const piece = isMember ? made("span", "") : button(seen(cut(node.start, node.end)), () => selectBytes(text, node), `text ${names[place]}`);
+        if (!isMember) piece.setAttribute("aria-label", `Select ${cut(node.start, node.end)}`);
         const [head, set] = node.words.split(/(?=, by default$|, set: )/);
-        const meaning = made("td", head);
+        const meaning = made("td", head, "meaning");
         if (set) meaning.append(made("span", set.slice(2), "set"));
-        row.append(made("td"), meaning, made("td", writes(node), "writes"), made("td", node.bytes, "number"));
-        row.append(made("td", node.start === node.end ? "" : `${node.start} to ${node.end}`, "number"));
+        const shown = isMember ? writes(node, said.nodes[letter], place - letter - 1) : writes(node);
+        row.append(made("td", undefined, "piece"), meaning, made("td", seen(shown), "writes"), made("td", node.bytes, "number bytes"));
+        row.append(made("td", isMember ? "" : `${node.start} to ${node.end}`, "number at"));
         row.cells[0].style.paddingLeft = `${Math.min(node.depth, 12) * 0.9}rem`;
         row.cells[0].append(piece);
         row.onmouseenter = () => near(place);
@@ -295,6 +319,7 @@ function answer() {
     const accepted = said !== null && said.accepted;
     const names = accepted ? colours(said.nodes) : [];
     ink(text, said, names);
+    showReference(kind, at ?? ANY);
     ["written", "parts", "later", "code"].forEach((id) => (by(id).hidden = !accepted));
     by("fault").hidden = said === null || accepted;
     by("took").textContent = `${new TextEncoder().encode(text).length} bytes read in ${took.toFixed(1)} ms, with ${Math.round(timefd.memory() / 1024)} KiB of memory.`;
@@ -322,9 +347,37 @@ function answerSoon() {
 
 function show(kind, text, focuses) {
     document.querySelector(`input[name=kind][value="${kind}"]`).checked = true;
-    by("text").value = text;
+    const field = by("text");
+    if (focuses) {
+        field.focus();
+        field.select();
+        put(text);
+    } else {
+        field.value = text;
+    }
     answer();
-    if (focuses) by("text").focus();
+}
+
+// Puts a text in the place of what is selected in the field, so that the browser's "undo" takes it back.
+function put(text) {
+    const done = text === "" ? document.execCommand("delete") : document.execCommand("insertText", false, text);
+    if (!done) by("text").setRangeText(text, by("text").selectionStart, by("text").selectionEnd, "end");
+}
+
+// The parts that may be put into the field: those that the language accepts, with what they write.
+let listed = "";
+function showReference(kind, at) {
+    const key = `${kind} ${JSON.stringify(at)}`;
+    if (key === listed) return;
+    listed = key;
+    const all = (kind === 4 ? LETTERS.split(" ") : PARTS).flatMap((part) => {
+        const { said } = timefd.report(kind, at, part);
+        if (said === null || !said.accepted) return [];
+        const it = button(part, () => (by("text").focus(), put(part), answer()));
+        it.append(made("span", seen(said.written ?? "")));
+        return [it];
+    });
+    by("reference").replaceChildren(...all);
 }
 
 // The link holds language and text.

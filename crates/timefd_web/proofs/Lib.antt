@@ -1,4 +1,4 @@
 pub mod ReportLemmas
 pub mod AnswerLemmas
-pub mod LaterLemmas
 pub mod WrittenLemmas
+pub mod RefusedLemmas

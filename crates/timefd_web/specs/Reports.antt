@@ -1,11 +1,11 @@
 -- What is said of a text.
-use Rattle.std.specs.Prelude.{ℕ, ◌≡◌, ◌⊎◌, List, Option, Some, None, Result, Ok, Err, IsUtf8, string_bytes, ⊤}
+use Rattle.std.specs.Prelude.{◌≡◌, ◌⊎◌, List, Option, Some, None, Result, Ok, Err, IsUtf8, string_bytes, ⊤}
 use Rattle.std.specs.declared.alloc.Global.{Global}
 use Rattle.std.specs.declared.string.String.{String}
 use Rattle.timefd_borrowed_fault.specs.Placed.{IsPlaced}
 use Rattle.timefd_component.specs.Reserved.{reserve_all}
-use Rattle.timefd_component.specs.Tree.{Text, Tree, pack, trees}
-use Rattle.timefd_convert.specs.Answers.{IsPrintedOf}
+use Rattle.timefd_component.specs.Tree.{Text, Tree, trees}
+use Rattle.timefd_convert.specs.Answers.{IsNormalOf, IsPrintedOf}
 use Rattle.timefd_diagnosis.specs.declared.diagnostic.Diagnostic.{Diagnostic}
 use Rattle.timefd_diagnosis.specs.Diagnoses.{IsDiagnosis}
 use Rattle.timefd_explain.specs.declared.explain.Explanation.{Explanation}
@@ -13,7 +13,7 @@ use Rattle.timefd_fault.specs.Faults.{fault_of}
 use Rattle.timefd_format.specs.declared.unshown.Unshown.{Unshown}
 use Rattle.timefd_format.specs.Written.{written_all}
 use Rattle.timefd_language.specs.declared.description_version.DescriptionVersion.TheVariants.{One, Two, Three}
-use Rattle.timefd_language.specs.Grammar.{Spells, nesting_limit}
+use Rattle.timefd_language.specs.Grammar.{nesting_limit}
 use Rattle.timefd_lift.specs.Answers.{IsRewritten}
 use Rattle.timefd_lift.specs.Modernized.{IsWrittenOf}
 use Rattle.timefd_moment.specs.declared.moment.Moment.{Moment}
@@ -21,7 +21,6 @@ use Rattle.timefd_node_list.specs.Nodes.{kept_bytes}
 use Rattle.timefd_parse.specs.declared.language.Language.{Language}
 use Rattle.timefd_parse.specs.declared.language.Language.TheVariants.{Version, Strftime}
 use Rattle.timefd_parse.specs.Language.{SpellsIn, FaultIn}
-use Rattle.timefd_print.specs.Printed.{printed}
 use Rattle.timefd_web.specs.declared.later.Later.{Later}
 use Rattle.timefd_web.specs.Objects.{accepted_object, refused_object}
 
@@ -36,11 +35,6 @@ IsWritten (Ok text) shown = IsTextOf text shown
 IsWritten (Err u) None = ⊤
 IsWritten (Err u) (Some text) = ⊥
 
--- version 3 spells the text, and this is what is printed of what it spells
-abbrev pub IsNormalForm : Text → Text → Type 0
-IsNormalForm text form = (list : List Tree) × Spells Three nesting_limit 0 text list
-    × (form ≡ printed (pack list))
-
 -- of a text of version 1, what it is rewritten to, and what is written of that in version 3
 abbrev pub IsLaterThanOne : Text → Option (String Global) → Text → Type 0
 IsLaterThanOne text (Some two) three =
@@ -53,7 +47,7 @@ IsLater (Version One) text l = IsLaterThanOne text l.version_2 (string_bytes l.v
 IsLater (Version Two) text l =
     (l.version_2 ≡ None) × IsWrittenOf text (string_bytes l.version_3)
 IsLater (Version Three) text l =
-    (l.version_2 ≡ None) × IsNormalForm text (string_bytes l.version_3)
+    (l.version_2 ≡ None) × IsNormalOf text (string_bytes l.version_3)
 IsLater Strftime text l = (l.version_2 ≡ None) × IsPrintedOf text (string_bytes l.version_3)
 
 -- It says that the text is accepted: how many bytes it reserves, its nodes, what it writes of the

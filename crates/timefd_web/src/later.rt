@@ -1,26 +1,20 @@
 //! The texts of a description in later versions.
 
-ghost use Rattle.std.specs.Prelude.{List, IfOk, string_bytes, ◌≡◌};
-ghost use Rattle.timefd_component.specs.Tree.{Text, Tree};
-ghost use Rattle.timefd_convert.specs.Answers.{IsPrintedOf};
-ghost use Rattle.timefd_items.specs.Description.{description_tree};
+ghost use Rattle.std.specs.Prelude.{List, IfOk, string_bytes};
+ghost use Rattle.timefd_component.specs.Tree.{Tree};
+ghost use Rattle.timefd_convert.specs.Answers.{IsNormalOf, IsPrintedOf};
 ghost use Rattle.timefd_language.specs.Grammar.{Spells, nesting_limit};
 ghost use Rattle.timefd_language.specs.Strftime.{SpellsStrftime};
 ghost use Rattle.timefd_language.specs.Told.{MemoryAlone};
 ghost use Rattle.timefd_language.specs.declared.description_version.DescriptionVersion.TheVariants.{One, Two, Three};
 ghost use Rattle.timefd_lift.specs.Modernized.{IsWrittenOf};
 ghost use Rattle.timefd_parse.specs.Language.{SpellsIn};
-ghost use Rattle.timefd_print.specs.Laws.{SpellsTree};
-ghost use Rattle.timefd_print.specs.Printed as spec;
-ghost use Rattle.timefd_web.specs.Reports.{IsLater, IsNormalForm};
+ghost use Rattle.timefd_web.specs.Reports.{IsLater};
 
 use std::alloc::{AllocError, Global};
-use timefd_convert::strftime_to_v3;
+use timefd_convert::{normalize_v3, strftime_to_v3};
 use timefd_lift::{v1_to_v2, v2_to_v3};
-use timefd_parse::{
-    BorrowedOutput, DescriptionVersion, FormatDescriptionV3, Language, ParseError, parse_borrowed,
-};
-use timefd_print::{PrintError, print_v3};
+use timefd_parse::{DescriptionVersion, Language, ParseError};
 
 /// The texts of later versions that have the same items.
 #[derive(Drop)]
@@ -44,7 +38,7 @@ pub fn later_of(alloc: Global, language: Language, text: &str) -> Result<Later, 
         }),
         Language::Version(DescriptionVersion::Three) => Ok(Later {
             version_2: None,
-            version_3: normal_form(alloc, text)?,
+            version_3: from_three(alloc, text)?,
         }),
         Language::Strftime => Ok(Later {
             version_2: None,
@@ -88,27 +82,13 @@ fn from_strftime(alloc: Global, text: &str) -> Result<String, AllocError>
     }
 }
 
-#[tactic(auto, using(crate::proofs::LaterLemmas::normal, crate::proofs::LaterLemmas::spelled_tree))]
-fn normal_form(alloc: Global, text: &str) -> Result<String, AllocError>
+fn from_three(alloc: Global, text: &str) -> Result<String, AllocError>
     requires { (list : List Tree) × Spells Three nesting_limit 0 text.now list }
-    ensures { IfOk result (λ answer. IsNormalForm text.now (string_bytes answer)) }
+    ensures { IfOk result (λ answer. IsNormalOf text.now (string_bytes answer)) }
 {
-    match parse_borrowed(alloc, DescriptionVersion::Three, text) {
-        Ok(BorrowedOutput::Description(description)) => printed(alloc, &description),
-        Ok(BorrowedOutput::Items(_)) => unreachable!(),
-        Err(error) => Err(want_of(error)),
-    }
-}
-
-fn printed(alloc: Global, description: &FormatDescriptionV3<'_>) -> Result<String, AllocError>
-    requires { (text : Text) × SpellsTree nesting_limit text (description_tree description.now) }
-    ensures { IfOk result (λ answer. string_bytes answer ≡ spec.printed
-        (description_tree description.now)) }
-{
-    match print_v3(alloc, description.view()) {
+    match normalize_v3(alloc, text) {
         Ok(answer) => Ok(answer),
-        Err(PrintError::Memory(error)) => Err(error),
-        Err(PrintError::Unspelled(_)) => unreachable!(),
+        Err(error) => Err(want_of(error)),
     }
 }
 
