@@ -17,7 +17,6 @@ use timefd_moment::Moment;
 use timefd_parse::Language;
 
 /// The object of a text that a language accepts.
-#[tactic(auto, using(crate::proofs::ReportLemmas::accepted_by))]
 pub fn accepted(
     alloc: Global,
     language: Language,

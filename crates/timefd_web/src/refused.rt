@@ -26,7 +26,6 @@ pub struct Refusal<'a> {
 
 /// The object of a text with a fault: its stable name, its sentence, what helps, the nearest of the
 /// words that are allowed there, and the byte indices of what is at fault.
-#[tactic(auto, using(crate::proofs::RefusedLemmas::refused_by))]
 pub fn refused(alloc: Global, diagnostic: &Diagnostic) -> Result<Vec<u8>, AllocError>
     ensures { IfOk result (λ object. object.items ≡ spec.refused_object diagnostic.now) }
 {
