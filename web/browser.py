@@ -83,6 +83,11 @@ class Browser:
         steps = [{"type": kind, "value": key} for key in keys for kind in ("keyDown", "keyUp")]
         self.call("POST", f"{self.at}/actions", {"actions": [{"type": "key", "id": "keys", "actions": steps}]})
 
+    def press_with(self, held, key):
+        """Presses a key while another one is held."""
+        steps = [("keyDown", held), ("keyDown", key), ("keyUp", key), ("keyUp", held)]
+        self.call("POST", f"{self.at}/actions", {"actions": [{"type": "key", "id": "keys", "actions": [{"type": kind, "value": it} for kind, it in steps]}]})
+
     def tool(self, command, **words):
         """A command of the developers' tools."""
         return self.call("POST", f"{self.at}/goog/cdp/execute", {"cmd": command, "params": words})
