@@ -1,6 +1,8 @@
 -- Nodes that are written in turn.
-use Rattle.std.proofs.Common.{ℕ, ◌≡◌, ◌∙◌, ◌+◌, ◌-◌, ◌<◌, ◌≤◌, ◌++◌, List, [], ◌∷◌, Result, OnOk, ap, arith, codes, drop, flat_map, get_or, length, sym, take}
+use Rattle.std.proofs.Common.{ℕ, ◌≡◌, ◌∙◌, ◌+◌, ◌-◌, ◌<◌, ◌≤◌, ◌++◌, List, [], ◌∷◌, Result, Ok, Err, OnOk, ap, arith, codes, drop, flat_map, get_or, length, sym, take}
 use Rattle.std.proofs.Math.Seq.{take-length}
+use Rattle.std.specs.Bool.{if◌then◌else◌}
+use Rattle.std.specs.Result.{is_ok}
 use Rattle.std.proofs.lemmas.List.{append_assoc, drop_more}
 use Rattle.std.proofs.lemmas.Result.{on_ok_weaker}
 use Rattle.timefd_component.specs.Tree.{Text}
@@ -46,6 +48,12 @@ list_is o front lent o1 o2 o3 o4 (y ∷ ys) x n same some item shown e1 e2 e3 e4
     (e3 ∙ (ap (λ k. o2 ++ flat_map next_node (take k ys)) few
     ∙ ap (λ l. o2 ++ flat_map next_node l) (take-length ys)))
     e4
+
+-- What a call that may fail appends, it appends where it succeeds.
+pub appended : {T E : Type 0} → (r : Result T E) (after before whole : Text)
+    → after ≡ (if is_ok r then whole else before) → OnOk r (after ≡ whole)
+appended (Ok v) after before whole is = is
+appended (Err e) after before whole is = tt
 
 -- The first node, the others, and the bracket that closes the list.
 pub listed : {T E : Type 0} → (r : Result T E) (o front lent o1 o2 o3 o4 : Text) (ns : List Node)
