@@ -1,5 +1,5 @@
 -- What is answered to the page.
-use Rattle.std.specs.Prelude.{ℕ, ◌≡◌, ◌≢◌, ◌≤◌, ◌<◌, ◌++◌, ◌==◌, ◌⊎◌, if◌then◌else◌, IsSome, IsUtf8, Option, Some, None, Result, Ok, Err, drop, length, ⊤}
+use Rattle.std.specs.Prelude.{ℕ, ◌≡◌, ◌≢◌, ◌≤◌, ◌<◌, ◌++◌, ◌==◌, ◌⊎◌, if◌then◌else◌, IsUtf8, Option, Some, None, Result, Ok, Err, drop, length, ⊤}
 use Rattle.std.specs.declared.alloc.Global.{Global}
 use Rattle.std.specs.declared.vec.Vec.{Vec}
 use Rattle.timefd_component.specs.Tree.{Text}

@@ -1,5 +1,5 @@
 -- The moment of the numbers that the page gives.
-use Rattle.std.specs.Prelude.{ℕ, ◌≡◌, nat_lt, if◌then◌else◌, Option, Some, None, Result, Ok, Err, unsigned_abs}
+use Rattle.std.specs.Prelude.{◌≡◌, nat_lt, if◌then◌else◌, Option, Some, None, Result, Ok, Err, unsigned_abs}
 use Rattle.timefd_moment.specs.Calendar.{counted}
 use Rattle.timefd_moment.specs.Faults.{date_fault, time_fault}
 use Rattle.timefd_moment.specs.Signed.{signed}
