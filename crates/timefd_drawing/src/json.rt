@@ -60,8 +60,8 @@ pub fn note_object(alloc: Global, entry: Entry<'_>) -> Result<Vec<u8>, AllocErro
     Ok(out)
 }
 
-// Appends a text in the quotes of JSON.
-fn push_quoted(out: &mut Vec<u8>, text: &str) -> Result<(), AllocError>
+/// Appends a text in the quotes of JSON. An `Err` says that memory ran out.
+pub fn push_quoted(out: &mut Vec<u8>, text: &str) -> Result<(), AllocError>
     ensures { OnOk result (out.new.items ≡ out.old.items ++ spec.quoted text.now) }
 {
     out.extend_from_slice(b"\"")?;
@@ -132,16 +132,22 @@ fn hex_digit(n: u16) -> u8
     if n < 10 { b'0' + n } else { b'a' + (n - 10) }
 }
 
-// Appends what stands before a field's value, and the value: a text.
-fn push_text(out: &mut Vec<u8>, front: &str, text: &str) -> Result<(), AllocError>
+/// Appends what stands before a field's value, and the value: a text. An `Err` says that memory ran out.
+pub fn push_text(out: &mut Vec<u8>, front: &str, text: &str) -> Result<(), AllocError>
     ensures { OnOk result (out.new.items ≡ out.old.items ++ (front.now ++ spec.quoted text.now)) }
 {
     out.extend_from_slice(front.as_bytes())?;
     push_quoted(out, text)
 }
 
-// Appends what stands before a field's value, and the value: a number.
-fn push_number(alloc: Global, out: &mut Vec<u8>, front: &str, number: u64) -> Result<(), AllocError>
+/// Appends what stands before a field's value, and the value: a number. An `Err` says that memory ran
+/// out.
+pub fn push_number(
+    alloc: Global,
+    out: &mut Vec<u8>,
+    front: &str,
+    number: u64,
+) -> Result<(), AllocError>
     ensures { OnOk result (out.new.items ≡ out.old.items ++ (front.now ++ decimal number)) }
 {
     let digits = format!(in alloc; "{number}")?;

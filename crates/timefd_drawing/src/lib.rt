@@ -2,9 +2,9 @@
 #![tactic(auto)]
 
 mod draw;
-mod help_text;
+pub mod help_text;
 mod human;
-mod json;
+pub mod json;
 pub mod laws;
 mod lines;
 mod position;

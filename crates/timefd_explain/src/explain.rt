@@ -1,10 +1,42 @@
-//! An accepted description as its tree, a line a node.
+//! An accepted description as its nodes, and as lines.
 
+ghost use Rattle.std.specs.Prelude.{◌≡◌, List, IfOk};
+ghost use Rattle.timefd_component.specs.Reserved.{reserve_all};
+ghost use Rattle.timefd_component.specs.Tree.{Tree, trees};
+ghost use Rattle.timefd_language.specs.Grammar.{nesting_limit};
+ghost use Rattle.timefd_node_list.specs.Nodes.{kept_bytes};
+ghost use Rattle.timefd_parse.specs.Language.{SpellsIn};
+
+use crate::node::{Node, push_line};
 use crate::tree::push_pieces;
 use std::alloc::{AllocError, Global};
 use timefd_drawing::Origin;
 use timefd_drawing::shown::safe;
 use timefd_parse::Language;
+
+/// What is shown of a text.
+#[derive(Drop)]
+pub struct Explanation {
+    /// Its nodes, each in front of those that it holds.
+    pub nodes: Vec<Node>,
+    /// How many bytes it reserves.
+    pub bytes: usize,
+}
+
+/// The nodes of a text that a language accepts. An `Err` says that memory ran out.
+pub fn explanation_of(
+    alloc: Global,
+    language: Language,
+    text: &str,
+) -> Result<Explanation, AllocError>
+    // The bytes are those of the items that the text spells.
+    ensures sum { (list : List Tree) → SpellsIn language nesting_limit text.now list
+        → IfOk result (λ found. found.bytes ≡ kept_bytes (reserve_all (trees list))) }
+{
+    let mut nodes = Vec::new(alloc);
+    let bytes = push_pieces(alloc, &mut nodes, language, 0, 0, text)?;
+    Ok(Explanation { nodes, bytes })
+}
 
 /// A text that a language accepts: a line for each of its nodes, with the bytes that it reserves,
 /// an example, the text that it came from and what it is; and the sum of the bytes.
@@ -16,8 +48,11 @@ pub fn explained(
 ) -> Result<String, AllocError> {
     let (file, line, shown) = (safe(alloc, origin.file)?, origin.line, safe(alloc, text)?);
     let mut out = format!(in alloc; "{file}:{line}: {shown}\n")?;
-    let sum = push_pieces(alloc, &mut out, language, 0, text)?;
-    let total = format!(in alloc; "{sum:5}  in all\n")?;
+    let Explanation { nodes, bytes } = explanation_of(alloc, language, text)?;
+    for node in &nodes {
+        push_line(alloc, &mut out, text, node)?;
+    }
+    let total = format!(in alloc; "{bytes:5}  in all\n")?;
     out.push_str(&total)?;
     Ok(out)
 }

@@ -1,4 +1,4 @@
-//! An accepted description as its tree, a line a node.
+//! An accepted description as its tree: the nodes, and a line for each.
 #![tactic(auto)]
 
 mod explain;
@@ -7,4 +7,5 @@ mod piece;
 mod pieces;
 mod tree;
 
-pub use explain::explained;
+pub use explain::{Explanation, explained, explanation_of};
+pub use node::{Node, NodeKind};

@@ -1,4 +1,4 @@
-//! A node of a description as it is shown.
+//! A node of a description, as it is shown.
 
 use crate::piece::What;
 use std::alloc::{AllocError, Global};
@@ -7,41 +7,125 @@ use timefd_drawing::shown::safe;
 use timefd_parse::{Language, bracket_name, first_modifier};
 use timefd_sample::{sample, words_of};
 
-/// What is shown of a node.
+/// What kind of node it is.
 #[derive(Clone, Copy)]
-pub struct Node<'a> {
-    /// In how many brackets it stands.
-    pub depth: usize,
-    /// The text that it came from.
-    pub text: &'a str,
-    /// How many bytes it reserves.
-    pub bytes: usize,
-    /// What it may be written as.
-    pub example: &'a str,
-    /// What it is.
-    pub what: &'a str,
+pub enum NodeKind {
+    /// A literal.
+    Literal,
+    /// A component.
+    Component,
+    /// What a parser may skip.
+    Optional,
+    /// Alternatives.
+    First,
+    /// Items in turn, as a composite letter of strftime has them.
+    Several,
+    /// A description in brackets.
+    Description,
 }
 
-/// Appends a node's line.
-pub fn push_node(alloc: Global, out: &mut String, node: Node<'_>) -> Result<(), AllocError> {
-    let Node {
-        depth,
+/// What is shown of a node.
+#[derive(Drop)]
+pub struct Node {
+    /// In how many brackets it stands.
+    pub depth: usize,
+    /// The byte indices of the text that it came from. Both are alike where it came from none.
+    pub start: usize,
+    pub end: usize,
+    /// How many bytes it reserves.
+    pub bytes: usize,
+    /// What kind of node it is.
+    pub kind: NodeKind,
+    /// What it is, in words.
+    pub words: String,
+    /// What it may be written as. It is empty where that isn't said.
+    pub example: String,
+}
+
+/// Where a node stands.
+#[derive(Clone, Copy)]
+pub struct Place<'a> {
+    /// In how many brackets.
+    pub depth: usize,
+    /// The byte index of its text.
+    pub start: usize,
+    /// Its text, which is empty where it came from none.
+    pub text: &'a str,
+}
+
+/// The node of a piece of a text, or of a member of a composite letter, which has no text.
+pub fn node_of(
+    alloc: Global,
+    language: Language,
+    place: Place<'_>,
+    bytes: usize,
+    what: &What,
+) -> Result<Node, AllocError> {
+    let words = match what {
+        What::Component(component) => component_words(alloc, language, place.text, *component)?,
+        What::Literal(_) | What::Bytes | What::Optional(_) | What::First | What::Several => {
+            String::from_str(alloc, plain_words(what))?
+        }
+    };
+    Ok(Node {
+        depth: place.depth,
+        start: place.start,
+        end: place.start.saturating_add(place.text.len()),
         bytes,
-        what,
-        ..
-    } = node;
-    let text = safe(alloc, node.text)?;
-    let example = safe(alloc, node.example)?;
-    let head = format!(in alloc; "{bytes:5}  ")?;
+        kind: kind_of(what),
+        words,
+        example: String::from_str(alloc, example_of(what))?,
+    })
+}
+
+fn kind_of(what: &What) -> NodeKind {
+    match what {
+        What::Literal(_) | What::Bytes => NodeKind::Literal,
+        What::Component(_) => NodeKind::Component,
+        What::Optional(_) => NodeKind::Optional,
+        What::First => NodeKind::First,
+        What::Several => NodeKind::Several,
+    }
+}
+
+fn plain_words(what: &What) -> &'static str {
+    match what {
+        What::Literal(_) | What::Bytes => "literal",
+        What::Component(_) => "component",
+        What::Optional(true) => "optional, and formatted",
+        What::Optional(false) => "optional, and not formatted",
+        What::First => "first of these",
+        What::Several => "these in turn",
+    }
+}
+
+fn example_of(what: &What) -> &str {
+    match what {
+        What::Literal(literal) => literal,
+        What::Component(component) => sample(*component),
+        What::Bytes | What::Optional(_) | What::First | What::Several => "",
+    }
+}
+
+/// Appends a node's line, of a text.
+pub fn push_line(
+    alloc: Global,
+    out: &mut String,
+    text: &str,
+    node: &Node,
+) -> Result<(), AllocError> {
+    let text = safe(alloc, text.get(node.start..node.end).unwrap_or(""))?;
+    let example = safe(alloc, &node.example)?;
+    let head = format!(in alloc; "{:5}  ", node.bytes)?;
     out.push_str(&head)?;
-    for _ in 0..depth {
+    for _ in 0..node.depth {
         out.push_str("  ")?;
     }
     if !text.is_empty() {
         let quoted = format!(in alloc; "`{text}`  ")?;
         out.push_str(&quoted)?;
     }
-    out.push_str(what)?;
+    out.push_str(&node.words)?;
     if example.is_empty() {
         return out.push_str("\n");
     }
@@ -49,102 +133,21 @@ pub fn push_node(alloc: Global, out: &mut String, node: Node<'_>) -> Result<(), 
     out.push_str(&line)
 }
 
-/// Appends the line of a piece of a text, or of a member of a composite letter, which has no text.
-pub fn push_what(
+fn component_words(
     alloc: Global,
-    out: &mut String,
     language: Language,
-    depth: usize,
     text: &str,
-    bytes: usize,
-    what: &What,
-) -> Result<(), AllocError> {
-    let node = Node {
-        depth,
-        text,
-        bytes,
-        example: "",
-        what: "",
-    };
-    match what {
-        What::Literal(literal) => push_node(
-            alloc,
-            out,
-            Node {
-                example: literal,
-                what: "literal",
-                ..node
-            },
-        ),
-        What::Component(component) => push_component(alloc, out, language, node, *component),
-        What::Bytes => push_node(
-            alloc,
-            out,
-            Node {
-                what: "literal",
-                ..node
-            },
-        ),
-        What::Optional(true) => push_node(
-            alloc,
-            out,
-            Node {
-                what: "optional, and formatted",
-                ..node
-            },
-        ),
-        What::Optional(false) => push_node(
-            alloc,
-            out,
-            Node {
-                what: "optional, and not formatted",
-                ..node
-            },
-        ),
-        What::First => push_node(
-            alloc,
-            out,
-            Node {
-                what: "first of these",
-                ..node
-            },
-        ),
-        What::Several => push_node(
-            alloc,
-            out,
-            Node {
-                what: "these in turn",
-                ..node
-            },
-        ),
-    }
-}
-
-fn push_component(
-    alloc: Global,
-    out: &mut String,
-    language: Language,
-    node: Node<'_>,
     component: Component,
-) -> Result<(), AllocError> {
+) -> Result<String, AllocError> {
     let words = words_of(alloc, component)?;
-    let set = set_in(alloc, language, node.text)?;
-    let what = if node.text.is_empty() {
-        words
+    let set = set_in(alloc, language, text)?;
+    if text.is_empty() {
+        Ok(words)
     } else if set.is_empty() {
-        format!(in alloc; "{words}, by default")?
+        format!(in alloc; "{words}, by default")
     } else {
-        format!(in alloc; "{words}, set: {}", safe(alloc, &set)?)?
-    };
-    push_node(
-        alloc,
-        out,
-        Node {
-            example: sample(component),
-            what: &what,
-            ..node
-        },
-    )
+        format!(in alloc; "{words}, set: {}", safe(alloc, &set)?)
+    }
 }
 
 // The modifiers of a bracket, or the flag of a directive.

@@ -7,7 +7,7 @@ ghost use Rattle.timefd_language.specs.Grammar.{nesting_limit};
 ghost use Rattle.timefd_node_list.specs.Nodes.{kept_bytes};
 ghost use Rattle.timefd_parse.specs.Language.{SpellsIn};
 
-use crate::node::{Node, push_node, push_what};
+use crate::node::{Node, NodeKind, Place, node_of};
 use crate::piece::{Shown, What, item_what};
 use crate::pieces::{bytes_of, pieces_of};
 use std::alloc::{AllocError, Global};
@@ -17,14 +17,15 @@ use timefd_parse::{
     amount_within, bracket_name, first_modifier, first_nested, parse_strftime_borrowed,
 };
 
-/// Appends the nodes of a text with so many descriptions around it, and answers how many bytes it
-/// reserves.
+/// Appends the nodes of a text that begins at this byte index, with so many descriptions around it,
+/// and answers how many bytes it reserves.
 #[cycle(tree)]
 pub fn push_pieces(
     alloc: Global,
-    out: &mut String,
+    nodes: &mut Vec<Node>,
     language: Language,
     around: u8,
+    begins: usize,
     text: &str,
 ) -> Result<usize, AllocError>
     // They are the bytes of the items that the text spells.
@@ -32,8 +33,10 @@ pub fn push_pieces(
         → IfOk result (λ bytes. bytes ≡ kept_bytes (reserve_all (trees list))) }
 {
     let pieces = pieces_of(alloc, language, text)?;
+    let mut start = begins;
     'pieces: for at in 0..pieces.len() {
-        push_piece(alloc, out, language, around, &pieces[at])?;
+        push_piece(alloc, nodes, language, around, start, &pieces[at])?;
+        start = start.saturating_add(pieces[at].text.len());
     }
     Ok(bytes_of(&pieces))
 }
@@ -42,32 +45,53 @@ pub fn push_pieces(
 #[cycle(tree)]
 fn push_piece(
     alloc: Global,
-    out: &mut String,
+    nodes: &mut Vec<Node>,
     language: Language,
     around: u8,
+    start: usize,
     piece: &Shown<'_>,
 ) -> Result<(), AllocError> {
-    let depth = 2 * usize::from(around);
     let Shown { text, bytes, what } = piece;
-    push_what(alloc, out, language, depth, text, *bytes, what)?;
+    let place = Place {
+        depth: 2 * usize::from(around),
+        start,
+        text,
+    };
+    nodes.push(node_of(alloc, language, place, *bytes, what)?)?;
     match what {
-        What::Optional(_) | What::First => push_nested(alloc, out, around, text),
-        What::Several => push_members(alloc, out, text),
+        What::Optional(_) | What::First => push_nested(alloc, nodes, around, start, text),
+        What::Several => push_members(alloc, nodes, start, text),
         What::Literal(_) | What::Bytes | What::Component(_) => Ok(()),
     }
 }
 
 // Appends the nodes of the descriptions in a bracket.
 #[cycle(tree)]
-fn push_nested(alloc: Global, out: &mut String, around: u8, text: &str) -> Result<(), AllocError> {
+fn push_nested(
+    alloc: Global,
+    nodes: &mut Vec<Node>,
+    around: u8,
+    start: usize,
+    text: &str,
+) -> Result<(), AllocError> {
     if around >= NESTING_LIMIT {
         return Ok(());
     }
     let version = DescriptionVersion::Three;
     let mut rest = behind_head(text);
     'nested: while let Some((inner, behind)) = first_nested(alloc, version, rest) {
-        push_description(alloc, out, around, inner)?;
-        push_pieces(alloc, out, Language::Version(version), around + 1, inner)?;
+        // A bracket stands on each side of what is nested.
+        let before = text.len().saturating_sub(behind.len() + inner.len() + 1);
+        let begins = start.saturating_add(before);
+        push_description(alloc, nodes, around, begins, inner)?;
+        push_pieces(
+            alloc,
+            nodes,
+            Language::Version(version),
+            around + 1,
+            begins,
+            inner,
+        )?;
         rest = behind;
     }
     Ok(())
@@ -85,26 +109,24 @@ fn behind_head(text: &str) -> &str {
     rest
 }
 
-// Appends the node of a description in brackets.
+// Appends the node of a description in brackets, which begins behind the first of them.
 fn push_description(
     alloc: Global,
-    out: &mut String,
+    nodes: &mut Vec<Node>,
     around: u8,
+    begins: usize,
     inner: &str,
 ) -> Result<(), AllocError> {
-    let bytes = reserved(alloc, inner)?;
-    let text = format!(in alloc; "[{inner}]")?;
-    push_node(
-        alloc,
-        out,
-        Node {
-            depth: 2 * usize::from(around) + 1,
-            text: &text,
-            bytes,
-            example: "",
-            what: "description",
-        },
-    )
+    let node = Node {
+        depth: 2 * usize::from(around) + 1,
+        start: begins.saturating_sub(1),
+        end: begins.saturating_add(inner.len()).saturating_add(1),
+        bytes: reserved(alloc, inner)?,
+        kind: NodeKind::Description,
+        words: String::from_str(alloc, "description")?,
+        example: String::new(alloc),
+    };
+    Ok(nodes.push(node)?)
 }
 
 // How many bytes a description of version 3 reserves: 0 where the text is none.
@@ -118,7 +140,12 @@ fn reserved(alloc: Global, text: &str) -> Result<usize, AllocError> {
 }
 
 // Appends the nodes of what a composite letter stands for.
-fn push_members(alloc: Global, out: &mut String, text: &str) -> Result<(), AllocError> {
+fn push_members(
+    alloc: Global,
+    nodes: &mut Vec<Node>,
+    start: usize,
+    text: &str,
+) -> Result<(), AllocError> {
     let tables = StrftimeTables::new();
     let items = match parse_strftime_borrowed(alloc, &tables, text) {
         Ok(items) => items,
@@ -126,27 +153,26 @@ fn push_members(alloc: Global, out: &mut String, text: &str) -> Result<(), Alloc
         Err(ParseError::Memory(error)) => return Err(error),
     };
     match items.as_slice() {
-        &[BorrowedFormatItem::Compound(members)] => push_items(alloc, out, members),
+        &[BorrowedFormatItem::Compound(members)] => push_items(alloc, nodes, start, members),
         _ => Ok(()),
     }
 }
 
 fn push_items(
     alloc: Global,
-    out: &mut String,
+    nodes: &mut Vec<Node>,
+    start: usize,
     members: &[BorrowedFormatItem<'_>],
 ) -> Result<(), AllocError> {
+    let place = Place {
+        depth: 1,
+        start,
+        text: "",
+    };
     for member in members {
         let what = item_what(alloc, member)?;
-        push_what(
-            alloc,
-            out,
-            Language::Strftime,
-            1,
-            "",
-            item_bytes(member),
-            &what,
-        )?;
+        let bytes = item_bytes(member);
+        nodes.push(node_of(alloc, Language::Strftime, place, bytes, &what)?)?;
     }
     Ok(())
 }

@@ -1,0 +1,73 @@
+-- What is answered to the page.
+use Rattle.std.specs.Prelude.{ℕ, ◌≡◌, ◌≢◌, ◌≤◌, ◌<◌, ◌++◌, ◌==◌, ◌⊎◌, if◌then◌else◌, IsUtf8, Option, Some, None, Result, Ok, Err, drop, length, ⊤}
+use Rattle.std.specs.declared.alloc.Global.{Global}
+use Rattle.std.specs.declared.vec.Vec.{Vec}
+use Rattle.timefd_component.specs.Tree.{Text}
+use Rattle.timefd_language.specs.declared.description_version.DescriptionVersion.TheVariants.{One, Two, Three}
+use Rattle.timefd_moment.specs.declared.moment.Moment.{Moment}
+use Rattle.timefd_parse.specs.declared.language.Language.{Language}
+use Rattle.timefd_parse.specs.declared.language.Language.TheVariants.{Version, Strftime}
+use Rattle.timefd_web.specs.declared.answer.ReportAnswer.{ReportAnswer}
+use Rattle.timefd_web.specs.declared.answer.TheConstants.{REPORTED, NOT_UTF8, NO_MEMORY, NO_LANGUAGE, OUT_OF_RANGE}
+use Rattle.timefd_web.specs.declared.fields.MomentFields.{MomentFields}
+use Rattle.timefd_web.specs.declared.silence.Silence.{Silence}
+use Rattle.timefd_web.specs.declared.silence.Silence.TheVariants.{NotUtf8, NoMemory, NoLanguage, OutOfRange}
+use Rattle.timefd_web.specs.Moments.{IsMoment, range_fault}
+use Rattle.timefd_web.specs.Reports.{Reports}
+
+-- the language of a number, if it has one
+abbrev pub language_of : ℕ → Option Language
+language_of number =
+    if number == 1 then Some (Version One)
+    else if number == 2 then Some (Version Two)
+    else if number == 3 then Some (Version Three)
+    else if number == 4 then Some Strftime
+    else None
+
+-- The object says what the bytes are as a text of the language with this number, and what they write of
+-- the moment of these numbers.
+pub record ReportsOf (number : ℕ) (bytes : Text) (fields : MomentFields) (object : Text) : Type 0 where
+  pub language : Language
+  pub moment : Moment
+  pub is_language : language_of number ≡ Some language
+  pub is_moment : IsMoment fields moment
+  pub reports : Reports language moment bytes object
+
+-- why nothing is said
+abbrev pub IsSilence : ℕ → Text → MomentFields → Silence → Type 0
+IsSilence number bytes fields NotUtf8 = ¬ (IsUtf8 bytes)
+IsSilence number bytes fields NoMemory = ⊤
+IsSilence number bytes fields NoLanguage = language_of number ≡ None
+IsSilence number bytes fields OutOfRange = range_fault fields ≢ None
+
+-- the report, or why there is none
+abbrev pub IsSaid : ℕ → Text → MomentFields → Result (Vec ℕ Global) Silence → Type 0
+IsSaid number bytes fields (Ok object) = ReportsOf number bytes fields object.items
+IsSaid number bytes fields (Err silence) = IsSilence number bytes fields silence
+
+abbrev pub status_of : Silence → ℕ
+status_of NotUtf8 = NOT_UTF8
+status_of NoMemory = NO_MEMORY
+status_of NoLanguage = NO_LANGUAGE
+status_of OutOfRange = OUT_OF_RANGE
+
+-- The object stands at the front of the buffer, if that has room for all of it, and what is behind it is
+-- as it was.
+pub record IsGiven (object before after : Text) (answer : ReportAnswer) : Type 0 where
+  pub status : answer.status ≡ REPORTED
+  pub len : answer.len ≡ length object
+  pub whole : length object ≤ length before → after ≡ object ++ drop (length object) before
+  pub too_short : length before < length object → after ≡ before
+
+-- Nothing is said for this reason, and the buffer is as it was.
+pub record IsSilent (silence : Silence) (before after : Text) (answer : ReportAnswer) : Type 0 where
+  pub status : answer.status ≡ status_of silence
+  pub len : answer.len ≡ 0
+  pub kept : after ≡ before
+
+-- What is answered of the bytes: the report, or why there is none.
+abbrev pub Answers : ℕ → Text → MomentFields → Text → Text → ReportAnswer → Type 0
+Answers number bytes fields before after answer =
+    ((object : Text) × ReportsOf number bytes fields object × IsGiven object before after answer)
+    ⊎ ((silence : Silence) × IsSilence number bytes fields silence
+    × IsSilent silence before after answer)

@@ -1,0 +1,4 @@
+pub mod Objects
+pub mod Reports
+pub mod Moments
+pub mod Answers

@@ -1,0 +1,19 @@
+//! What a page in a browser shows of a text, as an object of JSON.
+#![tactic(auto)]
+
+mod accepted;
+mod answer;
+mod exports;
+mod fields;
+mod later;
+mod nodes;
+mod refused;
+mod report;
+mod silence;
+mod written;
+
+pub use answer::{NO_LANGUAGE, NO_MEMORY, NOT_UTF8, OUT_OF_RANGE, REPORTED, ReportAnswer};
+pub use exports::timefd_web_report;
+pub use fields::MomentFields;
+pub use report::report_of;
+pub use silence::Silence;

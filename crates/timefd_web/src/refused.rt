@@ -1,0 +1,70 @@
+//! What is said of a text that is refused.
+
+ghost use Rattle.std.specs.Prelude.{◌≡◌, IfOk};
+ghost use Rattle.timefd_web.specs.Objects as spec;
+
+use std::alloc::{AllocError, Global};
+use timefd_diagnosis::{Diagnostic, Help, code_of};
+use timefd_drawing::help_text::help_text;
+use timefd_drawing::json::{push_number, push_text};
+
+/// What the object of a refused text holds.
+#[derive(Clone, Copy)]
+pub struct Refusal<'a> {
+    /// The stable name of the fault.
+    pub code: &'a str,
+    /// Its sentence.
+    pub message: &'a str,
+    /// What helps.
+    pub help: &'a str,
+    /// The nearest of the words that are allowed. It is empty where none is near.
+    pub nearest: &'a str,
+    /// The byte indices of what is at fault.
+    pub start: u64,
+    pub end: u64,
+}
+
+/// The object of a text with a fault: its stable name, its sentence, what helps, the nearest of the
+/// words that are allowed there, and the byte indices of what is at fault.
+pub fn refused(alloc: Global, diagnostic: &Diagnostic) -> Result<Vec<u8>, AllocError>
+    ensures { IfOk result (λ object. object.items ≡ spec.refused_object diagnostic.now) }
+{
+    let message = format!(in alloc; "{}", diagnostic.fault)?;
+    let help = help_text(alloc, diagnostic.help)?;
+    let refusal = Refusal {
+        code: code_of(&diagnostic.fault),
+        message: &message,
+        help: &help,
+        nearest: nearest(diagnostic.help),
+        start: diagnostic.span.start as u64,
+        end: diagnostic.span.end as u64,
+    };
+    object_of(alloc, refusal)
+}
+
+fn object_of(alloc: Global, refusal: Refusal<'_>) -> Result<Vec<u8>, AllocError>
+    ensures { IfOk result (λ object. object.items ≡ spec.refusal_of refusal.entry) }
+{
+    let mut out = Vec::new(alloc);
+    push_text(&mut out, "{\"accepted\":false,\"code\":", refusal.code)?;
+    push_text(&mut out, ",\"message\":", refusal.message)?;
+    push_text(&mut out, ",\"help\":", refusal.help)?;
+    push_text(&mut out, ",\"nearest\":", refusal.nearest)?;
+    push_number(alloc, &mut out, ",\"start\":", refusal.start)?;
+    push_number(alloc, &mut out, ",\"end\":", refusal.end)?;
+    out.extend_from_slice(b"}")?;
+    Ok(out)
+}
+
+// The nearest of the words that are allowed. It is empty where none is near.
+fn nearest(help: Help) -> &'static str
+    ensures { result.now ≡ spec.nearest help }
+{
+    match help {
+        Help::Words {
+            nearest: Some(word),
+            ..
+        } => word,
+        Help::Words { nearest: None, .. } | Help::LeaveOut(_) | Help::Advice(_) => "",
+    }
+}

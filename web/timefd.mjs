@@ -1,0 +1,59 @@
+// Calls the readers in a WebAssembly module.
+
+const STATUSES = ["reported", "not UTF-8", "out of memory", "no language", "out of range"];
+
+// The sizes of what is handed over, and how much room a report gets at first.
+const MOMENT = 20;
+const ANSWER = 16;
+const ROOM = 16384;
+
+// Gives the one call of a module, from its bytes. It wants nothing of its host.
+export async function load(bytes) {
+    const { instance } = await WebAssembly.instantiate(bytes, {});
+    const calls = instance.exports;
+    const bytesAt = (at, len) => new Uint8Array(calls.memory.buffer, Number(at), len);
+    const numbersAt = (at, len) => new DataView(calls.memory.buffer, Number(at), len);
+
+    // Runs with blocks of these sizes, which are given back. Where memory ran out it answers null.
+    const withBlocks = (sizes, run) => {
+        const blocks = sizes.map((size) => calls.timefd_room(BigInt(size)));
+        const all = blocks.every((block) => block !== 0n);
+        try {
+            return all ? run(...blocks) : null;
+        } finally {
+            blocks.forEach((block) => block !== 0n && calls.timefd_give_back(block));
+        }
+    };
+
+    const writeMoment = (at, moment) => {
+        const fields = numbersAt(at, MOMENT);
+        fields.setInt32(0, moment.year, true);
+        fields.setUint32(4, moment.nanosecond, true);
+        fields.setInt32(8, moment.offsetSeconds, true);
+        [moment.month, moment.day, moment.hour, moment.minute, moment.second].forEach((value, place) => fields.setUint8(12 + place, value));
+    };
+
+    const tried = (language, moment, bytes, room) =>
+        withBlocks([bytes.length, MOMENT, room, ANSWER], (text, fields, out, answer) => {
+            bytesAt(text, bytes.length).set(bytes);
+            writeMoment(fields, moment);
+            calls.timefd_web_report(language, text, BigInt(bytes.length), fields, out, BigInt(room), answer);
+            const told = numbersAt(answer, ANSWER);
+            const [status, len] = [STATUSES[told.getUint32(0, true)], Number(told.getBigUint64(8, true))];
+            const json = status === "reported" && len <= room ? new TextDecoder().decode(bytesAt(out, len)) : null;
+            return { status, len, json };
+        });
+
+    return {
+        memory: () => calls.memory.buffer.byteLength,
+        // What a text is as one of the language with this number, and what it writes of the moment: the status, and the object
+        // as it was written, `json`, and read, `said`.
+        report: (language, moment, text) => {
+            const bytes = typeof text === "string" ? new TextEncoder().encode(text) : text;
+            let told = tried(language, moment, bytes, ROOM);
+            if (told !== null && told.status === "reported" && told.len > ROOM) told = tried(language, moment, bytes, told.len);
+            if (told === null) return { status: "out of memory", json: null, said: null };
+            return { status: told.status, json: told.json, said: told.json === null ? null : JSON.parse(told.json) };
+        },
+    };
+}
