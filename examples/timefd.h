@@ -43,14 +43,18 @@ uint32_t timefd_version(void);
 /* The kind is none of the four numbers above, whatever the bytes are. The value is 0. */
 #define TIMEFD_UNKNOWN_KIND 4u
 
-/* From timefd_format alone: a component of the description shows nothing of the moment. The value is 0. */
+/* From timefd_format and timefd_format_nodes alone: a component of the description shows nothing of the moment. The value is 0. */
 #define TIMEFD_UNSHOWN 5u
 
-/* From timefd_format alone: a number of the moment is out of its range, whatever the text is. The value is 0. */
+/* From these two alone: a number of the moment is out of its range, whatever the text or the nodes are. The value is 0. */
 #define TIMEFD_OUT_OF_RANGE 6u
 
 /* From timefd_convert alone: there is no conversion from this language to this one, whatever the bytes are. The value is 0. */
 #define TIMEFD_NO_CONVERSION 7u
+
+/* From timefd_format_nodes alone: the nodes are no description. The value is the index of the first node that is no part of
+   one: a number of it means nothing, its bytes aren't all among the literals, or it takes more members than stand before it. */
+#define TIMEFD_NO_DESCRIPTION 8u
 
 /* What is said of a text. No other status comes than the first five above, and from timefd_convert the last one. */
 typedef struct timefd_answer {
@@ -301,12 +305,13 @@ typedef struct timefd_moment {
 #define TIMEFD_RANGE_NANOSECOND 7u
 #define TIMEFD_RANGE_OFFSET 8u
 
-/* What is said of a text that is to write a moment. */
+/* What is said of a text or of nodes that are to write a moment. */
 typedef struct timefd_format_answer {
     uint32_t status;
     uint32_t reason;    /* why a component shows nothing, or which number is out of its range, or else 0 */
     uint32_t component; /* which component shows nothing, by its number in nodes, or else 0. It is the first such one. */
-    size_t value;       /* how many bytes the text has that was to be written; of TIMEFD_REFUSED the index of the fault; or else 0 */
+    size_t value;       /* how many bytes the text has that was to be written; of TIMEFD_REFUSED the index of the fault, of
+                           TIMEFD_NO_DESCRIPTION that of the node; or else 0 */
     size_t written;     /* how many bytes were written: all of the text, or none */
 } timefd_format_answer;
 
@@ -317,6 +322,17 @@ typedef struct timefd_format_answer {
    What is written is UTF-8. The buffer has been set to something before, and overlaps neither text nor moment. */
 timefd_format_answer timefd_format(uint32_t kind, const uint8_t *text, size_t len, const timefd_moment *moment, uint8_t *buffer,
                                    size_t room);
+
+/* Writes the moment by nodes that timefd_read wrote, or by others of that form, and the bytes of their literals, as timefd_format
+   writes it by the text that they were read of. It takes no memory, and no more stack for a deeper nesting. Of a node of members
+   `count` is looked at, and neither `start` nor `bytes`; a number that its component doesn't have is not looked at either. The
+   only statuses are TIMEFD_ACCEPTED, TIMEFD_UNSHOWN, TIMEFD_OUT_OF_RANGE and TIMEFD_NO_DESCRIPTION. Where the text would have
+   more than SIZE_MAX bytes, the value is SIZE_MAX.
+
+   What is written is UTF-8 where the literals are. The buffer is as that of timefd_format, and overlaps neither nodes nor
+   literals. There are at most PTRDIFF_MAX / sizeof(timefd_node) nodes. */
+timefd_format_answer timefd_format_nodes(const timefd_node *nodes, size_t node_count, const uint8_t *literals,
+                                         size_t literal_count, const timefd_moment *moment, uint8_t *buffer, size_t room);
 
 /* Where each field stands, as the library and this compiler have to agree on it. */
 #ifdef __cplusplus

@@ -137,6 +137,17 @@ timefd_format_answer format(uint32_t kind, const struct text *text, const timefd
     return answer;
 }
 
+timefd_format_answer format_nodes(uint32_t kind, const struct text *text,
+                                  const struct node_buffers *buffers, timefd_read_answer read,
+                                  const timefd_moment *moment, struct buffer *buffer, size_t room) {
+    uint8_t *front = fill(buffer, room);
+    timefd_format_answer answer =
+        timefd_format_nodes(buffers->nodes + 1, read.nodes, buffers->literals + GUARD, read.literals,
+                            moment, front, room);
+    check_filled(kind, text, buffer, room, answer.written);
+    return answer;
+}
+
 timefd_read_answer read_nodes(uint32_t kind, const struct text *text, struct node_buffers *buffers,
                               size_t node_room, size_t literal_room) {
     uint8_t *bytes = lend(kind, text);

@@ -40,6 +40,27 @@ static void check_written(uint32_t kind, const struct text *text, const struct b
            "the same bytes to be written twice");
 }
 
+/* What was read of the text writes the same, in the same room and in less. */
+static void check_by_nodes(uint32_t kind, const struct text *text, const struct buffer *written,
+                           timefd_format_answer whole) {
+    static struct node_buffers nodes;
+    static struct buffer buffer;
+    timefd_read_answer read = read_nodes(kind, text, &nodes, NODES_A_BYTE * (text->len + 1),
+                                         LITERALS_A_BYTE * (text->len + 1));
+    expect(read.written, kind, text, "nodes to be read where there is room");
+    timefd_format_answer answer = format_nodes(kind, text, &nodes, read, &MOMENT, &buffer, ROOM);
+    expect(answer.status == TIMEFD_ACCEPTED && answer.value == whole.value &&
+               answer.written == whole.written &&
+               memcmp(buffer.guarded + GUARD, written->guarded + GUARD, whole.written) == 0,
+           kind, text, "the same to be written by nodes");
+    if (whole.value > 0) {
+        size_t room = random_below(whole.value);
+        answer = format_nodes(kind, text, &nodes, read, &MOMENT, &buffer, room);
+        expect(answer.status == TIMEFD_ACCEPTED && answer.value == whole.value && answer.written == 0,
+               kind, text, "nothing written by nodes where there is no room");
+    }
+}
+
 void check_format(uint32_t kind, const struct text *text, timefd_answer judged) {
     static struct buffer buffer;
     timefd_format_answer answer = format(kind, text, &MOMENT, &buffer, ROOM);
@@ -56,6 +77,7 @@ void check_format(uint32_t kind, const struct text *text, timefd_answer judged) 
     expect(answer.written == (answer.value <= ROOM ? answer.value : 0), kind, text,
            "all to be written where there is room");
     check_written(kind, text, &buffer, answer);
+    check_by_nodes(kind, text, &buffer, answer);
     if (answer.value > 0) {
         check_too_short(kind, text, answer);
     }

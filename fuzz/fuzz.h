@@ -87,6 +87,9 @@ timefd_answer convert(const struct text *text, struct buffer *buffer, size_t roo
 timefd_answer modernize(uint32_t kind, const struct text *text, struct buffer *buffer, size_t room);
 timefd_format_answer format(uint32_t kind, const struct text *text, const timefd_moment *moment,
                             struct buffer *buffer, size_t room);
+timefd_format_answer format_nodes(uint32_t kind, const struct text *text,
+                                  const struct node_buffers *buffers, timefd_read_answer read,
+                                  const timefd_moment *moment, struct buffer *buffer, size_t room);
 timefd_read_answer read_nodes(uint32_t kind, const struct text *text, struct node_buffers *buffers,
                               size_t node_room, size_t literal_room);
 

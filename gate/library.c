@@ -252,6 +252,52 @@ static bool holds(enum call call, const struct sample *sample, size_t *count) {
     }
 }
 
+/* Nodes write what their text writes, the same is answered, and no memory is asked for. */
+static bool writes_alike(const struct sample *sample) {
+    struct outcome read = outcome_of(READ, sample, 0);
+    struct outcome by_text = outcome_of(FORMAT, sample, 0);
+    struct outcome by_nodes = outcome_of(FORMAT, sample, 0);
+    if (!read.read.written) {
+        return read.read.status != TIMEFD_ACCEPTED;
+    }
+    memset(by_nodes.buffer, '.', ROOM);
+    asked = 0;
+    by_nodes.format = timefd_format_nodes(read.nodes, read.read.nodes, read.buffer, read.read.literals, &MOMENT,
+                                          by_nodes.buffer, ROOM);
+    return asked == 0 && is_same(&by_nodes, &by_text);
+}
+
+/* Nodes that are no description, and the index of the one that is none. Each takes what it has no room for, or has a number that
+   means nothing. */
+struct wrong {
+    timefd_node nodes[3];
+    size_t count;
+    size_t index;
+};
+
+#define DAY {.what = TIMEFD_COMPONENT, .component = TIMEFD_DAY, .padding = TIMEFD_PADDING_ZERO}
+
+static const struct wrong WRONGS[] = {
+    {{{.what = 0}}, 1, 0},
+    {{{.what = 6}}, 1, 0},
+    {{DAY, {.what = TIMEFD_COMPONENT, .component = TIMEFD_END + 1}}, 2, 1},
+    {{DAY, {.what = TIMEFD_COMPONENT, .component = TIMEFD_DAY, .padding = 4}}, 2, 1},
+    {{{.what = TIMEFD_COMPONENT, .component = TIMEFD_IGNORE, .ignored = 65536}}, 1, 0},
+    {{DAY, DAY, {.what = TIMEFD_COMPOUND, .count = 3}}, 3, 2},
+    {{DAY, {.what = TIMEFD_FIRST, .count = 2}}, 2, 1},
+    {{{.what = TIMEFD_OPTIONAL, .format = TIMEFD_TRUE}}, 1, 0},
+    {{DAY, {.what = TIMEFD_OPTIONAL}}, 2, 1},
+    {{{.what = TIMEFD_LITERAL, .start = 1, .count = 3}}, 1, 0},
+    {{{.what = TIMEFD_LITERAL, .start = SIZE_MAX, .count = 3}}, 1, 0},
+};
+
+static bool is_no_description(const struct wrong *wrong) {
+    uint8_t buffer[ROOM] = {'.'};
+    timefd_format_answer answer =
+        timefd_format_nodes(wrong->nodes, wrong->count, (const uint8_t *)"abc", 3, &MOMENT, buffer, ROOM);
+    return answer.status == TIMEFD_NO_DESCRIPTION && answer.value == wrong->index && answer.written == 0 && buffer[0] == '.';
+}
+
 /* One node of a text, as its bytes: those of each field in turn, the lowest first. `U` are bytes between two fields. */
 struct layout {
     uint32_t kind;
@@ -340,10 +386,16 @@ int main(void) {
     for (size_t i = 0; i < sizeof SAMPLES / sizeof SAMPLES[0]; i++) {
         bool is_read = SAMPLES[i].kind >= LIFT ||
                        (holds(READ, &SAMPLES[i], &count) && holds(FORMAT, &SAMPLES[i], &count) &&
-                        holds(DIAGNOSE, &SAMPLES[i], &count));
+                        holds(DIAGNOSE, &SAMPLES[i], &count) && writes_alike(&SAMPLES[i]));
         if (!holds(CHECK_OR_CONVERT, &SAMPLES[i], &count) || !is_read || !takes_little(&SAMPLES[i])) {
             failed++;
             fprintf(stderr, "gate/library: %" PRIu32 ": %s\n", SAMPLES[i].kind, SAMPLES[i].text);
+        }
+    }
+    for (size_t i = 0; i < sizeof WRONGS / sizeof WRONGS[0]; i++) {
+        if (!is_no_description(&WRONGS[i])) {
+            failed++;
+            fprintf(stderr, "gate/library: nodes %zu that are no description\n", i);
         }
     }
     for (size_t i = 0; i < sizeof LAYOUTS / sizeof LAYOUTS[0]; i++) {

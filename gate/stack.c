@@ -38,6 +38,20 @@ static void expect(const char *what, uint32_t kind, uint32_t expected, timefd_an
     }
 }
 
+/* What was read of a text writes what the text writes. */
+static void call_nodes(uint32_t kind, const uint8_t *bytes, size_t len, timefd_read_answer read, const timefd_moment *moment) {
+    uint8_t buffer[BUFFER] = {0};
+    timefd_node *nodes = calloc(read.nodes + 1, sizeof *nodes);
+    uint8_t *literals = calloc(read.literals + 1, 1);
+    if (!nodes || !literals)
+        exit(2);
+    timefd_read(kind, bytes, len, nodes, read.nodes, literals, read.literals);
+    timefd_format_answer format = timefd_format_nodes(nodes, read.nodes, literals, read.literals, moment, buffer, BUFFER);
+    expect("format_nodes", kind, TIMEFD_ACCEPTED, (timefd_answer){.status = format.status});
+    free(nodes);
+    free(literals);
+}
+
 static void call_each(text given, uint32_t in_three) {
     const uint8_t *bytes = (const uint8_t *)given.bytes;
     uint8_t buffer[BUFFER] = {0};
@@ -52,6 +66,8 @@ static void call_each(text given, uint32_t in_three) {
         expect("read", kind, expected, (timefd_answer){.status = read.status});
         timefd_format_answer format = timefd_format(kind, bytes, given.len, &moment, buffer, BUFFER);
         expect("format", kind, expected, (timefd_answer){.status = format.status});
+        if (read.status == TIMEFD_ACCEPTED)
+            call_nodes(kind, bytes, given.len, read, &moment);
     }
     expect("v1_to_v2", TIMEFD_VERSION_1, TIMEFD_REFUSED, timefd_v1_to_v2(bytes, given.len, buffer, BUFFER));
     expect("v2_to_v3", TIMEFD_VERSION_2, TIMEFD_REFUSED, timefd_v2_to_v3(bytes, given.len, buffer, BUFFER));

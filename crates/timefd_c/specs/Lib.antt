@@ -7,4 +7,5 @@ pub mod Reading
 pub mod Numbers
 pub mod Moments
 pub mod Formats
+pub mod NodeFormats
 pub mod Diagnoses

@@ -13,17 +13,22 @@ pub const UNSHOWN: u32 = 5;
 /// The status where a number of the moment is out of its range. The answer says which.
 pub const OUT_OF_RANGE: u32 = 6;
 
-/// What is said of a text that is to write a moment.
+/// The status where nodes are no description. The value is the index of the first one that is no part
+/// of one.
+pub const NO_DESCRIPTION: u32 = 8;
+
+/// What is said of a text or of nodes that are to write a moment.
 #[repr(C)]
 #[derive(Debug, Clone, Copy, PartialEq, Eq)]
 pub struct FormatAnswer {
-    /// One of the five statuses of an `Answer`, `UNSHOWN` or `OUT_OF_RANGE`.
+    /// One of the five statuses of an `Answer`, `UNSHOWN`, `OUT_OF_RANGE` or `NO_DESCRIPTION`.
     pub status: u32,
     /// Why a component shows nothing, or which number is out of its range, or else 0.
     pub reason: u32,
     /// The number that nodes have for the component that shows nothing, or else 0.
     pub component: u32,
-    /// The length of the text in bytes, or how many bytes stand before the fault, or else 0.
+    /// The length of the text in bytes, or how many bytes stand before the fault, or the index of the
+    /// node that is no part of a description, or else 0.
     pub value: usize,
     /// How many bytes were written: all of the text, or none.
     pub written: usize,

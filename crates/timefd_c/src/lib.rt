@@ -1,7 +1,7 @@
 //! The readers for C, and for Rust outside of this workspace: two functions that say of the bytes
 //! of a text what they are in a language, which a number names, one that tells the fault of a text
 //! whole, three that rewrite a text as one of a later version, one that writes the nodes of a
-//! description, and one that writes a date and time by a description.
+//! description, and two that write a date and time, by a description or by such nodes.
 //! `examples/timefd.h` declares them.
 #![tactic(auto)]
 
@@ -12,6 +12,7 @@ mod diagnosis;
 mod exports;
 mod format;
 mod format_answer;
+mod format_nodes;
 pub mod laws;
 mod moment;
 mod nodes;
@@ -29,7 +30,8 @@ pub use diagnose::timefd_diagnose;
 pub use diagnosis::{Diagnosis, FaultFields};
 pub use exports::{timefd_check, timefd_convert, timefd_judge, timefd_v1_to_v2, timefd_v2_to_v3};
 pub use format::timefd_format;
-pub use format_answer::{FormatAnswer, OUT_OF_RANGE, UNSHOWN};
+pub use format_answer::{FormatAnswer, NO_DESCRIPTION, OUT_OF_RANGE, UNSHOWN};
+pub use format_nodes::timefd_format_nodes;
 pub use moment::MomentFields;
 pub use nodes::{VERSION, timefd_read, timefd_version};
 pub use timefd_c_nodes::Node;

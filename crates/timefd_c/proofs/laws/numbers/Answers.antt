@@ -12,6 +12,7 @@ returns c = record {
   unshown = refl;
   out_of_range = refl;
   no_conversion = refl;
+  no_description = refl;
   version_1 = refl;
   version_2 = refl;
   version_3 = refl;

@@ -1,0 +1,251 @@
+-- What nodes write is written of their leaves, the last one first.
+use Rattle.std.proofs.Common.{ℕ, zero, suc, ◌≡◌, ◌∙◌, ◌+◌, ◌-◌, ◌^◌, ◌<◌, ◌≤◌, List, [], ◌∷◌, ◌++◌, length, take, drop, Result, Ok, Err, IfOk, refl, sym, ap, subst, arith, append_assoc, append-nil, length-append, length-take}
+use Rattle.std.proofs.lemmas.List.{take_all, drop_all}
+use Rattle.timefd_component.specs.declared.component.Component.{Component}
+use Rattle.timefd_component.specs.declared.component.Component.TheVariants.{Subsecond}
+use Rattle.timefd_component.specs.Modern.{modern}
+use Rattle.timefd_component.specs.Reserved.{reserved}
+use Rattle.timefd_component.specs.Tree.{Text, Tree, component, compound, trees}
+use Rattle.timefd_component.proofs.ModernLemmas.{modern_again}
+use Rattle.timefd_modifier.specs.declared.enums.SubsecondDigits.{SubsecondDigits}
+use Rattle.timefd_moment.specs.declared.moment.Moment.{Moment}
+use Rattle.timefd_node_list.specs.Leaves.{leaves_in}
+use Rattle.timefd_node_list.specs.Nodes.{kept_bytes}
+use Rattle.timefd_format.specs.declared.place.Place.{Place}
+use Rattle.timefd_format.specs.declared.place.Place.TheVariants as place
+use Rattle.timefd_format.specs.declared.unshown.Unshown.{Unshown}
+use Rattle.timefd_format.specs.declared.write.FormatError.{FormatError}
+use Rattle.timefd_format.specs.declared.write.FormatError.TheVariants as fails
+use Rattle.timefd_format.specs.Fields.{field}
+use Rattle.timefd_format.specs.Outcomes.{IsOutcome}
+use Rattle.timefd_format.specs.Writes.{IsIn, Writes}
+use Rattle.timefd_format.specs.Written.{followed, shown, text_of, written, written_all}
+use Rattle.timefd_format.proofs.LeafLemmas.{by_leaves}
+use Rattle.timefd_format.proofs.RoomLemmas.{fits}
+use Rattle.timefd_format.proofs.WalkLemmas.{writes_behind, writes_in}
+use Rattle.timefd_c_format.specs.Places.{place_of}
+use Rattle.timefd_c_format.specs.Texts.{IsLen, ShowsNodes}
+use Rattle.timefd_c_format.specs.declared.format.NodesError.TheVariants as answers
+
+-- the texts of all leaves are those of the trees
+by_leaves_in : (m : Moment) (ts : List Tree) → written_all m (trees (leaves_in ts)) ≡ written_all m (trees ts)
+by_leaves_in m ts = by_leaves m (compound (trees ts))
+
+-- Leaves that are left, and what is written of those behind them.
+pub record IsPutTo (m : Moment) (whole left : List Tree) (old new : Text) (at : Place) : Type 0 where
+  pub done : List Tree
+  pub split : whole ≡ left ++ done
+  pub writes : Writes (written_all m (trees done)) old (place.At (length old)) new at
+  pub inside : IsIn (length new) at
+
+pub none_put : (m : Moment) (whole : List Tree) (old : Text)
+    → IsPutTo m whole whole old old (place.At (length old))
+none_put m whole old = record {
+  done = [];
+  split = sym (append-nil whole);
+  writes = (omega arith, sym ((λ i. take_all (length old) old (omega arith) i ++ drop_all (length old) old (omega arith) i) ∙ append-nil old));
+  inside = omega arith;
+}
+
+pub one_put : (m : Moment) (whole left rest : List Tree) (t : Tree) (old mid new : Text) (e k : Place)
+    → IsPutTo m whole left old mid e → left ≡ rest ++ t ∷ [] → Writes (written m t) mid e new k
+    → IsPutTo m whole rest old new k
+one_put m whole left rest t old mid new e k w is one = record {
+  done = t ∷ w.done;
+  split = w.split ∙ ap (λ x. x ++ w.done) is ∙ append_assoc rest (t ∷ []) w.done;
+  writes = writes_behind (written m t) (written_all m (trees w.done)) old mid new (place.At (length old)) e k
+      (omega arith) w.writes one;
+  inside = writes_in (written m t) mid new e k w.inside one;
+}
+
+pub all_put : (m : Moment) (ts left : List Tree) (old new : Text) (e : Place)
+    → IsPutTo m (leaves_in ts) left old new e → left ≡ []
+    → Writes (written_all m (trees ts)) old (place.At (length old)) new e
+all_put m ts left old new e w none =
+    let all : w.done ≡ leaves_in ts = sym (w.split ∙ ap (λ x. x ++ w.done) none) in
+    subst (λ x. Writes x old (place.At (length old)) new e)
+    (ap (λ us. written_all m (trees us)) all ∙ by_leaves_in m ts) w.writes
+
+-- what is written at the end of the front of a buffer
+pub put_in_front : (x : Result Text Unshown) (old new : Text) (end : ℕ) (r : Result ℕ FormatError)
+    → end ≤ length old → IsOutcome x (take end old) new r
+    → Writes x old (place.At end) (new ++ drop end old) (place_of r)
+put_in_front (Ok text) old new end (Ok at) h o =
+    let size : length (take end old) ≡ end = omega (arith, length-take end old, h) in
+    let front : take at (take end old) ≡ take at old = take_take at end old (omega (arith, size, o.0)) in (
+      omega (arith, size, o.0),
+      ap (λ y. y ++ drop end old) o.1
+          ∙ append_assoc (take at (take end old)) text (drop end old)
+          ∙ ap (λ y. y ++ (text ++ drop end old)) front,
+    )
+  where
+    take_take : (q k : ℕ) (xs : Text) → q ≤ k → take q (take k xs) ≡ take q xs
+    take_take zero k xs h = refl
+    take_take (suc q) zero xs h = absurd (omega (arith, h))
+    take_take (suc q) (suc k) [] h = refl
+    take_take (suc q) (suc k) (x ∷ xs) h = ap (λ ys. x ∷ ys) (take_take q k xs (omega (arith, h)))
+put_in_front (Ok text) old new end (Err fails.Room) h o = omega (arith, length-take end old, h, o)
+put_in_front (Ok text) old new end (Err (fails.Unshown u)) h o = absurd o
+put_in_front (Err v) old new end (Ok at) h o = absurd o
+put_in_front (Err v) old new end (Err fails.Room) h o = absurd o
+put_in_front (Err v) old new end (Err (fails.Unshown u)) h o = ap (λ w. place.Unshown w) o
+
+-- What is answered of a part that isn't written, since there was no room behind it, or nothing to show.
+pub put_nowhere : (x : Result Text Unshown) (old new other : Text) (e : FormatError) (r : Result ℕ FormatError)
+    → IsOutcome x [] other r → ((u : Unshown) → r ≡ Err (fails.Unshown u) → ⊥)
+    → Writes x old (place_of (Err e)) new (place_of (Err e))
+put_nowhere (Ok text) old new other fails.Room r o never = refl
+put_nowhere (Ok text) old new other (fails.Unshown u) r o never = refl
+put_nowhere (Err v) old new other e (Ok at) o never = absurd o
+put_nowhere (Err v) old new other e (Err fails.Room) o never = absurd o
+put_nowhere (Err v) old new other e (Err (fails.Unshown u)) o never = absurd (never u refl)
+
+pub told_nowhere : (x : Result Text Unshown) (old new other : Text) (p : Place) (u : Unshown)
+    → IsOutcome x [] other (Err (fails.Unshown u)) → Writes x old p new (place.Unshown u)
+told_nowhere (Ok text) old new other p u o = absurd o
+told_nowhere (Err v) old new other p u o = ap (λ w. place.Unshown w) o
+
+-- A text that has the buffer's length is all of the buffer.
+pub exact : (text old new : Text) (p : Place) → length text ≡ length old
+    → Writes (Ok text) old (place.At (length old)) new p → new ≡ text
+exact text old new (place.At at) same w =
+    let none : at ≡ 0 = omega (arith, same, w.0) in
+    w.1 ∙ ap (λ n. take n old ++ (text ++ drop (length old) old)) none
+    ∙ ap (λ y. text ++ y) (drop_all (length old) old (omega arith)) ∙ append-nil text
+exact text old new place.NoRoom same w = absurd (omega (arith, same, w))
+exact text old new (place.Unshown u) same w = absurd w
+
+-- Lengths.
+
+-- the length of what is written of leaves behind those that are left
+pub record IsLenTo (m : Moment) (whole left : List Tree) (len : Result ℕ Unshown) : Type 0 where
+  pub done : List Tree
+  pub split : whole ≡ left ++ done
+  pub is : IsLen (written_all m (trees done)) len
+
+pub none_counted : (m : Moment) (whole : List Tree) → IsLenTo m whole whole (Ok 0)
+none_counted m whole = record { done = []; split = sym (append-nil whole); is = omega arith }
+
+pub one_counted : (m : Moment) (whole left rest : List Tree) (t : Tree) (a b c : Result ℕ Unshown)
+    → IsLenTo m whole left b → left ≡ rest ++ t ∷ [] → IsLen (written m t) a
+    → ((x y : Result Text Unshown) → IsLen x a → IsLen y b → IsLen (followed x y) c)
+    → IsLenTo m whole rest c
+one_counted m whole left rest t a b c w is one plus = record {
+  done = t ∷ w.done;
+  split = w.split ∙ ap (λ x. x ++ w.done) is ∙ append_assoc rest (t ∷ []) w.done;
+  is = plus (written m t) (written_all m (trees w.done)) one w.is;
+}
+
+pub all_counted : (m : Moment) (ts left : List Tree) (len : Result ℕ Unshown)
+    → IsLenTo m (leaves_in ts) left len → left ≡ [] → IsLen (written_all m (trees ts)) len
+all_counted m ts left len w none =
+    let all : w.done ≡ leaves_in ts = sym (w.split ∙ ap (λ x. x ++ w.done) none) in
+    subst (λ x. IsLen x len) (ap (λ us. written_all m (trees us)) all ∙ by_leaves_in m ts) w.is
+
+pub both_counted : (x y : Result Text Unshown) (a b c : ℕ) → c ≡ kept_bytes (a + b) → IsLen x (Ok a)
+    → IsLen y (Ok b) → IsLen (followed x y) (Ok c)
+both_counted (Ok s) (Ok t) a b c is one two = omega (arith, is, one, two, length-append s t)
+both_counted (Ok s) (Err u) a b c is one two = absurd two
+both_counted (Err u) y a b c is one two = absurd one
+
+pub behind_unshown : (x y : Result Text Unshown) (a : ℕ) (u : Unshown) → IsLen x (Ok a) → IsLen y (Err u)
+    → IsLen (followed x y) (Err u)
+behind_unshown (Ok s) (Ok t) a u one two = absurd two
+behind_unshown (Ok s) (Err v) a u one two = two
+behind_unshown (Err v) y a u one two = absurd one
+
+pub first_unshown : (x y : Result Text Unshown) (u : Unshown) → IsLen x (Err u) → IsLen (followed x y) (Err u)
+first_unshown (Ok s) y u one = absurd one
+first_unshown (Err v) y u one = one
+
+digits_short : (d : SubsecondDigits) → reserved (Subsecond (record { digits = d })) ≤ 32
+digits_short SubsecondDigits.One = omega arith
+digits_short SubsecondDigits.Two = omega arith
+digits_short SubsecondDigits.Three = omega arith
+digits_short SubsecondDigits.Four = omega arith
+digits_short SubsecondDigits.Five = omega arith
+digits_short SubsecondDigits.Six = omega arith
+digits_short SubsecondDigits.Seven = omega arith
+digits_short SubsecondDigits.Eight = omega arith
+digits_short SubsecondDigits.Nine = omega arith
+digits_short SubsecondDigits.OneOrMore = omega arith
+
+short : (c : Component) → reserved c ≤ 32
+short (Subsecond s) = digits_short s.digits
+short c = omega arith
+
+-- no component shows more than 32 bytes
+shown_short : (m : Moment) (c : Component) → IfOk (shown m c) (λ text. length text ≤ 32)
+shown_short m c =
+    let again : modern (modern c) ≡ modern c = modern_again c (modern c) refl in
+    by (shown m c)
+    (subst (λ d. IfOk (text_of d (field m d)) (λ text. length text ≤ reserved (modern c))) again
+    (fits m (component (modern c)) again))
+  where
+    by : (x : Result Text Unshown) → IfOk x (λ text. length text ≤ reserved (modern c))
+        → IfOk x (λ text. length text ≤ 32)
+    by (Ok text) h = omega (arith, h, short (modern c))
+    by (Err u) h = tt
+
+-- a component at the end of 32 bytes
+pub counted_alone : (m : Moment) (c : Component) (old new : Text) (at : ℕ) → length old ≡ 32
+    → IsOutcome (shown m c) old new (Ok at) → IsLen (shown m c) (Ok (32 - at))
+counted_alone m c old new at size o = by (shown m c) o
+  where
+    by : (x : Result Text Unshown) → IsOutcome x old new (Ok at) → IsLen x (Ok (32 - at))
+    by (Ok text) o = omega (arith, size, o.0)
+    by (Err u) o = absurd o
+
+pub unshown_alone : (m : Moment) (c : Component) (old new : Text) (u : Unshown)
+    → IsOutcome (shown m c) old new (Err (fails.Unshown u)) → IsLen (shown m c) (Err u)
+unshown_alone m c old new u o = by (shown m c) o
+  where
+    by : (x : Result Text Unshown) → IsOutcome x old new (Err (fails.Unshown u)) → IsLen x (Err u)
+    by (Ok text) o = absurd o
+    by (Err v) o = o
+
+pub room_alone : (m : Moment) (c : Component) (old new : Text) → length old ≡ 32
+    → IsOutcome (shown m c) old new (Err fails.Room) → ⊥
+room_alone m c old new size o = by (shown m c) (shown_short m c) o
+  where
+    by : (x : Result Text Unshown) → IfOk x (λ text. length text ≤ 32) → IsOutcome x old new (Err fails.Room) → ⊥
+    by (Ok text) h o = omega (arith, size, h, o)
+    by (Err u) h o = o
+
+-- Answers.
+
+pub shows : (x : Result Text Unshown) (old new : Text) (len n : ℕ) → IsLen x (Ok len)
+    → ((text : Text) → x ≡ Ok text → length text ≤ length old
+    → (new ≡ text ++ drop (length text) old) × (n ≡ length text))
+    → ((text : Text) → x ≡ Ok text → length old < length text → (new ≡ old) × (n ≡ 0))
+    → ShowsNodes x old new (Ok (record { len = len; written = n }))
+shows (Ok text) old new len n is whole short = record {
+  len = is;
+  whole = whole text refl;
+  too_short = short text refl;
+}
+shows (Err u) old new len n is whole short = absurd is
+
+pub shows_none : (x : Result Text Unshown) (old : Text) (u : Unshown) → IsLen x (Err u)
+    → ShowsNodes x old old (Err (answers.Unshown u))
+shows_none (Ok text) old u is = absurd is
+shows_none (Err v) old u is = (is, refl)
+
+-- A length that has room is that of the text.
+pub len_is : (x : Result Text Unshown) (text : Text) (len n : ℕ) → IsLen x (Ok len) → x ≡ Ok text → len ≤ n
+    → n < 2 ^ 64 - 1 → len ≡ length text
+len_is x text len n is e fits small =
+    omega (arith, subst (λ y. IsLen y (Ok len)) e is, fits, small)
+
+pub len_short : (x : Result Text Unshown) (text : Text) (len n : ℕ) → IsLen x (Ok len) → x ≡ Ok text → n < len
+    → n < length text
+len_short x text len n is e short = omega (arith, subst (λ y. IsLen y (Ok len)) e is, short)
+
+-- a text that was written over the front of a buffer
+pub front_exact : (x : Result Text Unshown) (text old new : Text) (len : ℕ) (p : Place) → x ≡ Ok text
+    → len ≡ length text → len ≤ length old
+    → Writes x (take len old) (place.At (length (take len old))) new p → new ++ drop len old ≡ text ++ drop (length text) old
+front_exact x text old new len p e is fits w =
+    let size : length text ≡ length (take len old) = omega (arith, is, fits, length-take len old) in
+    (λ i. exact text (take len old) new p size (subst (λ y. Writes y (take len old) (place.At (length (take len old))) new p) e w) i
+    ++ drop (is i) old)

@@ -1,0 +1,87 @@
+//! The public call.
+
+ghost use Rattle.std.specs.Prelude.{◌≡◌, ◌<◌, ◌≤◌, ◌++◌, Err, None, Ok, Some, drop, length};
+ghost use Rattle.timefd_c_format.specs.Nodes as spec;
+ghost use Rattle.timefd_c_format.specs.Nodes.{node_trees};
+ghost use Rattle.timefd_c_format.specs.Texts.{IsLen, ShowsNodes};
+ghost use Rattle.timefd_component.specs.Tree.{Text, trees};
+ghost use Rattle.timefd_format.specs.Written.{written_all};
+ghost use Rattle.std.specs.Prelude.{ℕ};
+
+use crate::fault::node_fault;
+use crate::len::text_len;
+use crate::write::write_whole;
+use timefd_c_nodes::Node;
+use timefd_format::Unshown;
+use timefd_moment::Moment;
+
+/// How long the text of nodes is, and how much of it was written.
+#[derive(Debug, Clone, Copy)]
+pub struct NodesText {
+    /// The length of the text in bytes, at most `usize::MAX`.
+    pub len: usize,
+    /// How many bytes were written: all of the text, or none.
+    pub written: usize,
+}
+
+/// Why nodes write nothing.
+#[derive(Debug, Clone, Copy)]
+pub enum NodesError {
+    /// The node with this index is the first one that is no part of a description.
+    NoDescription(usize),
+    /// A component shows nothing of the moment. It is the first such one.
+    Unshown(Unshown),
+}
+
+/// Writes the moment by nodes over the front of the buffer, if that has room for all that they write.
+/// Else, and behind an `Err`, the buffer is as it was. It takes no memory.
+#[tactic(auto, using(crate::proofs::WriteLemmas::shows, crate::proofs::WriteLemmas::shows_none))]
+pub fn format_nodes(
+    nodes: &[Node],
+    literals: &[u8],
+    moment: Moment,
+    buffer: &mut [u8],
+) -> Result<NodesText, NodesError>
+    ensures no_description { (at : ℕ) → spec.node_fault literals.now nodes.now ≡ Some at
+        → (result ≡ Err (NodesError.NoDescription at)) × (buffer.new ≡ buffer.old) }
+    ensures shows { spec.node_fault literals.now nodes.now ≡ None
+        → ShowsNodes (written_all moment (trees (node_trees literals.now nodes.now))) buffer.old
+        buffer.new result }
+{
+    if let Some(at) = node_fault(nodes, literals) {
+        return Err(NodesError::NoDescription(at));
+    }
+    match text_len(moment, nodes, literals) {
+        Ok(len) => {
+            let written = write_front(moment, nodes, literals, len, buffer);
+            Ok(NodesText { len, written })
+        }
+        Err(unshown) => Err(NodesError::Unshown(unshown)),
+    }
+}
+
+/// Writes what nodes show over the front of the buffer, if that has room for it, and says how many
+/// bytes were written.
+fn write_front(
+    moment: Moment,
+    nodes: &[Node],
+    literals: &[u8],
+    len: usize,
+    buffer: &mut [u8],
+) -> usize
+    requires sound { spec.node_fault literals.now nodes.now ≡ None }
+    requires len { IsLen (written_all moment (trees (node_trees literals.now nodes.now))) (Ok len) }
+    ensures whole { (text : Text)
+        → written_all moment (trees (node_trees literals.now nodes.now)) ≡ Ok text
+        → length text ≤ length buffer.old
+        → (buffer.new ≡ text ++ drop (length text) buffer.old) × (result ≡ length text) }
+    ensures too_short { (text : Text)
+        → written_all moment (trees (node_trees literals.now nodes.now)) ≡ Ok text
+        → length buffer.old < length text → (buffer.new ≡ buffer.old) × (result ≡ 0) }
+{
+    if buffer.len() < len {
+        return 0;
+    }
+    let _ = write_whole(moment, nodes, literals, &mut buffer[..len]);
+    len
+}

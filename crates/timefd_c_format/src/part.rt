@@ -1,0 +1,109 @@
+//! What a node is.
+
+ghost use Rattle.std.specs.Prelude.{◌≡◌};
+ghost use Rattle.timefd_c_format.specs.Parts as spec;
+ghost use Rattle.timefd_c_nodes.specs.Decoding.{flag_of};
+ghost use Rattle.timefd_node_list.specs.Leaves.{unwritten};
+ghost use Rattle.timefd_node_list.specs.Nodes.{arity};
+
+use crate::component::component_of;
+use crate::modifier::flag_of;
+use timefd_c_nodes::Node;
+use timefd_component::Component;
+
+/// Which of the five a node is.
+#[derive(Clone, Copy)]
+enum Kind {
+    Literal,
+    Component,
+    Compound,
+    Optional,
+    First,
+}
+
+/// What a node is, where it is a part of a description.
+#[derive(Clone, Copy)]
+pub enum Part<'l> {
+    /// Bytes as they stand.
+    Literal(&'l [u8]),
+    Component(Component),
+    /// So many members in turn.
+    Compound(usize),
+    /// One member, and whether a formatter writes it.
+    Optional(bool),
+    /// So many alternatives.
+    First(usize),
+}
+
+/// What a node is, where its numbers mean something and its bytes are all among the literals.
+pub(crate) fn part_of<'l>(node: &Node, literals: &'l [u8]) -> Option<Part<'l>>
+    ensures { spec.part_role result ≡ spec.role_in literals.now node.now }
+{
+    match kind_of(node.what)? {
+        Kind::Literal => literal_of(node.start, node.count, literals),
+        Kind::Component => shown_of(node),
+        Kind::Compound => Some(Part::Compound(node.count)),
+        Kind::Optional => optional_of(node.format),
+        Kind::First => Some(Part::First(node.count)),
+    }
+}
+
+fn kind_of(number: u32) -> Option<Kind>
+    ensures { result ≡ spec.kind_of number }
+{
+    match number {
+        1 => Some(Kind::Literal),
+        2 => Some(Kind::Component),
+        3 => Some(Kind::Compound),
+        4 => Some(Kind::Optional),
+        5 => Some(Kind::First),
+        _ => None,
+    }
+}
+
+fn literal_of<'l>(start: usize, count: usize, literals: &'l [u8]) -> Option<Part<'l>>
+    ensures { spec.part_role result ≡ spec.literal_role start count literals.now }
+{
+    if start > literals.len() || count > literals.len() - start {
+        return None;
+    }
+    Some(Part::Literal(&literals[start..start + count]))
+}
+
+fn optional_of<'l>(format: u8) -> Option<Part<'l>>
+    ensures { spec.part_role result ≡ spec.perhaps_role (flag_of format) }
+{
+    Some(Part::Optional(flag_of(format)?))
+}
+
+fn shown_of<'l>(node: &Node) -> Option<Part<'l>>
+    ensures { spec.part_role result ≡ spec.component_role node.now }
+{
+    if node.component == 32 && node.ignored > 65_535 {
+        return None;
+    }
+    Some(Part::Component(component_of(node)?))
+}
+
+/// How many members it takes.
+pub(crate) fn members(part: Part<'_>) -> usize
+    ensures { result ≡ arity (spec.role part.entry) }
+{
+    match part {
+        Part::Literal(_) | Part::Component(_) => 0,
+        Part::Compound(count) => count,
+        Part::Optional(_) => 1,
+        Part::First(count) => count,
+    }
+}
+
+/// How many of its members, the last ones, no formatter writes.
+pub(crate) fn unwritten_members(part: Part<'_>) -> usize
+    ensures { result ≡ unwritten (spec.role part.entry) }
+{
+    match part {
+        Part::Literal(_) | Part::Component(_) | Part::Compound(_) => 0,
+        Part::Optional(format) => if format { 0 } else { 1 },
+        Part::First(count) => count.saturating_sub(1),
+    }
+}
