@@ -4,6 +4,7 @@ use std::num::NonZeroU16;
 
 use super::component;
 use crate::component::Component as C;
+use crate::encode;
 use crate::modifier::{Padding, SubsecondDigits, TrailingInput};
 use crate::sys::RawNode;
 
@@ -77,6 +78,17 @@ fn every_component_has_its_number() {
     for is_true in [false, true] {
         for (number, expected) in (1..).zip(components(is_true)) {
             assert_eq!(component(&node(number, is_true)), Some(expected));
+        }
+    }
+}
+
+#[test]
+fn every_component_has_the_numbers_that_it_came_of() {
+    for is_true in [false, true] {
+        for (number, component) in (1..).zip(components(is_true)) {
+            let node = encode::component(component);
+            assert_eq!((node.what, node.component), (2, number));
+            assert_eq!(super::component(&node), Some(component));
         }
     }
 }

@@ -8,7 +8,7 @@ use core::str::from_utf8;
 use crate::buffer;
 use crate::error::ParseError;
 use crate::moment::Moment;
-use crate::sys::{self, FormatAnswer, RawMoment};
+use crate::sys::{self, RawMoment, RawNode};
 use crate::version::{Language, Version};
 use crate::write::WriteError;
 
@@ -28,7 +28,7 @@ use crate::write::WriteError;
 /// # Ok::<(), timefd::FormatError>(())
 /// ```
 pub fn format(version: Version, text: &str, moment: &Moment) -> Result<String, FormatError> {
-    formatted(version.number(), text, moment)
+    Pattern::Text(version.number(), text).format(moment)
 }
 
 /// Writes the moment by a text of strftime.
@@ -49,7 +49,7 @@ pub fn format(version: Version, text: &str, moment: &Moment) -> Result<String, F
 /// # Ok::<(), FormatError>(())
 /// ```
 pub fn format_strftime(text: &str, moment: &Moment) -> Result<String, FormatError> {
-    formatted(Language::Strftime.number(), text, moment)
+    Pattern::Text(Language::Strftime.number(), text).format(moment)
 }
 
 /// Why nothing is written.
@@ -184,60 +184,81 @@ impl Error for FormatError {
 const SHORT: usize = 128;
 
 /// Memory ran out.
-const NO_MEMORY: FormatError = FormatError::Parse(ParseError::OutOfMemory);
+pub(crate) const NO_MEMORY: FormatError = FormatError::Parse(ParseError::OutOfMemory);
 
-/// What is written by a text in the language of a number.
-pub(crate) fn formatted(kind: u32, text: &str, moment: &Moment) -> Result<String, FormatError> {
-    let moment = moment.raw();
-    let mut short = [0; SHORT];
-    let len = accepted(kind, text, &sys::format(kind, text, &moment, &mut short))?;
-    if len <= SHORT {
-        buffer::string(&short[..len]).ok_or(NO_MEMORY)
-    } else {
-        long(kind, text, &moment, len)
+/// What a moment is written by.
+#[derive(Clone, Copy)]
+pub(crate) enum Pattern<'a> {
+    /// A text in the language of a number.
+    Text(u32, &'a str),
+    /// Nodes of a description, and the bytes of their literals.
+    Nodes(&'a [RawNode], &'a [u8]),
+}
+
+impl Pattern<'_> {
+    /// What is written.
+    pub(crate) fn format(self, moment: &Moment) -> Result<String, FormatError> {
+        let moment = moment.raw();
+        let mut short = [0; SHORT];
+        let len = self.write(&moment, &mut short)?;
+        if len <= SHORT {
+            buffer::string(&short[..len]).ok_or(NO_MEMORY)
+        } else {
+            self.long(&moment, len)
+        }
     }
-}
 
-/// Hands what is written by a text to an output, all at once; it takes no memory where that is
-/// short.
-pub(crate) fn format_to<E>(
-    kind: u32,
-    text: &str,
-    moment: &Moment,
-    output: impl FnOnce(&str) -> Result<(), E>,
-) -> Result<(), WriteError<E>> {
-    let moment = moment.raw();
-    let mut short = [0; SHORT];
-    let len = accepted(kind, text, &sys::format(kind, text, &moment, &mut short))?;
-    let written = if len <= SHORT {
-        output(from_utf8(&short[..len]).expect("what is written is text"))
-    } else {
-        output(&long(kind, text, &moment, len)?)
-    };
-    written.map_err(WriteError::Output)
-}
+    /// Hands what is written to an output, all at once; it takes no memory where that is short.
+    pub(crate) fn format_to<E>(
+        self,
+        moment: &Moment,
+        output: impl FnOnce(&str) -> Result<(), E>,
+    ) -> Result<(), WriteError<E>> {
+        let moment = moment.raw();
+        let mut short = [0; SHORT];
+        let len = self.write(&moment, &mut short)?;
+        let written = if len <= SHORT {
+            output(from_utf8(&short[..len]).expect("what is written is text"))
+        } else {
+            output(&self.long(&moment, len)?)
+        };
+        written.map_err(WriteError::Output)
+    }
 
-/// The same of so many bytes. The library is asked once more, as it has said how much room it wants.
-fn long(kind: u32, text: &str, moment: &RawMoment, len: usize) -> Result<String, FormatError> {
-    let mut long = buffer::filled(len, 0).ok_or(NO_MEMORY)?;
-    let answer = sys::format(kind, text, moment, &mut long);
-    accepted(kind, text, &answer)?;
-    assert_eq!(answer.written, long.len(), "there was room for what the library told");
-    Ok(String::from_utf8(long).expect("what is written is text"))
-}
+    /// The same of so many bytes. The library is asked once more, as it has said how much room it
+    /// wants.
+    fn long(self, moment: &RawMoment, len: usize) -> Result<String, FormatError> {
+        let mut long = buffer::filled(len, 0).ok_or(NO_MEMORY)?;
+        let written = self.write(moment, &mut long)?;
+        assert_eq!(written, long.len(), "the same is written of the same moment");
+        Ok(String::from_utf8(long).expect("what is written is text"))
+    }
 
-/// The length of what is to be written, or the error.
-fn accepted(kind: u32, text: &str, answer: &FormatAnswer) -> Result<usize, FormatError> {
-    match answer.status {
-        sys::ACCEPTED => Ok(answer.value),
-        sys::UNSHOWN => {
-            let lack = Lack::from_number(answer.reason).expect("a reason of the header");
-            Err(FormatError::Unshown { component: answer.component, lack })
+    /// The length of what is to be written, which the buffer has where it has room for all of it.
+    fn write(self, moment: &RawMoment, buffer: &mut [u8]) -> Result<usize, FormatError> {
+        let answer = match self {
+            Self::Text(kind, text) => sys::format(kind, text, moment, buffer),
+            Self::Nodes(nodes, literals) => sys::format_nodes(nodes, literals, moment, buffer),
+        };
+        match answer.status {
+            sys::ACCEPTED => Ok(answer.value),
+            sys::UNSHOWN => {
+                let lack = Lack::from_number(answer.reason).expect("a reason of the header");
+                Err(FormatError::Unshown { component: answer.component, lack })
+            }
+            sys::OUT_OF_RANGE => {
+                let number = Number::from_number(answer.reason).expect("a number of the header");
+                Err(FormatError::OutOfRange(number))
+            }
+            status => Err(self.refused(status)),
         }
-        sys::OUT_OF_RANGE => {
-            let number = Number::from_number(answer.reason).expect("a number of the header");
-            Err(FormatError::OutOfRange(number))
+    }
+
+    /// The error of another status.
+    fn refused(self, status: u32) -> FormatError {
+        match self {
+            Self::Text(kind, text) => FormatError::Parse(ParseError::of(kind, text, status)),
+            Self::Nodes(..) => unreachable!("the library wrote these nodes"),
         }
-        status => Err(FormatError::Parse(ParseError::of(kind, text, status))),
     }
 }

@@ -44,6 +44,7 @@ mod component;
 mod convert;
 mod decode;
 mod description;
+mod encode;
 mod error;
 mod fault;
 mod format;

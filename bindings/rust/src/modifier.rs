@@ -21,6 +21,14 @@ impl Padding {
             _ => None,
         }
     }
+
+    pub(crate) fn number(self) -> u8 {
+        match self {
+            Self::Space => 1,
+            Self::Zero => 2,
+            Self::None => 3,
+        }
+    }
 }
 
 /// How many digits of a fraction of a second are shown.
@@ -65,6 +73,21 @@ impl SubsecondDigits {
             _ => None,
         }
     }
+
+    pub(crate) fn number(self) -> u8 {
+        match self {
+            Self::One => 1,
+            Self::Two => 2,
+            Self::Three => 3,
+            Self::Four => 4,
+            Self::Five => 5,
+            Self::Six => 6,
+            Self::Seven => 7,
+            Self::Eight => 8,
+            Self::Nine => 9,
+            Self::OneOrMore => 10,
+        }
+    }
 }
 
 impl SubsecondDigits {
@@ -102,6 +125,13 @@ impl TrailingInput {
             _ => None,
         }
     }
+
+    pub(crate) fn number(self) -> u8 {
+        match self {
+            Self::Prohibit => 1,
+            Self::Discard => 2,
+        }
+    }
 }
 
 /// A modifier that is true or false.
@@ -111,4 +141,9 @@ pub(crate) fn boolean(number: u8) -> Option<bool> {
         2 => Some(true),
         _ => None,
     }
+}
+
+/// The number of a modifier that is true or false.
+pub(crate) fn boolean_number(is_true: bool) -> u8 {
+    if is_true { 2 } else { 1 }
 }

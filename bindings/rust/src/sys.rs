@@ -195,6 +195,15 @@ unsafe extern "C" {
         buffer: *mut u8,
         room: usize,
     ) -> FormatAnswer;
+    fn timefd_format_nodes(
+        nodes: *const RawNode,
+        node_count: usize,
+        literals: *const u8,
+        literal_count: usize,
+        moment: *const RawMoment,
+        buffer: *mut u8,
+        room: usize,
+    ) -> FormatAnswer;
 }
 
 /// Stops a program that was linked with another library.
@@ -269,6 +278,29 @@ pub(crate) fn format(kind: u32, text: &str, moment: &RawMoment, buffer: &mut [u8
     // SAFETY: as in `check`; the moment is borrowed for the call too.
     unsafe {
         timefd_format(kind, text.as_ptr(), text.len(), moment, buffer.as_mut_ptr(), buffer.len())
+    }
+}
+
+/// What nodes write of the moment, where the buffer has room for all of it.
+pub(crate) fn format_nodes(
+    nodes: &[RawNode],
+    literals: &[u8],
+    moment: &RawMoment,
+    buffer: &mut [u8],
+) -> FormatAnswer {
+    expect_version();
+    // SAFETY: the pointers and the lengths are those of three slices that are borrowed for the call,
+    // the last for it alone; the moment is borrowed for the call too.
+    unsafe {
+        timefd_format_nodes(
+            nodes.as_ptr(),
+            nodes.len(),
+            literals.as_ptr(),
+            literals.len(),
+            moment,
+            buffer.as_mut_ptr(),
+            buffer.len(),
+        )
     }
 }
 

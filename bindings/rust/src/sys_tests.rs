@@ -19,8 +19,9 @@ use crate::version::{Language, Version};
 
 const HEADER: &str = concat!(env!("CARGO_MANIFEST_DIR"), "/../../examples/timefd.h");
 
-/// The statuses that no call of this crate answers: its texts are UTF-8, and its languages known.
-const UNUSED: [&str; 2] = ["NOT_UTF8", "UNKNOWN_KIND"];
+/// The statuses that no call of this crate answers: its texts are UTF-8, its languages known, and its
+/// nodes those of a description.
+const UNUSED: [&str; 3] = ["NOT_UTF8", "UNKNOWN_KIND", "NO_DESCRIPTION"];
 
 /// Each `#define TIMEFD_NAME 12u` of the header, by its name.
 fn defined(header: &str) -> BTreeMap<String, u32> {

@@ -4,12 +4,16 @@ use alloc::string::String;
 use core::error::Error;
 use core::fmt;
 
+use crate::buffer;
 use crate::description::FormatDescription;
-use crate::format::{FormatError, format_to, formatted};
+use crate::encode;
+use crate::format::{FormatError, NO_MEMORY, Pattern};
 use crate::moment::Moment;
+use crate::parts::Part;
+use crate::sys::RawNode;
 
 impl FormatDescription<'_> {
-    /// Writes the moment.
+    /// Writes the moment. The text of the description isn't read again.
     ///
     /// # Errors
     ///
@@ -26,7 +30,7 @@ impl FormatDescription<'_> {
     /// # Ok::<(), Box<dyn std::error::Error>>(())
     /// ```
     pub fn format(&self, moment: &Moment) -> Result<String, FormatError> {
-        formatted(self.language().number(), self.text(), moment)
+        self.with_pattern(|pattern| pattern.format(moment))
     }
 
     /// Writes the moment to a text or a formatter, in one write: nothing of it where the moment
@@ -54,7 +58,7 @@ impl FormatDescription<'_> {
         moment: &Moment,
         output: &mut impl fmt::Write,
     ) -> Result<(), WriteError<fmt::Error>> {
-        format_to(self.language().number(), self.text(), moment, |text| output.write_str(text))
+        self.with_pattern(|pattern| pattern.format_to(moment, |text| output.write_str(text)))
     }
 
     /// Writes the moment to an output of bytes, in one `write_all`: nothing of it where the moment
@@ -81,7 +85,7 @@ impl FormatDescription<'_> {
         output: &mut impl std::io::Write,
     ) -> Result<(), WriteError<std::io::Error>> {
         let write = |text: &str| output.write_all(text.as_bytes());
-        format_to(self.language().number(), self.text(), moment, write)
+        self.with_pattern(|pattern| pattern.format_to(moment, write))
     }
 
     /// What `Display` shows as the moment. Where the moment can't be written that is
@@ -99,7 +103,56 @@ impl FormatDescription<'_> {
     pub fn show(&self, moment: Moment) -> Shown<'_> {
         Shown { description: self, moment }
     }
+
+    /// Calls with what a formatter writes of the description. It takes no memory where that is
+    /// short.
+    fn with_pattern<T, E: From<FormatError>>(
+        &self,
+        call: impl FnOnce(Pattern<'_>) -> Result<T, E>,
+    ) -> Result<T, E> {
+        let (count, len) = (self.parts().len(), self.literals_len());
+        if count <= SHORT_NODES && len <= SHORT_LITERALS {
+            let mut nodes = [RawNode::default(); SHORT_NODES];
+            let mut literals = [0; SHORT_LITERALS];
+            call(self.pattern_in(&mut nodes[..count], &mut literals[..len]))
+        } else {
+            let mut nodes = buffer::filled(count, RawNode::default()).ok_or(NO_MEMORY)?;
+            let mut literals = buffer::filled(len, 0).ok_or(NO_MEMORY)?;
+            call(self.pattern_in(&mut nodes, &mut literals))
+        }
+    }
+
+    /// How many bytes the literals have that a formatter writes.
+    fn literals_len(&self) -> usize {
+        let len = |part| match part {
+            Part::Literal(text) => text.len(),
+            Part::Component(_) => 0,
+        };
+        self.parts().map(len).sum()
+    }
+
+    /// What a formatter writes of the description, in a buffer of as many nodes and one of as many
+    /// bytes.
+    fn pattern_in<'b>(&self, nodes: &'b mut [RawNode], literals: &'b mut [u8]) -> Pattern<'b> {
+        let mut at = 0;
+        for (node, part) in nodes.iter_mut().zip(self.parts()) {
+            *node = match part {
+                Part::Literal(text) => {
+                    let start = at;
+                    at += text.len();
+                    literals[start..at].copy_from_slice(text.as_bytes());
+                    encode::literal(start, text.len())
+                }
+                Part::Component(component) => encode::component(component),
+            };
+        }
+        Pattern::Nodes(nodes, literals)
+    }
 }
+
+/// Room on the stack for what most descriptions have.
+const SHORT_NODES: usize = 32;
+const SHORT_LITERALS: usize = 128;
 
 /// A moment as a description writes it, for `Display`. [`FormatDescription::show`] makes it.
 #[derive(Debug, Clone, Copy)]
@@ -110,9 +163,10 @@ pub struct Shown<'a> {
 
 impl fmt::Display for Shown<'_> {
     fn fmt(&self, f: &mut fmt::Formatter<'_>) -> fmt::Result {
-        let language = self.description.language().number();
-        format_to(language, self.description.text(), &self.moment, |text| f.pad(text))
-            .map_err(|_| fmt::Error)
+        let written = self
+            .description
+            .with_pattern(|pattern| pattern.format_to(&self.moment, |text| f.pad(text)));
+        written.map_err(|_| fmt::Error)
     }
 }
 

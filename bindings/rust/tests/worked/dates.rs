@@ -59,7 +59,11 @@ impl fmt::Write for Full {
 #[test]
 fn each_way_writes_the_same() {
     let long = ("x".repeat(300) + "[year]", "x".repeat(300) + "2026");
-    let rows = WRITTEN.iter().copied().chain([(THREE, long.0.as_str(), long.1.as_str())]);
+    let many = ("[day]:".repeat(40), "23:".repeat(40));
+    let rows = WRITTEN.iter().copied().chain([
+        (THREE, long.0.as_str(), long.1.as_str()),
+        (THREE, many.0.as_str(), many.1.as_str()),
+    ]);
     for (language, text, expected) in rows {
         let description = language.parse(text).expect(text);
         assert_eq!(description.format(&MOMENT).as_deref(), Ok(expected));
