@@ -1,5 +1,5 @@
 -- Leap years, of the years counted from -1,000,000 on and of the signed ones.
-use Rattle.std.proofs.Common.{ℕ, suc, ◌≡◌, ◌≢◌, ◌∙◌, ◌⊎◌, inl, inr, ◌+◌, ◌-◌, ◌%◌, ◌==◌, ◌||◌, ◌&&◌, not, Bool, true, false, if◌then◌else◌, ℤ, pos, negsuc, ◌+ℤ◌, unsigned_abs, sym, ap, arith}
+use Rattle.std.proofs.Common.{ℕ, suc, ◌≡◌, ◌≢◌, ◌∙◌, ◌⊎◌, inl, inr, ◌+◌, ◌-◌, ◌*◌, ◌%◌, ◌==◌, ◌||◌, ◌&&◌, not, Bool, true, false, if◌then◌else◌, ℤ, pos, negsuc, ◌+ℤ◌, unsigned_abs, sym, ap, arith}
 use Rattle.std.proofs.Math.Dec.{eqb}
 use Rattle.std.proofs.lemmas.Bool.Decides.{eqb_tells}
 use Rattle.jiff_core.specs.Calendar.{IsYear, is_leap_year, days_in_month as jiff_days}
@@ -29,9 +29,9 @@ together c s e =
     let all : (c % 400 == 0) ≡ (s % 400 == 0) = same (c % 400) (s % 400) (λ h. omega (arith, e, h)) (λ h. omega (arith, e, h)) in
     λ i. leap_of (four i) (hundred i) (all i)
 
--- a number and one that is a million more
-apart : (c s : ℕ) → c ≡ s + 1000000 → is_leap c ≡ is_leap s
-apart c s e =
+-- numbers that are whole periods of 400 apart
+pub periods_apart : (c s k : ℕ) → c ≡ s + 400 * k → is_leap c ≡ is_leap s
+periods_apart c s k e =
     let four : (c % 4 == 0) ≡ (s % 4 == 0) = same (c % 4) (s % 4) (λ h. omega (arith, e, h)) (λ h. omega (arith, e, h)) in
     let hundred : (c % 100 == 0) ≡ (s % 100 == 0) = same (c % 100) (s % 100) (λ h. omega (arith, e, h)) (λ h. omega (arith, e, h)) in
     let all : (c % 400 == 0) ≡ (s % 400 == 0) = same (c % 400) (s % 400) (λ h. omega (arith, e, h)) (λ h. omega (arith, e, h)) in
@@ -45,7 +45,7 @@ counted_is (negsuc n) is =
     ap pos (ap unsigned_abs e) ∙ sym e
 
 pub leap : (y : ℤ) → IsYear y → is_leap (counted y) ≡ is_leap_year y
-leap (pos n) is = apart (counted (pos n)) n (omega (arith, signed_arith))
+leap (pos n) is = periods_apart (counted (pos n)) n 2500 (omega (arith, signed_arith))
 leap (negsuc n) is =
     together (counted (negsuc n)) (suc n) (omega (arith, signed_arith, is, counted_is (negsuc n) is))
 

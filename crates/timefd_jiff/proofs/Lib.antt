@@ -1,3 +1,4 @@
 pub mod LeapLemmas
+pub mod DayLemmas
 pub mod SignedLemmas
 pub mod ReadLemmas

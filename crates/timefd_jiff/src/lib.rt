@@ -4,6 +4,7 @@
 
 mod dates;
 mod instants;
+pub mod laws;
 mod moments;
 mod reading;
 mod times;
