@@ -1,5 +1,5 @@
 -- What is answered to C of nodes that are to write a moment.
-use Rattle.std.specs.Prelude.{ℕ, ◌≡◌, ◌≤◌, ◌<◌, ◌++◌, List, Option, Some, None, Result, Ok, Err, length, drop}
+use Rattle.std.specs.Prelude.{ℕ, ◌≡◌, ◌≤◌, ◌<◌, ◌++◌, List, Some, None, Result, Ok, Err, length, drop}
 use Rattle.timefd_c.specs.declared.answer.TheConstants.{ACCEPTED}
 use Rattle.timefd_c.specs.declared.format_answer.FormatAnswer.{FormatAnswer}
 use Rattle.timefd_c.specs.declared.format_answer.TheConstants.{NO_DESCRIPTION}

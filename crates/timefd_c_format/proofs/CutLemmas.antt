@@ -89,12 +89,12 @@ opened_step at count (Some r) rest e = by (nat_lt count (arity r)) refl e
     by true is e = absurd cc
     by false is e = record { role = r; is = refl; fits = ltb-false count (arity r) is; on = e }
 
-behind_step : (at count : ℕ) (r : Role) (rest : ℕ → Option ℕ) → arity r ≤ count
+pub behind_step : (at count : ℕ) (r : Role) (rest : ℕ → Option ℕ) → arity r ≤ count
     → fault_behind at (count_behind count (Some r)) rest ≡ rest (count - arity r + 1)
 behind_step at count r rest h =
     ap (λ b. fault_behind at (if b then None else Some (count - arity r + 1)) rest) (le-ltb count (arity r) h)
 
-grown_length : (ts : List Tree) (r : Role) → arity r ≤ length ts
+pub grown_length : (ts : List Tree) (r : Role) → arity r ≤ length ts
     → length (grown ts (as_part r)) ≡ length ts - arity r + 1
 grown_length ts r h =
     omega (

@@ -1,5 +1,5 @@
 -- What nodes write is written of their leaves, the last one first.
-use Rattle.std.proofs.Common.{ℕ, zero, suc, ◌≡◌, ◌∙◌, ◌+◌, ◌-◌, ◌^◌, ◌<◌, ◌≤◌, min, List, [], ◌∷◌, ◌++◌, length, take, drop, Some, None, Result, Ok, Err, IfOk, refl, sym, ap, subst, arith, append_assoc, append-nil, length-append, length-take, length-drop}
+use Rattle.std.proofs.Common.{ℕ, zero, suc, ◌≡◌, ◌∙◌, ◌+◌, ◌-◌, ◌^◌, ◌<◌, ◌≤◌, List, [], ◌∷◌, ◌++◌, length, take, drop, Result, Ok, Err, IfOk, refl, sym, ap, subst, arith, append_assoc, append-nil, length-append, length-take}
 use Rattle.std.proofs.lemmas.List.{take_all, drop_all}
 use Rattle.timefd_component.specs.declared.component.Component.{Component}
 use Rattle.timefd_component.specs.declared.component.Component.TheVariants.{Subsecond}
@@ -18,14 +18,13 @@ use Rattle.timefd_format.specs.declared.write.FormatError.{FormatError}
 use Rattle.timefd_format.specs.declared.write.FormatError.TheVariants as fails
 use Rattle.timefd_format.specs.Fields.{field}
 use Rattle.timefd_format.specs.Outcomes.{IsOutcome}
-use Rattle.timefd_format.specs.Writes.{IsIn, PutsOn, Writes}
+use Rattle.timefd_format.specs.Writes.{IsIn, Writes}
 use Rattle.timefd_format.specs.Written.{followed, shown, text_of, written, written_all}
 use Rattle.timefd_format.proofs.LeafLemmas.{by_leaves}
 use Rattle.timefd_format.proofs.RoomLemmas.{fits}
 use Rattle.timefd_format.proofs.WalkLemmas.{writes_behind, writes_in}
 use Rattle.timefd_c_format.specs.Places.{place_of}
-use Rattle.timefd_c_format.specs.Texts.{IsLen, IsShown, ShowsNodes}
-use Rattle.timefd_c_format.specs.declared.format.NodesText.{NodesText}
+use Rattle.timefd_c_format.specs.Texts.{IsLen, ShowsNodes}
 use Rattle.timefd_c_format.specs.declared.format.NodesError.TheVariants as answers
 
 -- the texts of all leaves are those of the trees

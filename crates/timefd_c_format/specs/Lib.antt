@@ -2,3 +2,4 @@ pub mod Parts
 pub mod Nodes
 pub mod Places
 pub mod Texts
+pub mod Laws

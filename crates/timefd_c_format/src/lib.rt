@@ -5,6 +5,7 @@
 mod component;
 mod fault;
 mod format;
+pub mod laws;
 mod leaf;
 mod len;
 mod modifier;

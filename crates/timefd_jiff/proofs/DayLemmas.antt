@@ -1,7 +1,7 @@
 -- The days before a date, counted from the year -1,000,000 on and from the year -10,000 on.
-use Rattle.std.proofs.Common.{ℕ, zero, suc, ◌≡◌, ◌∙◌, ◌+◌, ◌-◌, ◌*◌, ◌%◌, ◌≤◌, Bool, true, false, cond, if◌then◌else◌, ℤ, pos, negsuc, ◌+ℤ◌, unsigned_abs, refl, sym, ap, arith}
+use Rattle.std.proofs.Common.{ℕ, zero, suc, ◌≡◌, ◌∙◌, ◌+◌, ◌-◌, ◌%◌, Bool, true, false, cond, if◌then◌else◌, ℤ, pos, negsuc, ◌+ℤ◌, unsigned_abs, refl, sym, ap, arith}
 use Rattle.jiff_core.specs.declared.civil.date.Date.{Date as JiffDate}
-use Rattle.jiff_core.specs.Calendar.{IsYear, day_count, day_of_year, days_from_civil, days_of_months as jiff_months, days_of_years as jiff_years}
+use Rattle.jiff_core.specs.Calendar.{IsYear, day_count, day_of_year, days_of_months as jiff_months, days_of_years as jiff_years}
 use Rattle.jiff_core.specs.Date.{epoch_day, weekday_of}
 use Rattle.jiff_core.proofs.CalendarLemmas.{days_from_civil-day_count, days_of_months-zero, days_of_months_more, weekday_number-parts}
 use Rattle.jiff_core.proofs.MarchLemmas.{days_of_years-suc, leap_day}

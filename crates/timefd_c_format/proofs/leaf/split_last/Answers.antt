@@ -1,5 +1,5 @@
 use Rattle.std.proofs.Common.{◌≡◌, ◌∙◌, ◌∷◌, [], ◌⊎◌, inl, inr, Bool, ℕ, refl, sym, ap}
-use Rattle.timefd_component.specs.Tree.{component, literal}
+use Rattle.timefd_component.specs.Tree.{component}
 use Rattle.timefd_node_list.specs.Leaves.{role_leaves}
 use Rattle.timefd_node_list.proofs.LeafLemmas.{at_leaf, at_inner}
 use Rattle.timefd_c_format.specs.declared.part.Part.{Part}
