@@ -1,0 +1,37 @@
+-- The date of fields.
+use Rattle.std.specs.Prelude.{◌≡◌, ⊤, Result, Ok, Err}
+use Rattle.timefd_read_dates.specs.declared.fields.Fields.{Fields}
+use Rattle.timefd_moment.specs.declared.date.Date.{Date}
+use Rattle.timefd_read_moment.specs.declared.error.ValueError.{ValueError}
+use Rattle.timefd_read_moment.specs.declared.error.ValueError.TheVariants as error
+use Rattle.timefd_read_moment.specs.declared.part.DatePart.{DatePart}
+use Rattle.timefd_read_moment.specs.declared.part.Part.{Part}
+use Rattle.timefd_read_moment.specs.declared.part.Part.TheVariants as part
+use Rattle.timefd_read_moment.specs.Shown.{DateAgrees}
+use Rattle.timefd_read_moment.specs.Ways.{date_way}
+
+abbrev pub IsSame : Date → Date → Type 0
+IsSame d e = (d.years ≡ e.years) × (d.month ≡ e.month) × (d.day ≡ e.day)
+
+-- the one date of this kind; where there is none, a part that none has
+abbrev pub Selects : (Date → Type 0) → Result Date DatePart → Type 0
+Selects Is (Ok e) = (d : Date) → Is d → IsSame e d
+Selects Is (Err part) = (d : Date) → Is d → ⊥
+
+-- the fields determine a date
+abbrev pub IsDetermined : {A : Type 0} {E : Type 0} → Result A E → Type 0
+IsDetermined (Ok way) = ⊤
+IsDetermined (Err part) = ⊥
+
+abbrev pub IsMissing : Fields → Part → Type 0
+IsMissing f (part.Date p) = date_way f ≡ Err p
+IsMissing f (part.Time p) = ⊥
+IsMissing f (part.Offset p) = ⊥
+
+-- The date that has all that was read, where that determines one. Else what was not read is told, or that
+-- no date has all of it.
+abbrev pub IsDateOf : Fields → Result Date ValueError → Type 0
+IsDateOf f (Ok d) = DateAgrees f d × IsDetermined (date_way f)
+IsDateOf f (Err (error.Missing part)) = IsMissing f part
+IsDateOf f (Err (error.Contradiction part)) =
+    IsDetermined (date_way f) × ((d : Date) → DateAgrees f d → ⊥)

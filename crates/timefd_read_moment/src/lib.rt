@@ -1,0 +1,18 @@
+//! The date, the time of day and the offset from UTC that fields determine, which were read of a text.
+#![tactic(auto)]
+
+mod dates;
+mod day;
+mod error;
+mod offsets;
+mod part;
+mod shown;
+mod times;
+mod way;
+mod year;
+
+pub use dates::date;
+pub use error::ValueError;
+pub use offsets::offset;
+pub use part::{DatePart, OffsetPart, Part, TimePart};
+pub use times::time;
