@@ -1,12 +1,10 @@
 -- The date of fields.
-use Rattle.std.proofs.Common.{ℕ, ◌≡◌, ◌∙◌, ◌≤◌, Bool, Option, Some, None, Result, Ok, Err, refl, sym, ap, subst, tt}
+use Rattle.std.proofs.Common.{ℕ, ◌≡◌, ◌∙◌, ◌≤◌, Bool, Option, Some, None, Result, Ok, Err, refl, sym, ap, subst}
 use Rattle.timefd_read_dates.specs.declared.fields.Fields.{Fields}
 use Rattle.timefd_moment.specs.declared.date.Date.{Date}
 use Rattle.timefd_moment.specs.Instants.{IsAt}
 use Rattle.timefd_moment.specs.Moments.{day_number}
-use Rattle.timefd_read_moment.specs.declared.error.ValueError.TheVariants as error
 use Rattle.timefd_read_moment.specs.declared.part.DatePart.{DatePart}
-use Rattle.timefd_read_moment.specs.declared.part.Part.{Part}
 use Rattle.timefd_read_moment.specs.declared.way.DateWay.{DateWay}
 use Rattle.timefd_read_moment.specs.declared.way.DateWay.TheVariants as by
 use Rattle.timefd_read_moment.specs.Dates.{IsDateOf, IsDetermined, IsSame, Selects}
@@ -24,15 +22,15 @@ pub agreed : (f : Fields) (w : DateWay) (d : Date) (o : Option DatePart) → dat
     → o ≡ first_false (date_has f d) date_parts → o ≡ None → IsDateOf f (Ok d)
 agreed f w d o e is none = (date_agrees f d (sym is ∙ none), determined f w e)
 
-pub contradicted : (f : Fields) (w : DateWay) (d : Date) (o : Option DatePart) (p : DatePart) (q : Part)
+pub contradicted : (f : Fields) (w : DateWay) (d : Date) (o : Option DatePart) (p : DatePart)
     → date_way f ≡ Ok w → Selects (WayHas w) (Ok d) → o ≡ first_false (date_has f d) date_parts
-    → o ≡ Some p → IsDateOf f (Err (error.Contradiction q))
-contradicted f w d o p q e one is some =
+    → o ≡ Some p → IsDetermined (date_way f) × ((x : Date) → DateAgrees f x → ⊥)
+contradicted f w d o p e one is some =
     (determined f w e, λ x a. date_refuted f d x p (sym is ∙ some) (one x (way_has f w x e a)) a)
 
-pub unfound : (f : Fields) (w : DateWay) (p : DatePart) (q : Part) → date_way f ≡ Ok w
-    → Selects (WayHas w) (Err p) → IsDateOf f (Err (error.Contradiction q))
-unfound f w p q e none = (determined f w e, λ x a. none x (way_has f w x e a))
+pub unfound : (f : Fields) (w : DateWay) (p : DatePart) → date_way f ≡ Ok w
+    → Selects (WayHas w) (Err p) → IsDetermined (date_way f) × ((x : Date) → DateAgrees f x → ⊥)
+unfound f w p e none = (determined f w e, λ x a. none x (way_has f w x e a))
 
 -- what makes the day makes the date
 narrowed : (Is Was : Date → Type 0) (r : Result Date DatePart) → ((d : Date) → Is d → Was d)

@@ -1,27 +1,23 @@
 -- The offset from UTC of fields.
-use Rattle.std.proofs.Common.{ℕ, ◌≡◌, ◌∙◌, ◌+◌, ◌*◌, ◌/◌, ◌%◌, ◌≤◌, ◌<◌, ◌⊎◌, inl, inr, ◌==◌, not, ◌&&◌, ◌||◌, Bool, true, false, nat_lt, Option, Some, None, Result, Ok, Err, if◌then◌else◌, refl, sym, ap, subst, arith, tt}
+use Rattle.std.proofs.Common.{ℕ, ◌≡◌, ◌∙◌, ◌+◌, ◌*◌, ◌/◌, ◌%◌, ◌≤◌, ◌<◌, ◌⊎◌, inl, inr, ◌==◌, not, ◌&&◌, ◌||◌, Bool, true, false, nat_lt, Option, Some, None, Result, Ok, Err, if◌then◌else◌, refl, sym, ap, subst, arith}
 use Rattle.std.proofs.lemmas.Bool.{eqb-true, or_cases}
 use Rattle.timefd_read_dates.specs.declared.fields.Fields.{Fields}
 use Rattle.timefd_read_dates.specs.declared.fields.Signed.{Signed}
 use Rattle.timefd_read_dates.specs.Readings.{same}
 use Rattle.timefd_moment.specs.declared.offset.UtcOffset.{UtcOffset}
-use Rattle.timefd_read_moment.specs.declared.error.ValueError.TheVariants as error
 use Rattle.timefd_read_moment.specs.declared.part.OffsetPart.{OffsetPart}
-use Rattle.timefd_read_moment.specs.declared.part.Part.{Part}
 use Rattle.timefd_read_moment.specs.declared.offsets.Shift.{Shift}
 use Rattle.timefd_read_moment.specs.Dates.{IsDetermined}
 use Rattle.timefd_read_moment.specs.Shown.{OffsetAgrees, first_false, is_count_or_zero, is_shown, offset_has, offset_parts}
-use Rattle.timefd_read_moment.specs.Offsets.{IsOffsetOf, IsSame, Selects, ShiftHas, number, shift_at, shift_read}
-use Rattle.timefd_read_moment.specs.Ways.{is_read}
+use Rattle.timefd_read_moment.specs.Offsets.{IsOffsetOf, IsSame, Selects, ShiftHas, shift_at, shift_read}
+use Rattle.std.specs.Prelude.{is_some}
 use Rattle.timefd_read_moment.proofs.ShownLemmas.{clash, offset_agrees, some_false}
+use Rattle.timefd_read_moment.specs.Times.{is_left_out, number}
+use Rattle.timefd_read_moment.proofs.TimeLemmas.{number_is}
 use Rattle.timefd_read_moment.proofs.YearLemmas.{both}
 
 determined : (f : Fields) (s : Shift) → shift_read f ≡ Ok s → IsDetermined (shift_read f)
 determined f s e = subst (λ (r : Result Shift OffsetPart). IsDetermined r) (sym e) tt
-
-number_is : (o : Option ℕ) (n : ℕ) → is_count_or_zero o n ≡ true → number o ≡ n
-number_is None n e = sym (eqb-true n 0 e)
-number_is (Some k) n e = eqb-true k n e
 
 same_is : (a b : Bool) → same a b ≡ true → a ≡ b
 same_is true true e = refl
@@ -36,7 +32,7 @@ sign_is a b n e = by (or_cases (n == 0) (same a b) e)
     by (inl z) = inl (eqb-true n 0 z)
     by (inr s) = inr (same_is a b s)
 
-shift_in : Shift → Result Shift OffsetPart → Shift
+abbrev shift_in : Shift → Result Shift OffsetPart → Shift
 shift_in s (Ok r) = r
 shift_in s (Err p) = s
 
@@ -64,7 +60,7 @@ shift_is : (f : Fields) (h : Option Signed) (s : Shift) (o : UtcOffset) → shif
     → is_count_or_zero f.offset_second (o.seconds % 60) ≡ true → ShiftHas s o
 shift_is f None s o e k m n = absurd cc
 shift_is f (Some h) s o e k m n =
-    let is = numbers f h (not (is_read f.offset_minute) && is_read f.offset_second) s e in
+    let is = numbers f h (is_left_out f.offset_minute (is_some f.offset_second)) s e in
     let parts = both (h.magnitude == o.seconds / 3600)
     ((o.seconds == 0) || same h.is_negative o.is_negative) k in (
       sym is.1 ∙ eqb-true h.magnitude (o.seconds / 3600) parts.0,
@@ -94,15 +90,15 @@ refuted : (f : Fields) (o r : UtcOffset) (p : OffsetPart)
 refuted f o r p off s a =
     clash (offset_has f o p) (some_false (offset_has f o) offset_parts p off) (same_parts f p o r s ∙ a p)
 
-pub contradicted : (f : Fields) (s : Shift) (o : UtcOffset) (part : Option OffsetPart) (p : OffsetPart) (q : Part)
+pub contradicted : (f : Fields) (s : Shift) (o : UtcOffset) (part : Option OffsetPart) (p : OffsetPart)
     → shift_read f ≡ Ok s → Selects (ShiftHas s) (Ok o) → part ≡ first_false (offset_has f o) offset_parts
-    → part ≡ Some p → IsOffsetOf f (Err (error.Contradiction q))
-contradicted f s o part p q e one is some =
+    → part ≡ Some p → IsDetermined (shift_read f) × ((x : UtcOffset) → OffsetAgrees f x → ⊥)
+contradicted f s o part p e one is some =
     (determined f s e, λ r a. refuted f o r p (sym is ∙ some) (one r (shift_has f s r e a)) a)
 
-pub unfound : (f : Fields) (s : Shift) (p : OffsetPart) (q : Part) → shift_read f ≡ Ok s
-    → Selects (ShiftHas s) (Err p) → IsOffsetOf f (Err (error.Contradiction q))
-unfound f s p q e none = (determined f s e, λ r a. none r (shift_has f s r e a))
+pub unfound : (f : Fields) (s : Shift) (p : OffsetPart) → shift_read f ≡ Ok s
+    → Selects (ShiftHas s) (Err p) → IsDetermined (shift_read f) × ((x : UtcOffset) → OffsetAgrees f x → ⊥)
+unfound f s p e none = (determined f s e, λ r a. none r (shift_has f s r e a))
 
 -- of an offset's numbers it has the seconds
 pub seconds_of : (h m s n : ℕ) → h ≡ n / 3600 → m ≡ n / 60 % 60 → s ≡ n % 60 → h * 3600 + m * 60 + s ≡ n

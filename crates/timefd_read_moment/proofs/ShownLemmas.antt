@@ -1,5 +1,6 @@
 -- Where no part is otherwise, all agree.
-use Rattle.std.proofs.Common.{ℕ, zero, suc, ◌≡◌, ◌∙◌, Bool, true, false, List, [], ◌∷◌, Option, Some, None, if◌then◌else◌, refl, sym, ap, subst, tt}
+use Rattle.std.proofs.Common.{ℕ, zero, suc, ◌≡◌, ◌∙◌, Bool, true, false, List, [], ◌∷◌, Option, Some, None, if◌then◌else◌, refl, sym, ap, subst}
+use Rattle.std.specs.Prelude.{⊤}
 use Rattle.timefd_read_dates.specs.declared.fields.Fields.{Fields}
 use Rattle.timefd_moment.specs.declared.date.Date.{Date}
 use Rattle.timefd_moment.specs.declared.time.Time.{Time}
@@ -27,18 +28,19 @@ true_at has [] n e = tt
 true_at has (p ∷ ps) zero e = (step has p ps (has p) refl e).0
 true_at has (p ∷ ps) (suc n) e = true_at has ps n (step has p ps (has p) refl e).1
 
-value_of : {A : Type 0} → A → Option A → A
+abbrev value_of : {A : Type 0} → A → Option A → A
 value_of a None = a
 value_of a (Some b) = b
 
 pub some_false : {A : Type 0} (has : A → Bool) (ps : List A) (p : A) → first_false has ps ≡ Some p
     → has p ≡ false
 some_false has [] p e = absurd cc
-some_false has (q ∷ ps) p e = by (has q) refl e
+some_false has (q ∷ ps) p e = by (has q) refl (some_false has ps p) e
   where
-    by : (t : Bool) → has q ≡ t → (if t then first_false has ps else Some q) ≡ Some p → has p ≡ false
-    by true is h = some_false has ps p h
-    by false is h = ap has (sym (ap (value_of q) h)) ∙ is
+    by : (t : Bool) → has q ≡ t → (first_false has ps ≡ Some p → has p ≡ false)
+        → (if t then first_false has ps else Some q) ≡ Some p → has p ≡ false
+    by true is behind h = behind h
+    by false is behind h = ap has (sym (ap (value_of q) h)) ∙ is
 
 pub clash : (b : Bool) → b ≡ false → b ≡ true → ⊥
 clash true e g = absurd cc

@@ -1,19 +1,17 @@
 -- The time of day of fields.
-use Rattle.std.proofs.Common.{ℕ, ◌≡◌, ◌∙◌, ◌+◌, ◌-◌, ◌%◌, ◌≤◌, ◌<◌, ◌⊎◌, inl, inr, ◌==◌, not, ◌&&◌, ◌||◌, Bool, true, false, nat_le, Option, Some, None, Result, Ok, Err, if◌then◌else◌, refl, sym, ap, subst, arith, tt}
+use Rattle.std.proofs.Common.{ℕ, ◌≡◌, ◌∙◌, ◌+◌, ◌-◌, ◌%◌, ◌≤◌, ◌<◌, ◌⊎◌, inl, inr, ◌==◌, not, ◌&&◌, ◌||◌, Bool, true, false, nat_le, Option, Some, None, Result, Ok, Err, if◌then◌else◌, refl, sym, ap, subst, arith}
 use Rattle.std.proofs.lemmas.Bool.{eqb-true, leb-true, leb-false}
 use Rattle.timefd_read_dates.specs.declared.fields.Fields.{Fields}
 use Rattle.timefd_read_dates.specs.declared.fields.Fraction.{Fraction}
 use Rattle.timefd_read_dates.specs.Readings.{same}
 use Rattle.timefd_moment.specs.declared.time.Time.{Time}
 use Rattle.timefd_moment.specs.Moments.{hour_of_twelve}
-use Rattle.timefd_read_moment.specs.declared.error.ValueError.TheVariants as error
 use Rattle.timefd_read_moment.specs.declared.part.TimePart.{TimePart}
-use Rattle.timefd_read_moment.specs.declared.part.Part.{Part}
 use Rattle.timefd_read_moment.specs.declared.times.Clock.{Clock}
 use Rattle.timefd_read_moment.specs.Dates.{IsDetermined}
 use Rattle.timefd_read_moment.specs.Shown.{TimeAgrees, first_false, is_count, is_count_or_zero, is_flag, is_fraction, time_has, time_parts}
-use Rattle.timefd_read_moment.specs.Times.{ClockHas, IsSame, IsTimeOf, Selects, clock_at, clock_from, clock_read, has_second, hour_by_period, hour_read, lack_of_hour, nanosecond_read, number}
-use Rattle.timefd_read_moment.specs.Ways.{is_read}
+use Rattle.timefd_read_moment.specs.Times.{ClockHas, IsSame, IsTimeOf, Selects, clock_at, clock_from, clock_read, has_second, hour_by_period, hour_read, is_left_out, lack_of_hour, nanosecond_read, number}
+use Rattle.std.specs.Prelude.{is_some}
 use Rattle.timefd_read_moment.proofs.ShownLemmas.{clash, some_false, time_agrees}
 use Rattle.timefd_read_moment.proofs.YearLemmas.{Known}
 
@@ -37,7 +35,7 @@ hour_known None (Some h) None n k e t s = tt
 hour_known None (Some h) (Some b) n k e t s =
     twelve b (nat_le 12 n) h n k refl (eqb-true h (hour_of_twelve n) t) s
 
-number_is : (o : Option ℕ) (n : ℕ) → is_count_or_zero o n ≡ true → number o ≡ n
+pub number_is : (o : Option ℕ) (n : ℕ) → is_count_or_zero o n ≡ true → number o ≡ n
 number_is None n e = sym (eqb-true n 0 e)
 number_is (Some k) n e = eqb-true k n e
 
@@ -45,7 +43,7 @@ nanosecond_is : (o : Option Fraction) (n : ℕ) → is_fraction o n ≡ true →
 nanosecond_is None n e = sym (eqb-true n 0 e)
 nanosecond_is (Some f) n e = eqb-true f.nanosecond n e
 
-clock_in : Clock → Result Clock TimePart → Clock
+abbrev clock_in : Clock → Result Clock TimePart → Clock
 clock_in c (Ok d) = d
 clock_in c (Err p) = c
 
@@ -69,8 +67,8 @@ clock_is : (f : Fields) (o : Option ℕ) (c : Clock) (t : Time) → clock_at f o
     → TimeAgrees f t → ClockHas c t
 clock_is f None c t e k a = absurd cc
 clock_is f (Some h) c t e k a =
-    let is = numbers f h (not (is_read f.minute) && (is_read f.hour || has_second f))
-    (not (is_read f.second) && is_read f.subsecond) c e in (
+    let is = numbers f h (is_left_out f.minute (is_some f.hour || has_second f))
+    (is_left_out f.second (is_some f.subsecond)) c e in (
       sym is.0 ∙ k,
       sym is.1 ∙ number_is f.minute t.minute (a TimePart.Minute),
       sym is.2 ∙ number_is f.second t.second (a TimePart.Second),
@@ -100,12 +98,12 @@ refuted : (f : Fields) (t u : Time) (p : TimePart) → first_false (time_has f t
 refuted f t u p off s a =
     clash (time_has f t p) (some_false (time_has f t) time_parts p off) (same_parts f p t u s ∙ a p)
 
-pub contradicted : (f : Fields) (c : Clock) (t : Time) (o : Option TimePart) (p : TimePart) (q : Part)
+pub contradicted : (f : Fields) (c : Clock) (t : Time) (o : Option TimePart) (p : TimePart)
     → clock_read f ≡ Ok c → Selects (ClockHas c) (Ok t) → o ≡ first_false (time_has f t) time_parts
-    → o ≡ Some p → IsTimeOf f (Err (error.Contradiction q))
-contradicted f c t o p q e one is some =
+    → o ≡ Some p → IsDetermined (clock_read f) × ((x : Time) → TimeAgrees f x → ⊥)
+contradicted f c t o p e one is some =
     (determined f c e, λ u a. refuted f t u p (sym is ∙ some) (one u (clock_has f c u e a)) a)
 
-pub unfound : (f : Fields) (c : Clock) (p : TimePart) (q : Part) → clock_read f ≡ Ok c
-    → Selects (ClockHas c) (Err p) → IsTimeOf f (Err (error.Contradiction q))
-unfound f c p q e none = (determined f c e, λ u a. none u (clock_has f c u e a))
+pub unfound : (f : Fields) (c : Clock) (p : TimePart) → clock_read f ≡ Ok c
+    → Selects (ClockHas c) (Err p) → IsDetermined (clock_read f) × ((x : Time) → TimeAgrees f x → ⊥)
+unfound f c p e none = (determined f c e, λ u a. none u (clock_has f c u e a))

@@ -1,5 +1,6 @@
 -- A date that agrees with fields has those of their way, and is the only one.
-use Rattle.std.proofs.Common.{ℕ, ◌≡◌, ◌∙◌, ◌+◌, ◌-◌, ◌≤◌, Bool, true, false, nat_le, nat_lt, Option, Some, None, Result, Ok, Err, if◌then◌else◌, refl, sym, ap, subst, arith, tt}
+use Rattle.std.proofs.Common.{ℕ, ◌≡◌, ◌∙◌, ◌+◌, ◌-◌, ◌≤◌, Bool, true, false, nat_le, nat_lt, Option, Some, None, Result, Ok, Err, if◌then◌else◌, refl, sym, ap, subst, arith}
+use Rattle.std.specs.Prelude.{⊤, is_some}
 use Rattle.std.proofs.lemmas.Bool.{eqb-true}
 use Rattle.timefd_read_dates.specs.declared.fields.Fields.{Fields}
 use Rattle.timefd_moment.specs.declared.date.Date.{Date}
@@ -12,7 +13,7 @@ use Rattle.timefd_read_moment.specs.declared.way.DateWay.TheVariants as by
 use Rattle.timefd_read_moment.specs.Dates.{IsSame}
 use Rattle.timefd_read_moment.specs.Days.{iso_week_day, monday_week_day, ordinal_day, sunday_week_day}
 use Rattle.timefd_read_moment.specs.Shown.{DateAgrees, is_count}
-use Rattle.timefd_read_moment.specs.Ways.{WayHas, calendar, date_way, is_read, iso_week, lack, monday_week, or_else, ordinal, sunday_week, unless, way_of}
+use Rattle.timefd_read_moment.specs.Ways.{WayHas, calendar, date_way, iso_week, lack, monday_week, or_else, ordinal, sunday_week, unless, way_of}
 use Rattle.timefd_read_moment.specs.Years.{years_read}
 use Rattle.timefd_read_moment.proofs.DayLemmas as day
 use Rattle.timefd_read_moment.proofs.YearLemmas.{Known, years_known}
@@ -83,7 +84,7 @@ has_way f years iso_years d k i a =
     (has_sunday_week years f.sunday_week f.weekday d k (a DatePart.SundayWeek) (a DatePart.Weekday))
     (has_monday_week years f.monday_week f.weekday d k (a DatePart.MondayWeek) (a DatePart.Weekday)))))
 
-way_in : DateWay → Result DateWay DatePart → DateWay
+abbrev way_in : DateWay → Result DateWay DatePart → DateWay
 way_in w (Ok v) = v
 way_in w (Err p) = w
 
@@ -106,7 +107,7 @@ pub way_has : (f : Fields) (w : DateWay) (d : Date) → date_way f ≡ Ok w → 
 way_has f w d e a =
     let years = years_read f.year f.century f.year_last_two in
     let iso_years = years_read f.iso_year f.iso_century f.iso_year_last_two in
-    chosen (lack f (is_read years) (is_read iso_years)) (way_of f years iso_years) w d e
+    chosen (lack f (is_some years) (is_some iso_years)) (way_of f years iso_years) w d e
     (has_way f years iso_years d
     (years_known f.year f.century f.year_last_two d.years (omega (arith, d.exists.1)) (a DatePart.Year)
     (a DatePart.Century) (a DatePart.YearLastTwo))

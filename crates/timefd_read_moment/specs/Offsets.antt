@@ -1,5 +1,5 @@
 -- The offset from UTC of fields.
-use Rattle.std.specs.Prelude.{ℕ, ◌≡◌, ◌⊎◌, ◌/◌, ◌%◌, ◌==◌, Bool, not, ◌&&◌, if◌then◌else◌, Option, Some, None, Result, Ok, Err}
+use Rattle.std.specs.Prelude.{ℕ, ◌≡◌, ◌⊎◌, ◌/◌, ◌%◌, ◌==◌, Bool, if◌then◌else◌, Option, Some, None, is_some, Result, Ok, Err}
 use Rattle.timefd_read_dates.specs.declared.fields.Fields.{Fields}
 use Rattle.timefd_read_dates.specs.declared.fields.Signed.{Signed}
 use Rattle.timefd_moment.specs.declared.offset.UtcOffset.{UtcOffset}
@@ -10,18 +10,14 @@ use Rattle.timefd_read_moment.specs.declared.part.Part.{Part}
 use Rattle.timefd_read_moment.specs.declared.part.Part.TheVariants as part
 use Rattle.timefd_read_moment.specs.declared.offsets.Shift.{Shift}
 use Rattle.timefd_read_moment.specs.Shown.{OffsetAgrees}
-use Rattle.timefd_read_moment.specs.Ways.{is_read}
 use Rattle.timefd_read_moment.specs.Dates.{IsDetermined}
-
-abbrev pub number : Option ℕ → ℕ
-number None = 0
-number (Some n) = n
+use Rattle.timefd_read_moment.specs.Times.{is_left_out, number}
 
 -- seconds aren't read without minutes
 abbrev pub shift_at : Fields → Option Signed → Result Shift OffsetPart
 shift_at f None = Err OffsetPart.Hour
 shift_at f (Some h) =
-    if not (is_read f.offset_minute) && is_read f.offset_second then Err OffsetPart.Minute
+    if is_left_out f.offset_minute (is_some f.offset_second) then Err OffsetPart.Minute
     else Ok (record {
       is_negative = h.is_negative;
       hour = h.magnitude;

@@ -1,5 +1,5 @@
 -- The time of day of fields.
-use Rattle.std.specs.Prelude.{ℕ, ◌≡◌, ◌+◌, ◌%◌, Bool, true, false, not, ◌&&◌, ◌||◌, if◌then◌else◌, Option, Some, None, Result, Ok, Err}
+use Rattle.std.specs.Prelude.{ℕ, ◌≡◌, ◌+◌, ◌%◌, Bool, true, false, ◌||◌, if◌then◌else◌, Option, Some, None, is_some, Result, Ok, Err}
 use Rattle.timefd_read_dates.specs.declared.fields.Fields.{Fields}
 use Rattle.timefd_read_dates.specs.declared.fields.Fraction.{Fraction}
 use Rattle.timefd_moment.specs.declared.time.Time.{Time}
@@ -10,7 +10,6 @@ use Rattle.timefd_read_moment.specs.declared.part.Part.{Part}
 use Rattle.timefd_read_moment.specs.declared.part.Part.TheVariants as part
 use Rattle.timefd_read_moment.specs.declared.times.Clock.{Clock}
 use Rattle.timefd_read_moment.specs.Shown.{TimeAgrees}
-use Rattle.timefd_read_moment.specs.Ways.{is_read}
 use Rattle.timefd_read_moment.specs.Dates.{IsDetermined}
 
 abbrev pub hour_by_period : Option ℕ → Option Bool → Option ℕ
@@ -25,8 +24,8 @@ hour_read None hour_12 is_afternoon = hour_by_period hour_12 is_afternoon
 
 abbrev pub lack_of_hour : Fields → TimePart
 lack_of_hour f =
-    if is_read f.hour_12 then TimePart.Period
-    else (if is_read f.is_afternoon then TimePart.Hour12 else TimePart.Hour)
+    if is_some f.hour_12 then TimePart.Period
+    else (if is_some f.is_afternoon then TimePart.Hour12 else TimePart.Hour)
 
 abbrev pub number : Option ℕ → ℕ
 number None = 0
@@ -37,13 +36,18 @@ nanosecond_read None = 0
 nanosecond_read (Some f) = f.nanosecond
 
 abbrev pub has_second : Fields → Bool
-has_second f = is_read f.second || is_read f.subsecond
+has_second f = is_some f.second || is_some f.subsecond
+
+-- what is coarser wasn't read, though what is finer was
+abbrev pub is_left_out : Option ℕ → Bool → Bool
+is_left_out None is_finer_read = is_finer_read
+is_left_out (Some n) is_finer_read = false
 
 -- Nothing is read without what is coarser. An hour of twelve and its period alone are a whole hour.
 abbrev pub clock_from : Fields → ℕ → Result Clock TimePart
 clock_from f h =
-    if not (is_read f.minute) && (is_read f.hour || has_second f) then Err TimePart.Minute
-    else (if not (is_read f.second) && is_read f.subsecond then Err TimePart.Second else Ok (record {
+    if is_left_out f.minute (is_some f.hour || has_second f) then Err TimePart.Minute
+    else (if is_left_out f.second (is_some f.subsecond) then Err TimePart.Second else Ok (record {
       hour = h;
       minute = number f.minute;
       second = number f.second;

@@ -1,5 +1,5 @@
 -- The ways in which fields determine a date.
-use Rattle.std.specs.Prelude.{ℕ, ◌≡◌, Bool, true, false, ◌||◌, if◌then◌else◌, Option, Some, None, Result, Ok, Err}
+use Rattle.std.specs.Prelude.{ℕ, ◌≡◌, Bool, true, false, ◌||◌, if◌then◌else◌, Option, Some, None, is_some, Result, Ok, Err}
 use Rattle.timefd_read_dates.specs.declared.fields.Fields.{Fields}
 use Rattle.timefd_moment.specs.declared.date.Date.{Date}
 use Rattle.timefd_moment.specs.Moments as of
@@ -53,23 +53,19 @@ way_of f years iso_years =
 
 -- What is wanted beside what was read.
 
-abbrev pub is_read : {A : Type 0} → Option A → Bool
-is_read None = false
-is_read (Some a) = true
-
 abbrev pub lack_of_year : Fields → DatePart
 lack_of_year f =
-    if is_read f.century then DatePart.YearLastTwo
-    else (if is_read f.year_last_two then DatePart.Century else DatePart.Year)
+    if is_some f.century then DatePart.YearLastTwo
+    else (if is_some f.year_last_two then DatePart.Century else DatePart.Year)
 
 abbrev pub lack_in_year : Fields → DatePart
 lack_in_year f =
-    if is_read f.month then DatePart.Day
-    else (if is_read f.sunday_week || is_read f.monday_week then DatePart.Weekday else DatePart.Month)
+    if is_some f.month then DatePart.Day
+    else (if is_some f.sunday_week || is_some f.monday_week then DatePart.Weekday else DatePart.Month)
 
 abbrev pub lack : Fields → Bool → Bool → DatePart
 lack f has_year has_iso_year =
-    if is_read f.iso_week then (if has_iso_year then DatePart.Weekday else DatePart.IsoYear)
+    if is_some f.iso_week then (if has_iso_year then DatePart.Weekday else DatePart.IsoYear)
     else (if has_year then lack_in_year f
     else (if has_iso_year then DatePart.IsoWeek else lack_of_year f))
 
@@ -79,7 +75,7 @@ unless part None = Err part
 
 abbrev pub way_in : Fields → Option ℕ → Option ℕ → Result DateWay DatePart
 way_in f years iso_years =
-    unless (lack f (is_read years) (is_read iso_years)) (way_of f years iso_years)
+    unless (lack f (is_some years) (is_some iso_years)) (way_of f years iso_years)
 
 -- the first way in which the fields determine a date, or what was not read
 abbrev pub date_way : Fields → Result DateWay DatePart

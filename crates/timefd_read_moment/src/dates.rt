@@ -1,6 +1,6 @@
 //! The date of fields.
 
-ghost use Rattle.std.specs.Prelude.{◌≡◌, ◌≤◌, Ok};
+ghost use Rattle.std.specs.Prelude.{◌≡◌, ◌≤◌, ◌+ℤ◌, pos, Ok};
 ghost use Rattle.timefd_read_moment.specs.Dates.{IsDateOf, Selects};
 ghost use Rattle.timefd_read_moment.specs.Ways.{WayHas, date_way, way_years};
 ghost use Rattle.timefd_read_moment.specs.declared.way.DateWay.TheVariants as by;
@@ -10,6 +10,7 @@ use crate::error::ValueError;
 use crate::part::{DatePart, Part};
 use crate::shown::date_contradiction;
 use crate::way::{DateWay, date_way};
+use crate::year::at_most;
 use timefd_moment::Date;
 use timefd_read_dates::Fields;
 
@@ -72,9 +73,17 @@ fn calendar_date(years: u32, month: u16, day: u16) -> Result<Date, DatePart>
     requires { years ≤ 2000000 }
     ensures { Selects (WayHas (by.Calendar years month day)) result }
 {
-    let year = years as i32 - 1_000_000;
-    match Date::from_calendar_date(year, month.min(255) as u8, day.min(255) as u8) {
+    let month = at_most(month as u128, 255) as u8;
+    let day = at_most(day as u128, 255) as u8;
+    match Date::from_calendar_date(signed_year(years), month, day) {
         Ok(date) => Ok(date),
         Err(_) => Err(DatePart::Day),
     }
+}
+
+fn signed_year(years: u32) -> i32
+    requires { years ≤ 2000000 }
+    ensures { result +ℤ pos 1000000 ≡ pos years }
+{
+    years as i32 - 1_000_000
 }

@@ -7,6 +7,7 @@ ghost use Rattle.timefd_read_moment.specs.Offsets.{IsOffsetOf, Selects};
 use crate::error::ValueError;
 use crate::part::{OffsetPart, Part};
 use crate::shown::offset_contradiction;
+use crate::times::{is_left_out, number};
 use timefd_moment::UtcOffset;
 use timefd_read_dates::Fields;
 
@@ -70,7 +71,7 @@ fn shift_read(fields: &Fields) -> Result<Shift, OffsetPart>
 {
     match fields.offset_hour {
         Some(hour) => {
-            if fields.offset_minute.is_none() && fields.offset_second.is_some() {
+            if is_left_out(fields.offset_minute, fields.offset_second.is_some()) {
                 return Err(OffsetPart::Minute);
             }
             Ok(Shift {
@@ -81,14 +82,5 @@ fn shift_read(fields: &Fields) -> Result<Shift, OffsetPart>
             })
         }
         None => Err(OffsetPart::Hour),
-    }
-}
-
-fn number(read: Option<u16>) -> u16
-    ensures { result ≡ spec.number read }
-{
-    match read {
-        Some(number) => number,
-        None => 0,
     }
 }

@@ -113,10 +113,10 @@ fn lack_of_hour(fields: &Fields) -> TimePart
 fn clock_from(fields: &Fields, hour: u16) -> Result<Clock, TimePart>
     ensures { result ≡ spec.clock_from fields.now hour }
 {
-    if fields.minute.is_none() && (fields.hour.is_some() || has_second(fields)) {
+    if is_left_out(fields.minute, fields.hour.is_some() || has_second(fields)) {
         return Err(TimePart::Minute);
     }
-    if fields.second.is_none() && fields.subsecond.is_some() {
+    if is_left_out(fields.second, fields.subsecond.is_some()) {
         return Err(TimePart::Second);
     }
     Ok(Clock {
@@ -127,13 +127,23 @@ fn clock_from(fields: &Fields, hour: u16) -> Result<Clock, TimePart>
     })
 }
 
+/// Whether what is coarser was not read, though what is finer was.
+pub(crate) fn is_left_out(coarse: Option<u16>, is_finer_read: bool) -> bool
+    ensures { result ≡ spec.is_left_out coarse is_finer_read }
+{
+    match coarse {
+        Some(_) => false,
+        None => is_finer_read,
+    }
+}
+
 fn has_second(fields: &Fields) -> bool
     ensures { result ≡ spec.has_second fields.now }
 {
     fields.second.is_some() || fields.subsecond.is_some()
 }
 
-fn number(read: Option<u16>) -> u16
+pub(crate) fn number(read: Option<u16>) -> u16
     ensures { result ≡ spec.number read }
 {
     match read {
