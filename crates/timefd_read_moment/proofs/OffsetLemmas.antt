@@ -9,7 +9,7 @@ use Rattle.timefd_read_moment.specs.declared.part.OffsetPart.{OffsetPart}
 use Rattle.timefd_read_moment.specs.declared.offsets.Shift.{Shift}
 use Rattle.timefd_read_moment.specs.Dates.{IsDetermined}
 use Rattle.timefd_read_moment.specs.Shown.{OffsetAgrees, first_false, is_count_or_zero, is_shown, offset_has, offset_parts}
-use Rattle.timefd_read_moment.specs.Offsets.{IsOffsetOf, IsSame, Selects, ShiftHas, shift_at, shift_read}
+use Rattle.timefd_read_moment.specs.Offsets.{HasShift, IsOffsetOf, IsSame, Selects, ShiftHas, shift_at, shift_read}
 use Rattle.std.specs.Prelude.{is_some}
 use Rattle.timefd_read_moment.proofs.ShownLemmas.{clash, offset_agrees, some_false}
 use Rattle.timefd_read_moment.specs.Times.{is_left_out, number}
@@ -85,21 +85,26 @@ pub agreed : (f : Fields) (s : Shift) (o : UtcOffset) (part : Option OffsetPart)
     → part ≡ first_false (offset_has f o) offset_parts → part ≡ None → IsOffsetOf f (Ok o)
 agreed f s o part e is none = (offset_agrees f o (sym is ∙ none), determined f s e)
 
-refuted : (f : Fields) (o r : UtcOffset) (p : OffsetPart)
-    → first_false (offset_has f o) offset_parts ≡ Some p → IsSame o r → OffsetAgrees f r → ⊥
-refuted f o r p off s a =
-    clash (offset_has f o p) (some_false (offset_has f o) offset_parts p off) (same_parts f p o r s ∙ a p)
+otherwise : (f : Fields) (o x : UtcOffset) (p : OffsetPart) → first_false (offset_has f o) offset_parts ≡ Some p
+    → IsSame o x → offset_has f x p ≡ false
+otherwise f o x p off same = sym (same_parts f p o x same) ∙ some_false (offset_has f o) offset_parts p off
 
 pub contradicted : (f : Fields) (s : Shift) (o : UtcOffset) (part : Option OffsetPart) (p : OffsetPart)
     → shift_read f ≡ Ok s → Selects (ShiftHas s) (Ok o) → part ≡ first_false (offset_has f o) offset_parts
     → part ≡ Some p → IsDetermined (shift_read f) × ((x : UtcOffset) → OffsetAgrees f x → ⊥)
+    × ((x : UtcOffset) → HasShift (shift_read f) x → offset_has f x p ≡ false)
 contradicted f s o part p e one is some =
-    (determined f s e, λ r a. refuted f o r p (sym is ∙ some) (one r (shift_has f s r e a)) a)
+    let off = λ (x : UtcOffset) (h : ShiftHas s x). otherwise f o x p (sym is ∙ some) (one x h) in (
+      determined f s e,
+      (λ x a. clash (offset_has f x p) (off x (shift_has f s x e a)) (a p)),
+      (λ x h. off x (subst (λ (r : Result Shift OffsetPart). HasShift r x) e h)),
+    )
 
 pub unfound : (f : Fields) (s : Shift) (p : OffsetPart) → shift_read f ≡ Ok s
     → Selects (ShiftHas s) (Err p) → IsDetermined (shift_read f) × ((x : UtcOffset) → OffsetAgrees f x → ⊥)
-unfound f s p e none = (determined f s e, λ r a. none r (shift_has f s r e a))
-
--- of an offset's numbers it has the seconds
-pub seconds_of : (h m s n : ℕ) → h ≡ n / 3600 → m ≡ n / 60 % 60 → s ≡ n % 60 → h * 3600 + m * 60 + s ≡ n
-seconds_of h m s n e k l = omega (arith, e, k, l)
+    × ((x : UtcOffset) → HasShift (shift_read f) x → offset_has f x p ≡ false)
+unfound f s p e none = (
+  determined f s e,
+  (λ x a. none x (shift_has f s x e a)),
+  (λ x h. absurd (none x (subst (λ (r : Result Shift OffsetPart). HasShift r x) e h))),
+)

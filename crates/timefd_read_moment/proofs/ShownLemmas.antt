@@ -93,11 +93,10 @@ same_parts f p e d s =
     subst (λ y. (b : IsDay y d.month d.day) → date_has f e p ≡ date_has f (dated y d.month d.day b) p) s.0 month in
     year d.exists
 
--- a date that agrees is none that a part tells apart
-pub date_refuted : (f : Fields) (e d : Date) (p : DatePart)
-    → first_false (date_has f e) date_parts ≡ Some p → IsSame e d → DateAgrees f d → ⊥
-date_refuted f e d p off s a =
-    clash (date_has f e p) (some_false (date_has f e) date_parts p off) (same_parts f p e d s ∙ a p)
+-- the date that was looked at has another value of the part, and so has each that is the same
+pub date_otherwise : (f : Fields) (e d : Date) (p : DatePart)
+    → first_false (date_has f e) date_parts ≡ Some p → IsSame e d → date_has f d p ≡ false
+date_otherwise f e d p off s = sym (same_parts f p e d s) ∙ some_false (date_has f e) date_parts p off
 
 -- times
 

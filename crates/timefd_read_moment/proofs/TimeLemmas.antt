@@ -10,7 +10,7 @@ use Rattle.timefd_read_moment.specs.declared.part.TimePart.{TimePart}
 use Rattle.timefd_read_moment.specs.declared.times.Clock.{Clock}
 use Rattle.timefd_read_moment.specs.Dates.{IsDetermined}
 use Rattle.timefd_read_moment.specs.Shown.{TimeAgrees, first_false, is_count, is_count_or_zero, is_flag, is_fraction, time_has, time_parts}
-use Rattle.timefd_read_moment.specs.Times.{ClockHas, IsSame, IsTimeOf, Selects, clock_at, clock_from, clock_read, has_second, hour_by_period, hour_read, is_left_out, lack_of_hour, nanosecond_read, number}
+use Rattle.timefd_read_moment.specs.Times.{ClockHas, HasClock, IsSame, IsTimeOf, Selects, clock_at, clock_from, clock_read, has_second, hour_by_period, hour_read, is_left_out, lack_of_hour, nanosecond_read, number}
 use Rattle.std.specs.Prelude.{is_some}
 use Rattle.timefd_read_moment.proofs.ShownLemmas.{clash, some_false, time_agrees}
 use Rattle.timefd_read_moment.proofs.YearLemmas.{Known}
@@ -93,17 +93,26 @@ pub agreed : (f : Fields) (c : Clock) (t : Time) (o : Option TimePart) → clock
     → o ≡ first_false (time_has f t) time_parts → o ≡ None → IsTimeOf f (Ok t)
 agreed f c t o e is none = (time_agrees f t (sym is ∙ none), determined f c e)
 
-refuted : (f : Fields) (t u : Time) (p : TimePart) → first_false (time_has f t) time_parts ≡ Some p
-    → IsSame t u → TimeAgrees f u → ⊥
-refuted f t u p off s a =
-    clash (time_has f t p) (some_false (time_has f t) time_parts p off) (same_parts f p t u s ∙ a p)
+otherwise : (f : Fields) (t x : Time) (p : TimePart) → first_false (time_has f t) time_parts ≡ Some p
+    → IsSame t x → time_has f x p ≡ false
+otherwise f t x p off same = sym (same_parts f p t x same) ∙ some_false (time_has f t) time_parts p off
 
 pub contradicted : (f : Fields) (c : Clock) (t : Time) (o : Option TimePart) (p : TimePart)
     → clock_read f ≡ Ok c → Selects (ClockHas c) (Ok t) → o ≡ first_false (time_has f t) time_parts
     → o ≡ Some p → IsDetermined (clock_read f) × ((x : Time) → TimeAgrees f x → ⊥)
+    × ((x : Time) → HasClock (clock_read f) x → time_has f x p ≡ false)
 contradicted f c t o p e one is some =
-    (determined f c e, λ u a. refuted f t u p (sym is ∙ some) (one u (clock_has f c u e a)) a)
+    let off = λ (x : Time) (h : ClockHas c x). otherwise f t x p (sym is ∙ some) (one x h) in (
+      determined f c e,
+      (λ x a. clash (time_has f x p) (off x (clock_has f c x e a)) (a p)),
+      (λ x h. off x (subst (λ (r : Result Clock TimePart). HasClock r x) e h)),
+    )
 
 pub unfound : (f : Fields) (c : Clock) (p : TimePart) → clock_read f ≡ Ok c
     → Selects (ClockHas c) (Err p) → IsDetermined (clock_read f) × ((x : Time) → TimeAgrees f x → ⊥)
-unfound f c p e none = (determined f c e, λ u a. none u (clock_has f c u e a))
+    × ((x : Time) → HasClock (clock_read f) x → time_has f x p ≡ false)
+unfound f c p e none = (
+  determined f c e,
+  (λ x a. none x (clock_has f c x e a)),
+  (λ x h. absurd (none x (subst (λ (r : Result Clock TimePart). HasClock r x) e h))),
+)

@@ -1,5 +1,5 @@
 -- The time of day of fields.
-use Rattle.std.specs.Prelude.{ℕ, ◌≡◌, ◌+◌, ◌%◌, Bool, true, false, ◌||◌, if◌then◌else◌, Option, Some, None, is_some, Result, Ok, Err}
+use Rattle.std.specs.Prelude.{ℕ, ◌≡◌, ◌+◌, ◌%◌, Bool, true, false, ◌||◌, if◌then◌else◌, Option, Some, None, is_some, IsFalse, Result, Ok, Err}
 use Rattle.timefd_read_dates.specs.declared.fields.Fields.{Fields}
 use Rattle.timefd_read_dates.specs.declared.fields.Fraction.{Fraction}
 use Rattle.timefd_moment.specs.declared.time.Time.{Time}
@@ -9,7 +9,7 @@ use Rattle.timefd_read_moment.specs.declared.part.TimePart.{TimePart}
 use Rattle.timefd_read_moment.specs.declared.part.Part.{Part}
 use Rattle.timefd_read_moment.specs.declared.part.Part.TheVariants as part
 use Rattle.timefd_read_moment.specs.declared.times.Clock.{Clock}
-use Rattle.timefd_read_moment.specs.Shown.{TimeAgrees}
+use Rattle.timefd_read_moment.specs.Shown.{TimeAgrees, time_has}
 use Rattle.timefd_read_moment.specs.Dates.{IsDetermined}
 
 abbrev pub hour_by_period : Option ℕ → Option Bool → Option ℕ
@@ -80,9 +80,21 @@ IsMissing f (part.Date p) = ⊥
 IsMissing f (part.Time p) = clock_read f ≡ Err p
 IsMissing f (part.Offset p) = ⊥
 
+-- it has the fields that determine one
+abbrev pub HasClock : Result Clock TimePart → Time → Type 0
+HasClock (Ok c) t = ClockHas c t
+HasClock (Err p) t = ⊥
+
+-- what has the fields that determine one has another value of this part
+abbrev pub IsOtherwise : Fields → Part → Type 0
+IsOtherwise f (part.Date p) = ⊥
+IsOtherwise f (part.Time p) = (t : Time) → HasClock (clock_read f) t → IsFalse (time_has f t p)
+IsOtherwise f (part.Offset p) = ⊥
+
 -- The time that has all that was read, where that determines one. Else what was not read is told, or that
--- no time has all of it.
+-- no time has all of it, and a part that is otherwise.
 abbrev pub IsTimeOf : Fields → Result Time ValueError → Type 0
 IsTimeOf f (Ok t) = TimeAgrees f t × IsDetermined (clock_read f)
 IsTimeOf f (Err (error.Missing p)) = IsMissing f p
-IsTimeOf f (Err (error.Contradiction p)) = IsDetermined (clock_read f) × ((t : Time) → TimeAgrees f t → ⊥)
+IsTimeOf f (Err (error.Contradiction p)) =
+    IsDetermined (clock_read f) × ((t : Time) → TimeAgrees f t → ⊥) × IsOtherwise f p
