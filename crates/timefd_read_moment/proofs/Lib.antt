@@ -5,3 +5,4 @@ pub mod ShownLemmas
 pub mod DateLemmas
 pub mod TimeLemmas
 pub mod OffsetLemmas
+pub mod LawLemmas

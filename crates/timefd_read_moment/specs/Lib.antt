@@ -5,3 +5,4 @@ pub mod Days
 pub mod Dates
 pub mod Times
 pub mod Offsets
+pub mod Laws

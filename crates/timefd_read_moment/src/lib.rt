@@ -4,6 +4,7 @@
 mod dates;
 mod day;
 mod error;
+pub mod laws;
 mod offsets;
 mod part;
 mod shown;
