@@ -1,5 +1,5 @@
 -- The date of fields.
-use Rattle.std.proofs.Common.{ℕ, ◌≡◌, ◌∙◌, false, Option, Some, None, Result, Ok, Err, refl, sym, ap, subst}
+use Rattle.std.proofs.Common.{ℕ, ◌≡◌, ◌∙◌, false, Option, Some, None, Result, Ok, Err, sym, subst}
 use Rattle.timefd_read_dates.specs.declared.fields.Fields.{Fields}
 use Rattle.timefd_moment.specs.declared.date.Date.{Date}
 use Rattle.timefd_moment.specs.Moments.{day_number}

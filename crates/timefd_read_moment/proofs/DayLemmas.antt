@@ -1,5 +1,5 @@
 -- Which date a day is, and which day a date is.
-use Rattle.std.proofs.Common.{ℕ, ◌≡◌, ◌∙◌, ◌+◌, ◌-◌, ◌*◌, ◌/◌, ◌%◌, ◌<◌, ◌≤◌, Bool, true, false, nat_lt, Option, Some, None, Err, if◌then◌else◌, refl, sym, ap, arith}
+use Rattle.std.proofs.Common.{ℕ, ◌≡◌, ◌∙◌, ◌+◌, ◌-◌, ◌*◌, ◌/◌, ◌%◌, ◌≤◌, Bool, true, false, nat_lt, Option, Some, None, Err, if◌then◌else◌, refl, sym, ap, arith}
 use Rattle.std.proofs.lemmas.Bool.{le-leb, lt-ltb, ltb-true, ltb-false}
 use Rattle.timefd_moment.specs.declared.date.Date.{Date}
 use Rattle.timefd_moment.specs.declared.time.Time.{Time}
@@ -10,7 +10,7 @@ use Rattle.timefd_moment.specs.Moments.{date_ordinal, day_number, day_second, da
 use Rattle.timefd_moment.proofs.CalendarLemmas as calendar
 use Rattle.timefd_moment.proofs.LawLemmas as law
 use Rattle.timefd_read_moment.specs.declared.part.DatePart.{DatePart}
-use Rattle.timefd_read_moment.specs.Dates.{IsSame, Selects}
+use Rattle.timefd_read_moment.specs.Dates.{Selects}
 use Rattle.timefd_read_moment.specs.Days.{iso_week_day, known, midnight, monday_week_day, ordinal_day, sunday_week_day}
 
 from_one : (d : Date) → 1 ≤ date_ordinal d

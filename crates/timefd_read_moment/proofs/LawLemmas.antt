@@ -1,5 +1,5 @@
 -- Fields that determine a value are those of one at most, and it is answered.
-use Rattle.std.proofs.Common.{ℕ, ◌≡◌, ◌∙◌, ◌+◌, ◌*◌, ◌/◌, ◌%◌, ◌≤◌, ◌⊎◌, inl, inr, Bool, true, false, Result, Ok, Err, refl, sym, subst, arith}
+use Rattle.std.proofs.Common.{ℕ, ◌≡◌, ◌∙◌, ◌/◌, ◌%◌, ◌≤◌, ◌⊎◌, inl, inr, Bool, true, false, Result, Ok, Err, refl, sym, subst, arith}
 use Rattle.timefd_read_dates.specs.declared.fields.Fields.{Fields}
 use Rattle.timefd_moment.specs.declared.date.Date.{Date}
 use Rattle.timefd_moment.specs.declared.time.Time.{Time}
@@ -27,7 +27,7 @@ use Rattle.timefd_read_moment.proofs.WayLemmas.{one_way, way_has}
 
 -- what is missing determines nothing
 undetermined : {A E : Type 0} (r : Result A E) (e : E) → r ≡ Err e → IsDetermined r → ⊥
-undetermined r e is h = subst (λ (x : Result A E). IsDetermined x) is h
+undetermined {A = A} {E = E} r e is h = subst (λ (x : Result A E). IsDetermined x) is h
 
 date_by : (f : Fields) (r : Result DateWay DatePart) (d e : Date) → date_way f ≡ r → IsDetermined r
     → DateAgrees f d → DateAgrees f e → of_date.IsSame d e
@@ -54,8 +54,8 @@ seconds_of h m s n k a b c d e f = omega (arith, a, b, c, d, e, f)
 
 -- zero has no sign
 positive : (b : Bool) (n : ℕ) → (b ≡ true → 1 ≤ n) → n ≡ 0 → b ≡ false
-positive true n some zero = absurd (omega (arith, some refl, zero))
-positive false n some zero = refl
+positive true n some z = absurd (omega (arith, some refl, z))
+positive false n some z = refl
 
 sign_by : (a b c : Bool) (n k : ℕ) → n ≡ k → (b ≡ true → 1 ≤ n) → (c ≡ true → 1 ≤ k)
     → (n ≡ 0) ⊎ (a ≡ b) → (k ≡ 0) ⊎ (a ≡ c) → b ≡ c

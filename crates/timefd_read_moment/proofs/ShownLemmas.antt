@@ -6,7 +6,6 @@ use Rattle.timefd_moment.specs.declared.date.Date.{Date}
 use Rattle.timefd_moment.specs.declared.time.Time.{Time}
 use Rattle.timefd_moment.specs.declared.offset.UtcOffset.{UtcOffset}
 use Rattle.timefd_moment.specs.Calendar.{IsDay}
-use Rattle.timefd_moment.specs.Moments.{hour_of_twelve}
 use Rattle.timefd_read_moment.specs.declared.part.DatePart.{DatePart}
 use Rattle.timefd_read_moment.specs.declared.part.TimePart.{TimePart}
 use Rattle.timefd_read_moment.specs.declared.part.OffsetPart.{OffsetPart}

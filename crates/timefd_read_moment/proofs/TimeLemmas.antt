@@ -1,5 +1,5 @@
 -- The time of day of fields.
-use Rattle.std.proofs.Common.{ℕ, ◌≡◌, ◌∙◌, ◌+◌, ◌-◌, ◌%◌, ◌≤◌, ◌<◌, ◌⊎◌, inl, inr, ◌==◌, not, ◌&&◌, ◌||◌, Bool, true, false, nat_le, Option, Some, None, Result, Ok, Err, if◌then◌else◌, refl, sym, ap, subst, arith}
+use Rattle.std.proofs.Common.{ℕ, ◌≡◌, ◌∙◌, ◌+◌, ◌-◌, ◌%◌, ◌≤◌, ◌||◌, Bool, true, false, nat_le, Option, Some, None, Result, Ok, Err, if◌then◌else◌, refl, sym, ap, subst, arith}
 use Rattle.std.proofs.lemmas.Bool.{eqb-true, leb-true, leb-false}
 use Rattle.timefd_read_dates.specs.declared.fields.Fields.{Fields}
 use Rattle.timefd_read_dates.specs.declared.fields.Fraction.{Fraction}
@@ -10,7 +10,7 @@ use Rattle.timefd_read_moment.specs.declared.part.TimePart.{TimePart}
 use Rattle.timefd_read_moment.specs.declared.times.Clock.{Clock}
 use Rattle.timefd_read_moment.specs.Dates.{IsDetermined}
 use Rattle.timefd_read_moment.specs.Shown.{TimeAgrees, first_false, is_count, is_count_or_zero, is_flag, is_fraction, time_has, time_parts}
-use Rattle.timefd_read_moment.specs.Times.{ClockHas, HasClock, IsSame, IsTimeOf, Selects, clock_at, clock_from, clock_read, has_second, hour_by_period, hour_read, is_left_out, lack_of_hour, nanosecond_read, number}
+use Rattle.timefd_read_moment.specs.Times.{ClockHas, HasClock, IsSame, IsTimeOf, Selects, clock_at, clock_read, has_second, hour_read, is_left_out, nanosecond_read, number}
 use Rattle.std.specs.Prelude.{is_some}
 use Rattle.timefd_read_moment.proofs.ShownLemmas.{clash, some_false, time_agrees}
 use Rattle.timefd_read_moment.proofs.YearLemmas.{Known}

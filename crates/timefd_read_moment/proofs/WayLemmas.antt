@@ -1,5 +1,5 @@
 -- A date that agrees with fields has those of their way, and is the only one.
-use Rattle.std.proofs.Common.{ℕ, ◌≡◌, ◌∙◌, ◌+◌, ◌-◌, ◌≤◌, Bool, true, false, nat_le, nat_lt, Option, Some, None, Result, Ok, Err, if◌then◌else◌, refl, sym, ap, subst, arith}
+use Rattle.std.proofs.Common.{ℕ, ◌≡◌, ◌∙◌, ◌+◌, ◌-◌, ◌≤◌, Bool, true, false, nat_le, nat_lt, Option, Some, None, Result, Ok, Err, if◌then◌else◌, sym, ap, subst, arith}
 use Rattle.std.specs.Prelude.{⊤, is_some}
 use Rattle.std.proofs.lemmas.Bool.{eqb-true}
 use Rattle.timefd_read_dates.specs.declared.fields.Fields.{Fields}
@@ -11,7 +11,6 @@ use Rattle.timefd_read_moment.specs.declared.part.DatePart.{DatePart}
 use Rattle.timefd_read_moment.specs.declared.way.DateWay.{DateWay}
 use Rattle.timefd_read_moment.specs.declared.way.DateWay.TheVariants as by
 use Rattle.timefd_read_moment.specs.Dates.{IsSame}
-use Rattle.timefd_read_moment.specs.Days.{iso_week_day, monday_week_day, ordinal_day, sunday_week_day}
 use Rattle.timefd_read_moment.specs.Shown.{DateAgrees, is_count}
 use Rattle.timefd_read_moment.specs.Ways.{WayHas, calendar, date_way, iso_week, lack, monday_week, or_else, ordinal, sunday_week, unless, way_of}
 use Rattle.timefd_read_moment.specs.Years.{years_read}

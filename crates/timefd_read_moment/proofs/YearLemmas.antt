@@ -1,13 +1,13 @@
 -- A year that was read is the one that shows it.
-use Rattle.std.proofs.Common.{ℕ, ◌≡◌, ◌∙◌, ◌+◌, ◌-◌, ◌*◌, ◌/◌, ◌%◌, ◌<◌, ◌≤◌, ◌⊎◌, inl, inr, ◌==◌, ◌&&◌, ◌||◌, Bool, true, false, nat_lt, min, Option, Some, None, if◌then◌else◌, refl, sym, ap, arith}
+use Rattle.std.proofs.Common.{ℕ, ◌≡◌, ◌∙◌, ◌+◌, ◌-◌, ◌*◌, ◌/◌, ◌%◌, ◌≤◌, ◌⊎◌, inl, inr, ◌==◌, ◌&&◌, ◌||◌, Bool, true, false, nat_lt, min, Option, Some, None, if◌then◌else◌, refl, sym, arith}
 use Rattle.std.specs.Prelude.{⊤}
 use Rattle.std.proofs.Math.Nat.{min-eq_left}
 use Rattle.std.proofs.lemmas.Bool.{eqb-true, ltb-true, ltb-false, or_cases}
 use Rattle.timefd_moment.specs.Moments.{magnitude, is_before_zero}
 use Rattle.timefd_read_dates.specs.declared.fields.Signed.{Signed}
 use Rattle.timefd_read_dates.specs.Readings.{same}
-use Rattle.timefd_read_moment.specs.Shown.{is_century, is_count, is_last_two, is_shown, is_year}
-use Rattle.timefd_read_moment.specs.Years.{years_of, years_of_century, years_read}
+use Rattle.timefd_read_moment.specs.Shown.{is_century, is_last_two, is_year}
+use Rattle.timefd_read_moment.specs.Years.{years_of, years_read}
 
 pub both : (a b : Bool) → (a && b) ≡ true → (a ≡ true) × (b ≡ true)
 both true b e = (refl, e)

@@ -1,5 +1,5 @@
 -- Days, counted from 1 January of the year -1,000,000 on.
-use Rattle.std.specs.Prelude.{ℕ, ◌+◌, ◌-◌, ◌*◌, ◌%◌, Bool, true, false, nat_lt, if◌then◌else◌, Option, Some, None, Result, Ok, Err}
+use Rattle.std.specs.Prelude.{ℕ, ◌+◌, ◌-◌, ◌*◌, ◌%◌, true, false, nat_lt, if◌then◌else◌, Option, Some, None, Result, Ok, Err}
 use Rattle.timefd_moment.specs.declared.date.Date.{Date}
 use Rattle.timefd_moment.specs.declared.unix_time.UnixTime.{UnixTime}
 use Rattle.timefd_moment.specs.Calendar.{days_of_years, weekday_of_day}

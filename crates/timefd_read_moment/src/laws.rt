@@ -3,19 +3,16 @@
 ghost use Rattle.timefd_read_moment.specs.Laws.{DateBack, OffsetBack, OneDate, OneOffset, OneTime, TimeBack};
 
 /// Fields that determine a date are those of one at most.
-#[tactic(auto, using(crate::proofs::LawLemmas::one_date))]
 pub fn one_date()
     ensures { OneDate }
 {}
 
 /// Fields that determine a time of day are those of one at most.
-#[tactic(auto, using(crate::proofs::LawLemmas::one_time))]
 pub fn one_time()
     ensures { OneTime }
 {}
 
 /// Fields that determine an offset are those of one at most.
-#[tactic(auto, using(crate::proofs::LawLemmas::one_offset))]
 pub fn one_offset()
     ensures { OneOffset }
 {}

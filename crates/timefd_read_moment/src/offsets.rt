@@ -1,6 +1,6 @@
 //! The offset from UTC of fields.
 
-ghost use Rattle.std.specs.Prelude.{◌≡◌, ◌≤◌, Ok};
+ghost use Rattle.std.specs.Prelude.{◌≡◌, Ok};
 ghost use Rattle.timefd_read_moment.specs.Offsets as spec;
 ghost use Rattle.timefd_read_moment.specs.Offsets.{IsOffsetOf, Selects};
 

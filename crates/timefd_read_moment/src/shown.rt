@@ -1,7 +1,7 @@
 //! Which parts of a value are as they were read.
 
-ghost use Rattle.std.specs.Prelude.{◌≡◌, ◌≤◌};
-ghost use Rattle.timefd_moment.specs.Moments.{is_before_zero, magnitude};
+ghost use Rattle.std.specs.Prelude.{◌≡◌};
+ghost use Rattle.timefd_moment.specs.Moments.{magnitude};
 ghost use Rattle.timefd_read_moment.specs.Shown as spec;
 
 use crate::part::{DatePart, OffsetPart, TimePart};
