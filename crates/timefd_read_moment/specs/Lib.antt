@@ -6,3 +6,5 @@ pub mod Dates
 pub mod Times
 pub mod Offsets
 pub mod Laws
+pub mod Sentences
+pub mod DateTimes

@@ -28,7 +28,7 @@ pub fn expect_date(rt: &impl Abort, alloc: Global, by: &str, text: &str, expecte
     let answer = date(&fields_of(rt, alloc, by, text));
     let shown = match answer {
         Ok(date) => format!(in alloc; "{date}"),
-        Err(error) => format!(in alloc; "{error:?}"),
+        Err(error) => format!(in alloc; "{error}"),
     };
     assert_eq!(rt;
         shown.expect(rt, AMPLE).as_str(),
@@ -42,7 +42,7 @@ pub fn expect_time(rt: &impl Abort, alloc: Global, by: &str, text: &str, expecte
     let answer = time(&fields_of(rt, alloc, by, text));
     let shown = match answer {
         Ok(time) => format!(in alloc; "{time}"),
-        Err(error) => format!(in alloc; "{error:?}"),
+        Err(error) => format!(in alloc; "{error}"),
     };
     assert_eq!(rt;
         shown.expect(rt, AMPLE).as_str(),
@@ -56,7 +56,7 @@ pub fn expect_offset(rt: &impl Abort, alloc: Global, by: &str, text: &str, expec
     let answer = offset(&fields_of(rt, alloc, by, text));
     let shown = match answer {
         Ok(offset) => format!(in alloc; "{offset}"),
-        Err(error) => format!(in alloc; "{error:?}"),
+        Err(error) => format!(in alloc; "{error}"),
     };
     assert_eq!(rt;
         shown.expect(rt, AMPLE).as_str(),

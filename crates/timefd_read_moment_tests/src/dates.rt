@@ -215,59 +215,63 @@ const OTHERS: &[(&str, &str, &str)] = &[
     (
         "[weekday] [year]-[month]-[day]",
         "Tuesday 2026-11-23",
-        "Contradiction(Date(Weekday))",
+        "the weekday disagrees with what else was read",
     ),
     (
         "[year]-[month]-[day]",
         "2026-02-30",
-        "Contradiction(Date(Day))",
+        "the day disagrees with what else was read",
     ),
     (
         "[year]-[month]-[day]",
         "1900-02-29",
-        "Contradiction(Date(Day))",
+        "the day disagrees with what else was read",
     ),
     (
         "[year]-[ordinal]",
         "2026-366",
-        "Contradiction(Date(Ordinal))",
+        "the day of the year disagrees with what else was read",
     ),
     (
         "[year base:iso_week]-W[week_number]-[weekday repr:monday]",
         "2010-W53-1",
-        "Contradiction(Date(IsoWeek))",
+        "the ISO week disagrees with what else was read",
     ),
     ("[year]-[month]-[day]", "-0000-01-01", "0000-01-01"),
     (
         "[year base:iso_week] [year]-[month]-[day]",
         "2021 2021-01-03",
-        "Contradiction(Date(IsoYear))",
+        "the ISO year disagrees with what else was read",
     ),
-    ("[month]-[day]", "11-23", "Missing(Date(Year))"),
-    ("[year]-[month]", "2026-11", "Missing(Date(Day))"),
-    ("[year]", "2026", "Missing(Date(Month))"),
+    ("[month]-[day]", "11-23", "the year was not read"),
+    ("[year]-[month]", "2026-11", "the day was not read"),
+    ("[year]", "2026", "the month was not read"),
     (
         "[year repr:century]-[month]-[day]",
         "20-11-23",
-        "Missing(Date(YearLastTwo))",
+        "the last two digits of the year was not read",
     ),
     (
         "[year repr:last_two]-[month]-[day]",
         "26-11-23",
-        "Missing(Date(Century))",
+        "the century was not read",
     ),
     (
         "[year base:iso_week]-W[week_number]",
         "2026-W48",
-        "Missing(Date(Weekday))",
+        "the weekday was not read",
     ),
-    ("[year] [week_number]", "2026 48", "Missing(Date(IsoYear))"),
+    (
+        "[year] [week_number]",
+        "2026 48",
+        "the ISO year was not read",
+    ),
     (
         "[year] [week_number repr:sunday]",
         "2026 47",
-        "Missing(Date(Weekday))",
+        "the weekday was not read",
     ),
-    ("[hour]:[minute]", "12:30", "Missing(Date(Year))"),
+    ("[hour]:[minute]", "12:30", "the year was not read"),
 ];
 
 #[test]

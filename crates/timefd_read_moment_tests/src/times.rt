@@ -17,26 +17,34 @@ const TIMES: &[(&str, &str, &str)] = &[
     (
         "[hour] [hour repr:12]:[minute]",
         "15 04:10",
-        "Contradiction(Time(Hour12))",
+        "the hour of twelve disagrees with what else was read",
     ),
     (
         "[hour]:[minute] [period]",
         "15:10 AM",
-        "Contradiction(Time(Period))",
+        "the period disagrees with what else was read",
     ),
-    ("[hour]", "12", "Missing(Time(Minute))"),
-    ("[hour repr:12]:[minute]", "12:30", "Missing(Time(Period))"),
-    ("[period] [minute]", "PM 30", "Missing(Time(Hour12))"),
-    ("[minute]", "30", "Missing(Time(Hour))"),
+    ("[hour]", "12", "the minute was not read"),
+    (
+        "[hour repr:12]:[minute]",
+        "12:30",
+        "the period was not read",
+    ),
+    (
+        "[period] [minute]",
+        "PM 30",
+        "the hour of twelve was not read",
+    ),
+    ("[minute]", "30", "the hour was not read"),
     (
         "[hour]:[minute].[subsecond]",
         "12:30.5",
-        "Missing(Time(Second))",
+        "the second was not read",
     ),
     (
         "[hour repr:12] [period] [second]",
         "12 PM 30",
-        "Missing(Time(Minute))",
+        "the minute was not read",
     ),
 ];
 
@@ -55,11 +63,15 @@ const OFFSETS: &[(&str, &str, &str)] = &[
         "25:59:59",
         "+25:59:59",
     ),
-    ("[offset_minute]", "30", "Missing(Offset(Hour))"),
+    (
+        "[offset_minute]",
+        "30",
+        "the hour of the offset was not read",
+    ),
     (
         "[offset_hour] [offset_second]",
         "01 30",
-        "Missing(Offset(Minute))",
+        "the minute of the offset was not read",
     ),
 ];
 
