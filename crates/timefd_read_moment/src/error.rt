@@ -4,6 +4,7 @@ ghost use Rattle.std.specs.Prelude.{◌≡◌};
 ghost use Rattle.timefd_read_moment.specs.Sentences as spec;
 
 use crate::part::{DatePart, OffsetPart, Part, TimePart};
+use std::error::Error;
 use std::fmt;
 
 /// Why fields are no value.
@@ -23,15 +24,21 @@ impl fmt::Display for ValueError {
 
     fn fmt<W: fmt::Write>(&self, f: &mut fmt::Formatter<W>) -> fmt::Result {
         match self {
-            ValueError::Missing(part) => write!(f, "the {} was not read", name(*part)),
+            ValueError::Missing(part) => {
+                let name = name_of(*part);
+                write!(f, "the {name} was not read")
+            }
             ValueError::Contradiction(part) => {
-                write!(f, "the {} disagrees with what else was read", name(*part))
+                let name = name_of(*part);
+                write!(f, "the {name} disagrees with what else was read")
             }
         }
     }
 }
 
-fn name(part: Part) -> &'static str
+impl Error for ValueError {}
+
+fn name_of(part: Part) -> &'static str
     ensures { result.now ≡ spec.name part }
 {
     match part {
