@@ -13,6 +13,11 @@ use timefd_read_dates::Fields;
 pub fn date_time(fields: &Fields) -> Result<(Date, Time), ValueError>
     ensures { IsDateTimeOf fields.now result }
 {
-    let date = date(fields)?;
-    Ok((date, time(fields)?))
+    match date(fields) {
+        Ok(date) => match time(fields) {
+            Ok(time) => Ok((date, time)),
+            Err(error) => Err(error),
+        },
+        Err(error) => Err(error),
+    }
 }
