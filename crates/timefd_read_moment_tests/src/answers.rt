@@ -4,7 +4,7 @@ use std::alloc::Global;
 use std::process::Abort;
 use timefd_parse::{BorrowedOutput, DescriptionVersion, FormatDescriptionV3, parse_borrowed};
 use timefd_read_dates::{Fields, read_fields};
-use timefd_read_moment::{date, offset, time};
+use timefd_read_moment::{date, date_time, offset, time};
 
 const AMPLE: &str = "ample memory";
 
@@ -56,6 +56,20 @@ pub fn expect_offset(rt: &impl Abort, alloc: Global, by: &str, text: &str, expec
     let answer = offset(&fields_of(rt, alloc, by, text));
     let shown = match answer {
         Ok(offset) => format!(in alloc; "{offset}"),
+        Err(error) => format!(in alloc; "{error}"),
+    };
+    assert_eq!(rt;
+        shown.expect(rt, AMPLE).as_str(),
+        expected,
+        "{by} of {text}"
+    );
+}
+
+/// Expects the date and the time of day of a text.
+pub fn expect_date_time(rt: &impl Abort, alloc: Global, by: &str, text: &str, expected: &str) {
+    let answer = date_time(&fields_of(rt, alloc, by, text));
+    let shown = match answer {
+        Ok((date, time)) => format!(in alloc; "{date} {time}"),
         Err(error) => format!(in alloc; "{error}"),
     };
     assert_eq!(rt;

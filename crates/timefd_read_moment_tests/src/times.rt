@@ -1,6 +1,6 @@
 //! Times of day and offsets of texts.
 
-use super::answers::{expect_offset, expect_time};
+use super::answers::{expect_date_time, expect_offset, expect_time};
 
 const TIMES: &[(&str, &str, &str)] = &[
     (
@@ -87,4 +87,14 @@ fn offsets(rt: HostRuntime) {
     for (by, text, expected) in OFFSETS {
         expect_offset(&rt, rt.alloc(), by, text, expected);
     }
+}
+
+#[test]
+fn date_times(rt: HostRuntime) {
+    let by = "[year]-[month]-[day] [hour]:[minute]";
+    let text = "2026-11-23 05:36";
+    expect_date_time(&rt, rt.alloc(), by, text, "2026-11-23 05:36:00");
+    let by = "[year]-[month]-[day] [hour]";
+    let text = "2026-11-23 05";
+    expect_date_time(&rt, rt.alloc(), by, text, "the minute was not read");
 }
