@@ -1,0 +1,13 @@
+-- The date and the time of day of fields.
+use Rattle.std.specs.Prelude.{◌⊎◌, Result, Ok, Err}
+use Rattle.timefd_read_dates.specs.declared.fields.Fields.{Fields}
+use Rattle.timefd_moment.specs.declared.date.Date.{Date}
+use Rattle.timefd_moment.specs.declared.time.Time.{Time}
+use Rattle.timefd_read_moment.specs.declared.error.ValueError.{ValueError}
+use Rattle.timefd_read_moment.specs.Dates.{IsDateOf}
+use Rattle.timefd_read_moment.specs.Times.{IsTimeOf}
+
+-- the date and the time, or why there is none of the one or of the other
+abbrev pub IsDateTimeOf : Fields → Result (Date × Time) ValueError → Type 0
+IsDateTimeOf f (Ok r) = IsDateOf f (Ok r.0) × IsTimeOf f (Ok r.1)
+IsDateTimeOf f (Err e) = IsDateOf f (Err e) ⊎ IsTimeOf f (Err e)

@@ -1,0 +1,66 @@
+-- The offset from UTC of fields.
+use Rattle.std.specs.Prelude.{◌≡◌, ◌⊎◌, ◌/◌, ◌%◌, if◌then◌else◌, Option, Some, None, is_some, IsFalse, Result, Ok, Err}
+use Rattle.timefd_read_dates.specs.declared.fields.Fields.{Fields}
+use Rattle.timefd_read_dates.specs.declared.fields.Signed.{Signed}
+use Rattle.timefd_moment.specs.declared.offset.UtcOffset.{UtcOffset}
+use Rattle.timefd_read_moment.specs.declared.error.ValueError.{ValueError}
+use Rattle.timefd_read_moment.specs.declared.error.ValueError.TheVariants as error
+use Rattle.timefd_read_moment.specs.declared.part.OffsetPart.{OffsetPart}
+use Rattle.timefd_read_moment.specs.declared.part.Part.{Part}
+use Rattle.timefd_read_moment.specs.declared.part.Part.TheVariants as part
+use Rattle.timefd_read_moment.specs.declared.offsets.Shift.{Shift}
+use Rattle.timefd_read_moment.specs.Shown.{OffsetAgrees, offset_has}
+use Rattle.timefd_read_moment.specs.Dates.{IsDetermined}
+use Rattle.timefd_read_moment.specs.Times.{is_left_out, number}
+
+-- seconds aren't read without minutes
+abbrev pub shift_at : Fields → Option Signed → Result Shift OffsetPart
+shift_at f None = Err OffsetPart.Hour
+shift_at f (Some h) =
+    if is_left_out f.offset_minute (is_some f.offset_second) then Err OffsetPart.Minute
+    else Ok (record {
+      is_negative = h.is_negative;
+      hour = h.magnitude;
+      minute = number f.offset_minute;
+      second = number f.offset_second;
+    })
+
+-- the numbers of the offset that the fields determine, or what was not read
+abbrev pub shift_read : Fields → Result Shift OffsetPart
+shift_read f = shift_at f f.offset_hour
+
+abbrev pub ShiftHas : Shift → UtcOffset → Type 0
+ShiftHas s o = (s.hour ≡ o.seconds / 3600) × (s.minute ≡ o.seconds / 60 % 60)
+    × (s.second ≡ o.seconds % 60) × ((o.seconds ≡ 0) ⊎ (s.is_negative ≡ o.is_negative))
+
+abbrev pub IsSame : UtcOffset → UtcOffset → Type 0
+IsSame o p = (o.seconds ≡ p.seconds) × (o.is_negative ≡ p.is_negative)
+
+-- the one offset of this kind; where there is none, a part that none has
+abbrev pub Selects : (UtcOffset → Type 0) → Result UtcOffset OffsetPart → Type 0
+Selects Is (Ok o) = (p : UtcOffset) → Is p → IsSame o p
+Selects Is (Err part) = (p : UtcOffset) → Is p → ⊥
+
+abbrev pub IsMissing : Fields → Part → Type 0
+IsMissing f (part.Date p) = ⊥
+IsMissing f (part.Time p) = ⊥
+IsMissing f (part.Offset p) = shift_read f ≡ Err p
+
+-- it has the fields that determine one
+abbrev pub HasShift : Result Shift OffsetPart → UtcOffset → Type 0
+HasShift (Ok s) o = ShiftHas s o
+HasShift (Err p) o = ⊥
+
+-- what has the fields that determine one has another value of this part
+abbrev pub IsOtherwise : Fields → Part → Type 0
+IsOtherwise f (part.Date p) = ⊥
+IsOtherwise f (part.Time p) = ⊥
+IsOtherwise f (part.Offset p) = (o : UtcOffset) → HasShift (shift_read f) o → IsFalse (offset_has f o p)
+
+-- The offset that has all that was read, where that determines one. Else what was not read is told, or
+-- that no offset has all of it, and a part that is otherwise.
+abbrev pub IsOffsetOf : Fields → Result UtcOffset ValueError → Type 0
+IsOffsetOf f (Ok o) = OffsetAgrees f o × IsDetermined (shift_read f)
+IsOffsetOf f (Err (error.Missing p)) = IsMissing f p
+IsOffsetOf f (Err (error.Contradiction p)) =
+    IsDetermined (shift_read f) × ((o : UtcOffset) → OffsetAgrees f o → ⊥) × IsOtherwise f p

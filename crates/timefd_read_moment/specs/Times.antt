@@ -1,0 +1,100 @@
+-- The time of day of fields.
+use Rattle.std.specs.Prelude.{ℕ, ◌≡◌, ◌+◌, ◌%◌, Bool, false, ◌||◌, if◌then◌else◌, Option, Some, None, is_some, IsFalse, Result, Ok, Err}
+use Rattle.timefd_read_dates.specs.declared.fields.Fields.{Fields}
+use Rattle.timefd_read_dates.specs.declared.fields.Fraction.{Fraction}
+use Rattle.timefd_moment.specs.declared.time.Time.{Time}
+use Rattle.timefd_read_moment.specs.declared.error.ValueError.{ValueError}
+use Rattle.timefd_read_moment.specs.declared.error.ValueError.TheVariants as error
+use Rattle.timefd_read_moment.specs.declared.part.TimePart.{TimePart}
+use Rattle.timefd_read_moment.specs.declared.part.Part.{Part}
+use Rattle.timefd_read_moment.specs.declared.part.Part.TheVariants as part
+use Rattle.timefd_read_moment.specs.declared.times.Clock.{Clock}
+use Rattle.timefd_read_moment.specs.Shown.{TimeAgrees, time_has}
+use Rattle.timefd_read_moment.specs.Dates.{IsDetermined}
+
+abbrev pub hour_by_period : Option ℕ → Option Bool → Option ℕ
+hour_by_period None is_afternoon = None
+hour_by_period (Some h) None = None
+hour_by_period (Some h) (Some is_afternoon) = Some (h % 12 + (if is_afternoon then 12 else 0))
+
+-- the hour, by either clock
+abbrev pub hour_read : Option ℕ → Option ℕ → Option Bool → Option ℕ
+hour_read (Some h) hour_12 is_afternoon = Some h
+hour_read None hour_12 is_afternoon = hour_by_period hour_12 is_afternoon
+
+abbrev pub lack_of_hour : Fields → TimePart
+lack_of_hour f =
+    if is_some f.hour_12 then TimePart.Period
+    else (if is_some f.is_afternoon then TimePart.Hour12 else TimePart.Hour)
+
+abbrev pub number : Option ℕ → ℕ
+number None = 0
+number (Some n) = n
+
+abbrev pub nanosecond_read : Option Fraction → ℕ
+nanosecond_read None = 0
+nanosecond_read (Some f) = f.nanosecond
+
+abbrev pub has_second : Fields → Bool
+has_second f = is_some f.second || is_some f.subsecond
+
+-- what is coarser wasn't read, though what is finer was
+abbrev pub is_left_out : Option ℕ → Bool → Bool
+is_left_out None is_finer_read = is_finer_read
+is_left_out (Some n) is_finer_read = false
+
+-- Nothing is read without what is coarser. An hour of twelve and its period alone are a whole hour.
+abbrev pub clock_from : Fields → ℕ → Result Clock TimePart
+clock_from f h =
+    if is_left_out f.minute (is_some f.hour || has_second f) then Err TimePart.Minute
+    else (if is_left_out f.second (is_some f.subsecond) then Err TimePart.Second else Ok (record {
+      hour = h;
+      minute = number f.minute;
+      second = number f.second;
+      nanosecond = nanosecond_read f.subsecond;
+    }))
+
+abbrev pub clock_at : Fields → Option ℕ → Result Clock TimePart
+clock_at f (Some h) = clock_from f h
+clock_at f None = Err (lack_of_hour f)
+
+-- the numbers of the time that the fields determine, or what was not read
+abbrev pub clock_read : Fields → Result Clock TimePart
+clock_read f = clock_at f (hour_read f.hour f.hour_12 f.is_afternoon)
+
+abbrev pub ClockHas : Clock → Time → Type 0
+ClockHas c t = (c.hour ≡ t.hour) × (c.minute ≡ t.minute) × (c.second ≡ t.second)
+    × (c.nanosecond ≡ t.nanosecond)
+
+abbrev pub IsSame : Time → Time → Type 0
+IsSame t u = (t.hour ≡ u.hour) × (t.minute ≡ u.minute) × (t.second ≡ u.second)
+    × (t.nanosecond ≡ u.nanosecond)
+
+-- the one time of this kind; where there is none, a part that none has
+abbrev pub Selects : (Time → Type 0) → Result Time TimePart → Type 0
+Selects Is (Ok t) = (u : Time) → Is u → IsSame t u
+Selects Is (Err part) = (u : Time) → Is u → ⊥
+
+abbrev pub IsMissing : Fields → Part → Type 0
+IsMissing f (part.Date p) = ⊥
+IsMissing f (part.Time p) = clock_read f ≡ Err p
+IsMissing f (part.Offset p) = ⊥
+
+-- it has the fields that determine one
+abbrev pub HasClock : Result Clock TimePart → Time → Type 0
+HasClock (Ok c) t = ClockHas c t
+HasClock (Err p) t = ⊥
+
+-- what has the fields that determine one has another value of this part
+abbrev pub IsOtherwise : Fields → Part → Type 0
+IsOtherwise f (part.Date p) = ⊥
+IsOtherwise f (part.Time p) = (t : Time) → HasClock (clock_read f) t → IsFalse (time_has f t p)
+IsOtherwise f (part.Offset p) = ⊥
+
+-- The time that has all that was read, where that determines one. Else what was not read is told, or that
+-- no time has all of it, and a part that is otherwise.
+abbrev pub IsTimeOf : Fields → Result Time ValueError → Type 0
+IsTimeOf f (Ok t) = TimeAgrees f t × IsDetermined (clock_read f)
+IsTimeOf f (Err (error.Missing p)) = IsMissing f p
+IsTimeOf f (Err (error.Contradiction p)) =
+    IsDetermined (clock_read f) × ((t : Time) → TimeAgrees f t → ⊥) × IsOtherwise f p

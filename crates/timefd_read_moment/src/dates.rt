@@ -1,0 +1,89 @@
+//! The date of fields.
+
+ghost use Rattle.std.specs.Prelude.{◌≡◌, ◌≤◌, ◌+ℤ◌, pos, Ok};
+ghost use Rattle.timefd_read_moment.specs.Dates.{IsDateOf, Selects};
+ghost use Rattle.timefd_read_moment.specs.Ways.{WayHas, date_way, way_years};
+ghost use Rattle.timefd_read_moment.specs.declared.way.DateWay.TheVariants as by;
+
+use crate::day::{date_of_day, iso_week_day, monday_week_day, ordinal_day, sunday_week_day};
+use crate::error::ValueError;
+use crate::part::{DatePart, Part};
+use crate::shown::date_contradiction;
+use crate::way::{DateWay, date_way};
+use crate::year::at_most;
+use timefd_moment::Date;
+use timefd_read_dates::Fields;
+
+/// The date that has all that was read. It is determined by year, month and day; by year and
+/// ordinal; by ISO year, ISO week and weekday; or by year, week from Sunday or from Monday, and
+/// weekday. Century and last two digits stand for a year. An `Err` tells what was not read, or that
+/// no date has all that was read. It stands for `Date::try_from` of `Parsed` of `time`.
+pub fn date(fields: &Fields) -> Result<Date, ValueError>
+    ensures { IsDateOf fields.now result }
+{
+    match date_way(fields) {
+        Ok(way) => compared(fields, way),
+        Err(part) => Err(ValueError::Missing(Part::Date(part))),
+    }
+}
+
+fn compared(fields: &Fields, way: DateWay) -> Result<Date, ValueError>
+    requires years { way_years way ≤ 2000000 }
+    requires way { date_way fields.now ≡ Ok way }
+    ensures { IsDateOf fields.now result }
+{
+    match date_in(way) {
+        Ok(date) => match date_contradiction(fields, date) {
+            None => Ok(date),
+            Some(part) => Err(ValueError::Contradiction(Part::Date(part))),
+        },
+        Err(part) => Err(ValueError::Contradiction(Part::Date(part))),
+    }
+}
+
+/// The date that has the fields of a way.
+fn date_in(way: DateWay) -> Result<Date, DatePart>
+    requires { way_years way ≤ 2000000 }
+    ensures { Selects (WayHas way) result }
+{
+    match way {
+        DateWay::Calendar { years, month, day } => calendar_date(years, month, day),
+        DateWay::Ordinal { years, ordinal } => {
+            date_of_day(ordinal_day(years, ordinal), DatePart::Ordinal)
+        }
+        DateWay::IsoWeek {
+            years,
+            week,
+            weekday,
+        } => date_of_day(iso_week_day(years, week, weekday), DatePart::IsoWeek),
+        DateWay::SundayWeek {
+            years,
+            week,
+            weekday,
+        } => date_of_day(sunday_week_day(years, week, weekday), DatePart::SundayWeek),
+        DateWay::MondayWeek {
+            years,
+            week,
+            weekday,
+        } => date_of_day(monday_week_day(years, week, weekday), DatePart::MondayWeek),
+    }
+}
+
+fn calendar_date(years: u32, month: u16, day: u16) -> Result<Date, DatePart>
+    requires { years ≤ 2000000 }
+    ensures { Selects (WayHas (by.Calendar years month day)) result }
+{
+    let month = at_most(month as u128, 255) as u8;
+    let day = at_most(day as u128, 255) as u8;
+    match Date::from_calendar_date(signed_year(years), month, day) {
+        Ok(date) => Ok(date),
+        Err(_) => Err(DatePart::Day),
+    }
+}
+
+fn signed_year(years: u32) -> i32
+    requires { years ≤ 2000000 }
+    ensures { result +ℤ pos 1000000 ≡ pos years }
+{
+    years as i32 - 1_000_000
+}

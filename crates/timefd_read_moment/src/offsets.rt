@@ -1,0 +1,86 @@
+//! The offset from UTC of fields.
+
+ghost use Rattle.std.specs.Prelude.{◌≡◌, Ok};
+ghost use Rattle.timefd_read_moment.specs.Offsets as spec;
+ghost use Rattle.timefd_read_moment.specs.Offsets.{IsOffsetOf, Selects};
+
+use crate::error::ValueError;
+use crate::part::{OffsetPart, Part};
+use crate::shown::offset_contradiction;
+use crate::times::{is_left_out, number};
+use timefd_moment::UtcOffset;
+use timefd_read_dates::Fields;
+
+/// The numbers of an offset.
+#[derive(Clone, Copy)]
+pub(crate) struct Shift {
+    is_negative: bool,
+    hour: u128,
+    minute: u16,
+    second: u16,
+}
+
+/// The offset that has all that was read. It is determined by its hour, whose sign it has. Minutes
+/// and seconds that were not read are 0. An `Err` tells what was not read, or that no offset has all
+/// that was read. It stands for `UtcOffset::try_from` of `Parsed` of `time`.
+pub fn offset(fields: &Fields) -> Result<UtcOffset, ValueError>
+    ensures { IsOffsetOf fields.now result }
+{
+    match shift_read(fields) {
+        Ok(shift) => compared(fields, shift),
+        Err(part) => Err(ValueError::Missing(Part::Offset(part))),
+    }
+}
+
+fn compared(fields: &Fields, shift: Shift) -> Result<UtcOffset, ValueError>
+    requires { spec.shift_read fields.now ≡ Ok shift }
+    ensures { IsOffsetOf fields.now result }
+{
+    match offset_of(shift) {
+        Ok(offset) => match offset_contradiction(fields, offset) {
+            None => Ok(offset),
+            Some(part) => Err(ValueError::Contradiction(Part::Offset(part))),
+        },
+        Err(part) => Err(ValueError::Contradiction(Part::Offset(part))),
+    }
+}
+
+/// The offset of these numbers.
+fn offset_of(shift: Shift) -> Result<UtcOffset, OffsetPart>
+    ensures { Selects (spec.ShiftHas shift) result }
+{
+    if shift.hour > 25 {
+        return Err(OffsetPart::Hour);
+    }
+    if shift.minute > 59 {
+        return Err(OffsetPart::Minute);
+    }
+    if shift.second > 59 {
+        return Err(OffsetPart::Second);
+    }
+    let seconds = shift.hour as u32 * 3_600 + shift.minute as u32 * 60 + shift.second as u32;
+    Ok(UtcOffset {
+        is_negative: shift.is_negative && seconds > 0,
+        seconds,
+    })
+}
+
+/// The numbers that were read. An `Err` is what was not read.
+fn shift_read(fields: &Fields) -> Result<Shift, OffsetPart>
+    ensures { result ≡ spec.shift_read fields.now }
+{
+    match fields.offset_hour {
+        Some(hour) => {
+            if is_left_out(fields.offset_minute, fields.offset_second.is_some()) {
+                return Err(OffsetPart::Minute);
+            }
+            Ok(Shift {
+                is_negative: hour.is_negative,
+                hour: hour.magnitude,
+                minute: number(fields.offset_minute),
+                second: number(fields.offset_second),
+            })
+        }
+        None => Err(OffsetPart::Hour),
+    }
+}

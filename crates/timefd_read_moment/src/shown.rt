@@ -1,0 +1,230 @@
+//! Which parts of a value are as they were read.
+
+ghost use Rattle.std.specs.Prelude.{◌≡◌};
+ghost use Rattle.timefd_moment.specs.Moments.{magnitude};
+ghost use Rattle.timefd_read_moment.specs.Shown as spec;
+
+use crate::part::{DatePart, OffsetPart, TimePart};
+use timefd_moment::{Date, Time, UtcOffset};
+use timefd_read_dates::{Fields, Fraction, Signed};
+
+fn is_count(read: Option<u16>, number: u32) -> bool
+    ensures { result ≡ spec.is_count read number }
+{
+    match read {
+        Some(read) => read as u32 == number,
+        None => true,
+    }
+}
+
+fn is_flag(read: Option<bool>, flag: bool) -> bool
+    ensures { result ≡ spec.is_flag read flag }
+{
+    match read {
+        Some(true) => flag,
+        Some(false) => !flag,
+        None => true,
+    }
+}
+
+/// Zero may have either sign.
+fn is_shown(read: Option<Signed>, is_negative: bool, whole: u32, part: u32) -> bool
+    ensures { result ≡ spec.is_shown read is_negative whole part }
+{
+    match read {
+        Some(read) => {
+            read.magnitude == part as u128
+                && (whole == 0 || is_flag(Some(read.is_negative), is_negative))
+        }
+        None => true,
+    }
+}
+
+/// How far a year is from the year 0.
+fn magnitude(years: u32) -> u32
+    ensures { result ≡ magnitude years }
+{
+    if years < 1_000_000 {
+        1_000_000 - years
+    } else {
+        years - 1_000_000
+    }
+}
+
+fn is_year(read: Option<Signed>, years: u32) -> bool
+    ensures { result ≡ spec.is_year read years }
+{
+    is_shown(read, years < 1_000_000, magnitude(years), magnitude(years))
+}
+
+fn is_century(read: Option<Signed>, years: u32) -> bool
+    ensures { result ≡ spec.is_century read years }
+{
+    is_shown(
+        read,
+        years < 1_000_000,
+        magnitude(years),
+        magnitude(years) / 100,
+    )
+}
+
+fn is_last_two(read: Option<u16>, years: u32) -> bool
+    ensures { result ≡ spec.is_last_two read years }
+{
+    is_count(read, magnitude(years) % 100)
+}
+
+fn date_has(fields: &Fields, date: Date, part: DatePart) -> bool
+    ensures { result ≡ spec.date_has fields.now date part }
+{
+    match part {
+        DatePart::Day => is_count(fields.day, date.day as u32),
+        DatePart::Month => is_count(fields.month, date.month as u32),
+        DatePart::Ordinal => is_count(fields.ordinal, date.ordinal() as u32),
+        DatePart::Weekday => is_count(fields.weekday, date.number_days_from_monday() as u32),
+        DatePart::IsoWeek => is_count(fields.iso_week, date.iso_week() as u32),
+        DatePart::SundayWeek => is_count(fields.sunday_week, date.sunday_based_week() as u32),
+        DatePart::MondayWeek => is_count(fields.monday_week, date.monday_based_week() as u32),
+        DatePart::YearLastTwo => is_last_two(fields.year_last_two, date.years),
+        DatePart::Century => is_century(fields.century, date.years),
+        DatePart::Year => is_year(fields.year, date.years),
+        DatePart::IsoYearLastTwo => is_last_two(fields.iso_year_last_two, date.iso_years()),
+        DatePart::IsoCentury => is_century(fields.iso_century, date.iso_years()),
+        DatePart::IsoYear => is_year(fields.iso_year, date.iso_years()),
+    }
+}
+
+fn first_of_date(fields: &Fields, date: Date, parts: &[DatePart]) -> Option<DatePart>
+    ensures { result ≡ spec.first_false (spec.date_has fields.now date) parts.now }
+{
+    for part in parts {
+        if !date_has(fields, date, *part) {
+            return Some(*part);
+        }
+    }
+    None
+}
+
+/// The first part of a date that was read otherwise.
+pub(crate) fn date_contradiction(fields: &Fields, date: Date) -> Option<DatePart>
+    ensures { result ≡ spec.first_false (spec.date_has fields.now date) spec.date_parts }
+{
+    first_of_date(
+        fields,
+        date,
+        &[
+            DatePart::Day,
+            DatePart::Month,
+            DatePart::Ordinal,
+            DatePart::Weekday,
+            DatePart::IsoWeek,
+            DatePart::SundayWeek,
+            DatePart::MondayWeek,
+            DatePart::YearLastTwo,
+            DatePart::Century,
+            DatePart::Year,
+            DatePart::IsoYearLastTwo,
+            DatePart::IsoCentury,
+            DatePart::IsoYear,
+        ],
+    )
+}
+
+/// What was not read is 0.
+fn is_count_or_zero(read: Option<u16>, number: u32) -> bool
+    ensures { result ≡ spec.is_count_or_zero read number }
+{
+    match read {
+        Some(read) => read as u32 == number,
+        None => number == 0,
+    }
+}
+
+/// The digits of a second that were not read are zeros.
+fn is_fraction(read: Option<Fraction>, nanosecond: u32) -> bool
+    ensures { result ≡ spec.is_fraction read nanosecond }
+{
+    match read {
+        Some(fraction) => fraction.nanosecond == nanosecond as u128,
+        None => nanosecond == 0,
+    }
+}
+
+fn time_has(fields: &Fields, time: Time, part: TimePart) -> bool
+    ensures { result ≡ spec.time_has fields.now time part }
+{
+    match part {
+        TimePart::Hour => is_count(fields.hour, time.hour as u32),
+        TimePart::Hour12 => is_count(fields.hour_12, time.hour_of_twelve() as u32),
+        TimePart::Period => is_flag(fields.is_afternoon, time.hour >= 12),
+        TimePart::Minute => is_count_or_zero(fields.minute, time.minute as u32),
+        TimePart::Second => is_count_or_zero(fields.second, time.second as u32),
+        TimePart::Subsecond => is_fraction(fields.subsecond, time.nanosecond),
+    }
+}
+
+fn first_of_time(fields: &Fields, time: Time, parts: &[TimePart]) -> Option<TimePart>
+    ensures { result ≡ spec.first_false (spec.time_has fields.now time) parts.now }
+{
+    for part in parts {
+        if !time_has(fields, time, *part) {
+            return Some(*part);
+        }
+    }
+    None
+}
+
+/// The first part of a time of day that was read otherwise.
+pub(crate) fn time_contradiction(fields: &Fields, time: Time) -> Option<TimePart>
+    ensures { result ≡ spec.first_false (spec.time_has fields.now time) spec.time_parts }
+{
+    first_of_time(
+        fields,
+        time,
+        &[
+            TimePart::Hour,
+            TimePart::Hour12,
+            TimePart::Period,
+            TimePart::Minute,
+            TimePart::Second,
+            TimePart::Subsecond,
+        ],
+    )
+}
+
+fn offset_has(fields: &Fields, offset: UtcOffset, part: OffsetPart) -> bool
+    ensures { result ≡ spec.offset_has fields.now offset part }
+{
+    match part {
+        OffsetPart::Hour => is_shown(
+            fields.offset_hour,
+            offset.is_negative,
+            offset.seconds,
+            offset.seconds / 3_600,
+        ),
+        OffsetPart::Minute => is_count_or_zero(fields.offset_minute, offset.seconds / 60 % 60),
+        OffsetPart::Second => is_count_or_zero(fields.offset_second, offset.seconds % 60),
+    }
+}
+
+fn first_of_offset(fields: &Fields, offset: UtcOffset, parts: &[OffsetPart]) -> Option<OffsetPart>
+    ensures { result ≡ spec.first_false (spec.offset_has fields.now offset) parts.now }
+{
+    for part in parts {
+        if !offset_has(fields, offset, *part) {
+            return Some(*part);
+        }
+    }
+    None
+}
+
+/// The first part of an offset that was read otherwise.
+pub(crate) fn offset_contradiction(fields: &Fields, offset: UtcOffset) -> Option<OffsetPart>
+    ensures { result ≡ spec.first_false (spec.offset_has fields.now offset) spec.offset_parts }
+{
+    first_of_offset(
+        fields,
+        offset,
+        &[OffsetPart::Hour, OffsetPart::Minute, OffsetPart::Second],
+    )
+}

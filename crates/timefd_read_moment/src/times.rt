@@ -1,0 +1,162 @@
+//! The time of day of fields.
+
+ghost use Rattle.std.specs.Prelude.{◌≡◌, Ok};
+ghost use Rattle.timefd_read_moment.specs.Times as spec;
+ghost use Rattle.timefd_read_moment.specs.Times.{IsTimeOf, Selects};
+
+use crate::error::ValueError;
+use crate::part::{Part, TimePart};
+use crate::shown::time_contradiction;
+use timefd_moment::Time;
+use timefd_read_dates::{Fields, Fraction};
+
+/// The numbers of a time of day.
+#[derive(Clone, Copy)]
+pub(crate) struct Clock {
+    hour: u16,
+    minute: u16,
+    second: u16,
+    nanosecond: u128,
+}
+
+/// The time of day that has all that was read. It is determined by the hour, or the hour of twelve
+/// and the period, and the minute. Seconds and their digits that were not read are 0, and behind an
+/// hour of twelve minutes too. An `Err` tells what was not read, or that no time has all that was
+/// read. It stands for `Time::try_from` of `Parsed` of `time`.
+pub fn time(fields: &Fields) -> Result<Time, ValueError>
+    ensures { IsTimeOf fields.now result }
+{
+    match clock_read(fields) {
+        Ok(clock) => compared(fields, clock),
+        Err(part) => Err(ValueError::Missing(Part::Time(part))),
+    }
+}
+
+fn compared(fields: &Fields, clock: Clock) -> Result<Time, ValueError>
+    requires { spec.clock_read fields.now ≡ Ok clock }
+    ensures { IsTimeOf fields.now result }
+{
+    match time_of(clock) {
+        Ok(time) => match time_contradiction(fields, time) {
+            None => Ok(time),
+            Some(part) => Err(ValueError::Contradiction(Part::Time(part))),
+        },
+        Err(part) => Err(ValueError::Contradiction(Part::Time(part))),
+    }
+}
+
+/// The time of day of these numbers.
+fn time_of(clock: Clock) -> Result<Time, TimePart>
+    ensures { Selects (spec.ClockHas clock) result }
+{
+    if clock.hour > 23 {
+        return Err(TimePart::Hour);
+    }
+    if clock.minute > 59 {
+        return Err(TimePart::Minute);
+    }
+    if clock.second > 59 {
+        return Err(TimePart::Second);
+    }
+    if clock.nanosecond > 999_999_999 {
+        return Err(TimePart::Subsecond);
+    }
+    Ok(Time {
+        hour: clock.hour as u8,
+        minute: clock.minute as u8,
+        second: clock.second as u8,
+        nanosecond: clock.nanosecond as u32,
+    })
+}
+
+/// The numbers that were read. An `Err` is what was not read.
+fn clock_read(fields: &Fields) -> Result<Clock, TimePart>
+    ensures { result ≡ spec.clock_read fields.now }
+{
+    match hour(fields.hour, fields.hour_12, fields.is_afternoon) {
+        Some(hour) => clock_from(fields, hour),
+        None => Err(lack_of_hour(fields)),
+    }
+}
+
+/// The hour, where it was read by either clock.
+fn hour(hour: Option<u16>, hour_12: Option<u16>, is_afternoon: Option<bool>) -> Option<u16>
+    ensures { result ≡ spec.hour_read hour hour_12 is_afternoon }
+{
+    match hour {
+        Some(hour) => Some(hour),
+        None => hour_by_period(hour_12, is_afternoon),
+    }
+}
+
+fn hour_by_period(hour: Option<u16>, is_afternoon: Option<bool>) -> Option<u16>
+    ensures { result ≡ spec.hour_by_period hour is_afternoon }
+{
+    match (hour, is_afternoon) {
+        (Some(hour), Some(is_afternoon)) => { Some(hour % 12 + if is_afternoon { 12 } else { 0 }) }
+        (None, _) | (Some(_), None) => None,
+    }
+}
+
+fn lack_of_hour(fields: &Fields) -> TimePart
+    ensures { result ≡ spec.lack_of_hour fields.now }
+{
+    if fields.hour_12.is_some() {
+        TimePart::Period
+    } else if fields.is_afternoon.is_some() {
+        TimePart::Hour12
+    } else {
+        TimePart::Hour
+    }
+}
+
+fn clock_from(fields: &Fields, hour: u16) -> Result<Clock, TimePart>
+    ensures { result ≡ spec.clock_from fields.now hour }
+{
+    if is_left_out(fields.minute, fields.hour.is_some() || has_second(fields)) {
+        return Err(TimePart::Minute);
+    }
+    if is_left_out(fields.second, fields.subsecond.is_some()) {
+        return Err(TimePart::Second);
+    }
+    Ok(Clock {
+        hour,
+        minute: number(fields.minute),
+        second: number(fields.second),
+        nanosecond: nanosecond(fields.subsecond),
+    })
+}
+
+/// Whether what is coarser was not read, though what is finer was.
+pub(crate) fn is_left_out(coarse: Option<u16>, is_finer_read: bool) -> bool
+    ensures { result ≡ spec.is_left_out coarse is_finer_read }
+{
+    match coarse {
+        Some(_) => false,
+        None => is_finer_read,
+    }
+}
+
+fn has_second(fields: &Fields) -> bool
+    ensures { result ≡ spec.has_second fields.now }
+{
+    fields.second.is_some() || fields.subsecond.is_some()
+}
+
+pub(crate) fn number(read: Option<u16>) -> u16
+    ensures { result ≡ spec.number read }
+{
+    match read {
+        Some(number) => number,
+        None => 0,
+    }
+}
+
+fn nanosecond(read: Option<Fraction>) -> u128
+    ensures { result ≡ spec.nanosecond_read read }
+{
+    match read {
+        Some(fraction) => fraction.nanosecond,
+        None => 0,
+    }
+}

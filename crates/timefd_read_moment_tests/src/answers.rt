@@ -1,0 +1,80 @@
+//! What is read of a text as a value, in print, to be compared with what is expected.
+
+use std::alloc::Global;
+use std::process::Abort;
+use timefd_parse::{BorrowedOutput, DescriptionVersion, FormatDescriptionV3, parse_borrowed};
+use timefd_read_dates::{Fields, read_fields};
+use timefd_read_moment::{date, date_time, offset, time};
+
+const AMPLE: &str = "ample memory";
+
+fn description<'a>(rt: &impl Abort, alloc: Global, text: &'a str) -> FormatDescriptionV3<'a> {
+    match parse_borrowed(alloc, DescriptionVersion::Three, text) {
+        Ok(BorrowedOutput::Description(description)) => description,
+        _ => panic!(rt; "no description"),
+    }
+}
+
+fn fields_of(rt: &impl Abort, alloc: Global, by: &str, text: &str) -> Fields {
+    let description = description(rt, alloc, by);
+    match read_fields(description.view(), text) {
+        Ok(fields) => fields,
+        Err(_) => panic!(rt; "no fields"),
+    }
+}
+
+/// Expects the date of a text.
+pub fn expect_date(rt: &impl Abort, alloc: Global, by: &str, text: &str, expected: &str) {
+    let answer = date(&fields_of(rt, alloc, by, text));
+    let shown = match answer {
+        Ok(date) => format!(in alloc; "{date}"),
+        Err(error) => format!(in alloc; "{error}"),
+    };
+    assert_eq!(rt;
+        shown.expect(rt, AMPLE).as_str(),
+        expected,
+        "{by} of {text}"
+    );
+}
+
+/// Expects the time of day of a text.
+pub fn expect_time(rt: &impl Abort, alloc: Global, by: &str, text: &str, expected: &str) {
+    let answer = time(&fields_of(rt, alloc, by, text));
+    let shown = match answer {
+        Ok(time) => format!(in alloc; "{time}"),
+        Err(error) => format!(in alloc; "{error}"),
+    };
+    assert_eq!(rt;
+        shown.expect(rt, AMPLE).as_str(),
+        expected,
+        "{by} of {text}"
+    );
+}
+
+/// Expects the offset of a text.
+pub fn expect_offset(rt: &impl Abort, alloc: Global, by: &str, text: &str, expected: &str) {
+    let answer = offset(&fields_of(rt, alloc, by, text));
+    let shown = match answer {
+        Ok(offset) => format!(in alloc; "{offset}"),
+        Err(error) => format!(in alloc; "{error}"),
+    };
+    assert_eq!(rt;
+        shown.expect(rt, AMPLE).as_str(),
+        expected,
+        "{by} of {text}"
+    );
+}
+
+/// Expects the date and the time of day of a text.
+pub fn expect_date_time(rt: &impl Abort, alloc: Global, by: &str, text: &str, expected: &str) {
+    let answer = date_time(&fields_of(rt, alloc, by, text));
+    let shown = match answer {
+        Ok((date, time)) => format!(in alloc; "{date} {time}"),
+        Err(error) => format!(in alloc; "{error}"),
+    };
+    assert_eq!(rt;
+        shown.expect(rt, AMPLE).as_str(),
+        expected,
+        "{by} of {text}"
+    );
+}

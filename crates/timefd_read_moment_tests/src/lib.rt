@@ -1,0 +1,9 @@
+//! Tests of dates, times and offsets of fields: rows of values that were taken from elsewhere.
+#![tactic(auto)]
+
+#[cfg(test)]
+mod answers;
+#[cfg(test)]
+mod dates;
+#[cfg(test)]
+mod times;
