@@ -5,10 +5,6 @@
 #[cfg(test)]
 mod components;
 #[cfg(test)]
-mod conversions;
-#[cfg(test)]
-mod documents;
-#[cfg(test)]
 mod printing;
 #[cfg(test)]
 mod strftime;
