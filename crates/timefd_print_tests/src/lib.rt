@@ -5,6 +5,10 @@
 #[cfg(test)]
 mod components;
 #[cfg(test)]
+mod conversions;
+#[cfg(test)]
+mod documents;
+#[cfg(test)]
 mod printing;
 #[cfg(test)]
 mod strftime;

@@ -41,9 +41,14 @@ const TEXTS: &[(&str, &str)] = &[
 ];
 
 /// Expects that a text of strftime is this one in version 3.
-fn expect_v3(rt: &impl Abort, alloc: Global, text: &str, expected: &str) {
+pub fn expect_v3(rt: &impl Abort, alloc: Global, text: &str, expected: &str) {
     let answer = strftime_to_v3(alloc, text).expect(rt, AMPLE);
     assert_eq!(rt; answer.as_str(), expected, "{text}");
+}
+
+/// Expects that strftime refuses a text.
+pub fn expect_refused(rt: &impl Abort, alloc: Global, text: &str) {
+    assert!(rt; strftime_to_v3(alloc, text).is_err(), "{text}");
 }
 
 #[test]
