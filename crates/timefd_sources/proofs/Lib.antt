@@ -1,0 +1,3 @@
+pub mod ScalarLemmas
+pub mod UnescapeLemmas
+pub mod PieceLemmas

@@ -1,0 +1,6 @@
+pub mod Bytes
+pub mod Behind
+pub mod Tokens
+pub mod Escapes
+pub mod Sources
+pub mod Literals
