@@ -4,3 +4,5 @@ pub mod Tokens
 pub mod Escapes
 pub mod Sources
 pub mod Literals
+pub mod Between
+pub mod Found

@@ -1,5 +1,9 @@
 //! The descriptions in a source.
 
+ghost use Rattle.std.specs.Prelude.{◌≡◌, ◌++◌, IfOk, MatchOption, OnOk, ⊤};
+ghost use Rattle.timefd_sources.specs.Found.{AllStandIn, StandsIn, listed};
+
+use crate::between::is_between;
 use crate::calls::{Call, Frame, call_of, dialect_in, text_at};
 use crate::dialect::Dialect;
 use crate::literal::literal_text;
@@ -97,11 +101,16 @@ fn described(
     kind: Kind,
     dialect: Dialect,
     wants_percent: bool,
-) -> Result<Option<Description>, AllocError> {
+) -> Result<Option<Description>, AllocError>
+    ensures { IfOk result (λ found. MatchOption found ⊤ (StandsIn source.now)) }
+{
     let Some(unescaped) = literal_text(alloc, source, piece, kind)? else {
         return Ok(None);
     };
     if wants_percent && !unescaped.text.contains(&b'%') {
+        return Ok(None);
+    }
+    if !is_between(source, piece, &unescaped) {
         return Ok(None);
     }
     Ok(Some(Description {
@@ -112,17 +121,21 @@ fn described(
     }))
 }
 
-/// The description that a literal is, by a comment or by the bracket that it stands in.
+/// The description that a token is, by a comment or by the bracket that it stands in.
 fn found(
     alloc: Global,
     source: &str,
     pieces: &[Piece],
     index: usize,
-    kind: Kind,
     frame: Option<Frame>,
     told: Option<Dialect>,
-) -> Result<Option<Description>, AllocError> {
+) -> Result<Option<Description>, AllocError>
+    ensures { IfOk result (λ found. MatchOption found ⊤ (StandsIn source.now)) }
+{
     let Some(piece) = pieces.get(index) else {
+        return Ok(None);
+    };
+    let Token::Literal(kind) = piece.token else {
         return Ok(None);
     };
     if let Some(dialect) = told {
@@ -134,9 +147,27 @@ fn found(
     }
 }
 
+fn push_any(
+    descriptions: &mut Vec<Description>,
+    found: Option<Description>,
+) -> Result<(), AllocError>
+    ensures { OnOk result (descriptions.new.items ≡ descriptions.old.items ++ listed found) }
+{
+    match found {
+        Some(description) => {
+            descriptions.push(description)?;
+            Ok(())
+        }
+        None => Ok(()),
+    }
+}
+
 /// The descriptions in a source: arguments of the calls that are known, and literals for which a comment
 /// names a language.
-pub fn descriptions_of(alloc: Global, source: &str) -> Result<Vec<Description>, AllocError> {
+#[tactic(auto, using(crate::proofs::FoundLemmas::at_first, crate::proofs::FoundLemmas::any_more))]
+pub fn descriptions_of(alloc: Global, source: &str) -> Result<Vec<Description>, AllocError>
+    ensures { IfOk result (λ found. AllStandIn source.now found.items) }
+{
     let all = pieces_of(alloc, source)?;
     let marks = marks_of(alloc, source, &all)?;
     let pieces = significant(alloc, &all)?;
@@ -144,25 +175,12 @@ pub fn descriptions_of(alloc: Global, source: &str) -> Result<Vec<Description>, 
     let mut descriptions = Vec::new(alloc);
     let mut open = 0;
     for (index, piece) in pieces.iter().enumerate() {
-        match piece.token {
-            Token::Sign => pass_sign(&mut frames, source, &pieces, index)?,
-            Token::Literal(kind) => {
-                open = first_open(&marks, open, piece.start);
-                let told = dialect_marked(&marks, open, piece.start);
-                let frame = frames.last().copied();
-                if let Some(description) = found(
-                    alloc, source, &pieces, index, kind, frame, told,
-                )? {
-                    descriptions.push(description)?;
-                }
-            }
-            Token::White
-            | Token::Comment
-            | Token::Word
-            | Token::Lifetime
-            | Token::Character
-            | Token::Unclosed => {}
-        }
+        pass_sign(&mut frames, source, &pieces, index)?;
+        open = first_open(&marks, open, piece.start);
+        let told = dialect_marked(&marks, open, piece.start);
+        let frame = frames.last().copied();
+        let description = found(alloc, source, &pieces, index, frame, told)?;
+        push_any(&mut descriptions, description)?;
     }
     Ok(descriptions)
 }

@@ -1,6 +1,7 @@
 //! String literals in sources of Rust, and the format descriptions among them.
 #![tactic(auto)]
 
+mod between;
 mod calls;
 mod character;
 mod class;

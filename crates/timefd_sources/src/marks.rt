@@ -61,13 +61,12 @@ pub fn marks_of(alloc: Global, source: &str, pieces: &[Piece]) -> Result<Vec<Mar
     Ok(marks)
 }
 
-/// The first mark that doesn't end in front of a place.
+/// The first mark from this one on that ends behind a place; the number of marks where none does.
 pub fn first_open(marks: &[Mark], from: usize, place: usize) -> usize {
-    let mut at = from;
-    'marks: while let Some(mark) = marks.get(at)
-        && mark.to <= place
-    {
-        at += 1;
+    for at in from..marks.len() {
+        if place < marks[at].to {
+            return at;
+        }
     }
-    at
+    marks.len()
 }

@@ -52,7 +52,7 @@ fn push_part(
 
 /// The text that the body of a literal stands for; none where an escape isn't one. The body ends at
 /// the byte `end` of its source.
-#[tactic(auto, using(crate::proofs::UnescapeLemmas::at_first, crate::proofs::UnescapeLemmas::one_more, crate::proofs::UnescapeLemmas::faulty, crate::proofs::UnescapeLemmas::at_last))]
+#[tactic(auto, using(crate::proofs::UnescapeLemmas::at_first))]
 pub fn unescape(
     alloc: Global,
     kind: Kind,
