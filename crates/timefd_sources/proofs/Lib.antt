@@ -2,3 +2,4 @@ pub mod ScalarLemmas
 pub mod UnescapeLemmas
 pub mod PieceLemmas
 pub mod FoundLemmas
+pub mod GrammarLemmas

@@ -9,8 +9,8 @@ use Rattle.timefd_sources.specs.Escapes.{scalar_value}
 
 pub is_scalar_value : (r : Option ℕ) (value : ℕ) → SomeIff r (IsScalar value) value
     → r ≡ scalar_value value
-is_scalar_value None value no = elim (cases_Bool (scalar value)) [
-  | inl yes ↦ absurd (no yes)
+is_scalar_value None value fails = elim (cases_Bool (scalar value)) [
+  | inl pass ↦ absurd (fails pass)
   | inr fail ↦ rw fail refl
 ]
 is_scalar_value (Some c) value is = rw is.0 (ap Some is.1)

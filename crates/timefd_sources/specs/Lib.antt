@@ -6,3 +6,4 @@ pub mod Sources
 pub mod Literals
 pub mod Between
 pub mod Found
+pub mod Grammar

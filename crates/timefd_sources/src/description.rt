@@ -164,7 +164,7 @@ fn push_any(
 
 /// The descriptions in a source: arguments of the calls that are known, and literals for which a comment
 /// names a language.
-#[tactic(auto, using(crate::proofs::FoundLemmas::at_first, crate::proofs::FoundLemmas::any_more))]
+#[tactic(auto, using(crate::proofs::FoundLemmas::at_first))]
 pub fn descriptions_of(alloc: Global, source: &str) -> Result<Vec<Description>, AllocError>
     ensures { IfOk result (λ found. AllStandIn source.now found.items) }
 {

@@ -9,6 +9,7 @@ mod comment;
 pub mod description;
 pub mod dialect;
 mod escape;
+pub mod laws;
 mod literal;
 mod marks;
 mod piece;
