@@ -1,5 +1,5 @@
 -- One description more.
-use Rattle.std.proofs.Common.{◌≡◌, List, [], ◌∷◌, ◌++◌, sym, subst, ◌∙◌, append-nil}
+use Rattle.std.proofs.Common.{◌≡◌, List, [], ◌++◌, sym, subst, ◌∙◌, append-nil}
 use Rattle.std.specs.Prelude.{Option, None, Some, MatchOption, ⊤}
 use Rattle.std.proofs.lemmas.List.Elements.{All-nil, All-push}
 use Rattle.timefd_sources.specs.declared.description.Description.{Description}

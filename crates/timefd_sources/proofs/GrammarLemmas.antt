@@ -1,5 +1,5 @@
 -- What is read as a string literal is one by the grammar.
-use Rattle.std.proofs.Common.{ℕ, zero, suc, ◌≡◌, ◌≤◌, ◌-◌, ◌==◌, ◌&&◌, ◌⊎◌, inl, inr, not, Bool, true, false, cond, nat_le, List, [], ◌∷◌, ◌++◌, length, drop, replicate, Option, Some, None, IsTrue, refl, sym, ap, subst, ◌∙◌, append_assoc, arith, eqb-true}
+use Rattle.std.proofs.Common.{ℕ, zero, suc, ◌≡◌, ◌≤◌, ◌-◌, ◌==◌, ◌&&◌, ◌⊎◌, inl, inr, not, Bool, true, false, cond, nat_le, [], ◌∷◌, ◌++◌, length, drop, replicate, Option, Some, None, IsTrue, refl, sym, ap, subst, ◌∙◌, append_assoc, arith, eqb-true}
 use Rattle.std.proofs.lemmas.Bool.{cases_Bool, and_from}
 use Rattle.timefd_sources.specs.declared.class.Class.TheVariants.{Line, Hash}
 use Rattle.timefd_sources.specs.declared.token.Encoding.{Encoding}
@@ -7,12 +7,12 @@ use Rattle.timefd_sources.specs.declared.token.Encoding.TheVariants.{Str, Bytes,
 use Rattle.timefd_sources.specs.declared.token.Kind.{Kind}
 use Rattle.timefd_sources.specs.declared.token.Kind.TheVariants.{Escaped, Raw}
 use Rattle.timefd_sources.specs.declared.token.Token.{Token}
-use Rattle.timefd_sources.specs.declared.token.Token.TheVariants.{White, Comment, Word, Lifetime, Character, Literal, Sign, Unclosed}
+use Rattle.timefd_sources.specs.declared.token.Token.TheVariants.{White, Comment, Word, Lifetime, Literal, Sign, Unclosed}
 use Rattle.timefd_sources.specs.Bytes.{Text, quote, hash, apostrophe, star, slash, backslash, is_white, is_word, class_test}
 use Rattle.timefd_sources.specs.Behind.{behind_run, hashes, behind_string, behind_escape, behind_raw, behind_comment}
 use Rattle.timefd_sources.specs.Tokens as read
 use Rattle.timefd_sources.specs.Tokens.{Begin, closed, opened_comment, begins_word, behind_quoted, plain, quoted_or_plain, literal_or_less, comment_or_less, first}
-use Rattle.timefd_sources.specs.Grammar.{is_body, is_raw_body, letters, opening, closing, IsBody, IsLiteral}
+use Rattle.timefd_sources.specs.Grammar.{is_body, is_raw_body, letters, IsLiteral}
 
 chosen : {A : Type 0} (b : Bool) (x y z : A) → cond b x y ≡ z
     → ((b ≡ true) × (x ≡ z)) ⊎ ((b ≡ false) × (y ≡ z))

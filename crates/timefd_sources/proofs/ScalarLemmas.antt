@@ -1,5 +1,5 @@
 -- The character of a number, as the library tells it.
-use Rattle.std.proofs.Common.{ℕ, ◌≡◌, true, refl, ap, inl, inr}
+use Rattle.std.proofs.Common.{ℕ, ◌≡◌, refl, ap, inl, inr}
 use Rattle.std.specs.Prelude.{Option, Some, None}
 use Rattle.std.specs.Option.{SomeIff}
 use Rattle.std.specs.Char.{IsScalar}

@@ -1,6 +1,6 @@
 -- What stands behind the piece that a text begins with; none where no such piece is closed.
-use Rattle.std.specs.Prelude.{ℕ, ◌-◌, ◌+◌, Bool, ◌&&◌, ◌==◌, nat_le, if◌then◌else◌, List, [], ◌∷◌, length, drop, Option, Some, None}
-use Rattle.timefd_sources.specs.Bytes.{Text, quote, hash, apostrophe, star, slash, backslash, is_continuation, class_test}
+use Rattle.std.specs.Prelude.{ℕ, ◌-◌, ◌+◌, Bool, ◌&&◌, ◌==◌, nat_le, if◌then◌else◌, [], ◌∷◌, length, drop, Option, Some, None}
+use Rattle.timefd_sources.specs.Bytes.{Text, quote, apostrophe, star, slash, backslash, is_continuation, class_test}
 use Rattle.timefd_sources.specs.declared.class.Class.TheVariants.{Hash, Quoted}
 
 -- behind the longest front of bytes that pass

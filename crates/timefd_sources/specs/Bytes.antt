@@ -1,5 +1,5 @@
 -- Bytes of a source.
-use Rattle.std.specs.Prelude.{ℕ, Bool, true, false, not, ◌&&◌, ◌||◌, ◌==◌, nat_le, List, Option, Some, None}
+use Rattle.std.specs.Prelude.{ℕ, Bool, not, ◌&&◌, ◌||◌, ◌==◌, nat_le, List, Option, Some, None}
 use denote.Ref.{Bor}
 use Rattle.timefd_sources.specs.declared.class.Class.{Class}
 use Rattle.timefd_sources.specs.declared.class.Class.TheVariants.{White, Skipped, Word, Line, Hash, Continuation, Quoted, Unquoted}

@@ -1,5 +1,5 @@
 -- The string literals of Rust's reference.
-use Rattle.std.specs.Prelude.{ℕ, ◌≡◌, Bool, true, not, ◌&&◌, ◌==◌, nat_le, if◌then◌else◌, List, [], ◌∷◌, ◌++◌, replicate, Some, IsTrue}
+use Rattle.std.specs.Prelude.{ℕ, ◌≡◌, Bool, true, not, ◌&&◌, ◌==◌, nat_le, if◌then◌else◌, [], ◌∷◌, ◌++◌, replicate, Some, IsTrue}
 use Rattle.timefd_sources.specs.declared.token.Encoding.{Encoding}
 use Rattle.timefd_sources.specs.declared.token.Encoding.TheVariants.{Str, Bytes, C}
 use Rattle.timefd_sources.specs.declared.token.Kind.{Kind}

@@ -1,5 +1,5 @@
 -- The text of a literal that stands in a source.
-use Rattle.std.specs.Prelude.{ℕ, ◌+◌, ◌-◌, ◌&&◌, nat_le, nat_lt, if◌then◌else◌, [], ◌∷◌, length, take, drop, Option, Some, None}
+use Rattle.std.specs.Prelude.{ℕ, ◌-◌, ◌&&◌, nat_le, nat_lt, if◌then◌else◌, [], ◌∷◌, length, take, drop, Option, Some, None}
 use Rattle.timefd_sources.specs.declared.class.Class.TheVariants.{Unquoted}
 use Rattle.timefd_sources.specs.declared.piece.Piece.{Piece}
 use Rattle.timefd_sources.specs.declared.token.Kind.{Kind}

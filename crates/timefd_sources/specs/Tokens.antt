@@ -1,10 +1,9 @@
 -- The token that a text begins with, as Rust's reference has them: the first that fits of a comment, a
 -- string literal, a character literal, a lifetime, a word, a stretch of white bytes and a sign.
-use Rattle.std.specs.Prelude.{ℕ, Bool, false, ◌&&◌, ◌==◌, if◌then◌else◌, List, [], ◌∷◌, drop, Option, Some, None}
+use Rattle.std.specs.Prelude.{ℕ, Bool, false, ◌&&◌, ◌==◌, if◌then◌else◌, [], ◌∷◌, drop, Option, Some, None}
 use Rattle.timefd_sources.specs.declared.class.Class.TheVariants.{Line}
 use Rattle.timefd_sources.specs.declared.token.Encoding.{Encoding}
 use Rattle.timefd_sources.specs.declared.token.Encoding.TheVariants.{Str, Bytes, C}
-use Rattle.timefd_sources.specs.declared.token.Kind.{Kind}
 use Rattle.timefd_sources.specs.declared.token.Kind.TheVariants.{Escaped, Raw}
 use Rattle.timefd_sources.specs.declared.token.Token.{Token}
 use Rattle.timefd_sources.specs.declared.token.Token.TheVariants.{White, Comment, Word, Lifetime, Character, Literal, Sign, Unclosed}

@@ -1,5 +1,4 @@
-use Rattle.std.proofs.Common.{ℕ, ◌≡◌, ◌≤◌, length}
-use Rattle.timefd_sources.specs.Escapes.{before, unescaped}
+use Rattle.std.proofs.Common.{length}
 use Rattle.timefd_sources.proofs.UnescapeLemmas.{Left}
 use Rattle.timefd_sources.proofs.unescape.unescape.Given as goal
 
