@@ -289,5 +289,3 @@ pub of_text : (r : Result (String Global) AllocError) (m : Moment) (c : Componen
     → IfOk r (λ t. IsText (modern c) (string_bytes t))
 of_text (Ok t) m c is h = listed c (string_bytes t) (m, is, h)
 of_text (Err e) m c is h = tt
-
-pub ruleset examples = (of_example, of_text)

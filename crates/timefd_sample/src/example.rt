@@ -15,7 +15,7 @@ use timefd_moment::{Date, Moment, Time, UtcOffset};
 
 /// What the formatter writes of a component at that moment. Of a deprecated one it is the text of
 /// the one which it stands for. An `Err` says that memory ran out.
-#[tactic(auto, using(crate::proofs::SampleLemmas::examples))]
+#[tactic(auto, using(crate::proofs::SampleLemmas::of_example))]
 pub fn sample(alloc: Global, component: Component) -> Result<String, AllocError>
     ensures written { IfOk result (λ text. IsExample component (string_bytes text)) }
     ensures text { IfOk result (λ text. IsText (modern component) (string_bytes text)) }
