@@ -15,7 +15,7 @@ standard input, one a line. A moment is a date, with a time of day and an offset
 known, as 2026-11-23T05:36:07.25+01:00; the word now is that of the program's start, in UTC.
 
   --language 1|2|3|strftime    the language of the descriptions; version 3 if it isn't given
-  --read DESCRIPTION           moments are texts of this description, in the same language, and read by it
+  --read DESCRIPTION           moments are texts of this description, of the same language
   --help, -h                   writes this
   --version, -V                writes the program's version
   --                           ends the options
