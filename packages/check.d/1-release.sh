@@ -14,6 +14,10 @@ for file in timefd/out/timefd.o timefd_lint/out/timefd_lint.o timefd_write/out/t
     mkdir -p "$elsewhere/crates/${file%/*}"
     cp "$top/crates/$file" "$elsewhere/crates/$file"
 done
+if [ -e "$top/web/out/playground.html" ]; then
+    mkdir -p "$elsewhere/web/out"
+    cp "$top/web/out/playground.html" "$elsewhere/web/out"
+fi
 for processor in $processors; do
     for_processor "$processor"
     mkdir -p "$elsewhere/$readers"

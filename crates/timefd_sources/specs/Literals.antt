@@ -1,0 +1,41 @@
+-- The text of a literal that stands in a source.
+use Rattle.std.specs.Prelude.{ℕ, ◌-◌, ◌&&◌, nat_le, nat_lt, if◌then◌else◌, [], ◌∷◌, length, take, drop, Option, Some, None}
+use Rattle.timefd_sources.specs.declared.class.Class.TheVariants.{Unquoted}
+use Rattle.timefd_sources.specs.declared.piece.Piece.{Piece}
+use Rattle.timefd_sources.specs.declared.token.Kind.{Kind}
+use Rattle.timefd_sources.specs.declared.token.Kind.TheVariants.{Escaped, Raw}
+use Rattle.timefd_sources.specs.Bytes.{Text, class_test}
+use Rattle.timefd_sources.specs.Behind.{behind_run}
+use Rattle.timefd_sources.specs.Escapes.{Placed, unescaped}
+
+abbrev pub hash_count : Kind → ℕ
+hash_count (Escaped e) = 0
+hash_count (Raw e n) = n
+
+-- from behind the opening quote up to the closing one
+abbrev pub inner : Kind → Text → Option Text
+inner kind [] = None
+inner kind (b ∷ bytes) =
+    if nat_lt (hash_count kind) (length bytes) then Some (take (length bytes - hash_count kind - 1) bytes)
+    else None
+
+-- what stands between the quotes of a literal
+abbrev pub body : Kind → Text → Option Text
+body kind literal = inner kind (behind_run (class_test Unquoted) literal)
+
+-- the bytes of a token
+abbrev pub cut : Text → Piece → Option Text
+cut source p =
+    if nat_le p.start p.end && nat_le p.end (length source) then Some (take (p.end - p.start) (drop p.start source))
+    else None
+
+abbrev pub body_text : Kind → ℕ → Option Text → Option Placed
+body_text kind end None = None
+body_text kind end (Some bytes) = unescaped (length bytes) kind end bytes
+
+abbrev pub text_of : Kind → ℕ → Option Text → Option Placed
+text_of kind end None = None
+text_of kind end (Some literal) = body_text kind end (body kind literal)
+
+abbrev pub literal_text : Text → Piece → Kind → Option Placed
+literal_text source p kind = text_of kind (p.end - hash_count kind - 1) (cut source p)

@@ -1,0 +1,47 @@
+//! That what is told lies between two characters of the source.
+
+ghost use Rattle.std.specs.Prelude.{◌≡◌, IsTrue, false};
+ghost use Rattle.std.specs.Str.{IsCharBoundary};
+ghost use Rattle.timefd_sources.specs.Between.{AllBetween, IsBetween};
+ghost use Rattle.timefd_sources.specs.Bytes as spec;
+
+use crate::piece::Piece;
+use crate::unescape::Unescaped;
+
+fn is_continuation(byte: u8) -> bool
+    ensures { result ≡ spec.is_continuation byte }
+{
+    128 <= byte && byte <= 191
+}
+
+// A byte that begins a character stands between two.
+fn lies_between(source: &str, byte: u8, place: usize) -> bool
+    ensures { IsTrue result → spec.is_continuation byte ≡ false → IsCharBoundary source.now place }
+{
+    is_continuation(byte) || source.is_char_boundary(place)
+}
+
+/// Whether each character of a text has its place between two characters of the source.
+fn lie_between(source: &str, text: &[u8], places: &[usize]) -> bool
+    ensures { IsTrue result → AllBetween source.now text.now places.now }
+{
+    if text.len() != places.len() {
+        return false;
+    }
+    for (at, byte) in text.iter().enumerate() {
+        if !lies_between(source, *byte, places[at]) {
+            return false;
+        }
+    }
+    true
+}
+
+/// Whether a literal, and each character that it stands for, lies between two characters of the
+/// source. All that tokens and escapes give do: this is their test.
+pub fn is_between(source: &str, piece: Piece, unescaped: &Unescaped) -> bool
+    ensures { IsTrue result → IsBetween source.now piece unescaped.now.text.items unescaped.now.places.items }
+{
+    source.is_char_boundary(piece.start)
+        && source.is_char_boundary(piece.end)
+        && lie_between(source, &unescaped.text, &unescaped.places)
+}

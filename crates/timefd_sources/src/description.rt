@@ -1,0 +1,186 @@
+//! The descriptions in a source.
+
+ghost use Rattle.std.specs.Prelude.{◌≡◌, ◌++◌, IfOk, MatchOption, OnOk, ⊤};
+ghost use Rattle.timefd_sources.specs.Found.{AllStandIn, StandsIn, listed};
+
+use crate::between::is_between;
+use crate::calls::{Call, Frame, call_of, dialect_in, text_at};
+use crate::dialect::Dialect;
+use crate::literal::literal_text;
+use crate::marks::{Mark, first_open, marks_of};
+use crate::piece::{Piece, pieces_of};
+use crate::token::{Kind, Token};
+use crate::unescape::Unescaped;
+use std::alloc::{AllocError, Global};
+
+/// A description that is a string literal of a source.
+#[derive(Drop)]
+pub struct Description {
+    /// The literal.
+    pub piece: Piece,
+    /// How it is written.
+    pub kind: Kind,
+    /// Its language.
+    pub dialect: Dialect,
+    /// What it stands for, and where that stands in the source.
+    pub unescaped: Unescaped,
+}
+
+/// Whether a token is neither white nor a comment.
+fn is_significant(token: Token) -> bool {
+    match token {
+        Token::White | Token::Comment => false,
+        Token::Word
+        | Token::Lifetime
+        | Token::Character
+        | Token::Literal(_)
+        | Token::Sign
+        | Token::Unclosed => true,
+    }
+}
+
+fn significant(alloc: Global, pieces: &[Piece]) -> Result<Vec<Piece>, AllocError> {
+    let mut kept = Vec::new(alloc);
+    for piece in pieces {
+        if is_significant(piece.token) {
+            kept.push(*piece)?;
+        }
+    }
+    Ok(kept)
+}
+
+/// Opens or closes a bracket, or counts a comma.
+fn pass_sign(
+    frames: &mut Vec<Frame>,
+    source: &str,
+    pieces: &[Piece],
+    index: usize,
+) -> Result<(), AllocError> {
+    let sign = text_at(source, pieces, index);
+    if sign == "(" || sign == "[" || sign == "{" {
+        let call = call_of(source, pieces, index);
+        frames.push(Frame {
+            opened: index,
+            call,
+            commas: 0,
+        })?;
+    } else if sign == ")" || sign == "]" || sign == "}" {
+        frames.pop();
+    } else if sign == ","
+        && let Some(frame) = frames.last_mut()
+    {
+        frame.commas = frame.commas.saturating_add(1);
+    }
+    Ok(())
+}
+
+/// The language of a literal that a comment names it for.
+fn dialect_marked(marks: &[Mark], at: usize, place: usize) -> Option<Dialect> {
+    let mark = marks.get(at)?;
+    if mark.from <= place && place < mark.to {
+        Some(mark.dialect)
+    } else {
+        None
+    }
+}
+
+/// Whether a literal in this bracket is a description only with a `%`.
+fn wants_percent(frame: Option<Frame>) -> bool {
+    match frame {
+        Some(frame) => matches!(frame.call, Call::Format),
+        None => false,
+    }
+}
+
+/// A literal as a description of this language; none where an escape isn't one, or a `%` is wanted and
+/// there is none.
+fn described(
+    alloc: Global,
+    source: &str,
+    piece: Piece,
+    kind: Kind,
+    dialect: Dialect,
+    wants_percent: bool,
+) -> Result<Option<Description>, AllocError>
+    ensures { IfOk result (λ found. MatchOption found ⊤ (StandsIn source.now)) }
+{
+    let Some(unescaped) = literal_text(alloc, source, piece, kind)? else {
+        return Ok(None);
+    };
+    if wants_percent && !unescaped.text.contains(&b'%') {
+        return Ok(None);
+    }
+    if !is_between(source, piece, &unescaped) {
+        return Ok(None);
+    }
+    Ok(Some(Description {
+        piece,
+        kind,
+        dialect,
+        unescaped,
+    }))
+}
+
+/// The description that a token is, by a comment or by the bracket that it stands in.
+fn found(
+    alloc: Global,
+    source: &str,
+    pieces: &[Piece],
+    index: usize,
+    frame: Option<Frame>,
+    told: Option<Dialect>,
+) -> Result<Option<Description>, AllocError>
+    ensures { IfOk result (λ found. MatchOption found ⊤ (StandsIn source.now)) }
+{
+    let Some(piece) = pieces.get(index) else {
+        return Ok(None);
+    };
+    let Token::Literal(kind) = piece.token else {
+        return Ok(None);
+    };
+    if let Some(dialect) = told {
+        return described(alloc, source, *piece, kind, dialect, false);
+    }
+    match dialect_in(source, pieces, index, frame) {
+        Some(dialect) => described(alloc, source, *piece, kind, dialect, wants_percent(frame)),
+        None => Ok(None),
+    }
+}
+
+fn push_any(
+    descriptions: &mut Vec<Description>,
+    found: Option<Description>,
+) -> Result<(), AllocError>
+    ensures { OnOk result (descriptions.new.items ≡ descriptions.old.items ++ listed found) }
+{
+    match found {
+        Some(description) => {
+            descriptions.push(description)?;
+            Ok(())
+        }
+        None => Ok(()),
+    }
+}
+
+/// The descriptions in a source: arguments of the calls that are known, and literals for which a comment
+/// names a language.
+#[tactic(auto, using(crate::proofs::FoundLemmas::at_first))]
+pub fn descriptions_of(alloc: Global, source: &str) -> Result<Vec<Description>, AllocError>
+    ensures { IfOk result (λ found. AllStandIn source.now found.items) }
+{
+    let all = pieces_of(alloc, source)?;
+    let marks = marks_of(alloc, source, &all)?;
+    let pieces = significant(alloc, &all)?;
+    let mut frames: Vec<Frame> = Vec::new(alloc);
+    let mut descriptions = Vec::new(alloc);
+    let mut open = 0;
+    for (index, piece) in pieces.iter().enumerate() {
+        pass_sign(&mut frames, source, &pieces, index)?;
+        open = first_open(&marks, open, piece.start);
+        let told = dialect_marked(&marks, open, piece.start);
+        let frame = frames.last().copied();
+        let description = found(alloc, source, &pieces, index, frame, told)?;
+        push_any(&mut descriptions, description)?;
+    }
+    Ok(descriptions)
+}

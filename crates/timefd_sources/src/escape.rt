@@ -1,0 +1,319 @@
+//! Parts of a literal's body: bytes that stand for themselves, and escapes.
+
+ghost use Rattle.std.specs.Prelude.{◌≡◌, ◌≤◌, ◌<◌, length, MatchOption, Option, ⊤};
+ghost use Rattle.timefd_sources.specs.Escapes as spec;
+ghost use Rattle.timefd_sources.specs.Escapes.{parted, parted_any};
+
+use crate::class::{Class, behind_run};
+use crate::token::{Encoding, Kind};
+
+/// What a part of a body stands for.
+#[derive(Clone, Copy)]
+pub enum Stands {
+    /// Nothing, as the end of a line behind a backslash.
+    Nothing,
+    Byte(u8),
+    Char(char),
+}
+
+/// What a part of a body stands for, and what stands behind it.
+#[derive(Clone, Copy)]
+pub struct Part<'a> {
+    pub stands: Stands,
+    pub rest: &'a [u8],
+}
+
+fn hex_digit(byte: u8) -> Option<u8>
+    ensures value { result ≡ spec.hex_digit byte }
+    ensures small { MatchOption result ⊤ (λ digit. digit < 16) }
+{
+    if b'0' <= byte && byte <= b'9' {
+        Some(byte - b'0')
+    } else if b'a' <= byte && byte <= b'f' {
+        Some(byte - 87)
+    } else if b'A' <= byte && byte <= b'F' {
+        Some(byte - 55)
+    } else {
+        None
+    }
+}
+
+fn letter(byte: u8) -> Option<u8>
+    ensures { result ≡ spec.letter byte }
+{
+    match byte {
+        b'n' => Some(b'\n'),
+        b'r' => Some(b'\r'),
+        b't' => Some(b'\t'),
+        b'\\' => Some(b'\\'),
+        b'0' => Some(0),
+        b'\'' => Some(b'\''),
+        b'"' => Some(b'"'),
+        _ => None,
+    }
+}
+
+fn is_allowed(encoding: Encoding, value: u8) -> bool
+    ensures { result ≡ spec.is_allowed encoding value }
+{
+    match encoding {
+        Encoding::Str => value < 128,
+        Encoding::Bytes | Encoding::C => true,
+    }
+}
+
+fn byte_value(encoding: Encoding, value: u8, rest: &[u8]) -> Option<Part<'_>>
+    ensures part { parted_any result ≡ spec.byte_value encoding value rest.now }
+    ensures within { MatchOption result ⊤ (λ part. length part.rest.now ≤ length rest.now) }
+{
+    if is_allowed(encoding, value) {
+        Some(Part {
+            stands: Stands::Byte(value),
+            rest,
+        })
+    } else {
+        None
+    }
+}
+
+fn low_by(encoding: Encoding, high: u8, rest: &[u8], low: Option<u8>) -> Option<Part<'_>>
+    requires high { high < 16 }
+    requires low { MatchOption low ⊤ (λ low. low < 16) }
+    ensures part { parted_any result ≡ spec.low_by encoding high rest.now low }
+    ensures within { MatchOption result ⊤ (λ part. length part.rest.now ≤ length rest.now) }
+{
+    match low {
+        Some(low) => byte_value(encoding, high * 16 + low, rest),
+        None => None,
+    }
+}
+
+fn low_digit(encoding: Encoding, high: u8, text: &[u8]) -> Option<Part<'_>>
+    requires { high < 16 }
+    ensures part { parted_any result ≡ spec.low_digit encoding high text.now }
+    ensures within { MatchOption result ⊤ (λ part. length part.rest.now ≤ length text.now) }
+{
+    match text {
+        [] => None,
+        [byte, behind @ ..] => low_by(encoding, high, behind, hex_digit(*byte)),
+    }
+}
+
+fn high_by(encoding: Encoding, rest: &[u8], high: Option<u8>) -> Option<Part<'_>>
+    requires { MatchOption high ⊤ (λ high. high < 16) }
+    ensures part { parted_any result ≡ spec.high_by encoding rest.now high }
+    ensures within { MatchOption result ⊤ (λ part. length part.rest.now ≤ length rest.now) }
+{
+    match high {
+        Some(high) => low_digit(encoding, high, rest),
+        None => None,
+    }
+}
+
+fn byte_of(encoding: Encoding, text: &[u8]) -> Option<Part<'_>>
+    ensures part { parted_any result ≡ spec.byte_of encoding text.now }
+    ensures within { MatchOption result ⊤ (λ part. length part.rest.now ≤ length text.now) }
+{
+    match text {
+        [] => None,
+        [byte, behind @ ..] => high_by(encoding, behind, hex_digit(*byte)),
+    }
+}
+
+#[tactic(auto, using(crate::proofs::ScalarLemmas::is_scalar_value))]
+fn scalar_value(value: u32) -> Option<char>
+    ensures { result ≡ spec.scalar_value value }
+{
+    char::from_u32(value)
+}
+
+fn char_part(rest: &[u8], c: Option<char>) -> Option<Part<'_>>
+    ensures part { parted_any result ≡ spec.char_part rest.now c }
+    ensures within { MatchOption result ⊤ (λ part. length part.rest.now ≤ length rest.now) }
+{
+    match c {
+        Some(c) => Some(Part {
+            stands: Stands::Char(c),
+            rest,
+        }),
+        None => None,
+    }
+}
+
+fn character(rest: &[u8], value: Option<u32>) -> Option<Part<'_>>
+    ensures part { parted_any result ≡ spec.character rest.now value }
+    ensures within { MatchOption result ⊤ (λ part. length part.rest.now ≤ length rest.now) }
+{
+    match value {
+        Some(value) => char_part(rest, scalar_value(value)),
+        None => None,
+    }
+}
+
+fn joined(value: u32, digit: u8) -> Option<u32>
+    requires value { value ≤ 1114111 }
+    requires digit { digit < 16 }
+    ensures value { result ≡ spec.next_value (Some value) (Some digit) }
+    ensures small { MatchOption result ⊤ (λ value. value ≤ 1114111) }
+{
+    let next = value * 16 + u32::from(digit);
+    if next <= 1_114_111 { Some(next) } else { None }
+}
+
+fn next_value(value: Option<u32>, digit: Option<u8>) -> Option<u32>
+    requires value { MatchOption value ⊤ (λ value. value ≤ 1114111) }
+    requires digit { MatchOption digit ⊤ (λ digit. digit < 16) }
+    ensures value { result ≡ spec.next_value value digit }
+    ensures small { MatchOption result ⊤ (λ value. value ≤ 1114111) }
+{
+    match value {
+        None => None,
+        Some(value) => match digit {
+            None => None,
+            Some(digit) => joined(value, digit),
+        },
+    }
+}
+
+fn digits(first: Option<u32>, text: &[u8]) -> Option<Part<'_>>
+    requires { MatchOption first ⊤ (λ value. value ≤ 1114111) }
+    ensures part { parted_any result ≡ spec.digits first text.now }
+    ensures within { MatchOption result ⊤ (λ part. length part.rest.now ≤ length text.now) }
+{
+    let mut value = first;
+    let mut rest = text;
+    'bytes: while let [byte, behind @ ..] = rest {
+        if *byte == b'}' {
+            return character(behind, value);
+        }
+        if *byte != b'_' {
+            value = next_value(value, hex_digit(*byte));
+        }
+        rest = behind;
+    }
+    None
+}
+
+fn first_value(digit: Option<u8>) -> Option<u32>
+    requires { MatchOption digit ⊤ (λ digit. digit < 16) }
+    ensures value { result ≡ digit }
+    ensures small { MatchOption result ⊤ (λ value. value ≤ 1114111) }
+{
+    match digit {
+        Some(digit) => Some(u32::from(digit)),
+        None => None,
+    }
+}
+
+fn first_digit(text: &[u8]) -> Option<Part<'_>>
+    ensures part { parted_any result ≡ spec.first_digit text.now }
+    ensures within { MatchOption result ⊤ (λ part. length part.rest.now ≤ length text.now) }
+{
+    match text {
+        [] => None,
+        [byte, behind @ ..] => digits(first_value(hex_digit(*byte)), behind),
+    }
+}
+
+fn scalar_of(text: &[u8]) -> Option<Part<'_>>
+    ensures part { parted_any result ≡ spec.scalar_of text.now }
+    ensures within { MatchOption result ⊤ (λ part. length part.rest.now ≤ length text.now) }
+{
+    match text {
+        [b'{', behind @ ..] => first_digit(behind),
+        _ => None,
+    }
+}
+
+fn is_of_bytes(encoding: Encoding) -> bool
+    ensures { result ≡ spec.is_of_bytes encoding }
+{
+    match encoding {
+        Encoding::Bytes => true,
+        Encoding::Str | Encoding::C => false,
+    }
+}
+
+fn begins_line_feed(text: &[u8]) -> bool
+    ensures { result ≡ spec.begins_line_feed text.now }
+{
+    match text {
+        [b'\n', ..] => true,
+        _ => false,
+    }
+}
+
+fn ends_line(byte: u8, behind: &[u8]) -> bool
+    ensures { result ≡ spec.ends_line byte behind.now }
+{
+    byte == b'\n' || byte == b'\r' && begins_line_feed(behind)
+}
+
+fn escape_by(encoding: Encoding, byte: u8, behind: &[u8], letter: Option<u8>) -> Option<Part<'_>>
+    ensures part { parted_any result ≡ spec.escape_by encoding byte behind.now letter }
+    ensures within { MatchOption result ⊤ (λ part. length part.rest.now ≤ length behind.now) }
+{
+    if let Some(c) = letter {
+        return Some(Part {
+            stands: Stands::Byte(c),
+            rest: behind,
+        });
+    }
+    if byte == b'x' {
+        return byte_of(encoding, behind);
+    }
+    if byte == b'u' && !is_of_bytes(encoding) {
+        return scalar_of(behind);
+    }
+    if ends_line(byte, behind) {
+        return Some(Part {
+            stands: Stands::Nothing,
+            rest: behind_run(Class::Skipped, behind),
+        });
+    }
+    None
+}
+
+fn escape(encoding: Encoding, text: &[u8]) -> Option<Part<'_>>
+    ensures part { parted_any result ≡ spec.escape encoding text.now }
+    ensures within { MatchOption result ⊤ (λ part. length part.rest.now ≤ length text.now) }
+{
+    match text {
+        [] => None,
+        [byte, behind @ ..] => escape_by(encoding, *byte, behind, letter(*byte)),
+    }
+}
+
+fn itself(byte: u8, behind: &[u8]) -> Part<'_>
+    ensures part { parted result ≡ spec.itself byte behind.now }
+    ensures within { length result.rest.now ≤ length behind.now }
+{
+    if byte == b'\r' && begins_line_feed(behind) {
+        Part {
+            stands: Stands::Nothing,
+            rest: behind,
+        }
+    } else {
+        Part {
+            stands: Stands::Byte(byte),
+            rest: behind,
+        }
+    }
+}
+
+/// The part of a body that begins with this byte; none where an escape isn't one.
+pub fn part_of(kind: Kind, byte: u8, behind: &[u8]) -> Option<Part<'_>>
+    ensures part { parted_any result ≡ spec.part_of kind byte behind.now }
+    ensures within { MatchOption result ⊤ (λ part. length part.rest.now ≤ length behind.now) }
+{
+    match kind {
+        Kind::Escaped(encoding) => {
+            if byte == b'\\' {
+                escape(encoding, behind)
+            } else {
+                Some(itself(byte, behind))
+            }
+        }
+        Kind::Raw(_, _) => Some(itself(byte, behind)),
+    }
+}

@@ -1,0 +1,25 @@
+//! String literals in sources of Rust, and the format descriptions among them.
+#![tactic(auto)]
+
+mod between;
+mod calls;
+mod character;
+mod class;
+mod comment;
+pub mod description;
+pub mod dialect;
+mod escape;
+pub mod laws;
+mod literal;
+mod marks;
+mod piece;
+mod string;
+mod token;
+mod unescape;
+
+pub use description::{Description, descriptions_of};
+pub use dialect::Dialect;
+pub use literal::literal_text;
+pub use piece::{Piece, pieces_of};
+pub use token::{Encoding, Kind, Token};
+pub use unescape::Unescaped;

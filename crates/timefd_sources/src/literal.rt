@@ -1,0 +1,68 @@
+//! The text of a literal that stands in a source.
+
+ghost use Rattle.std.specs.Prelude.{◌≡◌, ◌≤◌, ◌<◌, ◌+◌, length, IfOk, MatchOption, ⊤};
+ghost use Rattle.timefd_sources.specs.Bytes.{seen};
+ghost use Rattle.timefd_sources.specs.Escapes.{placed_any};
+ghost use Rattle.timefd_sources.specs.Literals as spec;
+
+use crate::class::{Class, behind_run};
+use crate::piece::Piece;
+use crate::token::Kind;
+use crate::unescape::{Unescaped, unescape};
+use std::alloc::{AllocError, Global};
+
+fn hash_count(kind: Kind) -> usize
+    ensures { result ≡ spec.hash_count kind }
+{
+    match kind {
+        Kind::Escaped(_) => 0,
+        Kind::Raw(_, hash_count) => hash_count,
+    }
+}
+
+/// What stands between the quotes of a literal.
+fn body(kind: Kind, literal: &[u8]) -> Option<&[u8]>
+    ensures body { seen result ≡ spec.body kind literal.now }
+    ensures within { MatchOption result ⊤ (λ body. length body.now + (spec.hash_count kind + 1) < length literal.now) }
+{
+    let [_, inner @ ..] = behind_run(Class::Unquoted, literal) else {
+        return None;
+    };
+    let hash_count = hash_count(kind);
+    if hash_count < inner.len() {
+        Some(inner.split_at(inner.len() - hash_count - 1).0)
+    } else {
+        None
+    }
+}
+
+/// The bytes of a token.
+fn cut(source: &[u8], piece: Piece) -> Option<&[u8]>
+    ensures cut { seen result ≡ spec.cut source.now piece }
+    ensures within { MatchOption result ⊤ (λ text. length text.now ≤ piece.end) }
+{
+    if piece.start <= piece.end && piece.end <= source.len() {
+        Some(&source[piece.start..piece.end])
+    } else {
+        None
+    }
+}
+
+/// The text that a literal stands for, which is this token of the source. None where an escape isn't
+/// one, or where no literal of the kind stands.
+pub fn literal_text(
+    alloc: Global,
+    source: &str,
+    piece: Piece,
+    kind: Kind,
+) -> Result<Option<Unescaped>, AllocError>
+    ensures { IfOk result (λ answer. placed_any answer ≡ spec.literal_text source.now piece kind) }
+{
+    let Some(literal) = cut(source.as_bytes(), piece) else {
+        return Ok(None);
+    };
+    let Some(body) = body(kind, literal) else {
+        return Ok(None);
+    };
+    unescape(alloc, kind, body, piece.end - hash_count(kind) - 1)
+}
