@@ -1,7 +1,8 @@
 #!/bin/sh
-# Times what writes a moment, the library's `timefd_format` and Debian's `time` 0.3.9 (librust-time-dev) in one run, and counts the
-# instructions of each call, as callgrind counts them: the difference of 520 calls and 20 by 500. It takes the library that `rt lib`
-# leaves in crates/timefd_c, or that of the folder TIMEFD_LIB_DIR, needs valgrind, and fetches nothing.
+# Times what writes a moment by a description that is parsed at each call, or was parsed before: the library's `timefd_format` and
+# `timefd_format_nodes`, the crate for Rust, and Debian's `time` 0.3.9 (librust-time-dev), in one run. Then it counts the instructions
+# of each call, as callgrind counts them: the difference of 520 calls and 20 by 500. It takes the library that `rt lib` leaves in
+# crates/timefd_c, or that of the folder TIMEFD_LIB_DIR, needs valgrind, and fetches nothing.
 set -eu
 cd "$(dirname "$0")/dates"
 cargo build --release --offline --locked --quiet
@@ -18,11 +19,23 @@ per_call() {
     echo $((($(count "$1" "$2" 520) - $(count "$1" "$2" 20) + 250) / 500))
 }
 
+# table NAME..: a row of instructions for each text, and a column for each call
+table() {
+    row=0
+    for text in 'ISO date' 'ISO date and time' 'RFC 3339' 'RFC 2822'; do
+        printf '| %s |' "$text"
+        for name in "$@"; do
+            printf ' %s |' "$(per_call $row "$name")"
+        done
+        echo
+        row=$((row + 1))
+    done
+}
+
+echo '| Text, instructions | `timefd_format` | `parse` and `format_into` |'
+echo '|---|---|---|'
+table text time_text
 echo
-echo '| Text, instructions | `timefd_format` | `parse` and `format_into` | `format_into` |'
-echo '|---|---|---|---|'
-row=0
-for name in 'ISO date' 'ISO date and time' 'RFC 3339' 'RFC 2822'; do
-    echo "| $name | $(per_call $row text) | $(per_call $row time_text) | $(per_call $row time) |"
-    row=$((row + 1))
-done
+echo '| Text, instructions | `timefd_format_nodes` | the crate'"'"'s `write_to_io` | `format_into` | the crate'"'"'s `format` | `time`'"'"'s `format` |'
+echo '|---|---|---|---|---|---|'
+table nodes crate time crate_string time_string

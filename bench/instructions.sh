@@ -1,13 +1,20 @@
 #!/bin/sh
 # Prints how many instructions one call of `timefd_judge`, and of `timefd_read`, takes, as callgrind counts them: the difference
-# of 520 calls and 20 by 500. It needs valgrind.
+# of 520 calls and 20 by 500; and of `parse` of Debian's `time`, of the texts of version 1 that it takes, where its package is
+# installed, with that of `chrono`. It needs valgrind.
 set -eu
 cd "$(dirname "$0")"
 libc=$(dirname "$(rt doc)")/c/liblibc_c.a
+registry=/usr/share/cargo/registry
 mkdir -p out
 
 (cd ../crates/timefd_c && rt lib --cpu x86-64 > /dev/null)
-cc -std=gnu11 -Wall -Wextra -Werror -O2 -o out/instructions instructions.c ../crates/timefd_c/out/libtimefd_c.a "$libc"
+set --
+if [ -d "$registry/time-0.3.9" ] && [ -d "$registry/chrono-0.4.23" ]; then
+    (cd beside && cargo build --release --offline --locked --quiet --lib)
+    set -- -DWITH_PEERS "${CARGO_TARGET_DIR:-beside/target}/release/libtimefd_peers.a"
+fi
+cc -std=gnu11 -Wall -Wextra -Werror -O2 -o out/instructions instructions.c ../crates/timefd_c/out/libtimefd_c.a "$libc" "$@"
 
 # count CALL KIND TIMES TEXT
 count() {
@@ -20,9 +27,21 @@ per_call() {
     echo $((($(count "$1" "$2" 520 "$3") - $(count "$1" "$2" 20 "$3") + 250) / 500))
 }
 
+# by_time KIND TEXT
+by_time() {
+    if [ "$1" = 1 ] && out/instructions time 1 1 "$2"; then
+        per_call time 1 "$2"
+    fi
+}
+
 # row NAME KIND TEXT
 row() {
-    echo "| $1 | $(per_call judge "$2" "$3") | $(per_call read "$2" "$3") |"
+    echo "| $1 | $(per_call judge "$2" "$3") | $(per_call read "$2" "$3") | $(by_time "$2" "$3") |"
+}
+
+# bracket KIND TEXT
+bracket() {
+    row "version $1, \`$2\`" "$1" "$2"
 }
 
 date='[year]-[month]-[day]'
@@ -31,8 +50,8 @@ zone='[offset_hour sign:mandatory]:[offset_minute]'
 rfc2822='[weekday repr:short], [day] [month repr:short] [year] [hour]:[minute]:[second] [offset_hour sign:mandatory][offset_minute]'
 longest=$(head -c 100035 /dev/zero | tr '\0' a)
 
-echo '| Text | `timefd_judge` | `timefd_read` |'
-echo '|---|---|---|'
+echo '| Text | `timefd_judge` | `timefd_read` | `time` 0.3.9 |'
+echo '|---|---|---|---|'
 row 'version 1, `[day]`' 1 '[day]'
 row 'version 1, ISO date' 1 "$date"
 row 'version 1, ISO date and time' 1 "$moment"
@@ -49,3 +68,19 @@ row 'strftime, `%Y-%m-%d %H:%M:%S`' 4 '%Y-%m-%d %H:%M:%S'
 row 'strftime, `%d`' 4 '%d'
 row 'strftime, `%Y-%m-%d %Q`, which has a fault' 4 '%Y-%m-%d %Q'
 row 'version 1, a literal of 100 kB' 1 "$longest"
+
+echo
+echo '| Brackets with modifiers | `timefd_judge` | `timefd_read` | `time` 0.3.9 |'
+echo '|---|---|---|---|'
+for text in '[month repr:short]' '[hour repr:12 padding:none]' '[weekday repr:sunday one_indexed:false]' \
+    '[year repr:last_two base:iso_week padding:none]' '[unix_timestamp precision:nanosecond sign:mandatory]' \
+    '[year padding:space repr:full range:standard base:calendar sign:automatic]' \
+    '[weekday repr:long case_sensitive:false] [hour repr:12 padding:space]' \
+    '[ year ]-[ month   padding:zero ]-[ day ]' '[hour repr:12 repr:24]:[minute padding:none padding:zero]' \
+    '[month repr:short padding:none] [weekday repr:short one_indexed:true]'; do
+    bracket 1 "$text"
+done
+bracket 3 '[month repr:short]'
+bracket 3 '[hour repr:12 padding:none]'
+bracket 3 '[unix_timestamp precision:nanosecond sign:mandatory]'
+bracket 3 '[optional [[day]]]'

@@ -37,8 +37,8 @@ _timefd_format() {
     local word value=
     for word in "${COMP_WORDS[@]:1:COMP_CWORD-1}"; do
         case $value$word in
-        --language) value=value ;;
-        value*) value= ;;
+        --language | --read) value=$word ;;
+        --language* | --read*) value= ;;
         -*) [ "$word" != -- ] || return ;;
         *)
             mapfile -t COMPREPLY < <(compgen -W now -- "$2")
@@ -46,11 +46,11 @@ _timefd_format() {
             ;;
         esac
     done
-    if [ -n "$value" ]; then
-        mapfile -t COMPREPLY < <(compgen -W '1 2 3 strftime' -- "$2")
-    else
-        mapfile -t COMPREPLY < <(compgen -W '--language --help --version --' -- "$2")
-    fi
+    case $value in
+    --language) mapfile -t COMPREPLY < <(compgen -W '1 2 3 strftime' -- "$2") ;;
+    --read) COMPREPLY=() ;;
+    *) mapfile -t COMPREPLY < <(compgen -W '--language --read --help --version --' -- "$2") ;;
+    esac
 }
 
 complete -F _timefd timefd

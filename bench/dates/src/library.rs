@@ -1,4 +1,4 @@
-//! The call of `examples/timefd.h` that writes a moment, on a buffer that the caller has.
+//! The calls of `examples/timefd.h` that write a moment, on a buffer that the caller has.
 
 // For what it links.
 use timefd as _;
@@ -43,11 +43,52 @@ struct FormatAnswer {
     written: usize,
 }
 
+impl FormatAnswer {
+    /// How many bytes were written.
+    fn written(&self) -> usize {
+        assert_eq!(self.status, ACCEPTED);
+        self.written
+    }
+}
+
+/// `timefd_node`, which nobody looks into here.
+#[repr(C, align(8))]
+#[derive(Clone, Copy)]
+struct Node([u8; 48]);
+
+#[repr(C)]
+struct ReadAnswer {
+    status: u32,
+    value: usize,
+    nodes: usize,
+    literals: usize,
+    written: bool,
+    bytes: usize,
+}
+
 unsafe extern "C" {
     fn timefd_format(
         kind: u32,
         text: *const u8,
         len: usize,
+        moment: *const Moment,
+        buffer: *mut u8,
+        room: usize,
+    ) -> FormatAnswer;
+    fn timefd_read(
+        kind: u32,
+        text: *const u8,
+        len: usize,
+        nodes: *mut Node,
+        node_room: usize,
+        literals: *mut u8,
+        literal_room: usize,
+    ) -> ReadAnswer;
+    fn timefd_format_nodes(
+        nodes: *const Node,
+        node_count: usize,
+        literals: *const u8,
+        literal_count: usize,
         moment: *const Moment,
         buffer: *mut u8,
         room: usize,
@@ -61,6 +102,48 @@ pub fn format(text: &str, buffer: &mut [u8]) -> usize {
         let (out, room) = (buffer.as_mut_ptr(), buffer.len());
         timefd_format(KIND, text.as_ptr(), text.len(), &MOMENT, out, room)
     };
-    assert_eq!(answer.status, ACCEPTED);
-    answer.written
+    answer.written()
+}
+
+/// What a text was read as.
+pub struct Nodes {
+    nodes: Vec<Node>,
+    literals: Vec<u8>,
+}
+
+impl Nodes {
+    /// Reads the text.
+    pub fn read(text: &str) -> Nodes {
+        // No text that is read here has more nodes than bytes.
+        let (mut nodes, mut literals) = (vec![Node([0; 48]); text.len()], vec![0; text.len()]);
+        // SAFETY: the three are as long as is said, `Node` is as large as the header's, and none of them is touched
+        // while the call runs.
+        let answer = unsafe {
+            let (places, bytes) = (nodes.as_mut_ptr(), literals.as_mut_ptr());
+            timefd_read(KIND, text.as_ptr(), text.len(), places, text.len(), bytes, text.len())
+        };
+        assert!(answer.status == ACCEPTED && answer.written);
+        nodes.truncate(answer.nodes);
+        literals.truncate(answer.literals);
+        Nodes { nodes, literals }
+    }
+
+    /// Writes the moment to the front of the buffer, and answers how many bytes these are.
+    pub fn format(&self, buffer: &mut [u8]) -> usize {
+        let Nodes { nodes, literals } = self;
+        // SAFETY: the three are as long as is said, and none of them is touched while the call runs.
+        let answer = unsafe {
+            let (places, count, out) = (nodes.as_ptr(), nodes.len(), buffer.as_mut_ptr());
+            timefd_format_nodes(
+                places,
+                count,
+                literals.as_ptr(),
+                literals.len(),
+                &MOMENT,
+                out,
+                buffer.len(),
+            )
+        };
+        answer.written()
+    }
 }

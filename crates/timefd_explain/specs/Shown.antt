@@ -6,6 +6,7 @@ use Rattle.timefd_language.specs.Grammar.{nesting_limit}
 use Rattle.timefd_node_list.specs.Nodes.{kept_bytes}
 use Rattle.timefd_parse.specs.Language.{SpellsIn}
 use Rattle.timefd_parse.specs.declared.language.Language.{Language}
+use Rattle.timefd_sample.specs.Samples.{IsExample}
 use Rattle.timefd_explain.specs.declared.piece.Shown.{Shown}
 use Rattle.timefd_explain.specs.declared.piece.What.{What}
 use Rattle.timefd_explain.specs.declared.piece.What.TheVariants as what
@@ -18,6 +19,16 @@ IsWhat (what.Component c) tree = tree ≡ component c
 IsWhat (what.Optional format) tree = (member : Tree) × (tree ≡ optional format member)
 IsWhat what.First tree = (members : Trees) × (tree ≡ first members)
 IsWhat what.Several tree = (members : Trees) × (tree ≡ compound members)
+
+-- what is shown as an example of it: the text of a literal, and what the formatter writes of a
+-- component at the moment of the examples
+abbrev pub IsExampleOf : What → Text → Type 0
+IsExampleOf (what.Literal text) example = example ≡ string_bytes text
+IsExampleOf what.Bytes example = example ≡ []
+IsExampleOf (what.Component c) example = IsExample c example
+IsExampleOf (what.Optional format) example = example ≡ []
+IsExampleOf what.First example = example ≡ []
+IsExampleOf what.Several example = example ≡ []
 
 -- the piece is shown as what its tree is, with the bytes that the tree reserves
 pub record IsShown (s : Shown) (tree : Tree) : Type 0 where

@@ -1,5 +1,8 @@
 //! A node of a description, as it is shown.
 
+ghost use Rattle.std.specs.Prelude.{IfOk, string_bytes};
+ghost use Rattle.timefd_explain.specs.Shown.{IsExampleOf};
+
 use crate::piece::What;
 use std::alloc::{AllocError, Global};
 use timefd_component::Component;
@@ -38,7 +41,8 @@ pub struct Node {
     pub kind: NodeKind,
     /// What it is, in words.
     pub words: String,
-    /// What it may be written as. It is empty where that isn't said.
+    /// What it is written as. Of a component it is what the formatter writes of the moment of the
+    /// examples. It is empty where that isn't said.
     pub example: String,
 }
 
@@ -60,13 +64,11 @@ pub fn node_of(
     place: Place<'_>,
     bytes: usize,
     what: &What,
-) -> Result<Node, AllocError> {
-    let words = match what {
-        What::Component(component) => component_words(alloc, language, place.text, *component)?,
-        What::Literal(_) | What::Bytes | What::Optional(_) | What::First | What::Several => {
-            String::from_str(alloc, plain_words(what))?
-        }
-    };
+) -> Result<Node, AllocError>
+    ensures { IfOk result (λ node. IsExampleOf what.now (string_bytes node.example)) }
+{
+    let words = words_in(alloc, language, place.text, what)?;
+    let example = example_of(alloc, what)?;
     Ok(Node {
         depth: place.depth,
         start: place.start,
@@ -74,8 +76,22 @@ pub fn node_of(
         bytes,
         kind: kind_of(what),
         words,
-        example: String::from_str(alloc, example_of(what))?,
+        example,
     })
+}
+
+fn words_in(
+    alloc: Global,
+    language: Language,
+    text: &str,
+    what: &What,
+) -> Result<String, AllocError> {
+    match what {
+        What::Component(component) => component_words(alloc, language, text, *component),
+        What::Literal(_) | What::Bytes | What::Optional(_) | What::First | What::Several => {
+            String::from_str(alloc, plain_words(what))
+        }
+    }
 }
 
 fn kind_of(what: &What) -> NodeKind {
@@ -99,11 +115,13 @@ fn plain_words(what: &What) -> &'static str {
     }
 }
 
-fn example_of(what: &What) -> &str {
+fn example_of(alloc: Global, what: &What) -> Result<String, AllocError>
+    ensures { IfOk result (λ text. IsExampleOf what.now (string_bytes text)) }
+{
     match what {
-        What::Literal(literal) => literal,
-        What::Component(component) => sample(*component),
-        What::Bytes | What::Optional(_) | What::First | What::Several => "",
+        What::Literal(literal) => String::from_str(alloc, literal),
+        What::Component(component) => sample(alloc, *component),
+        What::Bytes | What::Optional(_) | What::First | What::Several => Ok(String::new(alloc)),
     }
 }
 

@@ -1,79 +1,38 @@
--- The texts of components at 2026-02-03 09:05:07.012345678 +01:30:00, a Tuesday.
-use Rattle.std.specs.Prelude.{Bool, true, false, [], codes, if◌then◌else◌}
-use Rattle.timefd_modifier.specs.declared.enums.Padding.{Padding}
-use Rattle.timefd_modifier.specs.declared.enums.SubsecondDigits.{SubsecondDigits}
+-- The moment of the examples, and what the formatter writes of it.
+use Rattle.std.specs.Prelude.{◌≡◌, false, MatchOption, Ok, ⊤}
 use Rattle.timefd_component.specs.Tree.{Text}
 use Rattle.timefd_component.specs.declared.component.Component.{Component}
-use Rattle.timefd_component.specs.declared.component.Component.TheVariants.{Day, MonthShort, MonthLong, MonthNumerical, Ordinal, WeekdayShort, WeekdayLong, WeekdaySunday, WeekdayMonday, WeekNumberIso, WeekNumberSunday, WeekNumberMonday, CalendarYearFullExtendedRange, CalendarYearFullStandardRange, CalendarYearCenturyExtendedRange, CalendarYearCenturyStandardRange, IsoYearFullExtendedRange, IsoYearFullStandardRange, IsoYearCenturyExtendedRange, IsoYearCenturyStandardRange, CalendarYearLastTwo, IsoYearLastTwo, Hour12, Hour24, Minute, Period, Second, Subsecond, OffsetHour, OffsetMinute, OffsetSecond, UnixTimestampSecond, UnixTimestampMillisecond, UnixTimestampMicrosecond, UnixTimestampNanosecond, Ignore, End, Month, Weekday, WeekNumber, Hour, UnixTimestamp, Year}
+use Rattle.timefd_format.specs.Written.{shown}
+use Rattle.timefd_format.specs.declared.text.TextError.{TextError}
+use Rattle.timefd_format.specs.declared.text.TextError.TheVariants as fails
+use Rattle.timefd_moment.specs.declared.date.Date.{Date}
+use Rattle.timefd_moment.specs.declared.moment.Moment.{Moment}
+use Rattle.timefd_moment.specs.declared.offset.UtcOffset.{UtcOffset}
+use Rattle.timefd_moment.specs.declared.time.Time.{Time}
 
--- as the number is filled
-abbrev pub padded : Padding → Text → Text → Text → Text
-padded Padding.Zero zeros spaces bare = zeros
-padded Padding.Space zeros spaces bare = spaces
-padded Padding.None zeros spaces bare = bare
+-- 2026-02-03: years are counted from the year -1,000,000 on
+abbrev pub IsDate : Date → Type 0
+IsDate d = (d.years ≡ 1002026) × (d.month ≡ 2) × (d.day ≡ 3)
 
-abbrev pub either : Bool → Text → Text → Text
-either true yes_text no_text = yes_text
-either false yes_text no_text = no_text
+-- 09:05:07.012345678
+abbrev pub IsTime : Time → Type 0
+IsTime t = (t.hour ≡ 9) × (t.minute ≡ 5) × (t.second ≡ 7) × (t.nanosecond ≡ 12345678)
 
-abbrev pub fraction : SubsecondDigits → Text
-fraction SubsecondDigits.One = codes "0"
-fraction SubsecondDigits.Two = codes "01"
-fraction SubsecondDigits.Three = codes "012"
-fraction SubsecondDigits.Four = codes "0123"
-fraction SubsecondDigits.Five = codes "01234"
-fraction SubsecondDigits.Six = codes "012345"
-fraction SubsecondDigits.Seven = codes "0123456"
-fraction SubsecondDigits.Eight = codes "01234567"
-fraction SubsecondDigits.Nine = codes "012345678"
-fraction SubsecondDigits.OneOrMore = codes "012345678"
+-- +01:30
+abbrev pub IsOffset : UtcOffset → Type 0
+IsOffset o = (o.is_negative ≡ false) × (o.seconds ≡ 5400)
 
-abbrev pub sample : Component → Text
-sample (Day m) = padded m.padding (codes "03") (codes " 3") (codes "3")
-sample (MonthShort m) = codes "Feb"
-sample (MonthLong m) = codes "February"
-sample (MonthNumerical m) = padded m.padding (codes "02") (codes " 2") (codes "2")
-sample (Ordinal m) = padded m.padding (codes "034") (codes " 34") (codes "34")
-sample (WeekdayShort m) = codes "Tue"
-sample (WeekdayLong m) = codes "Tuesday"
-sample (WeekdaySunday m) = either m.one_indexed (codes "3") (codes "2")
-sample (WeekdayMonday m) = either m.one_indexed (codes "2") (codes "1")
-sample (WeekNumberIso m) = padded m.padding (codes "06") (codes " 6") (codes "6")
-sample (WeekNumberSunday m) = padded m.padding (codes "05") (codes " 5") (codes "5")
-sample (WeekNumberMonday m) = padded m.padding (codes "05") (codes " 5") (codes "5")
-sample (CalendarYearFullExtendedRange m) = either m.sign_is_mandatory (codes "+2026") (codes "2026")
-sample (CalendarYearFullStandardRange m) = either m.sign_is_mandatory (codes "+2026") (codes "2026")
-sample (CalendarYearCenturyExtendedRange m) = either m.sign_is_mandatory (codes "+20") (codes "20")
-sample (CalendarYearCenturyStandardRange m) = either m.sign_is_mandatory (codes "+20") (codes "20")
-sample (IsoYearFullExtendedRange m) = either m.sign_is_mandatory (codes "+2026") (codes "2026")
-sample (IsoYearFullStandardRange m) = either m.sign_is_mandatory (codes "+2026") (codes "2026")
-sample (IsoYearCenturyExtendedRange m) = either m.sign_is_mandatory (codes "+20") (codes "20")
-sample (IsoYearCenturyStandardRange m) = either m.sign_is_mandatory (codes "+20") (codes "20")
-sample (CalendarYearLastTwo m) = codes "26"
-sample (IsoYearLastTwo m) = codes "26"
-sample (Hour12 m) = padded m.padding (codes "09") (codes " 9") (codes "9")
-sample (Hour24 m) = padded m.padding (codes "09") (codes " 9") (codes "9")
-sample (Minute m) = padded m.padding (codes "05") (codes " 5") (codes "5")
-sample (Period m) = either m.is_uppercase (codes "AM") (codes "am")
-sample (Second m) = padded m.padding (codes "07") (codes " 7") (codes "7")
-sample (Subsecond m) = fraction m.digits
-sample (OffsetHour m) = if m.sign_is_mandatory then padded m.padding (codes "+01") (codes "+ 1")
-    (codes "+1") else padded m.padding (codes "01") (codes " 1") (codes "1")
-sample (OffsetMinute m) = codes "30"
-sample (OffsetSecond m) = padded m.padding (codes "00") (codes " 0") (codes "0")
-sample (UnixTimestampSecond m) = either m.sign_is_mandatory (codes "+1770104107")
-    (codes "1770104107")
-sample (UnixTimestampMillisecond m) = either m.sign_is_mandatory (codes "+1770104107012")
-    (codes "1770104107012")
-sample (UnixTimestampMicrosecond m) = either m.sign_is_mandatory (codes "+1770104107012345")
-    (codes "1770104107012345")
-sample (UnixTimestampNanosecond m) = either m.sign_is_mandatory (codes "+1770104107012345678")
-    (codes "1770104107012345678")
-sample (Ignore m) = []
-sample (End m) = []
-sample (Month m) = []
-sample (Weekday m) = []
-sample (WeekNumber m) = []
-sample (Hour m) = []
-sample (UnixTimestamp m) = []
-sample (Year m) = []
+-- all of 2026-02-03 09:05:07.012345678 +01:30 is known
+pub record IsSample (m : Moment) : Type 0 where
+  pub date : MatchOption m.date ⊥ IsDate
+  pub time : MatchOption m.time ⊥ IsTime
+  pub offset : MatchOption m.offset ⊥ IsOffset
+
+-- the formatter writes this text of the component at that moment
+abbrev pub IsExample : Component → Text → Type 0
+IsExample c text = (m : Moment) × IsSample m × (shown m c ≡ Ok text)
+
+-- there is no text for want of memory
+abbrev pub IsMemory : TextError → Type 0
+IsMemory (fails.Unshown u) = ⊥
+IsMemory (fails.Memory e) = ⊤

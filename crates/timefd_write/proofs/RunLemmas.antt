@@ -7,13 +7,13 @@ use Rattle.std.specs.Io.KnownBytes.{IsAtEnd}
 use denote.Ref.{Bor}
 use Rattle.timefd_component.specs.Tree.{Text}
 use Rattle.timefd_diagnosis.specs.Words.{texts}
-use Rattle.timefd_moment.specs.declared.moment.Moment.{Moment}
 use Rattle.timefd_parse.specs.declared.language.Language.{Language}
 use Rattle.timefd_parse.specs.declared.parsing.BorrowedOutput.{BorrowedOutput}
 use Rattle.timefd_rewrite.proofs.LineLemmas.{next_line}
 use Rattle.timefd_rewrite.specs.Lines.{AreLinesOf, IsNextLine, without_newline}
 use Rattle.timefd_write.specs.declared.outcome.Outcome.{Outcome}
 use Rattle.timefd_write.specs.declared.outcome.Tally.{Tally}
+use Rattle.timefd_write.specs.declared.source.Source.{Source}
 use Rattle.timefd_write.specs.Tallies.{at_end, tally_of, both}
 use Rattle.timefd_write.specs.declared.description.Reading.{Reading}
 use Rattle.timefd_write.specs.declared.description.Reading.TheVariants as readings
@@ -21,7 +21,7 @@ use Rattle.timefd_write.specs.declared.end.RunEnd.TheVariants as ends
 use Rattle.timefd_write.specs.declared.lines.LineRead.{LineRead}
 use Rattle.timefd_write.specs.declared.lines.LineRead.TheVariants.{Line, End}
 use Rattle.timefd_write.specs.Descriptions.{IsReading}
-use Rattle.timefd_write.specs.Runs.{IsRun, IsRunOf}
+use Rattle.timefd_write.specs.Runs.{IsRunFrom, IsRunOf}
 use Rattle.timefd_write.specs.Written.{IsOne, IsRead, Runs, RunsOn, RunsOver}
 
 or_false : (b : Bool) → (b || false) ≡ b
@@ -58,43 +58,43 @@ both_assoc a b c =
     (or_assoc a.has_failed b.has_failed c.has_failed)
 
 -- What is left, run behind what is done, runs all.
-abbrev pub Completes : Option Moment → BorrowedOutput → List Text → List Text → Option Text
+abbrev pub Completes : Source → BorrowedOutput → List Text → List Text → Option Text
     → Option Text → Tally → Type 0
-Completes now o words rest before between tally = (behind : Option Text) (more : Tally)
-    → Runs false now o rest between behind more
-    → Runs false now o words before behind (both tally more)
+Completes source o words rest before between tally = (behind : Option Text) (more : Tally)
+    → Runs false source o rest between behind more
+    → Runs false source o words before behind (both tally more)
 
-pub starts : (now : Option Moment) (o : BorrowedOutput) (words : List Text) (before : Option Text)
-    (tally : Tally) → tally ≡ at_end false → Completes now o words words before before tally
-starts now o words before tally none behind more runs =
-    subst (λ t. Runs false now o words before behind (both t more)) (sym none) runs
+pub starts : (source : Source) (o : BorrowedOutput) (words : List Text) (before : Option Text)
+    (tally : Tally) → tally ≡ at_end false → Completes source o words words before before tally
+starts source o words before tally none behind more runs =
+    subst (λ t. Runs false source o words before behind (both t more)) (sym none) runs
 
-pub goes_on : (now : Option Moment) (o : BorrowedOutput) (words rest behind : List Text)
+pub goes_on : (source : Source) (o : BorrowedOutput) (words rest behind : List Text)
     (word : Text) (before between next : Option Text) (tally one sum : Tally) (outcome : Outcome)
-    → rest ≡ word ∷ behind → Completes now o words rest before between tally
-    → IsOne now o word between next outcome → one ≡ tally_of outcome → sum ≡ both tally one
-    → Completes now o words behind before next sum
-goes_on now o words rest behind word before between next tally one sum outcome split so_far is
+    → rest ≡ word ∷ behind → Completes source o words rest before between tally
+    → IsOne source o word between next outcome → one ≡ tally_of outcome → sum ≡ both tally one
+    → Completes source o words behind before next sum
+goes_on source o words rest behind word before between next tally one sum outcome split so_far is
     is_one is_sum end more runs =
-    subst (λ t. Runs false now o words before end t)
+    subst (λ t. Runs false source o words before end t)
     (sym (ap (λ t. both t more) (is_sum ∙ ap (λ t. both tally t) is_one)
     ∙ both_assoc tally (tally_of outcome) more))
     (so_far end (both (tally_of outcome) more)
-    (subst (λ ws. Runs false now o ws between end (both (tally_of outcome) more)) (sym split)
+    (subst (λ ws. Runs false source o ws between end (both (tally_of outcome) more)) (sym split)
     (outcome, next, more, is, runs, refl)))
 
 none_left : (words : List (Bor Text)) → length words < 1 → words ≡ []
 none_left [] short = refl
 none_left (word ∷ words) short = absurd (omega (arith, short))
 
-pub is_done : (now : Option Moment) (o : BorrowedOutput) (words rest : List (Bor Text))
+pub is_done : (source : Source) (o : BorrowedOutput) (words rest : List (Bor Text))
     (before behind : Option Text) (tally : Tally) → length rest < 1
-    → Completes now o (texts words) (texts rest) before behind tally
-    → Runs false now o (texts words) before behind tally
-is_done now o words rest before behind tally short so_far =
-    subst (λ t. Runs false now o (texts words) before behind t) (none_more tally)
+    → Completes source o (texts words) (texts rest) before behind tally
+    → Runs false source o (texts words) before behind tally
+is_done source o words rest before behind tally short so_far =
+    subst (λ t. Runs false source o (texts words) before behind t) (none_more tally)
     (so_far behind (at_end false)
-    (subst (λ ws. Runs false now o (texts ws) behind behind (at_end false))
+    (subst (λ ws. Runs false source o (texts ws) behind behind (at_end false))
     (sym (none_left rest short)) (refl, refl)))
 
 -- The first of some lent words, and those behind it, as a pattern takes them.
@@ -109,16 +109,16 @@ split_texts (word ∷ rest) n d bytes same some is =
     ∙ ap (λ r. word.now ∷ texts r) (take-length rest))
 
 -- The same of lines.
-abbrev pub CompletesLines : Option Moment → BorrowedOutput → Option Text → Option Text → Option Text
+abbrev pub CompletesLines : Source → BorrowedOutput → Option Text → Option Text → Option Text
     → Option Text → Tally → Type 0
-CompletesLines now o bytes left before between tally = (failed : Bool) (behind : Option Text)
-    (more : Tally) → RunsOn failed now o left between behind more
-    → RunsOn failed now o bytes before behind (both tally more)
+CompletesLines source o bytes left before between tally = (failed : Bool) (behind : Option Text)
+    (more : Tally) → RunsOn failed source o left between behind more
+    → RunsOn failed source o bytes before behind (both tally more)
 
-pub lines_start : (now : Option Moment) (o : BorrowedOutput) (bytes before : Option Text)
-    (tally : Tally) → tally ≡ at_end false → CompletesLines now o bytes bytes before before tally
-lines_start now o bytes before tally none failed behind more runs =
-    subst (λ t. RunsOn failed now o bytes before behind (both t more)) (sym none) runs
+pub lines_start : (source : Source) (o : BorrowedOutput) (bytes before : Option Text)
+    (tally : Tally) → tally ≡ at_end false → CompletesLines source o bytes bytes before before tally
+lines_start source o bytes before tally none failed behind more runs =
+    subst (λ t. RunsOn failed source o bytes before behind (both t more)) (sym none) runs
 
 more_lines : (bytes rest : Option Text) (line : Text) (lines : List Text) (failed : Bool)
     → IsNextLine bytes line rest → AreLinesOf rest lines failed
@@ -130,23 +130,23 @@ more_lines (Some xs) rest line lines true next are =
 more_lines (Some xs) rest line lines false next are =
     (next.0, next.1, subst (λ r. AreLinesOf r lines false) next.2 are)
 
-pub line_more : (now : Option Moment) (o : BorrowedOutput) (bytes left rest : Option Text)
+pub line_more : (source : Source) (o : BorrowedOutput) (bytes left rest : Option Text)
     (line word : Text) (before between next : Option Text) (tally one sum : Tally)
     (outcome : Outcome) (r : LineRead) → r ≡ Line
-    → CompletesLines now o bytes left before between tally
+    → CompletesLines source o bytes left before between tally
     → IsRead left rest line r → word ≡ without_newline line
-    → IsOne now o word between next outcome → one ≡ tally_of outcome → sum ≡ both tally one
-    → CompletesLines now o bytes rest before next sum
-line_more now o bytes left rest line word before between next tally one sum outcome r is_line so_far
+    → IsOne source o word between next outcome → one ≡ tally_of outcome → sum ≡ both tally one
+    → CompletesLines source o bytes rest before next sum
+line_more source o bytes left rest line word before between next tally one sum outcome r is_line so_far
     read without is is_one is_sum failed end more runs =
-    subst (λ t. RunsOn failed now o bytes before end t)
+    subst (λ t. RunsOn failed source o bytes before end t)
     (sym (ap (λ t. both t more) (is_sum ∙ ap (λ t. both tally t) is_one)
     ∙ both_assoc tally (tally_of outcome) more))
     (so_far failed end (both (tally_of outcome) more) (
       line ∷ runs.0,
       more_lines left rest line runs.0 failed
           (subst (λ x. IsRead left rest line x) is_line read) runs.1,
-      (outcome, next, more, subst (λ w. IsOne now o w between next outcome) without is, runs.2, refl),
+      (outcome, next, more, subst (λ w. IsOne source o w between next outcome) without is, runs.2, refl),
     ))
 
 no_line_left : (left : Option Text) → IsAtEnd left → AreLinesOf left [] false
@@ -157,35 +157,35 @@ no_line_read : (left : Option Text) → AreLinesOf left [] true
 no_line_read None = tt
 no_line_read (Some xs) = (xs, refl)
 
-pub lines_end : (now : Option Moment) (o : BorrowedOutput) (bytes left rest before behind : Option Text)
+pub lines_end : (source : Source) (o : BorrowedOutput) (bytes left rest before behind : Option Text)
     (line : Text) (tally : Tally) (r : LineRead) → r ≡ End
-    → CompletesLines now o bytes left before behind tally → IsRead left rest line r
-    → RunsOver now o bytes before behind tally
-lines_end now o bytes left rest before behind line tally r is so_far read = (
+    → CompletesLines source o bytes left before behind tally → IsRead left rest line r
+    → RunsOver source o bytes before behind tally
+lines_end source o bytes left rest before behind line tally r is so_far read = (
   false,
-  subst (λ t. RunsOn false now o bytes before behind t) (none_more tally)
+  subst (λ t. RunsOn false source o bytes before behind t) (none_more tally)
       (so_far false behind (at_end false)
       ([], no_line_left left (subst (λ x. IsRead left rest line x) is read), (refl, refl))),
 )
 
-pub lines_fail : (now : Option Moment) (o : BorrowedOutput) (bytes left before behind : Option Text)
-    (tally failing sum : Tally) → CompletesLines now o bytes left before behind tally
+pub lines_fail : (source : Source) (o : BorrowedOutput) (bytes left before behind : Option Text)
+    (tally failing sum : Tally) → CompletesLines source o bytes left before behind tally
     → failing ≡ at_end true → sum ≡ both tally failing
-    → RunsOver now o bytes before behind sum
-lines_fail now o bytes left before behind tally failing sum so_far is is_sum = (
+    → RunsOver source o bytes before behind sum
+lines_fail source o bytes left before behind tally failing sum so_far is is_sum = (
   true,
-  subst (λ t. RunsOn true now o bytes before behind t)
+  subst (λ t. RunsOn true source o bytes before behind t)
       (sym (is_sum ∙ ap (λ t. both tally t) is))
       (so_far true behind (at_end true) ([], no_line_read left, (refl, refl))),
 )
 
 -- A run by the description that is read.
-pub ran : (now : Option Moment) (language : Language) (text : Text) (words : List Text)
+pub ran : (source : Source) (language : Language) (text : Text) (words : List Text)
     (input before behind : Option Text) (r : Reading) (o : BorrowedOutput) (tally : Tally)
     → r ≡ readings.Description o → IsReading language text r
-    → IsRunOf now o words input before behind tally
-    → IsRun now language text words input before behind (ends.Done tally)
-ran now language text words input before behind r o tally is reading run =
+    → IsRunOf source o words input before behind tally
+    → IsRunFrom source language text words input before behind (ends.Done tally)
+ran source language text words input before behind r o tally is reading run =
     (o, subst (λ x. IsReading language text x) is reading, run)
 
 -- The line that is read into an empty room.

@@ -1,5 +1,5 @@
 -- What words ask for, read from the first to the last.
-use Rattle.std.specs.Prelude.{false, true, List, [], ◌∷◌, length, Option, Some, None, Result, Ok, Err, if◌then◌else◌}
+use Rattle.std.specs.Prelude.{List, [], ◌∷◌, length, Option, Some, None, Result, Ok, Err}
 use denote.Ref.{Bor}
 use Rattle.timefd_component.specs.Tree.{Text}
 use Rattle.timefd_parse.specs.declared.language.Language.{Language}
@@ -10,6 +10,8 @@ use Rattle.timefd_write.specs.declared.asked.OptionError.TheVariants as errors
 use Rattle.timefd_write.specs.declared.asked.State.{State}
 use Rattle.timefd_write.specs.declared.asked.Step.{Step}
 use Rattle.timefd_write.specs.declared.asked.Step.TheVariants.{Next, Done}
+use Rattle.timefd_write.specs.declared.asked.Wanted.{Wanted}
+use Rattle.timefd_write.specs.declared.asked.Wanted.TheVariants as wants
 use Rattle.timefd_write.specs.declared.word.Word.{Word}
 use Rattle.timefd_write.specs.declared.word.Word.TheVariants as words
 use Rattle.timefd_write.specs.Words.{word_of, language_named, default_language}
@@ -18,53 +20,75 @@ abbrev pub Answer : Type 0
 Answer = Result Asked OptionError
 
 -- The words behind a description are moments, whatever they begin with.
-abbrev pub requested : Language → Bor Text → List (Bor Text) → Asked
-requested language description moments = asks.Run (record {
-  language = language;
+abbrev pub requested : State → Bor Text → List (Bor Text) → Asked
+requested state description moments = asks.Run (record {
+  language = state.language;
+  read = state.read;
   description = description;
   moment_count = length moments;
 })
 
-abbrev pub behind_end : Language → List (Bor Text) → Answer
-behind_end language [] = Err errors.NoDescription
-behind_end language (description ∷ moments) = Ok (requested language description moments)
+abbrev pub behind_end : State → List (Bor Text) → Answer
+behind_end state [] = Err errors.NoDescription
+behind_end state (description ∷ moments) = Ok (requested state description moments)
 
-abbrev pub first_by : Word → Language → Bor Text → List (Bor Text) → Step
-first_by words.Language language word behind =
-    Next (record { language = language; wants_language = true })
-first_by words.Help language word behind = Done (Ok asks.Help)
-first_by words.Version language word behind = Done (Ok asks.Version)
-first_by words.End language word behind = Done (behind_end language behind)
-first_by words.Unknown language word behind = Done (Err (errors.Unknown word))
-first_by words.Description language word behind = Done (Ok (requested language word behind))
+abbrev pub before_read_of : Option (Bor Text) → Language → Step
+before_read_of (Some text) language = Done (Err errors.ReadTwice)
+before_read_of None language =
+    Next (record { language = language; read = None; wanted = wants.Read })
 
-abbrev pub first : Language → Bor Text → List (Bor Text) → Step
-first language word behind = first_by (word_of word.now) language word behind
+-- A description to read by is given once.
+abbrev pub before_read : State → Step
+before_read state = before_read_of state.read state.language
 
-abbrev pub with_language_by : Option Language → Bor Text → Step
-with_language_by (Some l) word = Next (record { language = l; wants_language = false })
-with_language_by None word = Done (Err (errors.NoLanguage word))
+abbrev pub first_by : Word → State → Bor Text → List (Bor Text) → Step
+first_by words.Language state word behind =
+    Next (record { language = state.language; read = state.read; wanted = wants.Language })
+first_by words.Read state word behind = before_read state
+first_by words.Help state word behind = Done (Ok asks.Help)
+first_by words.Version state word behind = Done (Ok asks.Version)
+first_by words.End state word behind = Done (behind_end state behind)
+first_by words.Unknown state word behind = Done (Err (errors.Unknown word))
+first_by words.Description state word behind = Done (Ok (requested state word behind))
 
-abbrev pub with_language : Bor Text → Step
-with_language word = with_language_by (language_named word.now) word
+abbrev pub first : State → Bor Text → List (Bor Text) → Step
+first state word behind = first_by (word_of word.now) state word behind
+
+abbrev pub with_language_by : Option Language → State → Bor Text → Step
+with_language_by (Some l) state word =
+    Next (record { language = l; read = state.read; wanted = wants.Nothing })
+with_language_by None state word = Done (Err (errors.NoLanguage word))
+
+abbrev pub with_language : State → Bor Text → Step
+with_language state word = with_language_by (language_named word.now) state word
+
+abbrev pub with_read : State → Bor Text → Step
+with_read state word =
+    Next (record { language = state.language; read = Some word; wanted = wants.Nothing })
+
+abbrev pub one_more_by : Wanted → State → Bor Text → List (Bor Text) → Step
+one_more_by wants.Nothing state word behind = first state word behind
+one_more_by wants.Language state word behind = with_language state word
+one_more_by wants.Read state word behind = with_read state word
 
 -- What one more word comes to.
 abbrev pub one_more : State → Bor Text → List (Bor Text) → Step
-one_more state word behind =
-    if state.wants_language then with_language word else first state.language word behind
+one_more state word behind = one_more_by state.wanted state word behind
 
-abbrev pub at_end : State → OptionError
-at_end state = if state.wants_language then errors.MissingLanguage else errors.NoDescription
+abbrev pub at_end : Wanted → OptionError
+at_end wants.Nothing = errors.NoDescription
+at_end wants.Language = errors.MissingLanguage
+at_end wants.Read = errors.MissingRead
 
 abbrev pub go : (State → Answer) → Step → Answer
 go more (Next state) = more state
 go more (Done answer) = answer
 
 abbrev pub asked_from : State → List (Bor Text) → Answer
-asked_from state [] = Err (at_end state)
+asked_from state [] = Err (at_end state.wanted)
 asked_from state (word ∷ behind) = go (λ s. asked_from s behind) (one_more state word behind)
 
 -- What all words ask for.
 abbrev pub asked_of : List (Bor Text) → Answer
 asked_of words =
-    asked_from (record { language = default_language; wants_language = false }) words
+    asked_from (record { language = default_language; read = None; wanted = wants.Nothing }) words

@@ -2,6 +2,8 @@ pub mod Words
 pub mod Asked
 pub mod Descriptions
 pub mod Moments
+pub mod ReadBack
+pub mod Sources
 pub mod Tallies
 pub mod Messages
 pub mod Written

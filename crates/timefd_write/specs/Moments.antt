@@ -20,6 +20,8 @@ IsOfText (Ok p) (Err e) = ⊥
 IsOfText (Err f) (Ok m) = ⊥
 IsOfText (Err f) (Err fails.Clock) = ⊥
 IsOfText (Err f) (Err (fails.Text e)) = e ≡ f
+IsOfText (Err f) (Err (fails.Unread e)) = ⊥
+IsOfText (Err f) (Err (fails.Value e)) = ⊥
 
 abbrev pub IsNamedBy : Bool → Option Moment → Text → Result Moment MomentError → Type 0
 IsNamedBy true now word r = IsOfClock now r

@@ -1,29 +1,37 @@
 -- What a whole run comes to.
-use Rattle.std.specs.Prelude.{◌≡◌, false, List, [], ◌∷◌, Option}
+use Rattle.std.specs.Prelude.{◌≡◌, ◌⊎◌, false, List, [], ◌∷◌, Option, Some, None}
+use denote.Ref.{Bor}
 use Rattle.timefd_component.specs.Tree.{Text}
-use Rattle.timefd_fault.specs.Faults.{Fault}
-use Rattle.timefd_language.specs.Grammar.{nesting_limit}
 use Rattle.timefd_moment.specs.declared.moment.Moment.{Moment}
 use Rattle.timefd_parse.specs.declared.language.Language.{Language}
 use Rattle.timefd_parse.specs.declared.parsing.BorrowedOutput.{BorrowedOutput}
-use Rattle.timefd_parse.specs.Language.{FaultIn}
 use Rattle.timefd_write.specs.declared.end.RunEnd.{RunEnd}
 use Rattle.timefd_write.specs.declared.end.RunEnd.TheVariants as ends
 use Rattle.timefd_write.specs.declared.outcome.Tally.{Tally}
+use Rattle.timefd_write.specs.declared.source.Source.{Source}
 use Rattle.timefd_write.specs.Descriptions.{IsDescribed}
+use Rattle.timefd_write.specs.Sources.{IsFaulty, IsSourceOf}
 use Rattle.timefd_write.specs.Written.{Runs, RunsOver}
 
--- The words are moments; where there is none, the lines of the input are.
-abbrev pub IsRunOf : Option Moment → BorrowedOutput → List Text → Option Text → Option Text
+-- The words have moments; where there is none, the lines of the input have.
+abbrev pub IsRunOf : Source → BorrowedOutput → List Text → Option Text → Option Text
     → Option Text → Tally → Type 0
-IsRunOf now o [] input before behind tally = RunsOver now o input before behind tally
-IsRunOf now o (word ∷ words) input before behind tally =
-    Runs false now o (word ∷ words) before behind tally
+IsRunOf source o [] input before behind tally = RunsOver source o input before behind tally
+IsRunOf source o (word ∷ words) input before behind tally =
+    Runs false source o (word ∷ words) before behind tally
 
 -- By the description that the text spells; where it is refused, nothing is written.
-abbrev pub IsRun : Option Moment → Language → Text → List Text → Option Text → Option Text
+abbrev pub IsRunFrom : Source → Language → Text → List Text → Option Text → Option Text
     → Option Text → RunEnd → Type 0
-IsRun now language text words input before behind ends.Refused =
-    ((f : Fault) × FaultIn language nesting_limit text f) × (behind ≡ before)
-IsRun now language text words input before behind (ends.Done tally) = (o : BorrowedOutput)
-    × IsDescribed language text o × IsRunOf now o words input before behind tally
+IsRunFrom source language text words input before behind ends.Refused =
+    IsFaulty language text × (behind ≡ before)
+IsRunFrom source language text words input before behind (ends.Done tally) = (o : BorrowedOutput)
+    × IsDescribed language text o × IsRunOf source o words input before behind tally
+
+-- Where the description to read by is refused, nothing is written.
+abbrev pub IsRun : Option Moment → Language → Option (Bor Text) → Text → List Text → Option Text
+    → Option Text → Option Text → RunEnd → Type 0
+IsRun now language read text words input before behind end =
+    (IsSourceOf now language read None × (behind ≡ before) × (end ≡ ends.Refused))
+    ⊎ ((source : Source) × IsSourceOf now language read (Some source)
+    × IsRunFrom source language text words input before behind end)

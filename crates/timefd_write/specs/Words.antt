@@ -16,6 +16,7 @@ other_word word =
 abbrev pub word_of : Text → Word
 word_of word =
     if bytes_eq word (codes "--language") then words.Language
+    else if bytes_eq word (codes "--read") then words.Read
     else if bytes_eq word (codes "--help") then words.Help
     else if bytes_eq word (codes "-h") then words.Help
     else if bytes_eq word (codes "--version") then words.Version

@@ -19,7 +19,8 @@ use Rattle.timefd_write.specs.declared.lines.LineRead.TheVariants.{Line, End, Fa
 use Rattle.timefd_write.specs.declared.outcome.Outcome.{Outcome}
 use Rattle.timefd_write.specs.declared.outcome.Outcome.TheVariants as came
 use Rattle.timefd_write.specs.declared.outcome.Tally.{Tally}
-use Rattle.timefd_write.specs.Moments.{IsNamed}
+use Rattle.timefd_write.specs.declared.source.Source.{Source}
+use Rattle.timefd_write.specs.Sources.{IsMomentIn}
 use Rattle.timefd_write.specs.Tallies.{at_end, tally_of, both}
 
 -- The text that a description and a moment determine, or the first component that shows nothing.
@@ -50,36 +51,36 @@ IsOneOfMoment m o before behind (came.Unshown n u) =
 IsOneOfMoment m o before behind (came.Unread e) = ⊥
 IsOneOfMoment m o before behind came.NotText = ⊥
 
--- What comes of a word. Where it names a moment that the description shows, the line is written; else
+-- What comes of a word. Where it names or shows a moment that the description shows, the line is written; else
 -- nothing is.
-abbrev pub IsOne : Option Moment → BorrowedOutput → Text → Option Text → Option Text → Outcome
+abbrev pub IsOne : Source → BorrowedOutput → Text → Option Text → Option Text → Outcome
     → Type 0
-IsOne now o word before behind (came.Written m) =
-    IsNamed now word (Ok m) × AppendsLine (written_of m o) before behind
-IsOne now o word before behind (came.Unshown m u) =
-    IsNamed now word (Ok m) × (written_of m o ≡ Err u) × (behind ≡ before)
-IsOne now o word before behind (came.Unread e) = IsNamed now word (Err e) × (behind ≡ before)
-IsOne now o word before behind came.NotText = (¬ IsUtf8 word) × (behind ≡ before)
+IsOne source o word before behind (came.Written m) =
+    IsMomentIn source word (Ok m) × AppendsLine (written_of m o) before behind
+IsOne source o word before behind (came.Unshown m u) =
+    IsMomentIn source word (Ok m) × (written_of m o ≡ Err u) × (behind ≡ before)
+IsOne source o word before behind (came.Unread e) = IsMomentIn source word (Err e) × (behind ≡ before)
+IsOne source o word before behind came.NotText = (¬ IsUtf8 word) × (behind ≡ before)
 
 -- What comes of each word in turn, and of the end behind them, where a read has failed or not.
-abbrev pub Runs : Bool → Option Moment → BorrowedOutput → List Text → Option Text → Option Text
+abbrev pub Runs : Bool → Source → BorrowedOutput → List Text → Option Text → Option Text
     → Tally → Type 0
-Runs failed now o [] before behind tally = (behind ≡ before) × (tally ≡ at_end failed)
-Runs failed now o (word ∷ words) before behind tally = (outcome : Outcome) × (between : Option Text)
-    × (more : Tally) × IsOne now o word before between outcome
-    × Runs failed now o words between behind more × (tally ≡ both (tally_of outcome) more)
+Runs failed source o [] before behind tally = (behind ≡ before) × (tally ≡ at_end failed)
+Runs failed source o (word ∷ words) before behind tally = (outcome : Outcome) × (between : Option Text)
+    × (more : Tally) × IsOne source o word before between outcome
+    × Runs failed source o words between behind more × (tally ≡ both (tally_of outcome) more)
 
 -- The words are the lines of a reader, all of them unless a read has failed.
-abbrev pub RunsOn : Bool → Option Moment → BorrowedOutput → Option Text → Option Text → Option Text
+abbrev pub RunsOn : Bool → Source → BorrowedOutput → Option Text → Option Text → Option Text
     → Tally → Type 0
-RunsOn failed now o bytes before behind tally = (lines : List Text)
+RunsOn failed source o bytes before behind tally = (lines : List Text)
     × AreLinesOf bytes lines failed
-    × Runs failed now o (map without_newline lines) before behind tally
+    × Runs failed source o (map without_newline lines) before behind tally
 
-abbrev pub RunsOver : Option Moment → BorrowedOutput → Option Text → Option Text → Option Text
+abbrev pub RunsOver : Source → BorrowedOutput → Option Text → Option Text → Option Text
     → Tally → Type 0
-RunsOver now o bytes before behind tally =
-    (failed : Bool) × RunsOn failed now o bytes before behind tally
+RunsOver source o bytes before behind tally =
+    (failed : Bool) × RunsOn failed source o bytes before behind tally
 
 -- What a read of a line does: nothing is known of a reader that has failed.
 abbrev pub IsRead : Option Text → Option Text → Text → LineRead → Type 0

@@ -10,9 +10,11 @@ use timefd_parse::Language;
 /// A description, and the moments that are written by it.
 #[derive(Clone, Copy)]
 pub struct Request<'a> {
-    /// The language of the description.
+    /// The language of the descriptions.
     pub language: Language,
-    /// Its text.
+    /// The text of the description that moments are read by; none, where they are named.
+    pub read: Option<&'a str>,
+    /// The text of the description that they are written by.
     pub description: &'a str,
     /// How many of the last words are moments: none, where the standard input is read.
     pub moment_count: usize,
@@ -36,24 +38,36 @@ pub enum OptionError<'a> {
     Unknown(&'a str),
     /// No word stands behind `--language`.
     MissingLanguage,
+    /// No word stands behind `--read`.
+    MissingRead,
+    /// `--read` stands twice.
+    ReadTwice,
     /// The word names no language.
     NoLanguage(&'a str),
     /// There is no description.
     NoDescription,
 }
 
+// What a word has to be, where it is the value of an option.
+#[derive(Clone, Copy)]
+enum Wanted {
+    Nothing,
+    Language,
+    Read,
+}
+
 // What is known in front of a word.
 #[derive(Clone, Copy)]
-struct State {
+struct State<'a> {
     language: Language,
-    // Whether the word is to name the language.
-    wants_language: bool,
+    read: Option<&'a str>,
+    wanted: Wanted,
 }
 
 // What a word makes of that.
 #[derive(Clone, Copy)]
 enum Step<'a> {
-    Next(State),
+    Next(State<'a>),
     Done(Result<Asked<'a>, OptionError<'a>>),
 }
 
@@ -64,7 +78,8 @@ pub fn asked_of<'a>(words: &'a [&'a str]) -> Result<Asked<'a>, OptionError<'a>>
 {
     let mut state = State {
         language: default_language(),
-        wants_language: false,
+        read: None,
+        wanted: Wanted::Nothing,
     };
     let mut rest = words;
     'words: while let [word, behind @ ..] = rest {
@@ -74,76 +89,98 @@ pub fn asked_of<'a>(words: &'a [&'a str]) -> Result<Asked<'a>, OptionError<'a>>
         }
         rest = behind;
     }
-    Err(at_end(state))
+    Err(at_end(state.wanted))
 }
 
 // What is missing where no word is left.
-fn at_end(state: State) -> OptionError<'static>
-    ensures { result ≡ spec.at_end state }
+fn at_end(wanted: Wanted) -> OptionError<'static>
+    ensures { result ≡ spec.at_end wanted }
 {
-    if state.wants_language {
-        OptionError::MissingLanguage
-    } else {
-        OptionError::NoDescription
+    match wanted {
+        Wanted::Nothing => OptionError::NoDescription,
+        Wanted::Language => OptionError::MissingLanguage,
+        Wanted::Read => OptionError::MissingRead,
     }
 }
 
 // What one more word comes to, with the words behind it.
-fn one_more<'a>(state: State, word: &'a str, behind: &'a [&'a str]) -> Step<'a>
-    ensures { result ≡ spec.one_more state word.entry behind.now }
+fn one_more<'a>(state: State<'a>, word: &'a str, behind: &'a [&'a str]) -> Step<'a>
+    ensures { result ≡ spec.one_more state.entry word.entry behind.now }
 {
-    if state.wants_language {
-        with_language(word)
-    } else {
-        first(state.language, word, behind)
+    match state.wanted {
+        Wanted::Nothing => first(state, word, behind),
+        Wanted::Language => with_language(state, word),
+        Wanted::Read => Step::Next(State {
+            language: state.language,
+            read: Some(word),
+            wanted: Wanted::Nothing,
+        }),
     }
 }
 
 // A word that is to name the language.
-fn with_language<'a>(word: &'a str) -> Step<'a>
-    ensures { result ≡ spec.with_language word.entry }
+fn with_language<'a>(state: State<'a>, word: &'a str) -> Step<'a>
+    ensures { result ≡ spec.with_language state.entry word.entry }
 {
     match language_named(word) {
         Some(language) => Step::Next(State {
             language,
-            wants_language: false,
+            read: state.read,
+            wanted: Wanted::Nothing,
         }),
         None => Step::Done(Err(OptionError::NoLanguage(word))),
     }
 }
 
 // A word that may be an option.
-fn first<'a>(language: Language, word: &'a str, behind: &'a [&'a str]) -> Step<'a>
-    ensures { result ≡ spec.first language word.entry behind.now }
+fn first<'a>(state: State<'a>, word: &'a str, behind: &'a [&'a str]) -> Step<'a>
+    ensures { result ≡ spec.first state.entry word.entry behind.now }
 {
     match word_of(word) {
         Word::Language => Step::Next(State {
-            language,
-            wants_language: true,
+            language: state.language,
+            read: state.read,
+            wanted: Wanted::Language,
         }),
+        Word::Read => before_read(state),
         Word::Help => Step::Done(Ok(Asked::Help)),
         Word::Version => Step::Done(Ok(Asked::Version)),
         Word::Unknown => Step::Done(Err(OptionError::Unknown(word))),
-        Word::End => Step::Done(behind_end(language, behind)),
-        Word::Description => Step::Done(Ok(requested(language, word, behind))),
+        Word::End => Step::Done(behind_end(state, behind)),
+        Word::Description => Step::Done(Ok(requested(state, word, behind))),
+    }
+}
+
+// `--read`, which stands once.
+fn before_read<'a>(state: State<'a>) -> Step<'a>
+    ensures { result ≡ spec.before_read state.entry }
+{
+    match state.read {
+        Some(_) => Step::Done(Err(OptionError::ReadTwice)),
+        None => Step::Next(State {
+            language: state.language,
+            read: None,
+            wanted: Wanted::Read,
+        }),
     }
 }
 
 // The description behind `--`, and its moments.
-fn behind_end<'a>(language: Language, words: &'a [&'a str]) -> Result<Asked<'a>, OptionError<'a>>
-    ensures { result ≡ spec.behind_end language words.now }
+fn behind_end<'a>(state: State<'a>, words: &'a [&'a str]) -> Result<Asked<'a>, OptionError<'a>>
+    ensures { result ≡ spec.behind_end state.entry words.now }
 {
     match words {
         [] => Err(OptionError::NoDescription),
-        [description, moments @ ..] => Ok(requested(language, description, moments)),
+        [description, moments @ ..] => Ok(requested(state, description, moments)),
     }
 }
 
-fn requested<'a>(language: Language, description: &'a str, moments: &[&str]) -> Asked<'a>
-    ensures { result ≡ spec.requested language description.entry moments.now }
+fn requested<'a>(state: State<'a>, description: &'a str, moments: &[&str]) -> Asked<'a>
+    ensures { result ≡ spec.requested state.entry description.entry moments.now }
 {
     Asked::Run(Request {
-        language,
+        language: state.language,
+        read: state.read,
         description,
         moment_count: moments.len(),
     })

@@ -5,8 +5,8 @@ ghost use Rattle.timefd_write.specs.Written.{IsLine, IsOne, IsOneOfMoment, writt
 ghost use Rattle.timefd_format.specs.Answers.{AreBytes};
 
 use crate::message::{NOT_TEXT, tell, unread_message, unshown_message};
-use crate::moment::moment_named;
 use crate::outcome::{Outcome, RunError};
+use crate::source::{Source, moment_in};
 use std::alloc::{AllocError, Global};
 use std::io::Write;
 use std::str;
@@ -74,27 +74,28 @@ fn write_moment<W: Write, E: Write>(
     }
 }
 
-/// Writes the line of the moment that a word names, or tells why there is none. An `Err` says why
-/// that wasn't done.
+/// Writes the line of the moment that a word names or shows, or tells why there is none, with the
+/// number of its line. An `Err` says why that wasn't done.
 pub fn write_one<W: Write, E: Write>(
     alloc: Global,
-    now: Option<Moment>,
+    source: &Source<'_>,
     description: &BorrowedOutput<'_>,
+    line: Option<u64>,
     word: &[u8],
     output: &mut W,
     errors: &mut E,
 ) -> Result<Outcome, RunError>
-    ensures { IfOk result (IsOne now description.now word.now (W.contents output.old)
+    ensures { IfOk result (IsOne source.now description.now word.now (W.contents output.old)
         (W.contents output.new)) }
 {
     let Ok(text) = str::from_utf8(word) else {
         tell(errors, NOT_TEXT.as_bytes());
         return Ok(Outcome::NotText);
     };
-    match moment_named(now, text) {
+    match moment_in(source, text) {
         Ok(moment) => write_moment(alloc, moment, description, text, output, errors),
         Err(error) => {
-            let message = unread_message(alloc, text, error)?;
+            let message = unread_message(alloc, line, text, error)?;
             tell(errors, message.as_bytes());
             Ok(Outcome::Unread(error))
         }

@@ -5,9 +5,9 @@ ghost use Rattle.timefd_write.specs.Written.{IsRead, RunsOver};
 
 use crate::line::write_one;
 use crate::outcome::{RunError, Tally};
+use crate::source::Source;
 use std::alloc::Global;
 use std::io::{BufRead, ErrorKind, Write};
-use timefd_moment::Moment;
 use timefd_parse::BorrowedOutput;
 use timefd_rewrite::without_newline;
 
@@ -47,27 +47,35 @@ fn read_line<R: BufRead>(reader: &mut R, bytes: &mut Vec<u8>) -> Result<LineRead
     }
 }
 
-/// Writes the line of the moment that each line of the reader names, in turn. Those that have none
+/// Writes the line of the moment that each line of the reader names or shows, in turn. Those that have none
 /// are told, and the others are still written.
 #[tactic(auto, using(crate::proofs::RunLemmas::lines_start))]
 pub fn write_lines<R: BufRead, W: Write, E: Write>(
     alloc: Global,
-    now: Option<Moment>,
+    source: &Source<'_>,
     description: &BorrowedOutput<'_>,
     reader: &mut R,
     output: &mut W,
     errors: &mut E,
 ) -> Result<Tally, RunError>
-    ensures { IfOk result (RunsOver now description.now (R.remaining reader.old)
+    ensures { IfOk result (RunsOver source.now description.now (R.remaining reader.old)
         (W.contents output.old) (W.contents output.new)) }
 {
     let mut tally = Tally::at_end(false);
     let mut bytes = Vec::new(alloc);
-    'lines: for _ in 0..u64::MAX {
+    'lines: for line in 1..u64::MAX {
         match read_line(reader, &mut bytes)? {
             LineRead::Line => {
                 let word = without_newline(&bytes);
-                let outcome = write_one(alloc, now, description, word, output, errors)?;
+                let outcome = write_one(
+                    alloc,
+                    source,
+                    description,
+                    Some(line),
+                    word,
+                    output,
+                    errors,
+                )?;
                 tally = tally.and(Tally::of(outcome));
             }
             LineRead::End => return Ok(tally),

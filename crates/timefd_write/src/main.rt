@@ -1,5 +1,6 @@
 //! `timefd_format [OPTION].. [--] DESCRIPTION [MOMENT]..`: writes moments by a format description,
-//! a line each. `docs/proof/COMMANDS.md` has the options, and what moments are read.
+//! a line each; with `--read` those that texts of another description show.
+//! `docs/proof/COMMANDS.md` has the options, and what moments are read.
 #![tactic(auto)]
 
 mod asked;
@@ -12,7 +13,9 @@ mod lines;
 mod message;
 mod moment;
 mod outcome;
+mod read_back;
 mod run;
+mod source;
 mod usage;
 mod word;
 mod words;
@@ -134,6 +137,7 @@ fn run_to<W: Write>(
         moment_now(rt),
         is_colored(rt),
         request.language,
+        request.read,
         request.description,
         moments,
         &mut input,

@@ -6,8 +6,11 @@ ghost use Rattle.timefd_write.specs.Messages as spec;
 use crate::moment::MomentError;
 use std::alloc::{AllocError, Global};
 use std::io::Write;
+use timefd_diagnosis::Diagnostic;
 use timefd_drawing::shown::safe;
-use timefd_format::Unshown;
+use timefd_drawing::{Format, Origin, Style, drawn};
+use timefd_format::{Unshown, component_name};
+use timefd_read_dates::{ReadError, Reason};
 
 /// What is told of a line that is no text.
 pub const NOT_TEXT: &str = "timefd_format: a line is no UTF-8\n";
@@ -17,14 +20,83 @@ pub fn tell<E: Write>(errors: &mut E, message: &[u8]) {
     let _ = errors.write_all(message);
 }
 
-/// What is told of a word that names no moment.
-pub fn unread_message(alloc: Global, word: &str, error: MomentError) -> Result<String, AllocError> {
+/// Tells the fault of a text that has this name, as the linter draws it.
+pub fn tell_fault<E: Write>(
+    alloc: Global,
+    is_colored: bool,
+    name: &str,
+    text: &str,
+    diagnostic: &Diagnostic,
+    errors: &mut E,
+) -> Result<(), AllocError> {
+    let style = Style {
+        format: Format::Human,
+        is_colored,
+    };
+    let origin = Origin {
+        file: name,
+        line: 1,
+    };
+    let drawing = drawn(alloc, style, origin, text, diagnostic)?;
+    tell(errors, &drawing);
+    Ok(())
+}
+
+/// What is told of a word that names or shows no moment, with the number of its line.
+pub fn unread_message(
+    alloc: Global,
+    line: Option<u64>,
+    word: &str,
+    error: MomentError,
+) -> Result<String, AllocError> {
     match error {
         MomentError::Clock => String::from_str(alloc, "timefd_format: the clock can't be read\n"),
         MomentError::Text(error) => {
             let word = safe(alloc, word)?;
             format!(in alloc; "timefd_format: `{word}` is no moment: {error}\n")
         }
+        MomentError::Unread(error) => {
+            let sentence = fault_sentence(alloc, error)?;
+            not_read(alloc, line, word, &sentence)
+        }
+        MomentError::Value(error) => {
+            let sentence = format!(in alloc; "{error}")?;
+            not_read(alloc, line, word, &sentence)
+        }
+    }
+}
+
+fn not_read(
+    alloc: Global,
+    line: Option<u64>,
+    word: &str,
+    sentence: &str,
+) -> Result<String, AllocError> {
+    let word = safe(alloc, word)?;
+    match line {
+        Some(line) => {
+            format!(in alloc; "timefd_format: line {line}: `{word}` is not read: {sentence}\n")
+        }
+        None => format!(in alloc; "timefd_format: `{word}` is not read: {sentence}\n"),
+    }
+}
+
+// Which part of a text does not read, and where.
+fn fault_sentence(alloc: Global, error: ReadError) -> Result<String, AllocError> {
+    let index = error.index;
+    match error.reason {
+        Reason::Unread(component) => {
+            let name = component_name(component);
+            format!(in alloc; "the component `{name}` reads nothing at byte index {index}")
+        }
+        Reason::Contradiction(component) => {
+            let name = component_name(component);
+            format!(in alloc; "the component `{name}` reads another value at byte index {index}")
+        }
+        Reason::Literal => {
+            format!(in alloc; "the description has another text at byte index {index}")
+        }
+        Reason::Trailing => format!(in alloc; "the description ends at byte index {index}"),
     }
 }
 

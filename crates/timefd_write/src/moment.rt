@@ -4,6 +4,8 @@ ghost use Rattle.timefd_write.specs.Moments.{IsNamed};
 
 use timefd_jiff::{Error, read_moment};
 use timefd_moment::Moment;
+use timefd_read_dates::ReadError;
+use timefd_read_moment::ValueError;
 
 /// Why a word names no moment.
 #[derive(Clone, Copy)]
@@ -12,6 +14,10 @@ pub enum MomentError {
     Clock,
     /// It is no moment, and this is wrong with it.
     Text(Error),
+    /// This part of it does not read by the description.
+    Unread(ReadError),
+    /// It reads, and what was read is no moment.
+    Value(ValueError),
 }
 
 /// The moment that a word names: `now`, or a date with a time of day and an offset where they are

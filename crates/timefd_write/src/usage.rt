@@ -14,12 +14,13 @@ Writes each moment by the format description, a line each. Without a moment it r
 standard input, one a line. A moment is a date, with a time of day and an offset where they are
 known, as 2026-11-23T05:36:07.25+01:00; the word now is that of the program's start, in UTC.
 
-  --language 1|2|3|strftime    the language of the description; version 3 if it isn't given
+  --language 1|2|3|strftime    the language of the descriptions; version 3 if it isn't given
+  --read DESCRIPTION           moments are texts of this description, of the same language
   --help, -h                   writes this
   --version, -V                writes the program's version
   --                           ends the options
 
-The status is 0 where all moments are written, 1 where the description or a moment is refused, 2 at
+The status is 0 where all moments are written, 1 where a description or a moment is refused, 2 at
 wrong arguments, 3 where memory ran out, 4 where a read or a write failed, 5 where a line is no
 UTF-8.
 ";
@@ -37,6 +38,10 @@ pub fn sentence(alloc: Global, error: OptionError<'_>) -> Result<String, AllocEr
             alloc,
             "`--language` wants a value: one of 1, 2, 3, strftime",
         ),
+        OptionError::MissingRead => {
+            String::from_str(alloc, "`--read` wants a value: a description to read by")
+        }
+        OptionError::ReadTwice => String::from_str(alloc, "`--read` stands twice"),
         OptionError::NoLanguage(word) => {
             let word = safe(alloc, word)?;
             format!(in alloc; "`{word}` is no value of `--language`: one of 1, 2, 3, strftime")

@@ -8,6 +8,8 @@ ghost use Rattle.timefd_write.specs.Words as spec;
 pub enum Word {
     /// `--language`, whose value is the word behind it.
     Language,
+    /// `--read`, whose value is the word behind it.
+    Read,
     /// `--help` or `-h`.
     Help,
     /// `--version` or `-V`.
@@ -26,6 +28,7 @@ pub fn word_of(word: &str) -> Word
 {
     match word {
         "--language" => Word::Language,
+        "--read" => Word::Read,
         "--help" | "-h" => Word::Help,
         "--version" | "-V" => Word::Version,
         "--" => Word::End,

@@ -6,29 +6,37 @@ ghost use Rattle.timefd_write.specs.Written.{Runs};
 
 use crate::line::write_one;
 use crate::outcome::{RunError, Tally};
+use crate::source::Source;
 use std::alloc::Global;
 use std::io::Write;
-use timefd_moment::Moment;
 use timefd_parse::BorrowedOutput;
 
-/// Writes the line of the moment that each word names, in turn. Those that have none are told, and
+/// Writes the line of the moment that each word names or shows, in turn. Those that have none are told, and
 /// the others are still written.
 #[tactic(auto, using(crate::proofs::RunLemmas::starts, crate::proofs::RunLemmas::is_done))]
 pub fn write_words<W: Write, E: Write>(
     alloc: Global,
-    now: Option<Moment>,
+    source: &Source<'_>,
     description: &BorrowedOutput<'_>,
     words: &[&str],
     output: &mut W,
     errors: &mut E,
 ) -> Result<Tally, RunError>
-    ensures { IfOk result (Runs false now description.now (texts words.now) (W.contents output.old)
+    ensures { IfOk result (Runs false source.now description.now (texts words.now) (W.contents output.old)
         (W.contents output.new)) }
 {
     let mut tally = Tally::at_end(false);
     let mut rest = words;
     'words: while let [word, behind @ ..] = rest {
-        let outcome = write_one(alloc, now, description, word.as_bytes(), output, errors)?;
+        let outcome = write_one(
+            alloc,
+            source,
+            description,
+            None,
+            word.as_bytes(),
+            output,
+            errors,
+        )?;
         tally = tally.and(Tally::of(outcome));
         rest = behind;
     }

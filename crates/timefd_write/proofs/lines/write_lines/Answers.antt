@@ -5,7 +5,7 @@ use Rattle.timefd_write.proofs.lines.write_lines.Goals as goal
 
 pub returns-in-End : goal.returns-in-End
 returns-in-End g c =
-    lines_end c.args.now c.args.description.now (g.R.Read.remaining c.args.reader.now)
+    lines_end c.args.source.now c.args.description.now (g.R.Read.remaining c.args.reader.now)
     (g.R.Read.remaining c.lines.reader) (g.R.Read.remaining c.read_line.new.reader)
     (g.W.Write.contents c.args.output.now) (g.W.Write.contents c.lines.output)
     c.read_line.new.bytes.items c.lines.tally c.in_ok-read_line.field-0 c.in-End.is
@@ -13,14 +13,14 @@ returns-in-End g c =
 
 pub returns-in-Failed : goal.returns-in-Failed
 returns-in-Failed g c =
-    lines_fail c.args.now c.args.description.now (g.R.Read.remaining c.args.reader.now)
+    lines_fail c.args.source.now c.args.description.now (g.R.Read.remaining c.args.reader.now)
     (g.R.Read.remaining c.lines.reader) (g.W.Write.contents c.args.output.now)
     (g.W.Write.contents c.lines.output) c.lines.tally c.at_end.result c.and.result
     c.lines.invariant c.at_end.ensures c.and.ensures
 
 pub lines-preserved : goal.lines-preserved
 lines-preserved g c =
-    line_more c.args.now c.args.description.now (g.R.Read.remaining c.args.reader.now)
+    line_more c.args.source.now c.args.description.now (g.R.Read.remaining c.args.reader.now)
     (g.R.Read.remaining c.lines.reader) (g.R.Read.remaining c.read_line.new.reader)
     c.read_line.new.bytes.items c.without_newline-word.result.now
     (g.W.Write.contents c.args.output.now) (g.W.Write.contents c.lines.output)
@@ -32,7 +32,7 @@ lines-preserved g c =
 
 pub returns : goal.returns
 returns g c =
-    lines_fail c.args.now c.args.description.now (g.R.Read.remaining c.args.reader.now)
+    lines_fail c.args.source.now c.args.description.now (g.R.Read.remaining c.args.reader.now)
     (g.R.Read.remaining c.lines.reader) (g.W.Write.contents c.args.output.now)
     (g.W.Write.contents c.lines.output) c.lines.tally c.at_end-2.result c.and-2.result
     c.lines.invariant c.at_end-2.ensures c.and-2.ensures

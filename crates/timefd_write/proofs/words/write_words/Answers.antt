@@ -5,7 +5,7 @@ use Rattle.timefd_write.proofs.words.write_words.Goals as goal
 
 pub words-preserved : goal.words-preserved
 words-preserved g c =
-    goes_on c.args.now c.args.description.now (texts c.args.words.now) (texts c.words.rest.now) _
+    goes_on c.args.source.now c.args.description.now (texts c.args.words.now) (texts c.words.rest.now) _
     c.as_bytes.result.now (g.W.Write.contents c.args.output.now)
     (g.W.Write.contents c.words.output) (g.W.Write.contents c.write_one.new.output) c.words.tally
     c.of.result c.and-tally.result c.in_ok-outcome.outcome

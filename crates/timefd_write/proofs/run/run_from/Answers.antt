@@ -1,10 +1,10 @@
 use Rattle.timefd_diagnosis.specs.Words.{texts}
 use Rattle.timefd_write.proofs.RunLemmas.{ran}
-use Rattle.timefd_write.proofs.run.run.Goals as goal
+use Rattle.timefd_write.proofs.run.run_from.Goals as goal
 
 pub returns-in_ok-tally-in-Description : goal.returns-in_ok-tally-in-Description
 returns-in_ok-tally-in-Description g c =
-    ran c.args.now c.args.language c.args.description.now (texts c.args.words.now)
+    ran c.args.source.now c.args.language c.args.description.now (texts c.args.words.now)
     (g.I.Read.remaining c.args.input.now) (g.W.Write.contents c.args.output.now)
     (g.W.Write.contents c.write_all.new.output) c.in_ok-diagnostic.field-0
     c.in-Description.description c.in_ok-tally-in-Description.tally c.in-Description.is

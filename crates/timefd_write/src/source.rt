@@ -1,0 +1,61 @@
+//! What words are: names of moments, or texts of a description.
+
+ghost use Rattle.std.specs.Prelude.{IfOk};
+ghost use Rattle.timefd_write.specs.Sources.{IsMomentIn, IsSourceOf};
+
+use crate::description::{Reading, read};
+use crate::message::tell_fault;
+use crate::moment::{MomentError, moment_named};
+use crate::outcome::RunError;
+use crate::read_back::moment_read;
+use std::alloc::Global;
+use std::io::Write;
+use timefd_moment::Moment;
+use timefd_parse::{BorrowedOutput, Language, StrftimeTables};
+
+/// What the description of `--read` is called where a fault in it is drawn.
+const NAME: &str = "<read>";
+
+/// What words are.
+#[derive(Drop)]
+pub enum Source<'a> {
+    /// Names of moments, beside the one that is now.
+    Names(Option<Moment>),
+    /// Texts of this description.
+    Texts(BorrowedOutput<'a>),
+}
+
+/// What the words of a run are: texts of the description that `--read` has, or names. `None` where
+/// that description is refused; its fault is then drawn for the errors.
+pub fn source_of<'a, E: Write>(
+    alloc: Global,
+    now: Option<Moment>,
+    is_colored: bool,
+    language: Language,
+    tables: &'a StrftimeTables<'a>,
+    description: Option<&'a str>,
+    errors: &mut E,
+) -> Result<Option<Source<'a>>, RunError>
+    ensures { IfOk result (IsSourceOf now language description.entry) }
+{
+    let Some(text) = description else {
+        return Ok(Some(Source::Names(now)));
+    };
+    match read(alloc, language, tables, text)? {
+        Reading::Refused(diagnostic) => {
+            tell_fault(alloc, is_colored, NAME, text, &diagnostic, errors)?;
+            Ok(None)
+        }
+        Reading::Description(description) => Ok(Some(Source::Texts(description))),
+    }
+}
+
+/// The moment that a word names, or that it shows.
+pub fn moment_in(source: &Source<'_>, word: &str) -> Result<Moment, MomentError>
+    ensures { IsMomentIn source.now word.now result }
+{
+    match source {
+        Source::Names(now) => moment_named(*now, word),
+        Source::Texts(description) => moment_read(description, word),
+    }
+}
