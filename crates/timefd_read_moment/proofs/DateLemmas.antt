@@ -6,10 +6,10 @@ use Rattle.timefd_moment.specs.Moments.{day_number}
 use Rattle.timefd_read_moment.specs.declared.part.DatePart.{DatePart}
 use Rattle.timefd_read_moment.specs.declared.way.DateWay.{DateWay}
 use Rattle.timefd_read_moment.specs.declared.way.DateWay.TheVariants as by
-use Rattle.timefd_read_moment.specs.Dates.{HasWay, IsDateOf, IsDetermined, Selects}
+use Rattle.timefd_read_moment.specs.Dates.{HasWay, IsDateByParts, Selects}
 use Rattle.timefd_read_moment.specs.Days.{iso_week_day}
 use Rattle.timefd_read_moment.specs.Shown.{DateAgrees, date_has, date_parts, first_false}
-use Rattle.timefd_read_moment.specs.Ways.{WayHas, date_way}
+use Rattle.timefd_read_moment.specs.Ways.{IsDetermined, WayHas, date_way}
 use Rattle.timefd_read_moment.proofs.DayLemmas as day
 use Rattle.timefd_read_moment.proofs.ShownLemmas.{clash, date_agrees, date_otherwise}
 use Rattle.timefd_read_moment.proofs.WayLemmas.{way_has}
@@ -18,7 +18,7 @@ determined : (f : Fields) (w : DateWay) → date_way f ≡ Ok w → IsDetermined
 determined f w e = subst (λ (r : Result DateWay DatePart). IsDetermined r) (sym e) tt
 
 pub agreed : (f : Fields) (w : DateWay) (d : Date) (o : Option DatePart) → date_way f ≡ Ok w
-    → o ≡ first_false (date_has f d) date_parts → o ≡ None → IsDateOf f (Ok d)
+    → o ≡ first_false (date_has f d) date_parts → o ≡ None → IsDateByParts f (Ok d)
 agreed f w d o e is none = (date_agrees f d (sym is ∙ none), determined f w e)
 
 pub contradicted : (f : Fields) (w : DateWay) (d : Date) (o : Option DatePart) (p : DatePart)

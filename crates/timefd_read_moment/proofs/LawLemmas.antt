@@ -1,9 +1,11 @@
 -- Fields that determine a value are those of one at most, and it is answered.
-use Rattle.std.proofs.Common.{ℕ, ◌≡◌, ◌∙◌, ◌/◌, ◌%◌, ◌≤◌, ◌⊎◌, inl, inr, Bool, true, false, Result, Ok, Err, refl, sym, subst, arith}
+use Rattle.std.proofs.Common.{ℕ, ◌≡◌, ◌∙◌, ◌/◌, ◌%◌, ◌≤◌, ◌⊎◌, inl, inr, Bool, true, false, Option, Result, Ok, Err, refl, sym, subst, arith}
 use Rattle.timefd_read_dates.specs.declared.fields.Fields.{Fields}
 use Rattle.timefd_moment.specs.declared.date.Date.{Date}
 use Rattle.timefd_moment.specs.declared.time.Time.{Time}
 use Rattle.timefd_moment.specs.declared.offset.UtcOffset.{UtcOffset}
+use Rattle.timefd_moment.specs.declared.unix_time.UnixTime.{UnixTime}
+use Rattle.timefd_read_moment.specs.declared.error.ValueError.{ValueError}
 use Rattle.timefd_read_moment.specs.declared.error.ValueError.TheVariants as error
 use Rattle.timefd_read_moment.specs.declared.offsets.Shift.{Shift}
 use Rattle.timefd_read_moment.specs.declared.part.DatePart.{DatePart}
@@ -13,14 +15,16 @@ use Rattle.timefd_read_moment.specs.declared.part.Part.TheVariants as part
 use Rattle.timefd_read_moment.specs.declared.times.Clock.{Clock}
 use Rattle.timefd_read_moment.specs.declared.way.DateWay.{DateWay}
 use Rattle.timefd_read_moment.specs.Dates as of_date
-use Rattle.timefd_read_moment.specs.Dates.{IsDetermined}
-use Rattle.timefd_read_moment.specs.Laws.{DateBack, OffsetBack, OneDate, OneOffset, OneTime, TimeBack}
+use Rattle.timefd_read_moment.specs.Dates.{IsDateByParts}
+use Rattle.timefd_read_moment.specs.Laws.{Answers, DateBack, OffsetBack, OneDate, OneOffset, OneTime, TimeBack}
 use Rattle.timefd_read_moment.specs.Offsets as of_offset
-use Rattle.timefd_read_moment.specs.Offsets.{shift_read}
+use Rattle.timefd_read_moment.specs.Offsets.{ShiftHas, shift_read}
 use Rattle.timefd_read_moment.specs.Shown.{DateAgrees, OffsetAgrees, TimeAgrees}
 use Rattle.timefd_read_moment.specs.Times as of_time
-use Rattle.timefd_read_moment.specs.Times.{clock_read}
-use Rattle.timefd_read_moment.specs.Ways.{date_way}
+use Rattle.timefd_read_moment.specs.Times.{IsTimeByParts, clock_read}
+use Rattle.timefd_read_moment.specs.Stamps.{instant_read}
+use Rattle.timefd_read_moment.specs.Values.{IsDateBy, IsTimeBy}
+use Rattle.timefd_read_moment.specs.Ways.{IsDetermined, date_way}
 use Rattle.timefd_read_moment.proofs.OffsetLemmas.{shift_has}
 use Rattle.timefd_read_moment.proofs.TimeLemmas.{clock_has}
 use Rattle.timefd_read_moment.proofs.WayLemmas.{one_way, way_has}
@@ -65,38 +69,53 @@ sign_by a b c n k same p q (inr s) (inl z) =
     positive b n p (same ∙ z) ∙ sym (positive c k q z)
 sign_by a b c n k same p q (inr s) (inr t) = sym s ∙ t
 
-offset_by : (f : Fields) (r : Result Shift OffsetPart) (o p : UtcOffset) → shift_read f ≡ r
-    → IsDetermined r → OffsetAgrees f o → OffsetAgrees f p → of_offset.IsSame o p
-offset_by f (Ok s) o p is h a b =
-    let x = shift_has f s o is a in
-    let y = shift_has f s p is b in
+-- two offsets that have the numbers of a shift are one
+pub one_shift : (s : Shift) (o p : UtcOffset) → ShiftHas s o → ShiftHas s p → of_offset.IsSame o p
+one_shift s o p x y =
     let same = seconds_of s.hour s.minute s.second o.seconds p.seconds x.0 x.1 x.2 y.0 y.1 y.2 in (
       same,
       sign_by s.is_negative o.is_negative p.is_negative o.seconds p.seconds same o.no_negative_zero
           p.no_negative_zero x.3 y.3,
     )
+
+offset_by : (f : Fields) (r : Result Shift OffsetPart) (o p : UtcOffset) → shift_read f ≡ r
+    → IsDetermined r → OffsetAgrees f o → OffsetAgrees f p → of_offset.IsSame o p
+offset_by f (Ok s) o p is h a b = one_shift s o p (shift_has f s o is a) (shift_has f s p is b)
 offset_by f (Err q) o p is h a b = absurd h
 
 pub one_offset : OneOffset
 one_offset f o p h a b = offset_by f (shift_read f) o p refl h a b
 
+date_answered : (f : Fields) (d : Date) (r : Result Date ValueError) → IsDetermined (date_way f)
+    → DateAgrees f d → IsDateByParts f r → Answers of_date.IsSame d r
+date_answered f d (Ok e) h a is = one_date f d e h a is.0
+date_answered f d (Err (error.Missing (part.Date p))) h a is = undetermined (date_way f) p is h
+date_answered f d (Err (error.Missing (part.Time p))) h a is = absurd is
+date_answered f d (Err (error.Missing (part.Offset p))) h a is = absurd is
+date_answered f d (Err (error.Missing (part.Instant p))) h a is = absurd is
+date_answered f d (Err (error.Contradiction p)) h a is = is.1 d a
+
 pub date_back : DateBack
-date_back f d (Ok e) h a is = one_date f d e h a is.0
-date_back f d (Err (error.Missing (part.Date p))) h a is = undetermined (date_way f) p is h
-date_back f d (Err (error.Missing (part.Time p))) h a is = absurd is
-date_back f d (Err (error.Missing (part.Offset p))) h a is = absurd is
-date_back f d (Err (error.Contradiction p)) h a is = is.1 d a
+date_back f d r none h a is =
+    date_answered f d r h a (subst (λ (o : Option UnixTime). IsDateBy o f r) none is)
+
+time_answered : (f : Fields) (t : Time) (r : Result Time ValueError) → IsDetermined (clock_read f)
+    → TimeAgrees f t → IsTimeByParts f r → Answers of_time.IsSame t r
+time_answered f t (Ok u) h a is = one_time f t u h a is.0
+time_answered f t (Err (error.Missing (part.Date p))) h a is = absurd is
+time_answered f t (Err (error.Missing (part.Time p))) h a is = undetermined (clock_read f) p is h
+time_answered f t (Err (error.Missing (part.Offset p))) h a is = absurd is
+time_answered f t (Err (error.Missing (part.Instant p))) h a is = absurd is
+time_answered f t (Err (error.Contradiction p)) h a is = is.1 t a
 
 pub time_back : TimeBack
-time_back f t (Ok u) h a is = one_time f t u h a is.0
-time_back f t (Err (error.Missing (part.Date p))) h a is = absurd is
-time_back f t (Err (error.Missing (part.Time p))) h a is = undetermined (clock_read f) p is h
-time_back f t (Err (error.Missing (part.Offset p))) h a is = absurd is
-time_back f t (Err (error.Contradiction p)) h a is = is.1 t a
+time_back f t r none h a is =
+    time_answered f t r h a (subst (λ (o : Option UnixTime). IsTimeBy o f r) none is)
 
 pub offset_back : OffsetBack
 offset_back f o (Ok p) h a is = one_offset f o p h a is.0
 offset_back f o (Err (error.Missing (part.Date p))) h a is = absurd is
 offset_back f o (Err (error.Missing (part.Time p))) h a is = absurd is
 offset_back f o (Err (error.Missing (part.Offset p))) h a is = undetermined (shift_read f) p is h
+offset_back f o (Err (error.Missing (part.Instant p))) h a is = absurd is
 offset_back f o (Err (error.Contradiction p)) h a is = is.1 o a

@@ -6,3 +6,6 @@ pub mod DateLemmas
 pub mod TimeLemmas
 pub mod OffsetLemmas
 pub mod LawLemmas
+pub mod LocalLemmas
+pub mod StampedLemmas
+pub mod ValueLemmas

@@ -7,7 +7,7 @@ use Rattle.timefd_read_dates.specs.Readings.{same}
 use Rattle.timefd_moment.specs.declared.offset.UtcOffset.{UtcOffset}
 use Rattle.timefd_read_moment.specs.declared.part.OffsetPart.{OffsetPart}
 use Rattle.timefd_read_moment.specs.declared.offsets.Shift.{Shift}
-use Rattle.timefd_read_moment.specs.Dates.{IsDetermined}
+use Rattle.timefd_read_moment.specs.Ways.{IsDetermined}
 use Rattle.timefd_read_moment.specs.Shown.{OffsetAgrees, first_false, is_count_or_zero, is_shown, offset_has, offset_parts}
 use Rattle.timefd_read_moment.specs.Offsets.{HasShift, IsOffsetOf, IsSame, Selects, ShiftHas, shift_at, shift_read}
 use Rattle.std.specs.Prelude.{is_some}
@@ -75,7 +75,7 @@ pub shift_has : (f : Fields) (s : Shift) (o : UtcOffset) → shift_read f ≡ Ok
 shift_has f s o e a =
     shift_is f f.offset_hour s o e (a OffsetPart.Hour) (a OffsetPart.Minute) (a OffsetPart.Second)
 
-same_parts : (f : Fields) (p : OffsetPart) (o r : UtcOffset) → IsSame o r
+pub same_parts : (f : Fields) (p : OffsetPart) (o r : UtcOffset) → IsSame o r
     → offset_has f o p ≡ offset_has f r p
 same_parts f OffsetPart.Hour o r s = (λ i. is_shown f.offset_hour (s.1 i) (s.0 i) (s.0 i / 3600))
 same_parts f OffsetPart.Minute o r s = ap (λ (n : ℕ). is_count_or_zero f.offset_minute (n / 60 % 60)) s.0

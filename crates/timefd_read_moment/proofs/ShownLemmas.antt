@@ -12,7 +12,7 @@ use Rattle.timefd_read_moment.specs.declared.part.OffsetPart.{OffsetPart}
 use Rattle.timefd_read_moment.specs.Dates.{IsSame}
 use Rattle.timefd_read_moment.specs.Shown.{DateAgrees, OffsetAgrees, TimeAgrees, date_has, date_parts, first_false, offset_has, offset_parts, time_has, time_parts}
 
-abbrev TrueAt : {A : Type 0} → (A → Bool) → List A → ℕ → Type 0
+abbrev pub TrueAt : {A : Type 0} → (A → Bool) → List A → ℕ → Type 0
 TrueAt has [] n = ⊤
 TrueAt has (p ∷ ps) zero = has p ≡ true
 TrueAt has (p ∷ ps) (suc n) = TrueAt has ps n
@@ -22,7 +22,7 @@ step : {A : Type 0} (has : A → Bool) (p : A) (ps : List A) (t : Bool) → has 
 step has p ps true is e = (is, e)
 step has p ps false is e = absurd cc
 
-true_at : {A : Type 0} (has : A → Bool) (ps : List A) (n : ℕ) → first_false has ps ≡ None → TrueAt has ps n
+pub true_at : {A : Type 0} (has : A → Bool) (ps : List A) (n : ℕ) → first_false has ps ≡ None → TrueAt has ps n
 true_at has [] n e = tt
 true_at has (p ∷ ps) zero e = (step has p ps (has p) refl e).0
 true_at has (p ∷ ps) (suc n) e = true_at has ps n (step has p ps (has p) refl e).1
@@ -81,7 +81,7 @@ same_numbers f y m n a b DatePart.IsoYearLastTwo = refl
 same_numbers f y m n a b DatePart.IsoCentury = refl
 same_numbers f y m n a b DatePart.IsoYear = refl
 
-same_parts : (f : Fields) (p : DatePart) (e d : Date) → IsSame e d → date_has f e p ≡ date_has f d p
+pub same_parts : (f : Fields) (p : DatePart) (e d : Date) → IsSame e d → date_has f e p ≡ date_has f d p
 same_parts f p e d s =
     let day : (b : IsDay e.years e.month d.day) → date_has f e p ≡ date_has f (dated e.years e.month d.day b) p =
     subst (λ n. (b : IsDay e.years e.month n) → date_has f e p ≡ date_has f (dated e.years e.month n b) p) s.2

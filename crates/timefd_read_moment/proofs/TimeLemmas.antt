@@ -8,9 +8,9 @@ use Rattle.timefd_moment.specs.declared.time.Time.{Time}
 use Rattle.timefd_moment.specs.Moments.{hour_of_twelve}
 use Rattle.timefd_read_moment.specs.declared.part.TimePart.{TimePart}
 use Rattle.timefd_read_moment.specs.declared.times.Clock.{Clock}
-use Rattle.timefd_read_moment.specs.Dates.{IsDetermined}
+use Rattle.timefd_read_moment.specs.Ways.{IsDetermined}
 use Rattle.timefd_read_moment.specs.Shown.{TimeAgrees, first_false, is_count, is_count_or_zero, is_flag, is_fraction, time_has, time_parts}
-use Rattle.timefd_read_moment.specs.Times.{ClockHas, HasClock, IsSame, IsTimeOf, Selects, clock_at, clock_read, has_second, hour_read, is_left_out, nanosecond_read, number}
+use Rattle.timefd_read_moment.specs.Times.{ClockHas, HasClock, IsSame, IsTimeByParts, Selects, clock_at, clock_read, has_second, hour_read, is_left_out, nanosecond_read, number}
 use Rattle.std.specs.Prelude.{is_some}
 use Rattle.timefd_read_moment.proofs.ShownLemmas.{clash, some_false, time_agrees}
 use Rattle.timefd_read_moment.proofs.YearLemmas.{Known}
@@ -90,7 +90,7 @@ same_parts f TimePart.Second t u s = ap (λ (n : ℕ). is_count_or_zero f.second
 same_parts f TimePart.Subsecond t u s = ap (λ (n : ℕ). is_fraction f.subsecond n) s.3
 
 pub agreed : (f : Fields) (c : Clock) (t : Time) (o : Option TimePart) → clock_read f ≡ Ok c
-    → o ≡ first_false (time_has f t) time_parts → o ≡ None → IsTimeOf f (Ok t)
+    → o ≡ first_false (time_has f t) time_parts → o ≡ None → IsTimeByParts f (Ok t)
 agreed f c t o e is none = (time_agrees f t (sym is ∙ none), determined f c e)
 
 otherwise : (f : Fields) (t x : Time) (p : TimePart) → first_false (time_has f t) time_parts ≡ Some p

@@ -4,8 +4,7 @@ use Rattle.timefd_read_dates.specs.declared.fields.Fields.{Fields}
 use Rattle.timefd_moment.specs.declared.date.Date.{Date}
 use Rattle.timefd_moment.specs.declared.time.Time.{Time}
 use Rattle.timefd_read_moment.specs.declared.error.ValueError.{ValueError}
-use Rattle.timefd_read_moment.specs.Dates.{IsDateOf}
-use Rattle.timefd_read_moment.specs.Times.{IsTimeOf}
+use Rattle.timefd_read_moment.specs.Values.{IsDateOf, IsTimeOf}
 
 -- the date and the time, or why there is none of the one or of the other
 abbrev pub IsDateTimeOf : Fields → Result (Date × Time) ValueError → Type 0

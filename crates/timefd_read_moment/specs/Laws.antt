@@ -1,18 +1,19 @@
 -- What holds of the values of fields.
-use Rattle.std.specs.Prelude.{Result, Ok, Err}
+use Rattle.std.specs.Prelude.{◌≡◌, None, Result, Ok, Err}
 use Rattle.timefd_read_dates.specs.declared.fields.Fields.{Fields}
 use Rattle.timefd_moment.specs.declared.date.Date.{Date}
 use Rattle.timefd_moment.specs.declared.time.Time.{Time}
 use Rattle.timefd_moment.specs.declared.offset.UtcOffset.{UtcOffset}
 use Rattle.timefd_read_moment.specs.declared.error.ValueError.{ValueError}
 use Rattle.timefd_read_moment.specs.Dates as of_date
-use Rattle.timefd_read_moment.specs.Dates.{IsDateOf, IsDetermined}
 use Rattle.timefd_read_moment.specs.Offsets as of_offset
 use Rattle.timefd_read_moment.specs.Offsets.{IsOffsetOf, shift_read}
 use Rattle.timefd_read_moment.specs.Shown.{DateAgrees, OffsetAgrees, TimeAgrees}
 use Rattle.timefd_read_moment.specs.Times as of_time
-use Rattle.timefd_read_moment.specs.Times.{IsTimeOf, clock_read}
-use Rattle.timefd_read_moment.specs.Ways.{date_way}
+use Rattle.timefd_read_moment.specs.Times.{clock_read}
+use Rattle.timefd_read_moment.specs.Stamps.{instant_read}
+use Rattle.timefd_read_moment.specs.Values.{IsDateOf, IsTimeOf}
+use Rattle.timefd_read_moment.specs.Ways.{IsDetermined, date_way}
 
 -- Fields that determine a value are those of one at most.
 
@@ -28,19 +29,20 @@ abbrev pub OneOffset : Type 0
 OneOffset = (f : Fields) (o p : UtcOffset) → IsDetermined (shift_read f) → OffsetAgrees f o
     → OffsetAgrees f p → of_offset.IsSame o p
 
--- Where the fields of a value determine one, it is answered: nothing else meets the contract.
+-- Where the fields of a value determine one, it is answered: nothing else meets the contract. Those of a
+-- timestamp have a law of their own.
 
 abbrev pub Answers : {A : Type 0} → (A → A → Type 0) → A → Result A ValueError → Type 0
 Answers IsSame a (Ok b) = IsSame a b
 Answers IsSame a (Err e) = ⊥
 
 abbrev pub DateBack : Type 0
-DateBack = (f : Fields) (d : Date) (r : Result Date ValueError) → IsDetermined (date_way f)
-    → DateAgrees f d → IsDateOf f r → Answers of_date.IsSame d r
+DateBack = (f : Fields) (d : Date) (r : Result Date ValueError) → instant_read f ≡ None
+    → IsDetermined (date_way f) → DateAgrees f d → IsDateOf f r → Answers of_date.IsSame d r
 
 abbrev pub TimeBack : Type 0
-TimeBack = (f : Fields) (t : Time) (r : Result Time ValueError) → IsDetermined (clock_read f)
-    → TimeAgrees f t → IsTimeOf f r → Answers of_time.IsSame t r
+TimeBack = (f : Fields) (t : Time) (r : Result Time ValueError) → instant_read f ≡ None
+    → IsDetermined (clock_read f) → TimeAgrees f t → IsTimeOf f r → Answers of_time.IsSame t r
 
 abbrev pub OffsetBack : Type 0
 OffsetBack = (f : Fields) (o : UtcOffset) (r : Result UtcOffset ValueError) → IsDetermined (shift_read f)

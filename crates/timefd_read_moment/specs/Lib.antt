@@ -5,6 +5,11 @@ pub mod Days
 pub mod Dates
 pub mod Times
 pub mod Offsets
+pub mod Stamps
+pub mod Locals
+pub mod Known
+pub mod Stamped
+pub mod Values
 pub mod Laws
 pub mod Sentences
 pub mod DateTimes

@@ -10,7 +10,7 @@ use Rattle.timefd_read_moment.specs.declared.part.Part.{Part}
 use Rattle.timefd_read_moment.specs.declared.part.Part.TheVariants as part
 use Rattle.timefd_read_moment.specs.declared.offsets.Shift.{Shift}
 use Rattle.timefd_read_moment.specs.Shown.{OffsetAgrees, offset_has}
-use Rattle.timefd_read_moment.specs.Dates.{IsDetermined}
+use Rattle.timefd_read_moment.specs.Ways.{IsDetermined}
 use Rattle.timefd_read_moment.specs.Times.{is_left_out, number}
 
 -- seconds aren't read without minutes
@@ -45,6 +45,7 @@ abbrev pub IsMissing : Fields → Part → Type 0
 IsMissing f (part.Date p) = ⊥
 IsMissing f (part.Time p) = ⊥
 IsMissing f (part.Offset p) = shift_read f ≡ Err p
+IsMissing f (part.Instant p) = ⊥
 
 -- it has the fields that determine one
 abbrev pub HasShift : Result Shift OffsetPart → UtcOffset → Type 0
@@ -56,6 +57,7 @@ abbrev pub IsOtherwise : Fields → Part → Type 0
 IsOtherwise f (part.Date p) = ⊥
 IsOtherwise f (part.Time p) = ⊥
 IsOtherwise f (part.Offset p) = (o : UtcOffset) → HasShift (shift_read f) o → IsFalse (offset_has f o p)
+IsOtherwise f (part.Instant p) = ⊥
 
 -- The offset that has all that was read, where that determines one. Else what was not read is told, or
 -- that no offset has all of it, and a part that is otherwise.

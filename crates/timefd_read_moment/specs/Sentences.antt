@@ -5,6 +5,7 @@ use Rattle.timefd_read_moment.specs.declared.error.ValueError.TheVariants as err
 use Rattle.timefd_read_moment.specs.declared.part.DatePart.{DatePart}
 use Rattle.timefd_read_moment.specs.declared.part.TimePart.{TimePart}
 use Rattle.timefd_read_moment.specs.declared.part.OffsetPart.{OffsetPart}
+use Rattle.timefd_read_moment.specs.declared.part.InstantPart.{InstantPart}
 use Rattle.timefd_read_moment.specs.declared.part.Part.{Part}
 use Rattle.timefd_read_moment.specs.declared.part.Part.TheVariants as part
 
@@ -36,10 +37,17 @@ offset_name OffsetPart.Hour = codes "hour of the offset"
 offset_name OffsetPart.Minute = codes "minute of the offset"
 offset_name OffsetPart.Second = codes "second of the offset"
 
+abbrev pub instant_name : InstantPart → List ℕ
+instant_name InstantPart.Second = codes "Unix timestamp in seconds"
+instant_name InstantPart.Millisecond = codes "Unix timestamp in milliseconds"
+instant_name InstantPart.Microsecond = codes "Unix timestamp in microseconds"
+instant_name InstantPart.Nanosecond = codes "Unix timestamp in nanoseconds"
+
 abbrev pub name : Part → List ℕ
 name (part.Date p) = date_name p
 name (part.Time p) = time_name p
 name (part.Offset p) = offset_name p
+name (part.Instant p) = instant_name p
 
 abbrev pub sentence : ValueError → List ℕ
 sentence (error.Missing p) = codes "the " ++ (name p ++ codes " was not read")

@@ -1,4 +1,4 @@
--- The time of day of fields.
+-- The time of day of the fields of a time of day.
 use Rattle.std.specs.Prelude.{ℕ, ◌≡◌, ◌+◌, ◌%◌, Bool, false, ◌||◌, if◌then◌else◌, Option, Some, None, is_some, IsFalse, Result, Ok, Err}
 use Rattle.timefd_read_dates.specs.declared.fields.Fields.{Fields}
 use Rattle.timefd_read_dates.specs.declared.fields.Fraction.{Fraction}
@@ -10,7 +10,7 @@ use Rattle.timefd_read_moment.specs.declared.part.Part.{Part}
 use Rattle.timefd_read_moment.specs.declared.part.Part.TheVariants as part
 use Rattle.timefd_read_moment.specs.declared.times.Clock.{Clock}
 use Rattle.timefd_read_moment.specs.Shown.{TimeAgrees, time_has}
-use Rattle.timefd_read_moment.specs.Dates.{IsDetermined}
+use Rattle.timefd_read_moment.specs.Ways.{IsDetermined}
 
 abbrev pub hour_by_period : Option ℕ → Option Bool → Option ℕ
 hour_by_period None is_afternoon = None
@@ -79,6 +79,7 @@ abbrev pub IsMissing : Fields → Part → Type 0
 IsMissing f (part.Date p) = ⊥
 IsMissing f (part.Time p) = clock_read f ≡ Err p
 IsMissing f (part.Offset p) = ⊥
+IsMissing f (part.Instant p) = ⊥
 
 -- it has the fields that determine one
 abbrev pub HasClock : Result Clock TimePart → Time → Type 0
@@ -90,11 +91,12 @@ abbrev pub IsOtherwise : Fields → Part → Type 0
 IsOtherwise f (part.Date p) = ⊥
 IsOtherwise f (part.Time p) = (t : Time) → HasClock (clock_read f) t → IsFalse (time_has f t p)
 IsOtherwise f (part.Offset p) = ⊥
+IsOtherwise f (part.Instant p) = ⊥
 
 -- The time that has all that was read, where that determines one. Else what was not read is told, or that
 -- no time has all of it, and a part that is otherwise.
-abbrev pub IsTimeOf : Fields → Result Time ValueError → Type 0
-IsTimeOf f (Ok t) = TimeAgrees f t × IsDetermined (clock_read f)
-IsTimeOf f (Err (error.Missing p)) = IsMissing f p
-IsTimeOf f (Err (error.Contradiction p)) =
+abbrev pub IsTimeByParts : Fields → Result Time ValueError → Type 0
+IsTimeByParts f (Ok t) = TimeAgrees f t × IsDetermined (clock_read f)
+IsTimeByParts f (Err (error.Missing p)) = IsMissing f p
+IsTimeByParts f (Err (error.Contradiction p)) =
     IsDetermined (clock_read f) × ((t : Time) → TimeAgrees f t → ⊥) × IsOtherwise f p

@@ -1,5 +1,5 @@
 -- The ways in which fields determine a date.
-use Rattle.std.specs.Prelude.{ℕ, ◌≡◌, Bool, ◌||◌, if◌then◌else◌, Option, Some, None, is_some, Result, Ok, Err}
+use Rattle.std.specs.Prelude.{ℕ, ◌≡◌, Bool, ◌||◌, if◌then◌else◌, Option, Some, None, is_some, Result, Ok, Err, ⊤}
 use Rattle.timefd_read_dates.specs.declared.fields.Fields.{Fields}
 use Rattle.timefd_moment.specs.declared.date.Date.{Date}
 use Rattle.timefd_moment.specs.Moments as of
@@ -81,6 +81,11 @@ way_in f years iso_years =
 abbrev pub date_way : Fields → Result DateWay DatePart
 date_way f = way_in f (years_read f.year f.century f.year_last_two)
     (years_read f.iso_year f.iso_century f.iso_year_last_two)
+
+-- the fields determine a value
+abbrev pub IsDetermined : {A : Type 0} {E : Type 0} → Result A E → Type 0
+IsDetermined (Ok way) = ⊤
+IsDetermined (Err part) = ⊥
 
 abbrev pub way_years : DateWay → ℕ
 way_years (by.Calendar y m d) = y

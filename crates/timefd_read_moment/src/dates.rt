@@ -1,7 +1,8 @@
 //! The date of fields.
 
 ghost use Rattle.std.specs.Prelude.{◌≡◌, ◌≤◌, ◌+ℤ◌, pos, Ok};
-ghost use Rattle.timefd_read_moment.specs.Dates.{IsDateOf, Selects};
+ghost use Rattle.timefd_read_moment.specs.Dates.{IsDateByParts, Selects};
+ghost use Rattle.timefd_read_moment.specs.Values.{IsDateOf};
 ghost use Rattle.timefd_read_moment.specs.Ways.{WayHas, date_way, way_years};
 ghost use Rattle.timefd_read_moment.specs.declared.way.DateWay.TheVariants as by;
 
@@ -9,6 +10,8 @@ use crate::day::{date_of_day, iso_week_day, monday_week_day, ordinal_day, sunday
 use crate::error::ValueError;
 use crate::part::{DatePart, Part};
 use crate::shown::date_contradiction;
+use crate::stamp::instant_read;
+use crate::stamped::of_stamp;
 use crate::way::{DateWay, date_way};
 use crate::year::at_most;
 use timefd_moment::Date;
@@ -16,10 +19,24 @@ use timefd_read_dates::Fields;
 
 /// The date that has all that was read. It is determined by year, month and day; by year and
 /// ordinal; by ISO year, ISO week and weekday; or by year, week from Sunday or from Monday, and
-/// weekday. Century and last two digits stand for a year. An `Err` tells what was not read, or that
-/// no date has all that was read. It stands for `Date::try_from` of `Parsed` of `time`.
+/// weekday. Century and last two digits stand for a year. With a timestamp it is that of the
+/// [`moment`](crate::moment). An `Err` tells what was not read, or that no date has all that was
+/// read. It stands for `Date::try_from` of `Parsed` of `time`.
 pub fn date(fields: &Fields) -> Result<Date, ValueError>
     ensures { IsDateOf fields.now result }
+{
+    match instant_read(fields) {
+        Some(unix) => match of_stamp(fields, unix) {
+            Ok(stamped) => Ok(stamped.date),
+            Err(error) => Err(error),
+        },
+        None => date_by_parts(fields),
+    }
+}
+
+/// The date that the fields of one determine.
+pub(crate) fn date_by_parts(fields: &Fields) -> Result<Date, ValueError>
+    ensures { IsDateByParts fields.now result }
 {
     match date_way(fields) {
         Ok(way) => compared(fields, way),
@@ -30,7 +47,7 @@ pub fn date(fields: &Fields) -> Result<Date, ValueError>
 fn compared(fields: &Fields, way: DateWay) -> Result<Date, ValueError>
     requires years { way_years way ≤ 2000000 }
     requires way { date_way fields.now ≡ Ok way }
-    ensures { IsDateOf fields.now result }
+    ensures { IsDateByParts fields.now result }
 {
     match date_in(way) {
         Ok(date) => match date_contradiction(fields, date) {

@@ -3,7 +3,7 @@
 ghost use Rattle.std.specs.Prelude.{◌≡◌};
 ghost use Rattle.timefd_read_moment.specs.Sentences as spec;
 
-use crate::part::{DatePart, OffsetPart, Part, TimePart};
+use crate::part::{DatePart, InstantPart, OffsetPart, Part, TimePart};
 use std::error::Error;
 use std::fmt;
 
@@ -45,6 +45,7 @@ fn name_of(part: Part) -> &'static str
         Part::Date(part) => date_name(part),
         Part::Time(part) => time_name(part),
         Part::Offset(part) => offset_name(part),
+        Part::Instant(part) => instant_name(part),
     }
 }
 
@@ -88,5 +89,16 @@ fn offset_name(part: OffsetPart) -> &'static str
         OffsetPart::Hour => "hour of the offset",
         OffsetPart::Minute => "minute of the offset",
         OffsetPart::Second => "second of the offset",
+    }
+}
+
+fn instant_name(part: InstantPart) -> &'static str
+    ensures { result.now ≡ spec.instant_name part }
+{
+    match part {
+        InstantPart::Second => "Unix timestamp in seconds",
+        InstantPart::Millisecond => "Unix timestamp in milliseconds",
+        InstantPart::Microsecond => "Unix timestamp in microseconds",
+        InstantPart::Nanosecond => "Unix timestamp in nanoseconds",
     }
 }

@@ -1,14 +1,22 @@
-//! The date, the time of day and the offset from UTC that fields determine, which were read of a text.
+//! The date, the time of day, the offset from UTC and the instant that fields determine, which were read
+//! of a text.
 #![tactic(auto)]
 
+mod agreed;
 mod date_times;
 mod dates;
 mod day;
 mod error;
+mod instants;
+mod known;
 pub mod laws;
+mod local;
+mod moments;
 mod offsets;
 mod part;
 mod shown;
+mod stamp;
+mod stamped;
 mod times;
 mod way;
 mod year;
@@ -16,6 +24,8 @@ mod year;
 pub use date_times::date_time;
 pub use dates::date;
 pub use error::ValueError;
+pub use instants::instant;
+pub use moments::moment;
 pub use offsets::offset;
-pub use part::{DatePart, OffsetPart, Part, TimePart};
+pub use part::{DatePart, InstantPart, OffsetPart, Part, TimePart};
 pub use times::time;

@@ -1,6 +1,6 @@
 //! The offset from UTC of fields.
 
-ghost use Rattle.std.specs.Prelude.{◌≡◌, Ok};
+ghost use Rattle.std.specs.Prelude.{◌≡◌, Ok, IfOk};
 ghost use Rattle.timefd_read_moment.specs.Offsets as spec;
 ghost use Rattle.timefd_read_moment.specs.Offsets.{IsOffsetOf, Selects};
 
@@ -14,10 +14,10 @@ use timefd_read_dates::Fields;
 /// The numbers of an offset.
 #[derive(Clone, Copy)]
 pub(crate) struct Shift {
-    is_negative: bool,
-    hour: u128,
-    minute: u16,
-    second: u16,
+    pub is_negative: bool,
+    pub hour: u128,
+    pub minute: u16,
+    pub second: u16,
 }
 
 /// The offset that has all that was read. It is determined by its hour, whose sign it has. Minutes
@@ -46,8 +46,9 @@ fn compared(fields: &Fields, shift: Shift) -> Result<UtcOffset, ValueError>
 }
 
 /// The offset of these numbers.
-fn offset_of(shift: Shift) -> Result<UtcOffset, OffsetPart>
-    ensures { Selects (spec.ShiftHas shift) result }
+pub(crate) fn offset_of(shift: Shift) -> Result<UtcOffset, OffsetPart>
+    ensures found { IfOk result (λ offset. spec.ShiftHas shift offset) }
+    ensures one { Selects (spec.ShiftHas shift) result }
 {
     if shift.hour > 25 {
         return Err(OffsetPart::Hour);
@@ -66,7 +67,7 @@ fn offset_of(shift: Shift) -> Result<UtcOffset, OffsetPart>
 }
 
 /// The numbers that were read. An `Err` is what was not read.
-fn shift_read(fields: &Fields) -> Result<Shift, OffsetPart>
+pub(crate) fn shift_read(fields: &Fields) -> Result<Shift, OffsetPart>
     ensures { result ≡ spec.shift_read fields.now }
 {
     match fields.offset_hour {

@@ -1,4 +1,4 @@
-//! What can be read of a date, of a time of day and of an offset.
+//! What can be read of a date, of a time of day, of an offset and of an instant.
 
 /// What can be read of a value.
 #[derive(Debug, Clone, Copy, PartialEq, Eq)]
@@ -6,6 +6,7 @@ pub enum Part {
     Date(DatePart),
     Time(TimePart),
     Offset(OffsetPart),
+    Instant(InstantPart),
 }
 
 /// What can be read of a date.
@@ -45,4 +46,15 @@ pub enum OffsetPart {
     Hour,
     Minute,
     Second,
+}
+
+/// What can be read of an instant: the time since 1970, in one of these units.
+#[derive(Debug, Clone, Copy, PartialEq, Eq)]
+pub enum InstantPart {
+    /// Whole seconds, rounded down.
+    Second,
+    /// Whole milliseconds, rounded towards 1970, as smaller units are.
+    Millisecond,
+    Microsecond,
+    Nanosecond,
 }

@@ -8,7 +8,7 @@ use crate::part::{DatePart, OffsetPart, TimePart};
 use timefd_moment::{Date, Time, UtcOffset};
 use timefd_read_dates::{Fields, Fraction, Signed};
 
-fn is_count(read: Option<u16>, number: u32) -> bool
+pub(crate) fn is_count(read: Option<u16>, number: u32) -> bool
     ensures { result ≡ spec.is_count read number }
 {
     match read {
@@ -17,7 +17,7 @@ fn is_count(read: Option<u16>, number: u32) -> bool
     }
 }
 
-fn is_flag(read: Option<bool>, flag: bool) -> bool
+pub(crate) fn is_flag(read: Option<bool>, flag: bool) -> bool
     ensures { result ≡ spec.is_flag read flag }
 {
     match read {
@@ -28,13 +28,12 @@ fn is_flag(read: Option<bool>, flag: bool) -> bool
 }
 
 /// Zero may have either sign.
-fn is_shown(read: Option<Signed>, is_negative: bool, whole: u32, part: u32) -> bool
+pub(crate) fn is_shown(read: Option<Signed>, is_negative: bool, whole: u128, part: u128) -> bool
     ensures { result ≡ spec.is_shown read is_negative whole part }
 {
     match read {
         Some(read) => {
-            read.magnitude == part as u128
-                && (whole == 0 || is_flag(Some(read.is_negative), is_negative))
+            read.magnitude == part && (whole == 0 || is_flag(Some(read.is_negative), is_negative))
         }
         None => true,
     }
@@ -54,18 +53,15 @@ fn magnitude(years: u32) -> u32
 fn is_year(read: Option<Signed>, years: u32) -> bool
     ensures { result ≡ spec.is_year read years }
 {
-    is_shown(read, years < 1_000_000, magnitude(years), magnitude(years))
+    let whole = magnitude(years) as u128;
+    is_shown(read, years < 1_000_000, whole, whole)
 }
 
 fn is_century(read: Option<Signed>, years: u32) -> bool
     ensures { result ≡ spec.is_century read years }
 {
-    is_shown(
-        read,
-        years < 1_000_000,
-        magnitude(years),
-        magnitude(years) / 100,
-    )
+    let whole = magnitude(years) as u128;
+    is_shown(read, years < 1_000_000, whole, whole / 100)
 }
 
 fn is_last_two(read: Option<u16>, years: u32) -> bool
@@ -74,7 +70,7 @@ fn is_last_two(read: Option<u16>, years: u32) -> bool
     is_count(read, magnitude(years) % 100)
 }
 
-fn date_has(fields: &Fields, date: Date, part: DatePart) -> bool
+pub(crate) fn date_has(fields: &Fields, date: Date, part: DatePart) -> bool
     ensures { result ≡ spec.date_has fields.now date part }
 {
     match part {
@@ -192,15 +188,15 @@ pub(crate) fn time_contradiction(fields: &Fields, time: Time) -> Option<TimePart
     )
 }
 
-fn offset_has(fields: &Fields, offset: UtcOffset, part: OffsetPart) -> bool
+pub(crate) fn offset_has(fields: &Fields, offset: UtcOffset, part: OffsetPart) -> bool
     ensures { result ≡ spec.offset_has fields.now offset part }
 {
     match part {
         OffsetPart::Hour => is_shown(
             fields.offset_hour,
             offset.is_negative,
-            offset.seconds,
-            offset.seconds / 3_600,
+            offset.seconds as u128,
+            (offset.seconds / 3_600) as u128,
         ),
         OffsetPart::Minute => is_count_or_zero(fields.offset_minute, offset.seconds / 60 % 60),
         OffsetPart::Second => is_count_or_zero(fields.offset_second, offset.seconds % 60),

@@ -2,11 +2,14 @@
 
 ghost use Rattle.std.specs.Prelude.{◌≡◌, Ok};
 ghost use Rattle.timefd_read_moment.specs.Times as spec;
-ghost use Rattle.timefd_read_moment.specs.Times.{IsTimeOf, Selects};
+ghost use Rattle.timefd_read_moment.specs.Times.{IsTimeByParts, Selects};
+ghost use Rattle.timefd_read_moment.specs.Values.{IsTimeOf};
 
 use crate::error::ValueError;
 use crate::part::{Part, TimePart};
 use crate::shown::time_contradiction;
+use crate::stamp::instant_read;
+use crate::stamped::of_stamp;
 use timefd_moment::Time;
 use timefd_read_dates::{Fields, Fraction};
 
@@ -21,10 +24,24 @@ pub(crate) struct Clock {
 
 /// The time of day that has all that was read. It is determined by the hour, or the hour of twelve
 /// and the period, and the minute. Seconds and their digits that were not read are 0, and behind an
-/// hour of twelve minutes too. An `Err` tells what was not read, or that no time has all that was
-/// read. It stands for `Time::try_from` of `Parsed` of `time`.
+/// hour of twelve minutes too. With a timestamp it is that of the [`moment`](crate::moment). An `Err`
+/// tells what was not read, or that no time has all that was read. It stands for `Time::try_from` of
+/// `Parsed` of `time`.
 pub fn time(fields: &Fields) -> Result<Time, ValueError>
     ensures { IsTimeOf fields.now result }
+{
+    match instant_read(fields) {
+        Some(unix) => match of_stamp(fields, unix) {
+            Ok(stamped) => Ok(stamped.time),
+            Err(error) => Err(error),
+        },
+        None => time_by_parts(fields),
+    }
+}
+
+/// The time of day that the fields of one determine.
+pub(crate) fn time_by_parts(fields: &Fields) -> Result<Time, ValueError>
+    ensures { IsTimeByParts fields.now result }
 {
     match clock_read(fields) {
         Ok(clock) => compared(fields, clock),
@@ -34,7 +51,7 @@ pub fn time(fields: &Fields) -> Result<Time, ValueError>
 
 fn compared(fields: &Fields, clock: Clock) -> Result<Time, ValueError>
     requires { spec.clock_read fields.now ≡ Ok clock }
-    ensures { IsTimeOf fields.now result }
+    ensures { IsTimeByParts fields.now result }
 {
     match time_of(clock) {
         Ok(time) => match time_contradiction(fields, time) {
@@ -152,7 +169,7 @@ pub(crate) fn number(read: Option<u16>) -> u16
     }
 }
 
-fn nanosecond(read: Option<Fraction>) -> u128
+pub(crate) fn nanosecond(read: Option<Fraction>) -> u128
     ensures { result ≡ spec.nanosecond_read read }
 {
     match read {

@@ -4,7 +4,7 @@ use std::alloc::Global;
 use std::process::Abort;
 use timefd_parse::{BorrowedOutput, DescriptionVersion, FormatDescriptionV3, parse_borrowed};
 use timefd_read_dates::{Fields, read_fields};
-use timefd_read_moment::{date, date_time, offset, time};
+use timefd_read_moment::{date, date_time, instant, moment, offset, time};
 
 const AMPLE: &str = "ample memory";
 
@@ -70,6 +70,34 @@ pub fn expect_date_time(rt: &impl Abort, alloc: Global, by: &str, text: &str, ex
     let answer = date_time(&fields_of(rt, alloc, by, text));
     let shown = match answer {
         Ok((date, time)) => format!(in alloc; "{date} {time}"),
+        Err(error) => format!(in alloc; "{error}"),
+    };
+    assert_eq!(rt;
+        shown.expect(rt, AMPLE).as_str(),
+        expected,
+        "{by} of {text}"
+    );
+}
+
+/// Expects the moment of a text.
+pub fn expect_moment(rt: &impl Abort, alloc: Global, by: &str, text: &str, expected: &str) {
+    let answer = moment(&fields_of(rt, alloc, by, text));
+    let shown = match answer {
+        Ok(found) => format!(in alloc; "{found}"),
+        Err(error) => format!(in alloc; "{error}"),
+    };
+    assert_eq!(rt;
+        shown.expect(rt, AMPLE).as_str(),
+        expected,
+        "{by} of {text}"
+    );
+}
+
+/// Expects the instant of a text.
+pub fn expect_instant(rt: &impl Abort, alloc: Global, by: &str, text: &str, expected: &str) {
+    let answer = instant(&fields_of(rt, alloc, by, text));
+    let shown = match answer {
+        Ok(found) => format!(in alloc; "{found}"),
         Err(error) => format!(in alloc; "{error}"),
     };
     assert_eq!(rt;

@@ -6,4 +6,6 @@ mod answers;
 #[cfg(test)]
 mod dates;
 #[cfg(test)]
+mod stamps;
+#[cfg(test)]
 mod times;

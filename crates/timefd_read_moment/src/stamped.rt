@@ -1,0 +1,99 @@
+//! The moment of a timestamp, with all else that was read.
+
+ghost use Rattle.std.specs.Prelude.{◌≡◌, Ok};
+ghost use Rattle.timefd_read_moment.specs.Locals.{Shows};
+ghost use Rattle.timefd_read_moment.specs.Offsets.{Selects, ShiftHas};
+ghost use Rattle.timefd_read_moment.specs.Stamped as spec;
+ghost use Rattle.timefd_read_moment.specs.Stamped.{IsStamped};
+
+use crate::agreed::contradiction;
+use crate::error::ValueError;
+use crate::known::has_offset;
+use crate::local::shown_at;
+use crate::offsets::{Shift, offset_of, shift_read};
+use crate::part::{OffsetPart, Part};
+use crate::stamp::finest;
+use timefd_moment::{Date, Time, UnixTime, UtcOffset};
+use timefd_read_dates::Fields;
+
+/// What a clock shows of an instant.
+#[derive(Clone, Copy)]
+pub(crate) struct Stamped {
+    pub date: Date,
+    pub time: Time,
+    pub offset: UtcOffset,
+}
+
+/// What the clock shows at the instant, at the offset that was read, where that has all that was
+/// read. Where nothing was read of an offset, it is in UTC.
+pub(crate) fn of_stamp(fields: &Fields, unix: UnixTime) -> Result<Stamped, ValueError>
+    ensures { IsStamped fields.now unix result }
+{
+    match zone_read(fields) {
+        Ok(shift) => at_shift(fields, unix, shift),
+        Err(part) => Err(ValueError::Missing(Part::Offset(part))),
+    }
+}
+
+fn at_shift(fields: &Fields, unix: UnixTime, shift: Shift) -> Result<Stamped, ValueError>
+    requires { spec.zone_read fields.now ≡ Ok shift }
+    ensures { IsStamped fields.now unix result }
+{
+    match offset_of(shift) {
+        Ok(offset) => at_offset(fields, unix, shift, offset),
+        Err(part) => Err(ValueError::Contradiction(Part::Offset(part))),
+    }
+}
+
+fn at_offset(
+    fields: &Fields,
+    unix: UnixTime,
+    shift: Shift,
+    offset: UtcOffset,
+) -> Result<Stamped, ValueError>
+    requires zone { spec.zone_read fields.now ≡ Ok shift }
+    requires found { ShiftHas shift offset }
+    requires one { Selects (ShiftHas shift) (Ok offset) }
+    ensures { IsStamped fields.now unix result }
+{
+    match shown_at(unix, offset) {
+        Some((date, time)) => compared(fields, unix, shift, date, time, offset),
+        None => Err(ValueError::Contradiction(Part::Instant(finest(fields)))),
+    }
+}
+
+fn compared(
+    fields: &Fields,
+    unix: UnixTime,
+    shift: Shift,
+    date: Date,
+    time: Time,
+    offset: UtcOffset,
+) -> Result<Stamped, ValueError>
+    requires zone { spec.zone_read fields.now ≡ Ok shift }
+    requires found { ShiftHas shift offset }
+    requires one { Selects (ShiftHas shift) (Ok offset) }
+    requires shows { Shows unix offset date time }
+    ensures { IsStamped fields.now unix result }
+{
+    match contradiction(fields, date, time, offset) {
+        None => Ok(Stamped { date, time, offset }),
+        Some(part) => Err(ValueError::Contradiction(part)),
+    }
+}
+
+/// The offset that was read. An `Err` is what was not read of it.
+fn zone_read(fields: &Fields) -> Result<Shift, OffsetPart>
+    ensures { result ≡ spec.zone_read fields.now }
+{
+    if has_offset(fields) {
+        shift_read(fields)
+    } else {
+        Ok(Shift {
+            is_negative: false,
+            hour: 0,
+            minute: 0,
+            second: 0,
+        })
+    }
+}
