@@ -1,23 +1,23 @@
 -- What is appended, in other words.
-use Rattle.std.proofs.Common.{◌≡◌, ◌∙◌, ◌++◌, Result, OnOk, ap, ap₂, subst}
+use Rattle.std.proofs.Common.{◌≡◌, ◌∙◌, ◌++◌, Result, OnOk, [], ◌∷◌, ap, subst, append_assoc}
 use Rattle.timefd_component.specs.declared.component.Component.{Component}
-use Rattle.timefd_component.specs.Modern.{modern}
 use Rattle.timefd_component.specs.Tree.{Text}
-use Rattle.timefd_lift.specs.Written.{in_brackets, bracket_name, count_digits, first_modifier, second_modifier, component_text}
+use Rattle.timefd_language.specs.Bytes.{left, right}
+use Rattle.timefd_words.specs.Words.{form, count_digits, first_modifier, second_modifier, words}
+use Rattle.timefd_words.specs.declared.defaults.Defaults.{Defaults}
+use Rattle.timefd_lift.specs.Written.{component_text, in_brackets}
 
-appended : {A E : Type 0} (r : Result A E) (old new text other : Text) → text ≡ other
-    → OnOk r (new ≡ old ++ text) → OnOk r (new ≡ old ++ other)
-appended r old new text other is = subst (λ t. OnOk r (new ≡ old ++ t)) is
+closed : (old one two three : Text)
+    → ((old ++ left ∷ []) ++ (one ++ two ++ three)) ++ right ∷ [] ≡ old ++ in_brackets one two three
+closed old one two three =
+    append_assoc (old ++ left ∷ []) (one ++ two ++ three) (right ∷ [])
+    ∙ append_assoc old (left ∷ []) ((one ++ two ++ three) ++ right ∷ [])
 
--- the parts of a bracket are those of the modern component
-pub bracket_appended : {A E : Type 0} (r : Result A E) (old new name one other digits owned : Text)
-    (c d : Component) → c ≡ modern d → name ≡ bracket_name c → digits ≡ owned
-    → owned ≡ count_digits c → one ≡ first_modifier c digits → other ≡ second_modifier c
-    → OnOk r (new ≡ old ++ in_brackets name one other)
-    → OnOk r (new ≡ old ++ component_text (modern d))
-bracket_appended r old new name one other digits owned c d is named lent counted first second =
-    appended r old new (in_brackets name one other) (component_text (modern d))
-    (ap₂ (λ x y. in_brackets x one y) named second
-    ∙ ap (λ x. in_brackets (bracket_name c) x (second_modifier c))
-    (first ∙ ap (first_modifier c) (lent ∙ counted))
-    ∙ ap component_text is)
+-- the words between brackets are the bracket of the component
+pub bracket_appended : {A E : Type 0} (r : Result A E) (old opened filled new : Text) (c : Component)
+    → opened ≡ old ++ left ∷ [] → filled ≡ opened ++ words Defaults.Omitted c
+    → OnOk r (new ≡ filled ++ right ∷ []) → OnOk r (new ≡ old ++ component_text c)
+bracket_appended r old opened filled new c starts holds =
+    subst (λ t. OnOk r (new ≡ t)) (ap (λ x. x ++ right ∷ []) (holds ∙ ap (λ x. x ++ words
+    Defaults.Omitted c) starts) ∙ closed old (form Defaults.Omitted c) (first_modifier
+    Defaults.Omitted c (count_digits c)) (second_modifier Defaults.Omitted c))

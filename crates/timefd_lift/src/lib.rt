@@ -7,7 +7,6 @@ mod from_one;
 mod from_two;
 mod item;
 pub mod laws;
-mod modifier;
 
 pub use component::push_component;
 pub use from_one::{v1_to_v2, v1_to_v2_borrowed};

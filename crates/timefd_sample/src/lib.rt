@@ -2,7 +2,6 @@
 #![tactic(auto)]
 
 mod example;
-mod modifier;
 mod words;
 
 pub use example::sample;

@@ -1,0 +1,103 @@
+//! The modifiers of each component, in the order in which they are written.
+
+ghost use Rattle.std.specs.Prelude.{◌≡◌};
+ghost use Rattle.timefd_words.specs.Words as spec;
+
+use crate::defaults::Defaults;
+use crate::modifier::{cased, indexed, lettered, numbered, padded, signed, trailed};
+use timefd_component::Component;
+
+/// The two modifiers that stand behind the form, where the count of an `ignore` has these digits.
+pub fn modifiers<'a>(
+    component: Component,
+    defaults: Defaults,
+    digits: &'a str,
+) -> (&'a str, &'a str)
+    ensures first { result.0.now ≡ spec.first_modifier defaults component digits.now }
+    ensures second { result.1.now ≡ spec.second_modifier defaults component }
+{
+    match component {
+        Component::Day(fields) => (padded(fields.padding, defaults), ""),
+        Component::MonthShort(fields) => (cased(fields.case_sensitive, defaults), ""),
+        Component::MonthLong(fields) => (cased(fields.case_sensitive, defaults), ""),
+        Component::MonthNumerical(fields) => (padded(fields.padding, defaults), ""),
+        Component::Ordinal(fields) => (padded(fields.padding, defaults), ""),
+        Component::WeekdayShort(fields) => (cased(fields.case_sensitive, defaults), ""),
+        Component::WeekdayLong(fields) => (cased(fields.case_sensitive, defaults), ""),
+        Component::WeekdaySunday(fields) => (indexed(fields.one_indexed, defaults), ""),
+        Component::WeekdayMonday(fields) => (indexed(fields.one_indexed, defaults), ""),
+        Component::WeekNumberIso(fields) => (padded(fields.padding, defaults), ""),
+        Component::WeekNumberSunday(fields) => (padded(fields.padding, defaults), ""),
+        Component::WeekNumberMonday(fields) => (padded(fields.padding, defaults), ""),
+        Component::CalendarYearFullExtendedRange(fields) => (
+            padded(fields.padding, defaults),
+            signed(fields.sign_is_mandatory, defaults),
+        ),
+        Component::CalendarYearFullStandardRange(fields) => (
+            padded(fields.padding, defaults),
+            signed(fields.sign_is_mandatory, defaults),
+        ),
+        Component::CalendarYearCenturyExtendedRange(fields) => (
+            padded(fields.padding, defaults),
+            signed(fields.sign_is_mandatory, defaults),
+        ),
+        Component::CalendarYearCenturyStandardRange(fields) => (
+            padded(fields.padding, defaults),
+            signed(fields.sign_is_mandatory, defaults),
+        ),
+        Component::IsoYearFullExtendedRange(fields) => (
+            padded(fields.padding, defaults),
+            signed(fields.sign_is_mandatory, defaults),
+        ),
+        Component::IsoYearFullStandardRange(fields) => (
+            padded(fields.padding, defaults),
+            signed(fields.sign_is_mandatory, defaults),
+        ),
+        Component::IsoYearCenturyExtendedRange(fields) => (
+            padded(fields.padding, defaults),
+            signed(fields.sign_is_mandatory, defaults),
+        ),
+        Component::IsoYearCenturyStandardRange(fields) => (
+            padded(fields.padding, defaults),
+            signed(fields.sign_is_mandatory, defaults),
+        ),
+        Component::CalendarYearLastTwo(fields) => (padded(fields.padding, defaults), ""),
+        Component::IsoYearLastTwo(fields) => (padded(fields.padding, defaults), ""),
+        Component::Hour12(fields) => (padded(fields.padding, defaults), ""),
+        Component::Hour24(fields) => (padded(fields.padding, defaults), ""),
+        Component::Minute(fields) => (padded(fields.padding, defaults), ""),
+        Component::Period(fields) => (
+            lettered(fields.is_uppercase, defaults),
+            cased(fields.case_sensitive, defaults),
+        ),
+        Component::Second(fields) => (padded(fields.padding, defaults), ""),
+        Component::Subsecond(fields) => (numbered(fields.digits, defaults), ""),
+        Component::OffsetHour(fields) => (
+            padded(fields.padding, defaults),
+            signed(fields.sign_is_mandatory, defaults),
+        ),
+        Component::OffsetMinute(fields) => (padded(fields.padding, defaults), ""),
+        Component::OffsetSecond(fields) => (padded(fields.padding, defaults), ""),
+        Component::Ignore(_) => (digits, ""),
+        Component::UnixTimestampSecond(fields) => (signed(fields.sign_is_mandatory, defaults), ""),
+        Component::UnixTimestampMillisecond(fields) => (
+            signed(fields.sign_is_mandatory, defaults),
+            "",
+        ),
+        Component::UnixTimestampMicrosecond(fields) => (
+            signed(fields.sign_is_mandatory, defaults),
+            "",
+        ),
+        Component::UnixTimestampNanosecond(fields) => (
+            signed(fields.sign_is_mandatory, defaults),
+            "",
+        ),
+        Component::End(fields) => (trailed(fields.trailing_input, defaults), ""),
+        Component::Month(_) => ("", ""),
+        Component::Weekday(_) => ("", ""),
+        Component::WeekNumber(_) => ("", ""),
+        Component::Hour(_) => ("", ""),
+        Component::UnixTimestamp(_) => ("", ""),
+        Component::Year(_) => ("", ""),
+    }
+}
