@@ -2,3 +2,4 @@ pub mod CountLemmas
 pub mod CutLemmas
 pub mod WriteLemmas
 pub mod SoundLemmas
+pub mod ShortLemmas

@@ -10,6 +10,7 @@ ghost use Rattle.std.specs.Prelude.{ℕ};
 
 use crate::fault::node_fault;
 use crate::len::text_len;
+use crate::short::format_short;
 use crate::write::write_whole;
 use timefd_c_nodes::Node;
 use timefd_format::Unshown;
@@ -35,7 +36,6 @@ pub enum NodesError {
 
 /// Writes the moment by nodes over the front of the buffer, if that has room for all that they write.
 /// Else, and behind an `Err`, the buffer is as it was. It takes no memory.
-#[tactic(auto, using(crate::proofs::WriteLemmas::shows, crate::proofs::WriteLemmas::shows_none))]
 pub fn format_nodes(
     nodes: &[Node],
     literals: &[u8],
@@ -51,6 +51,24 @@ pub fn format_nodes(
     if let Some(at) = node_fault(nodes, literals) {
         return Err(NodesError::NoDescription(at));
     }
+    match format_short(moment, nodes, literals, buffer) {
+        Some(answer) => answer,
+        None => format_long(moment, nodes, literals, buffer),
+    }
+}
+
+/// The same of nodes that are a description, whatever the length of the text: that is found first.
+#[tactic(auto, using(crate::proofs::WriteLemmas::shows, crate::proofs::WriteLemmas::shows_none))]
+fn format_long(
+    moment: Moment,
+    nodes: &[Node],
+    literals: &[u8],
+    buffer: &mut [u8],
+) -> Result<NodesText, NodesError>
+    requires { spec.node_fault literals.now nodes.now ≡ None }
+    ensures { ShowsNodes (written_all moment (trees (node_trees literals.now nodes.now))) buffer.old
+        buffer.new result }
+{
     match text_len(moment, nodes, literals) {
         Ok(len) => {
             let written = write_front(moment, nodes, literals, len, buffer);

@@ -10,6 +10,7 @@ mod leaf;
 mod len;
 mod modifier;
 mod part;
+mod short;
 mod write;
 
 pub use format::{NodesError, NodesText, format_nodes};
