@@ -1,4 +1,5 @@
 pub mod WriteLemmas
+pub mod WithinLemmas
 pub mod TreeLemmas
 pub mod SizeLemmas
 pub mod ComponentLemmas

@@ -34,3 +34,16 @@ pub record Writes (ts : List Tree) (from to : Place) (nodes_before nodes_after :
   pub literals : after ≡ literals_written from.literals ts before
   pub node_at : to.nodes ≡ from.nodes + length ts
   pub literal_at : to.literals ≡ from.literals + length (literals_of ts)
+
+-- These trees are written from one place to the other, as far as there is room: a buffer that has
+-- room for all of them has all of them.
+pub record WritesWithin (ts : List Tree) (from to : Place) (nodes_before nodes_after : List Node)
+    (before after : Text) : Type 0 where
+  pub node_at : to.nodes ≡ from.nodes + length ts
+  pub literal_at : to.literals ≡ from.literals + length (literals_of ts)
+  pub node_room : length nodes_after ≡ length nodes_before
+  pub literal_room : length after ≡ length before
+  pub nodes : from.nodes + length ts ≤ length nodes_before
+      → nodes_after ≡ nodes_written from.nodes from.literals ts nodes_before
+  pub literals : from.literals + length (literals_of ts) ≤ length before
+      → after ≡ literals_written from.literals ts before

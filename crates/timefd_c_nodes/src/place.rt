@@ -35,3 +35,36 @@ pub fn put(node: Node, text: &[u8], at: Place, nodes: &mut [Node], literals: &mu
         literals: behind,
     }
 }
+
+/// Writes a node, and the bytes that it adds to the literals, each where its buffer has room for it.
+/// The answer is the next place, wherever that is.
+#[inline(always)]
+pub fn put_within(
+    node: Node,
+    text: &[u8],
+    at: Place,
+    nodes: &mut [Node],
+    literals: &mut [u8],
+) -> Place
+    requires node_counted { at.nodes < usize.MAX }
+    requires literal_counted { at.literals + length text.now ≤ usize.MAX }
+    ensures nodes { at.nodes < length nodes.old → nodes.new ≡ set nodes.old at.nodes node }
+    ensures literals { at.literals + length text.now ≤ length literals.old
+        → literals.new ≡ overwritten at.literals text.now literals.old }
+    ensures node_room { length nodes.new ≡ length nodes.old }
+    ensures literal_room { length literals.new ≡ length literals.old }
+    ensures node_at { result.nodes ≡ at.nodes + 1 }
+    ensures literal_at { result.literals ≡ at.literals + length text.now }
+{
+    if at.nodes < nodes.len() {
+        nodes[at.nodes] = node;
+    }
+    let end = at.literals + text.len();
+    if end <= literals.len() {
+        literals[at.literals..end].copy_from_slice(text);
+    }
+    Place {
+        nodes: at.nodes + 1,
+        literals: end,
+    }
+}

@@ -1,13 +1,14 @@
 //! The nodes of a description of version 3.
 
-ghost use Rattle.std.specs.Prelude.{◌≡◌, ◌≤◌, ◌^◌, ◌++◌, None, IfSome, drop, length};
+ghost use Rattle.std.specs.Prelude.{◌≡◌, ◌+◌, ◌≤◌, ◌^◌, ◌++◌, None, IfSome, drop, length};
 ghost use Rattle.timefd_node_list.specs.Views.{view_tree, walked};
 ghost use Rattle.timefd_c_nodes.specs.Encoding.{literals_of, nodes_from};
 ghost use Rattle.timefd_c_nodes.specs.Sizes.{IsSize, IsTooLarge};
+ghost use Rattle.timefd_c_nodes.specs.Writing.{WritesWithin};
 
 use crate::node::Node;
 use crate::part::{node_of, text_of};
-use crate::place::{START, put};
+use crate::place::{Place, START, put, put_within};
 use crate::size::Size;
 use timefd_items::View;
 
@@ -48,4 +49,25 @@ pub fn write_view(view: View<'_, '_>, nodes: &mut [Node], literals: &mut [u8])
     'parts: for part in view.walk() {
         at = put(node_of(part, at), text_of(part), at, nodes, literals);
     }
+}
+
+/// Writes its nodes and literals from a place on, as far as there is room. The answer is the place
+/// behind them.
+pub fn write_view_within(
+    view: View<'_, '_>,
+    from: Place,
+    nodes: &mut [Node],
+    literals: &mut [u8],
+) -> Place
+    requires nodes_counted { from.nodes + length (walked (view_tree view)) ≤ usize.MAX }
+    requires literals_counted { from.literals + length (literals_of (walked (view_tree view)))
+        ≤ usize.MAX }
+    ensures { WritesWithin (walked (view_tree view.entry)) from result nodes.old nodes.new
+        literals.old literals.new }
+{
+    let mut at = from;
+    'parts: for part in view.walk() {
+        at = put_within(node_of(part, at), text_of(part), at, nodes, literals);
+    }
+    at
 }
