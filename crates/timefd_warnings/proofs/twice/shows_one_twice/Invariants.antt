@@ -1,0 +1,11 @@
+use Rattle.std.proofs.Common.{◌≡◌, length}
+use Rattle.timefd_warnings.specs.Parts.{parts}
+use Rattle.timefd_warnings.specs.Twice.{one_twice}
+use Rattle.timefd_warnings.proofs.twice.shows_one_twice.Given as goal
+
+-- what is left decides
+abbrev pub invariant-fields : goal.invariant-fields
+invariant-fields l = one_twice l.left (parts l.description) ≡ one_twice l.fields (parts l.description)
+
+abbrev pub decreases-fields : goal.decreases-fields
+decreases-fields l = length l.left

@@ -1,0 +1,13 @@
+pub mod Fields
+pub mod Widths
+pub mod Marks
+pub mod Elsewhere
+pub mod Sought
+pub mod Parts
+pub mod Codes
+pub mod Explanations
+pub mod Clock
+pub mod Dates
+pub mod Twice
+pub mod Warns
+pub mod Laws

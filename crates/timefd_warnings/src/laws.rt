@@ -1,0 +1,34 @@
+//! What holds of the definitions: each law is the contract of a function with an empty body.
+
+ghost use Rattle.timefd_warnings.specs.Codes.{NamesAreRead};
+ghost use Rattle.timefd_warnings.specs.Laws.{ClockExamples, DateExamples, TextExamples, WidthExamples};
+
+/// Each warning is read back from its name, so no two have one.
+#[tactic(auto, using(crate::proofs::LawLemmas::names_are_read))]
+pub fn names_are_read()
+    ensures { NamesAreRead }
+{}
+
+/// Examples of warnings of texts: of each, a description that has it and one that doesn't.
+#[tactic(auto, using(crate::proofs::LawLemmas::text_examples))]
+pub fn text_examples()
+    ensures { TextExamples }
+{}
+
+/// Examples of warnings of the clock.
+#[tactic(auto, using(crate::proofs::LawLemmas::clock_examples))]
+pub fn clock_examples()
+    ensures { ClockExamples }
+{}
+
+/// Examples of warnings of dates.
+#[tactic(auto, using(crate::proofs::LawLemmas::date_examples))]
+pub fn date_examples()
+    ensures { DateExamples }
+{}
+
+/// Examples of warnings of widths.
+#[tactic(auto, using(crate::proofs::LawLemmas::width_examples))]
+pub fn width_examples()
+    ensures { WidthExamples }
+{}

@@ -1,0 +1,22 @@
+//! What is suspect in a format description that is accepted: warnings, each with a code and a
+//! definition over the parts that a formatter writes.
+#![tactic(auto)]
+
+mod clock;
+mod dates;
+mod elsewhere;
+mod explanation;
+mod field;
+pub mod laws;
+mod mark;
+mod parts;
+mod sought;
+mod twice;
+mod warned;
+mod warning;
+mod width;
+
+pub use elsewhere::{Elsewhere, read_elsewhere};
+pub use parts::Description;
+pub use warned::{Style, warns};
+pub use warning::Warning;
