@@ -1,17 +1,17 @@
 -- Descriptions that are literals of a source.
-use Rattle.std.specs.Prelude.{◌≡◌, List, [], ◌∷◌, Option, None, Some}
+use Rattle.std.specs.Prelude.{ℕ, ◌≡◌, List, [], ◌∷◌, Option, None, Some, length, nat_lt, slice_index, if◌then◌else◌}
 use Rattle.std.specs.List.{All}
 use Rattle.timefd_sources.specs.declared.description.Description.{Description}
 use Rattle.timefd_sources.specs.Bytes.{Text}
 use Rattle.timefd_sources.specs.Between.{IsBetween}
 use Rattle.timefd_sources.specs.Escapes.{placed}
-use Rattle.timefd_sources.specs.Literals.{literal_text}
+use Rattle.timefd_sources.specs.Literals.{body_end, literal_text}
 
 -- What is told of a description is what its literal stands for in the source, and lies between
 -- characters of it.
 pub record StandsIn (source : Text) (d : Description) : Type 0 where
   pub text : Some (placed d.unescaped) ≡ literal_text source d.piece d.kind
-  pub between : IsBetween source d.piece d.unescaped.text.items d.unescaped.places.items
+  pub between : IsBetween source d.piece d.kind d.unescaped.text.items d.unescaped.places.items
 
 abbrev pub AllStandIn : Text → List Description → Type 0
 AllStandIn source ds = All (StandsIn source) ds
@@ -19,3 +19,9 @@ AllStandIn source ds = All (StandsIn source) ds
 abbrev pub listed : Option Description → List Description
 listed None = []
 listed (Some d) = d ∷ []
+
+-- the place of a byte of a description; behind the last one that of the closing quote
+abbrev pub place_of : Description → ℕ → ℕ
+place_of d index =
+    if nat_lt index (length d.unescaped.places.items) then slice_index d.unescaped.places.items index
+    else body_end d.piece d.kind

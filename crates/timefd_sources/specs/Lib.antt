@@ -6,4 +6,5 @@ pub mod Sources
 pub mod Literals
 pub mod Between
 pub mod Found
+pub mod Chrono
 pub mod Grammar

@@ -37,5 +37,9 @@ abbrev pub text_of : Kind → ℕ → Option Text → Option Placed
 text_of kind end None = None
 text_of kind end (Some literal) = body_text kind end (body kind literal)
 
+-- the place of the closing quote
+abbrev pub body_end : Piece → Kind → ℕ
+body_end p kind = p.end - hash_count kind - 1
+
 abbrev pub literal_text : Text → Piece → Kind → Option Placed
-literal_text source p kind = text_of kind (p.end - hash_count kind - 1) (cut source p)
+literal_text source p kind = text_of kind (body_end p kind) (cut source p)

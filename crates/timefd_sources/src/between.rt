@@ -1,11 +1,13 @@
 //! That what is told lies between two characters of the source.
 
-ghost use Rattle.std.specs.Prelude.{◌≡◌, IsTrue, false};
+ghost use Rattle.std.specs.Prelude.{◌≡◌, ◌<◌, IsTrue, false};
 ghost use Rattle.std.specs.Str.{IsCharBoundary};
-ghost use Rattle.timefd_sources.specs.Between.{AllBetween, IsBetween};
+ghost use Rattle.timefd_sources.specs.Between.{AllBetween, AllInside, IsBetween, IsInside};
 ghost use Rattle.timefd_sources.specs.Bytes as spec;
 
+use crate::literal::body_end;
 use crate::piece::Piece;
+use crate::token::Kind;
 use crate::unescape::Unescaped;
 
 fn is_continuation(byte: u8) -> bool
@@ -36,12 +38,37 @@ fn lie_between(source: &str, text: &[u8], places: &[usize]) -> bool
     true
 }
 
-/// Whether a literal, and each character that it stands for, lies between two characters of the
-/// source. All that tokens and escapes give do: this is their test.
-pub fn is_between(source: &str, piece: Piece, unescaped: &Unescaped) -> bool
-    ensures { IsTrue result → IsBetween source.now piece unescaped.now.text.items unescaped.now.places.items }
+/// Whether a place is one of a token's, behind its first byte.
+fn is_inside(piece: Piece, place: usize) -> bool
+    ensures { IsTrue result → IsInside piece place }
 {
+    piece.start < place && place < piece.end
+}
+
+/// Whether all places are so.
+fn are_inside(piece: Piece, places: &[usize]) -> bool
+    ensures { IsTrue result → AllInside piece places.now }
+{
+    for at in 0..places.len() {
+        if !is_inside(piece, places[at]) {
+            return false;
+        }
+    }
+    true
+}
+
+/// Whether a literal, its closing quote and each character that it stands for lie between two
+/// characters of the source, and all that it stands for inside of it. All that tokens and escapes give do:
+/// this is their test.
+pub fn is_between(source: &str, piece: Piece, kind: Kind, unescaped: &Unescaped) -> bool
+    ensures { IsTrue result
+        → IsBetween source.now piece kind unescaped.now.text.items unescaped.now.places.items }
+{
+    let end = body_end(piece, kind);
     source.is_char_boundary(piece.start)
         && source.is_char_boundary(piece.end)
+        && source.is_char_boundary(end)
+        && is_inside(piece, end)
+        && are_inside(piece, &unescaped.places)
         && lie_between(source, &unescaped.text, &unescaped.places)
 }

@@ -13,7 +13,7 @@ pub enum Call {
     First(Dialect),
     /// The second is one.
     Second(Dialect),
-    /// The first is a description of strftime if it holds a `%`: `format` is a common name.
+    /// The first is a description of chrono if it holds a `%`: `format` is a common name.
     Format,
     /// None is known to be one.
     Other,
@@ -92,7 +92,7 @@ fn call_named(name: &str) -> Call {
     } else if name == "parse_strftime_borrowed" || name == "parse_strftime_owned" {
         Call::First(Dialect::Strftime)
     } else if name == "parse_from_str" || name == "datetime_from_str" {
-        Call::Second(Dialect::Strftime)
+        Call::Second(Dialect::Chrono)
     } else {
         Call::Other
     }
@@ -155,7 +155,7 @@ pub fn dialect_in(
         (Call::Macro, _) => macro_version(source, pieces, frame.opened),
         (Call::First(dialect), 0) => Some(dialect),
         (Call::Second(dialect), 1) => Some(dialect),
-        (Call::Format, 0) => Some(Dialect::Strftime),
+        (Call::Format, 0) => Some(Dialect::Chrono),
         (Call::First(_) | Call::Second(_) | Call::Format | Call::Other, _) => None,
     }
 }

@@ -110,7 +110,7 @@ fn described(
     if wants_percent && !unescaped.text.contains(&b'%') {
         return Ok(None);
     }
-    if !is_between(source, piece, &unescaped) {
+    if !is_between(source, piece, kind, &unescaped) {
         return Ok(None);
     }
     Ok(Some(Description {

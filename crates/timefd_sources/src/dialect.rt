@@ -1,12 +1,14 @@
 //! The languages of descriptions, and comments that name one.
 
-/// The language of a description: a version of that of `time`, or strftime.
+/// The language of a description: a version of that of `time`, its strftime, or that of chrono.
 #[derive(Clone, Copy, Debug, PartialEq, Eq)]
 pub enum Dialect {
     One,
     Two,
     Three,
     Strftime,
+    /// What `time` and chrono have in common, and the directives of chrono.
+    Chrono,
 }
 
 /// The version of a number.

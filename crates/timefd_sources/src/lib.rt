@@ -4,6 +4,7 @@
 mod between;
 mod calls;
 mod character;
+mod chrono;
 mod class;
 mod comment;
 pub mod description;
@@ -13,13 +14,16 @@ pub mod laws;
 mod literal;
 mod marks;
 mod piece;
+mod place;
 mod string;
 mod token;
 mod unescape;
 
+pub use chrono::is_of_chrono;
 pub use description::{Description, descriptions_of};
 pub use dialect::Dialect;
 pub use literal::literal_text;
 pub use piece::{Piece, pieces_of};
+pub use place::place_of;
 pub use token::{Encoding, Kind, Token};
 pub use unescape::Unescaped;

@@ -36,6 +36,13 @@ fn body(kind: Kind, literal: &[u8]) -> Option<&[u8]>
     }
 }
 
+/// The place of a literal's closing quote.
+pub fn body_end(piece: Piece, kind: Kind) -> usize
+    ensures { result ≡ spec.body_end piece kind }
+{
+    piece.end.saturating_sub(hash_count(kind)).saturating_sub(1)
+}
+
 /// The bytes of a token.
 fn cut(source: &[u8], piece: Piece) -> Option<&[u8]>
     ensures cut { seen result ≡ spec.cut source.now piece }

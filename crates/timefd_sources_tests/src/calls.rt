@@ -96,26 +96,26 @@ fn calls_of_chrono(rt: HostRuntime) {
         &rt,
         alloc,
         r#"now.format("%Y").to_string()"#,
-        "strftime %Y|",
+        "chrono %Y|",
     );
     expect(&rt, alloc, r#"log.format("json"); format("%Y")"#, "");
     expect(
         &rt,
         alloc,
         r#"NaiveDate::parse_from_str("2020", "%Y")"#,
-        "strftime %Y|",
+        "chrono %Y|",
     );
     expect(
         &rt,
         alloc,
         r#"D::parse_from_str(&f(a, b)[0], "%Y",)"#,
-        "strftime %Y|",
+        "chrono %Y|",
     );
     expect(
         &rt,
         alloc,
         r#"Utc.datetime_from_str(s, "%Y")"#,
-        "strftime %Y|",
+        "chrono %Y|",
     );
     expect(&rt, alloc, r#"D::parse_from_str(s, f, "%Y")"#, "");
 }

@@ -45,6 +45,7 @@ fn dialect_mark(dialect: Dialect) -> &'static str {
         Dialect::Two => "2",
         Dialect::Three => "3",
         Dialect::Strftime => "strftime",
+        Dialect::Chrono => "chrono",
     }
 }
 
