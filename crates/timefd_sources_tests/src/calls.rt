@@ -92,12 +92,7 @@ fn calls_of_time(rt: HostRuntime) {
 #[test]
 fn calls_of_chrono(rt: HostRuntime) {
     let alloc = rt.alloc();
-    expect(
-        &rt,
-        alloc,
-        r#"now.format("%Y").to_string()"#,
-        "chrono %Y|",
-    );
+    expect(&rt, alloc, r#"now.format("%Y").to_string()"#, "chrono %Y|");
     expect(&rt, alloc, r#"log.format("json"); format("%Y")"#, "");
     expect(
         &rt,
