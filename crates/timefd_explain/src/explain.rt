@@ -6,6 +6,7 @@ ghost use Rattle.timefd_component.specs.Tree.{Tree, trees};
 ghost use Rattle.timefd_language.specs.Grammar.{nesting_limit};
 ghost use Rattle.timefd_node_list.specs.Nodes.{kept_bytes};
 ghost use Rattle.timefd_parse.specs.Language.{SpellsIn};
+ghost use Rattle.timefd_explain.specs.Examples.{Examples};
 
 use crate::node::{Node, push_line};
 use crate::tree::push_pieces;
@@ -32,6 +33,9 @@ pub fn explanation_of(
     // The bytes are those of the items that the text spells.
     ensures sum { (list : List Tree) → SpellsIn language nesting_limit text.now list
         → IfOk result (λ found. found.bytes ≡ kept_bytes (reserve_all (trees list))) }
+
+    // Each node, however deep, has its example.
+    ensures examples { IfOk result (λ found. Examples found.nodes.items) }
 {
     let mut nodes = Vec::new(alloc);
     let bytes = push_pieces(alloc, &mut nodes, language, 0, 0, text)?;

@@ -1,6 +1,7 @@
 //! A node of a description, as it is shown.
 
-ghost use Rattle.std.specs.Prelude.{IfOk, string_bytes};
+ghost use Rattle.std.specs.Prelude.{◌≡◌, IfOk, string_bytes};
+ghost use Rattle.timefd_explain.specs.Examples.{AreWordsOf, HasExample, Names, kind_in};
 ghost use Rattle.timefd_explain.specs.Shown.{IsExampleOf};
 
 use crate::piece::What;
@@ -58,6 +59,7 @@ pub struct Place<'a> {
 }
 
 /// The node of a piece of a text, or of a member of a composite letter, which has no text.
+#[tactic(auto, using(crate::proofs::ExampleLemmas::example_for))]
 pub fn node_of(
     alloc: Global,
     language: Language,
@@ -65,7 +67,10 @@ pub fn node_of(
     bytes: usize,
     what: &What,
 ) -> Result<Node, AllocError>
-    ensures { IfOk result (λ node. IsExampleOf what.now (string_bytes node.example)) }
+    ensures kind { IfOk result (λ node. node.kind ≡ kind_in what.now) }
+    ensures words { IfOk result (λ node. AreWordsOf what.now (string_bytes node.words)) }
+    ensures example { IfOk result (λ node. IsExampleOf what.now (string_bytes node.example)) }
+    ensures node { IfOk result HasExample }
 {
     let words = words_in(alloc, language, place.text, what)?;
     let example = example_of(alloc, what)?;
@@ -80,23 +85,27 @@ pub fn node_of(
     })
 }
 
+#[tactic(auto, using(crate::proofs::ExampleLemmas::no_words))]
 fn words_in(
     alloc: Global,
     language: Language,
     text: &str,
     what: &What,
-) -> Result<String, AllocError> {
-    match what {
-        What::Component(component) => component_words(alloc, language, text, *component),
-        What::Literal(_) | What::Bytes | What::Optional(_) | What::First | What::Several => {
-            String::from_str(alloc, plain_words(what))
-        }
-    }
+) -> Result<String, AllocError>
+    ensures { IfOk result (λ words. AreWordsOf what.now (string_bytes words)) }
+{
+    let What::Component(component) = what else {
+        return String::from_str(alloc, plain_words(what));
+    };
+    component_words(alloc, language, text, *component)
 }
 
-fn kind_of(what: &What) -> NodeKind {
+fn kind_of(what: &What) -> NodeKind
+    ensures { result ≡ kind_in what.now }
+{
     match what {
-        What::Literal(_) | What::Bytes => NodeKind::Literal,
+        What::Literal(_) => NodeKind::Literal,
+        What::Bytes => NodeKind::Literal,
         What::Component(_) => NodeKind::Component,
         What::Optional(_) => NodeKind::Optional,
         What::First => NodeKind::First,
@@ -151,20 +160,30 @@ pub fn push_line(
     out.push_str(&line)
 }
 
+#[tactic(auto, using(crate::proofs::ExampleLemmas::named_alone, crate::proofs::ExampleLemmas::named_so))]
 fn component_words(
     alloc: Global,
     language: Language,
     text: &str,
     component: Component,
-) -> Result<String, AllocError> {
-    let words = words_of(alloc, component)?;
+) -> Result<String, AllocError>
+    ensures { IfOk result (λ words. Names component (string_bytes words)) }
+{
+    let mut words = words_of(alloc, component)?;
+    let set = set_words(alloc, language, text)?;
+    words.push_str(&set)?;
+    Ok(words)
+}
+
+// Which modifiers the text sets, in words. They are empty where it came from no text.
+fn set_words(alloc: Global, language: Language, text: &str) -> Result<String, AllocError> {
     let set = set_in(alloc, language, text)?;
     if text.is_empty() {
-        Ok(words)
+        Ok(String::new(alloc))
     } else if set.is_empty() {
-        format!(in alloc; "{words}, by default")
+        String::from_str(alloc, ", by default")
     } else {
-        format!(in alloc; "{words}, set: {}", safe(alloc, &set)?)
+        format!(in alloc; ", set: {}", safe(alloc, &set)?)
     }
 }
 

@@ -1,11 +1,12 @@
 //! The tree of an accepted text, a line a node.
 
-ghost use Rattle.std.specs.Prelude.{◌≡◌, List, IfOk};
+ghost use Rattle.std.specs.Prelude.{◌≡◌, List, IfOk, OnOk};
 ghost use Rattle.timefd_component.specs.Reserved.{reserve_all};
 ghost use Rattle.timefd_component.specs.Tree.{Tree, trees};
 ghost use Rattle.timefd_language.specs.Grammar.{nesting_limit};
 ghost use Rattle.timefd_node_list.specs.Nodes.{kept_bytes};
 ghost use Rattle.timefd_parse.specs.Language.{SpellsIn};
+ghost use Rattle.timefd_explain.specs.Examples.{Examples};
 
 use crate::node::{Node, NodeKind, Place, node_of};
 use crate::piece::{Shown, What, item_what};
@@ -31,6 +32,9 @@ pub fn push_pieces(
     // They are the bytes of the items that the text spells.
     ensures sum { (list : List Tree) → SpellsIn language nesting_limit text.now list
         → IfOk result (λ bytes. bytes ≡ kept_bytes (reserve_all (trees list))) }
+
+    // All nodes have their examples, if those that were there have.
+    ensures examples { OnOk result (Examples nodes.old.items → Examples nodes.new.items) }
 {
     let pieces = pieces_of(alloc, language, text)?;
     let mut start = begins;
@@ -43,6 +47,7 @@ pub fn push_pieces(
 
 // Appends the node of a piece, and those of what it holds.
 #[cycle(tree)]
+#[tactic(auto, using(crate::proofs::ExampleLemmas::examples_more))]
 fn push_piece(
     alloc: Global,
     nodes: &mut Vec<Node>,
@@ -50,7 +55,9 @@ fn push_piece(
     around: u8,
     start: usize,
     piece: &Shown<'_>,
-) -> Result<(), AllocError> {
+) -> Result<(), AllocError>
+    ensures { OnOk result (Examples nodes.old.items → Examples nodes.new.items) }
+{
     let Shown { text, bytes, what } = piece;
     let place = Place {
         depth: 2 * usize::from(around),
@@ -73,7 +80,9 @@ fn push_nested(
     around: u8,
     start: usize,
     text: &str,
-) -> Result<(), AllocError> {
+) -> Result<(), AllocError>
+    ensures { OnOk result (Examples nodes.old.items → Examples nodes.new.items) }
+{
     if around >= NESTING_LIMIT {
         return Ok(());
     }
@@ -110,13 +119,16 @@ fn behind_head(text: &str) -> &str {
 }
 
 // Appends the node of a description in brackets, which begins behind the first of them.
+#[tactic(auto, using(crate::proofs::ExampleLemmas::examples_more))]
 fn push_description(
     alloc: Global,
     nodes: &mut Vec<Node>,
     around: u8,
     begins: usize,
     inner: &str,
-) -> Result<(), AllocError> {
+) -> Result<(), AllocError>
+    ensures { OnOk result (Examples nodes.old.items → Examples nodes.new.items) }
+{
     let node = Node {
         depth: 2 * usize::from(around) + 1,
         start: begins.saturating_sub(1),
@@ -145,7 +157,9 @@ fn push_members(
     nodes: &mut Vec<Node>,
     start: usize,
     text: &str,
-) -> Result<(), AllocError> {
+) -> Result<(), AllocError>
+    ensures { OnOk result (Examples nodes.old.items → Examples nodes.new.items) }
+{
     let tables = StrftimeTables::new();
     let items = match parse_strftime_borrowed(alloc, &tables, text) {
         Ok(items) => items,
@@ -158,12 +172,15 @@ fn push_members(
     }
 }
 
+#[tactic(auto, using(crate::proofs::ExampleLemmas::examples_more))]
 fn push_items(
     alloc: Global,
     nodes: &mut Vec<Node>,
     start: usize,
     members: &[BorrowedFormatItem<'_>],
-) -> Result<(), AllocError> {
+) -> Result<(), AllocError>
+    ensures { OnOk result (Examples nodes.old.items → Examples nodes.new.items) }
+{
     let place = Place {
         depth: 1,
         start,

@@ -1,0 +1,51 @@
+-- The examples of all nodes.
+use Rattle.std.specs.Prelude.{◌≡◌, List, [], ◌∷◌, ◌++◌, string_bytes, ⊤}
+use Rattle.timefd_component.specs.Modern.{modern}
+use Rattle.timefd_component.specs.Tree.{Text}
+use Rattle.timefd_component.specs.declared.component.Component.{Component}
+use Rattle.timefd_sample.specs.Samples.{IsExample}
+use Rattle.timefd_words.specs.Words as names
+use Rattle.timefd_words.specs.declared.defaults.Defaults.{Defaults}
+use Rattle.timefd_explain.specs.declared.node.Node.{Node}
+use Rattle.timefd_explain.specs.declared.node.NodeKind.{NodeKind}
+use Rattle.timefd_explain.specs.declared.node.NodeKind.TheVariants as kinds
+use Rattle.timefd_explain.specs.declared.piece.What.{What}
+use Rattle.timefd_explain.specs.declared.piece.What.TheVariants as what
+
+abbrev pub kind_in : What → NodeKind
+kind_in (what.Literal text) = kinds.Literal
+kind_in what.Bytes = kinds.Literal
+kind_in (what.Component c) = kinds.Component
+kind_in (what.Optional format) = kinds.Optional
+kind_in what.First = kinds.First
+kind_in what.Several = kinds.Several
+
+-- the words begin with the component's name and all its modifiers
+abbrev pub Names : Component → Text → Type 0
+Names c words = (rest : Text) × (words ≡ names.words Defaults.Written (modern c) ++ rest)
+
+abbrev pub AreWordsOf : What → Text → Type 0
+AreWordsOf (what.Literal text) words = ⊤
+AreWordsOf what.Bytes words = ⊤
+AreWordsOf (what.Component c) words = Names c words
+AreWordsOf (what.Optional format) words = ⊤
+AreWordsOf what.First words = ⊤
+AreWordsOf what.Several words = ⊤
+
+-- The example of a node of this kind with these words. That of a component is what the formatter writes
+-- of the component that the words name, at the moment of the examples.
+abbrev pub IsExampleFor : NodeKind → Text → Text → Type 0
+IsExampleFor kinds.Literal words example = ⊤
+IsExampleFor kinds.Component words example = (c : Component) × Names c words × IsExample c example
+IsExampleFor kinds.Optional words example = example ≡ []
+IsExampleFor kinds.First words example = example ≡ []
+IsExampleFor kinds.Several words example = example ≡ []
+IsExampleFor kinds.Description words example = example ≡ []
+
+abbrev pub HasExample : Node → Type 0
+HasExample n = IsExampleFor n.kind (string_bytes n.words) (string_bytes n.example)
+
+-- Each node has its example.
+abbrev pub Examples : List Node → Type 0
+Examples [] = ⊤
+Examples (n ∷ ns) = HasExample n × Examples ns
