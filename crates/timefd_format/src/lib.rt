@@ -28,4 +28,4 @@ pub use naming::component_name;
 pub use output::{OutputError, format_to};
 pub use text::{TextError, format};
 pub use unshown::Unshown;
-pub use write::{FormatError, write_description, write_items};
+pub use write::{FormatError, write_component, write_description, write_items};

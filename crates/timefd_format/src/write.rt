@@ -6,13 +6,16 @@ ghost use Rattle.timefd_component.specs.Tree.{trees};
 ghost use Rattle.timefd_format_item.specs.Meaning.{item_trees};
 ghost use Rattle.timefd_format.specs.Literals.{HaveUtf8Literals};
 ghost use Rattle.timefd_format.specs.Outcomes.{IsOutcome};
-ghost use Rattle.timefd_format.specs.Written.{written, written_all};
+ghost use Rattle.timefd_format.specs.Written.{shown, written, written_all};
 ghost use Rattle.timefd_node_list.specs.Views.{view_tree};
 
 use crate::items;
 use crate::place::Place;
+use crate::put_field::put_field;
+use crate::shown::field;
 use crate::unshown::Unshown;
 use crate::view::write_view;
+use timefd_component::Component;
 use timefd_format_item::BorrowedFormatItem;
 use timefd_moment::Moment;
 use timefd_node_list::View;
@@ -63,5 +66,28 @@ pub fn write_items(
         Place::At(at) => Ok(at),
         Place::NoRoom => Err(FormatError::Room),
         Place::Unshown(unshown) => Err(FormatError::Unshown(unshown)),
+    }
+}
+
+/// Writes what one component shows of the moment at the end of the buffer, and answers where it
+/// begins there. A deprecated component shows what its modern form does.
+pub fn write_component(
+    moment: Moment,
+    component: Component,
+    buffer: &mut [u8],
+) -> Result<usize, FormatError>
+    ensures outcome { IsOutcome (shown moment component) buffer.old buffer.new result }
+    ensures utf8 { IfOk result (λ at. IsUtf8 (drop at buffer.new)) }
+{
+    let modern = component.modern();
+    match field(moment, modern) {
+        Ok(field) => match put_field(buffer, buffer.len(), field) {
+            Some(at) => Ok(at),
+            None => Err(FormatError::Room),
+        },
+        Err(lack) => Err(FormatError::Unshown(Unshown {
+            component: modern,
+            lack,
+        })),
     }
 }

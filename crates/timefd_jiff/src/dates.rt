@@ -1,6 +1,6 @@
 //! Days of the calendar. `jiff` has the years -9999 to 9999.
 
-ghost use Rattle.std.specs.Prelude.{◌≤◌, ◌↔◌, IfOk, IsOk};
+ghost use Rattle.std.specs.Prelude.{◌≡◌, ◌≤◌, ◌↔◌, IfErr, IfOk, IsOk};
 ghost use Rattle.timefd_jiff.specs.Same.{IsSameDate};
 
 use jiff::civil;
@@ -32,6 +32,7 @@ pub(crate) fn plain_date(date: jiff_core::civil::Date) -> Date
 pub fn date_to_jiff(date: Date) -> Result<civil::Date, Error>
     ensures value { IfOk result (λ d. IsSameDate d date) }
     ensures succeeds { IsOk result ↔ ((990001 ≤ date.years) × (date.years ≤ 1009999)) }
+    ensures bound { IfErr result (λ e. e ≡ Error.Range Bound.Year) }
 {
     if date.years < 990_001 || date.years > 1_009_999 {
         return Err(Error::Range(Bound::Year));

@@ -1,6 +1,6 @@
 //! Instants. `jiff` has those of the years -9999 to 9999, whatever the offset.
 
-ghost use Rattle.std.specs.Prelude.{◌≡◌, ◌≤◌, ◌↔◌, IfOk, IsOk};
+ghost use Rattle.std.specs.Prelude.{◌≡◌, ◌≤◌, ◌↔◌, IfErr, IfOk, IsOk, IsTrue};
 ghost use Rattle.jiff_core.specs.Timestamp.{IsTimestampNanos};
 ghost use Rattle.timefd_jiff.specs.Same.{IsSameInstant};
 ghost use Rattle.timefd_moment.specs.Signed.{signed};
@@ -12,7 +12,8 @@ use timefd_moment::UnixTime;
 
 /// The same instant.
 pub fn unix_time_from_jiff(timestamp: Timestamp) -> UnixTime
-    ensures { IsSameInstant timestamp result }
+    ensures value { IsSameInstant timestamp result }
+    ensures no_negative_zero { IsTrue result.is_negative → 1 ≤ result.nanoseconds }
 {
     UnixTime::from_nanoseconds(timestamp.as_nanosecond())
 }
@@ -22,11 +23,15 @@ pub fn unix_time_from_jiff(timestamp: Timestamp) -> UnixTime
 pub fn unix_time_to_jiff(unix: UnixTime) -> Result<Timestamp, Error>
     ensures value { IfOk result (λ t. IsSameInstant t unix) }
     ensures succeeds { IsOk result ↔ IsTimestampNanos (signed unix.is_negative unix.nanoseconds) }
+    ensures bound { IfErr result (λ e. e ≡ Error.Range Bound.UnixEpochSeconds) }
 {
     if unix.nanoseconds > 377_705_023_201_000_000_000 {
         return Err(Error::Range(Bound::UnixEpochSeconds));
     }
-    Timestamp::from_nanosecond(nanoseconds(unix))
+    match Timestamp::from_nanosecond(nanoseconds(unix)) {
+        Ok(timestamp) => Ok(timestamp),
+        Err(_) => Err(Error::Range(Bound::UnixEpochSeconds)),
+    }
 }
 
 // The nanoseconds with their sign.

@@ -55,7 +55,8 @@ impl UnixTime {
 
     /// The instant so many nanoseconds after the start of 1970, before it as a negative number.
     pub fn from_nanoseconds(nanoseconds: i128) -> UnixTime
-        ensures { signed result.is_negative result.nanoseconds ≡ nanoseconds }
+        ensures value { signed result.is_negative result.nanoseconds ≡ nanoseconds }
+        ensures no_negative_zero { IsTrue result.is_negative → 1 ≤ result.nanoseconds }
     {
         UnixTime {
             is_negative: nanoseconds < 0,
@@ -65,7 +66,8 @@ impl UnixTime {
 
     /// The instant so many seconds after the start of 1970, before it as a negative number.
     pub fn from_seconds(seconds: i64) -> UnixTime
-        ensures { signed result.is_negative result.nanoseconds ≡ seconds *ℤ pos 1000000000 }
+        ensures value { signed result.is_negative result.nanoseconds ≡ seconds *ℤ pos 1000000000 }
+        ensures no_negative_zero { IsTrue result.is_negative → 1 ≤ result.nanoseconds }
     {
         UnixTime::from_nanoseconds(seconds as i128 * 1_000_000_000)
     }
