@@ -1,5 +1,5 @@
 -- What was written is read back.
-use Rattle.std.proofs.Common.{ℕ, ◌≡◌, ◌∙◌, ◌≤◌, ◌<◌, ◌+◌, ◌-◌, ◌^◌, ◌++◌, ◌&&◌, zero, suc, Bool, true, false, nat_le, List, [], ◌∷◌, length, replicate, min, take, Option, Some, None, cond, refl, sym, ap, arith, length-append}
+use Rattle.std.proofs.Common.{ℕ, ◌≡◌, ◌∙◌, ◌≤◌, ◌<◌, ◌+◌, ◌-◌, ◌^◌, ◌++◌, ◌&&◌, zero, suc, true, nat_le, [], ◌∷◌, length, replicate, min, take, Some, None, cond, refl, sym, ap, arith, length-append}
 use Rattle.std.proofs.Math.Nat.{pow-le-pow_right}
 use Rattle.std.proofs.Math.Seq.{take-append_seam}
 use Rattle.std.proofs.lemmas.Bool.{le-leb}
@@ -18,28 +18,28 @@ use Rattle.timefd_read_dates.specs.Laws.{ReadsFilled, ReadsNames}
 use Rattle.timefd_read_dates.specs.Numbers.{digits, enough, within}
 use Rattle.timefd_read_dates.specs.Inputs.{as_count}
 
-zeros_value : (k : ℕ) (xs : Text) → digits_value 10 (replicate k 48 ++ xs) ≡ digits_value 10 xs
+pub zeros_value : (k : ℕ) (xs : Text) → digits_value 10 (replicate k 48 ++ xs) ≡ digits_value 10 xs
 zeros_value zero xs = refl
 zeros_value (suc k) xs = zeros_value k xs
 
-zeros_digits : (k : ℕ) (ds : Text) → AllDigits 10 ds → AllDigits 10 (replicate k 48 ++ ds)
+pub zeros_digits : (k : ℕ) (ds : Text) → AllDigits 10 ds → AllDigits 10 (replicate k 48 ++ ds)
 zeros_digits zero ds h = h
 zeros_digits (suc k) ds h = (omega arith, zeros_digits k ds h)
 
-is_digit : (c : ℕ) → digit_value c < 10 → is_ascii_digit c ≡ true
+pub is_digit : (c : ℕ) → digit_value c < 10 → is_ascii_digit c ≡ true
 is_digit c h =
     let bounds = digit_from_value c h in
     ap (λ b. b && nat_le c 57) (le-leb 48 c bounds.0) ∙ le-leb c 57 bounds.1
 
 -- digits in front of a text are among those that stand at its front
-run : (ds rest : Text) → AllDigits 10 ds
+pub run : (ds rest : Text) → AllDigits 10 ds
     → prefix_len is_ascii_digit (ds ++ rest) ≡ length ds + prefix_len is_ascii_digit rest
 run [] rest h = omega arith
 run (c ∷ ds) rest h =
     ap (λ b. cond b (1 + prefix_len is_ascii_digit (ds ++ rest)) 0) (is_digit c h.0)
     ∙ omega (arith, run ds rest h.1)
 
-wide : (width n : ℕ) → width ≤ 23 → n < 10 ^ width → n < 10 ^ 64
+pub wide : (width n : ℕ) → width ≤ 23 → n < 10 ^ width → n < 10 ^ 64
 wide width n few small =
     let most : 10 ^ width ≤ 10 ^ 23 = pow-le-pow_right (omega arith) few in
     omega (arith, most, small)
@@ -77,7 +77,7 @@ digits_back width n rest some few small =
     (omega (arith, len, run text rest all))
     ∙ ap (λ (v : ℕ). Some (v, width)) (zeros_value (width - length (decimal n)) (decimal n) ∙ of.1)
 
-in_range : (lowest highest n len : ℕ) → lowest ≤ n → n ≤ highest
+pub in_range : (lowest highest n len : ℕ) → lowest ≤ n → n ≤ highest
     → within lowest highest (Some (n, len)) ≡ Some (n, len)
 in_range lowest highest n len low high =
     ap (λ b. cond (b && nat_le n highest) (Some (n, len)) None) (le-leb lowest n low)

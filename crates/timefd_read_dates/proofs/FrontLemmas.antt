@@ -5,7 +5,7 @@ use Rattle.std.proofs.lemmas.List.{take-append-drop}
 use Rattle.std.specs.List.{starts_with}
 use Rattle.timefd_component.specs.declared.component.Component.{Component}
 use Rattle.timefd_component.specs.Modern.{modern}
-use Rattle.timefd_component.specs.Tree.{Text, Tree, component, literal, compound, optional, first, Trees, no_trees, more_trees}
+use Rattle.timefd_component.specs.Tree.{Text, component, literal, compound, optional, first, Trees, no_trees, more_trees}
 use Rattle.timefd_read_dates.specs.declared.fault.Fault.{Fault}
 use Rattle.timefd_read_dates.specs.declared.fault.Reason.TheVariants as for
 use Rattle.timefd_read_dates.specs.declared.fields.Fields.{Fields}

@@ -1,5 +1,7 @@
 pub mod DigitLemmas
 pub mod NameLemmas
+pub mod TakeLemmas
 pub mod FrontLemmas
 pub mod BackLemmas
+pub mod EndedLemmas
 pub mod RelationLemmas

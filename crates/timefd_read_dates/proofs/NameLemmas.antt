@@ -1,5 +1,5 @@
 -- Names byte by byte, and lists of them name by name.
-use Rattle.std.proofs.Common.{ℕ, ◌≡◌, ◌∙◌, ◌<◌, ◌≤◌, ◌+◌, ◌&&◌, Bool, true, false, if◌then◌else◌, List, [], ◌∷◌, Option, Some, None, ap, sym, drop, get_or, length, arith, add-one}
+use Rattle.std.proofs.Common.{ℕ, ◌≡◌, ◌∙◌, ◌<◌, ◌≤◌, ◌+◌, ◌&&◌, Bool, true, false, if◌then◌else◌, List, [], ◌∷◌, Option, Some, ap, sym, drop, get_or, length, arith, add-one}
 use Rattle.std.proofs.Math.Seq.{drop-cons}
 use Rattle.timefd_component.specs.Tree.{Text}
 use Rattle.timefd_read_dates.specs.Names.{begins, name_from, same_byte}

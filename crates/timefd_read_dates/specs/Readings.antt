@@ -1,5 +1,5 @@
 -- The fields with what one component reads.
-use Rattle.std.specs.Prelude.{ℕ, ◌/◌, ◌-◌, ◌^◌, ◌==◌, Bool, true, false, not, nat_le, nat_lt, if◌then◌else◌, Option, Some, None}
+use Rattle.std.specs.Prelude.{ℕ, ◌≡◌, ◌/◌, ◌-◌, ◌^◌, ◌==◌, Bool, true, false, not, nat_le, nat_lt, if◌then◌else◌, Option, Some, None}
 use Rattle.timefd_read_dates.specs.declared.fields.Fields.{Fields}
 use Rattle.timefd_read_dates.specs.declared.fields.Signed.{Signed}
 use Rattle.timefd_read_dates.specs.declared.fields.Fraction.{Fraction}
@@ -67,3 +67,8 @@ with_reading f (reads.Amount field n) = amount_with f field n (amount f field)
 with_reading f (reads.Period is_afternoon) = period_with f is_afternoon f.is_afternoon
 with_reading f (reads.Fraction fraction) = fraction_with f fraction f.subsecond
 with_reading f reads.Nothing = Some f
+
+-- whether what was read agrees with what was read before, and then the fields with it
+abbrev pub Takes : Option Fields → Fields → Bool → Type 0
+Takes taken f true = taken ≡ Some f
+Takes taken f false = taken ≡ None

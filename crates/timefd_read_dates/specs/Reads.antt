@@ -1,6 +1,7 @@
 -- How a tree reads a text: what is left and which fields were read, or the first part that does not
 -- read. Each component takes the longest front that it can, and nothing is tried twice.
 use Rattle.std.specs.Prelude.{ℕ, ◌≡◌, ◌==◌, ◌-◌, eqb, if◌then◌else◌, drop, length, Option, Some, None, Result, Ok, Err}
+use Rattle.std.specs.Borrow.{Bor}
 use Rattle.std.specs.List.{starts_with}
 use Rattle.timefd_component.specs.declared.component.Component.{Component}
 use Rattle.timefd_component.specs.Modern.{modern}
@@ -11,7 +12,6 @@ use Rattle.timefd_read_dates.specs.declared.fault.Reason.TheVariants as for
 use Rattle.timefd_read_dates.specs.declared.fault.ReadError.{ReadError}
 use Rattle.timefd_read_dates.specs.declared.fields.Fields.{Fields}
 use Rattle.timefd_read_dates.specs.declared.reading.Reading.{Reading}
-use Rattle.timefd_read_dates.specs.declared.state.State.{State}
 use Rattle.timefd_read_dates.specs.Fields.{no_fields}
 use Rattle.timefd_read_dates.specs.Inputs.{input}
 use Rattle.timefd_read_dates.specs.Readings.{with_reading}
@@ -22,8 +22,8 @@ pub record Point : Type 0 where
   pub rest : Text
   pub fields : Fields
 
-abbrev pub point : State → Point
-point s = record { rest = s.rest.now; fields = s.fields }
+abbrev pub at : Text → Fields → Point
+at rest fields = record { rest = rest; fields = fields }
 
 -- the fault of a part, which begins here
 abbrev pub fault_at : Point → Reason → Result Point Fault
@@ -104,7 +104,8 @@ whole size (Err f) = Err (record { reason = f.reason; index = size - f.left })
 abbrev pub fields_of : Tree → Text → Result Fields ReadError
 fields_of t text = whole (length text) (read t (start text))
 
--- What a reader is left with is what was to be read.
-abbrev pub Gives : Result Point Fault → Result State Fault → Type 0
-Gives read (Ok s) = read ≡ Ok (point s)
-Gives read (Err f) = read ≡ Err f
+-- What a reader answers to be left, with the fields afterwards, is what was to be read. Of the fields behind
+-- a fault it says nothing.
+abbrev pub Gives : Result Point Fault → Fields → Result (Bor Text) Fault → Type 0
+Gives read fields (Ok rest) = read ≡ Ok (at rest.now fields)
+Gives read fields (Err f) = read ≡ Err f

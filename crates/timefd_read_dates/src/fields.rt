@@ -128,8 +128,8 @@ pub(crate) const NO_FIELDS: Fields = Fields {
 
 impl Fields {
     /// What was read of a field without a sign.
-    pub(crate) fn count(self, field: Count) -> Option<u16>
-        ensures { result ≡ spec.count self field }
+    pub(crate) fn count(&self, field: Count) -> Option<u16>
+        ensures { result ≡ spec.count self.now field }
     {
         match field {
             Count::YearLastTwo => self.year_last_two,
@@ -150,75 +150,33 @@ impl Fields {
         }
     }
 
-    /// The same fields with this one.
-    pub(crate) fn with_count(self, field: Count, number: u16) -> Fields
-        ensures { result ≡ spec.with_count self field number }
+    /// Sets this field.
+    pub(crate) fn set_count(&mut self, field: Count, number: u16)
+        ensures { self.new ≡ spec.with_count self.old field number }
     {
         let value = Some(number);
         match field {
-            Count::YearLastTwo => Fields {
-                year_last_two: value,
-                ..self
-            },
-            Count::IsoYearLastTwo => Fields {
-                iso_year_last_two: value,
-                ..self
-            },
-            Count::Month => Fields {
-                month: value,
-                ..self
-            },
-            Count::Day => Fields { day: value, ..self },
-            Count::Ordinal => Fields {
-                ordinal: value,
-                ..self
-            },
-            Count::Weekday => Fields {
-                weekday: value,
-                ..self
-            },
-            Count::IsoWeek => Fields {
-                iso_week: value,
-                ..self
-            },
-            Count::SundayWeek => Fields {
-                sunday_week: value,
-                ..self
-            },
-            Count::MondayWeek => Fields {
-                monday_week: value,
-                ..self
-            },
-            Count::Hour => Fields {
-                hour: value,
-                ..self
-            },
-            Count::Hour12 => Fields {
-                hour_12: value,
-                ..self
-            },
-            Count::Minute => Fields {
-                minute: value,
-                ..self
-            },
-            Count::Second => Fields {
-                second: value,
-                ..self
-            },
-            Count::OffsetMinute => Fields {
-                offset_minute: value,
-                ..self
-            },
-            Count::OffsetSecond => Fields {
-                offset_second: value,
-                ..self
-            },
+            Count::YearLastTwo => self.year_last_two = value,
+            Count::IsoYearLastTwo => self.iso_year_last_two = value,
+            Count::Month => self.month = value,
+            Count::Day => self.day = value,
+            Count::Ordinal => self.ordinal = value,
+            Count::Weekday => self.weekday = value,
+            Count::IsoWeek => self.iso_week = value,
+            Count::SundayWeek => self.sunday_week = value,
+            Count::MondayWeek => self.monday_week = value,
+            Count::Hour => self.hour = value,
+            Count::Hour12 => self.hour_12 = value,
+            Count::Minute => self.minute = value,
+            Count::Second => self.second = value,
+            Count::OffsetMinute => self.offset_minute = value,
+            Count::OffsetSecond => self.offset_second = value,
         }
     }
 
     /// What was read of a field with a sign.
-    pub(crate) fn amount(self, field: Amount) -> Option<Signed>
-        ensures { result ≡ spec.amount self field }
+    pub(crate) fn amount(&self, field: Amount) -> Option<Signed>
+        ensures { result ≡ spec.amount self.now field }
     {
         match field {
             Amount::Year => self.year,
@@ -233,48 +191,21 @@ impl Fields {
         }
     }
 
-    /// The same fields with this one.
-    pub(crate) fn with_amount(self, field: Amount, number: Signed) -> Fields
-        ensures { result ≡ spec.with_amount self field number }
+    /// Sets this field.
+    pub(crate) fn set_amount(&mut self, field: Amount, number: Signed)
+        ensures { self.new ≡ spec.with_amount self.old field number }
     {
         let value = Some(number);
         match field {
-            Amount::Year => Fields {
-                year: value,
-                ..self
-            },
-            Amount::Century => Fields {
-                century: value,
-                ..self
-            },
-            Amount::IsoYear => Fields {
-                iso_year: value,
-                ..self
-            },
-            Amount::IsoCentury => Fields {
-                iso_century: value,
-                ..self
-            },
-            Amount::OffsetHour => Fields {
-                offset_hour: value,
-                ..self
-            },
-            Amount::UnixSecond => Fields {
-                unix_second: value,
-                ..self
-            },
-            Amount::UnixMillisecond => Fields {
-                unix_millisecond: value,
-                ..self
-            },
-            Amount::UnixMicrosecond => Fields {
-                unix_microsecond: value,
-                ..self
-            },
-            Amount::UnixNanosecond => Fields {
-                unix_nanosecond: value,
-                ..self
-            },
+            Amount::Year => self.year = value,
+            Amount::Century => self.century = value,
+            Amount::IsoYear => self.iso_year = value,
+            Amount::IsoCentury => self.iso_century = value,
+            Amount::OffsetHour => self.offset_hour = value,
+            Amount::UnixSecond => self.unix_second = value,
+            Amount::UnixMillisecond => self.unix_millisecond = value,
+            Amount::UnixMicrosecond => self.unix_microsecond = value,
+            Amount::UnixNanosecond => self.unix_nanosecond = value,
         }
     }
 }

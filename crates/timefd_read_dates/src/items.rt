@@ -4,28 +4,52 @@ ghost use Rattle.std.specs.Prelude.{None};
 ghost use Rattle.timefd_component.specs.Tree.{trees};
 ghost use Rattle.timefd_format_item.specs.Meaning.{item_tree, item_trees};
 ghost use Rattle.timefd_read_dates.specs.Reads as spec;
-ghost use Rattle.timefd_read_dates.specs.Reads.{Gives, point};
+ghost use Rattle.timefd_read_dates.specs.Reads.{Gives, at};
 
 use crate::fault::Fault;
-use crate::state::{State, read_component, read_literal};
+use crate::fields::Fields;
+use crate::part::{read_component, read_literal};
 use crate::view::{earlier, none_reads};
 use timefd_format_item::BorrowedFormatItem;
 
-/// Reads an item at the front of what is left.
+/// Reads an item at the front of what is left, and answers what is left behind it. Where it does not
+/// read, the fields of the items in front of the fault may have been read.
 #[cycle(items)]
-fn read<'t>(item: &BorrowedFormatItem<'_>, state: State<'t>) -> Result<State<'t>, Fault>
-    ensures { Gives (spec.read (item_tree item.now) (point state.entry)) result }
+fn read<'t>(
+    item: &BorrowedFormatItem<'_>,
+    rest: &'t [u8],
+    fields: &mut Fields,
+) -> Result<&'t [u8], Fault>
+    ensures { Gives (spec.read (item_tree item.now) (at rest.now fields.old)) fields.new result }
 {
     match *item {
-        BorrowedFormatItem::Literal(bytes) => read_literal(bytes, state),
-        BorrowedFormatItem::StringLiteral(text) => read_literal(text.as_bytes(), state),
-        BorrowedFormatItem::Component(component) => read_component(component, state),
-        BorrowedFormatItem::Compound(items) => read_all(items, state),
-        BorrowedFormatItem::Optional(item) => match read(item, state) {
-            Ok(reached) => Ok(reached),
-            Err(_) => Ok(state),
-        },
-        BorrowedFormatItem::First(items) => read_first(items, state),
+        BorrowedFormatItem::Literal(bytes) => read_literal(bytes, rest, fields),
+        BorrowedFormatItem::StringLiteral(text) => read_literal(text.as_bytes(), rest, fields),
+        BorrowedFormatItem::Component(component) => read_component(component, rest, fields),
+        BorrowedFormatItem::Compound(items) => read_all(items, rest, fields),
+        BorrowedFormatItem::Optional(item) => read_optional(item, rest, fields),
+        BorrowedFormatItem::First(items) => read_first(items, rest, fields),
+    }
+}
+
+/// Reads an item that may be left out. Where it does not read, the fields are as they were.
+#[cycle(items)]
+#[inline(never)]
+fn read_optional<'t>(
+    item: &BorrowedFormatItem<'_>,
+    rest: &'t [u8],
+    fields: &mut Fields,
+) -> Result<&'t [u8], Fault>
+    ensures { Gives (spec.perhaps (at rest.now fields.old) (spec.read (item_tree item.now)
+        (at rest.now fields.old))) fields.new result }
+{
+    let without = *fields;
+    match read(item, rest, fields) {
+        Ok(left) => Ok(left),
+        Err(_) => {
+            *fields = without;
+            Ok(rest)
+        }
     }
 }
 
@@ -33,35 +57,43 @@ fn read<'t>(item: &BorrowedFormatItem<'_>, state: State<'t>) -> Result<State<'t>
 #[cycle(items)]
 pub(crate) fn read_all<'t>(
     items: &[BorrowedFormatItem<'_>],
-    state: State<'t>,
-) -> Result<State<'t>, Fault>
-    ensures { Gives (spec.read_all (trees (item_trees items.now)) (point state.entry)) result }
+    rest: &'t [u8],
+    fields: &mut Fields,
+) -> Result<&'t [u8], Fault>
+    ensures { Gives (spec.read_all (trees (item_trees items.now)) (at rest.now fields.old))
+        fields.new result }
 {
-    let mut reached = state;
+    let mut left = rest;
     'items: for item in items {
-        match read(item, reached) {
-            Ok(next) => reached = next,
+        match read(item, left, fields) {
+            Ok(behind) => left = behind,
             Err(fault) => return Err(fault),
         }
     }
-    Ok(reached)
+    Ok(left)
 }
 
 /// Reads the first alternative that reads. Where none does, the fault is that of the first one.
 #[cycle(items)]
+#[inline(never)]
 fn read_first<'t>(
     alternatives: &[BorrowedFormatItem<'_>],
-    state: State<'t>,
-) -> Result<State<'t>, Fault>
+    rest: &'t [u8],
+    fields: &mut Fields,
+) -> Result<&'t [u8], Fault>
     ensures { Gives (spec.read_first None (trees (item_trees alternatives.now))
-        (point state.entry)) result }
+        (at rest.now fields.old)) fields.new result }
 {
+    let before = *fields;
     let mut first_fault = None;
     'alternatives: for alternative in alternatives {
-        match read(alternative, state) {
-            Ok(reached) => return Ok(reached),
-            Err(fault) => first_fault = earlier(first_fault, fault),
+        match read(alternative, rest, fields) {
+            Ok(left) => return Ok(left),
+            Err(fault) => {
+                first_fault = earlier(first_fault, fault);
+                *fields = before;
+            }
         }
     }
-    none_reads(state, first_fault)
+    none_reads(rest, fields, first_fault)
 }

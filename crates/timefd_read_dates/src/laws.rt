@@ -1,6 +1,6 @@
 //! What holds of readings.
 
-ghost use Rattle.timefd_read_dates.specs.Laws.{ReadsFilled, ReadsFronts, ReadsNames};
+ghost use Rattle.timefd_read_dates.specs.Laws.{ReadsEnded, ReadsFilled, ReadsFronts, ReadsNames, ReadsSigned, ReadsUnsigned};
 ghost use Rattle.timefd_read_dates.specs.Relations.{ReadsExactly};
 
 /// A description reads a front of the text, and a fault begins within the text.
@@ -24,4 +24,19 @@ pub fn reads_names()
 /// What is answered can be read so, and what can be read so is answered.
 pub fn reads_exactly()
     ensures { ReadsExactly }
+{}
+
+/// A number that was filled to its width, or not at all, is read back where no digit follows it.
+pub fn reads_ended()
+    ensures { ReadsEnded }
+{}
+
+/// A number that was written behind its sign is read back where no digit follows it.
+pub fn reads_signed()
+    ensures { ReadsSigned }
+{}
+
+/// A number without a sign is read back too, where none is mandatory.
+pub fn reads_unsigned()
+    ensures { ReadsUnsigned }
 {}

@@ -9,10 +9,10 @@ mod items;
 pub mod laws;
 mod names;
 mod numbers;
+mod part;
 mod read;
 mod reading;
 mod rule;
-mod state;
 mod view;
 
 pub use fault::{ReadError, Reason};

@@ -8,7 +8,6 @@ ghost use Rattle.timefd_read_dates.specs.Reads as spec;
 
 use crate::fault::{Fault, ReadError, Reason};
 use crate::fields::{Fields, NO_FIELDS};
-use crate::state::State;
 use crate::{items, view};
 use timefd_format_item::BorrowedFormatItem;
 use timefd_node_list::View;
@@ -20,7 +19,9 @@ pub fn read_fields(view: View<'_, '_>, text: &str) -> Result<Fields, ReadError>
     ensures { result ≡ spec.fields_of (view_tree view.entry) text.now }
 {
     let bytes = text.as_bytes();
-    answer(bytes, view::read(view, start(bytes)))
+    let mut fields = NO_FIELDS;
+    let read = view::read(view, bytes, &mut fields);
+    answer(bytes, read, &fields)
 }
 
 /// The fields that a text shows by items of version 1 or 2, or of strftime, in the same way.
@@ -28,31 +29,23 @@ pub fn read_item_fields(items: &[BorrowedFormatItem<'_>], text: &str) -> Result<
     ensures { result ≡ spec.fields_of (compound (trees (item_trees items.now))) text.now }
 {
     let bytes = text.as_bytes();
-    answer(bytes, items::read_all(items, start(bytes)))
+    let mut fields = NO_FIELDS;
+    let read = items::read_all(items, bytes, &mut fields);
+    answer(bytes, read, &fields)
 }
 
-/// A text of which nothing was read.
-fn start(text: &[u8]) -> State<'_>
-    ensures { spec.point result ≡ spec.start text.now }
-{
-    State {
-        rest: text,
-        fields: NO_FIELDS,
-    }
-}
-
-/// What is answered where so much was read.
-fn answer(text: &[u8], read: Result<State<'_>, Fault>) -> Result<Fields, ReadError>
-    ensures { (reached : Result spec.Point Fault) → spec.Gives reached read.entry → result ≡ spec.whole (length text.now) reached }
+/// What is answered where so much is left and these fields were read.
+fn answer(text: &[u8], read: Result<&[u8], Fault>, fields: &Fields) -> Result<Fields, ReadError>
+    ensures { (reached : Result spec.Point Fault) → spec.Gives reached fields.now read.entry → result ≡ spec.whole (length text.now) reached }
 {
     match read {
-        Ok(reached) => {
-            if reached.rest.len() == 0 {
-                Ok(reached.fields)
+        Ok(rest) => {
+            if rest.len() == 0 {
+                Ok(*fields)
             } else {
                 Err(ReadError {
                     reason: Reason::Trailing,
-                    index: text.len().saturating_sub(reached.rest.len()),
+                    index: text.len().saturating_sub(rest.len()),
                 })
             }
         }

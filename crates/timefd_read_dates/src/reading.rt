@@ -1,7 +1,9 @@
 //! What one component reads, and the fields with it.
 
 ghost use Rattle.std.specs.Prelude.{◌≡◌, ◌≤◌, ◌^◌};
+ghost use Rattle.timefd_read_dates.specs.Fields.{amount, count};
 ghost use Rattle.timefd_read_dates.specs.Readings as spec;
+ghost use Rattle.timefd_read_dates.specs.Readings.{Takes};
 
 use crate::fields::{Amount, Count, Fields, Fraction, Signed};
 
@@ -16,58 +18,81 @@ pub(crate) enum Reading {
     Nothing,
 }
 
-impl Fields {
-    /// The same fields with what was read. `None` where that was read before as another value.
-    pub(crate) fn with(self, reading: Reading) -> Option<Fields>
-        ensures { result ≡ spec.with_reading self reading }
-    {
-        match reading {
-            Reading::Count(field, number) => match self.count(field) {
-                Some(before) => kept(self, before == number),
-                None => Some(self.with_count(field, number)),
-            },
-            Reading::Amount(field, number) => match self.amount(field) {
-                Some(before) => kept(self, same_signed(before, number)),
-                None => Some(self.with_amount(field, number)),
-            },
-            Reading::Period(is_afternoon) => match self.is_afternoon {
-                Some(before) => kept(self, same(before, is_afternoon)),
-                None => Some(Fields {
-                    is_afternoon: Some(is_afternoon),
-                    ..self
-                }),
-            },
-            Reading::Fraction(fraction) => match self.subsecond {
-                Some(before) => with_finer(self, before, fraction),
-                None => Some(with_fraction(self, fraction)),
-            },
-            Reading::Nothing => Some(self),
+/// Sets the field of what was read. It is false where that was read before as another value.
+pub(crate) fn take(fields: &mut Fields, reading: Reading) -> bool
+    ensures { Takes (spec.with_reading fields.old reading) fields.new result }
+{
+    match reading {
+        Reading::Count(field, number) => take_count(fields, field, number),
+        Reading::Amount(field, number) => take_amount(fields, field, number),
+        Reading::Period(is_afternoon) => take_period(fields, is_afternoon),
+        Reading::Fraction(fraction) => take_fraction(fields, fraction),
+        Reading::Nothing => true,
+    }
+}
+
+#[tactic(auto, using(crate::proofs::TakeLemmas::count_kept, crate::proofs::TakeLemmas::count_set))]
+fn take_count(fields: &mut Fields, field: Count, number: u16) -> bool
+    ensures { Takes (spec.count_with fields.old field number (count fields.old field)) fields.new
+        result }
+{
+    match fields.count(field) {
+        Some(before) => before == number,
+        None => {
+            fields.set_count(field, number);
+            true
         }
     }
 }
 
-fn kept(fields: Fields, is_same: bool) -> Option<Fields>
-    ensures { result ≡ spec.kept fields is_same }
+#[tactic(auto, using(crate::proofs::TakeLemmas::amount_kept, crate::proofs::TakeLemmas::amount_set))]
+fn take_amount(fields: &mut Fields, field: Amount, number: Signed) -> bool
+    ensures { Takes (spec.amount_with fields.old field number (amount fields.old field)) fields.new
+        result }
 {
-    if is_same { Some(fields) } else { None }
-}
-
-fn with_fraction(fields: Fields, fraction: Fraction) -> Fields
-    ensures { result ≡ spec.with_fraction fields fraction }
-{
-    Fields {
-        subsecond: Some(fraction),
-        ..fields
+    match fields.amount(field) {
+        Some(before) => same_signed(before, number),
+        None => {
+            fields.set_amount(field, number);
+            true
+        }
     }
 }
 
-fn with_finer(fields: Fields, before: Fraction, fraction: Fraction) -> Option<Fields>
-    ensures { result ≡ spec.with_finer fields before fraction }
+#[tactic(auto, using(crate::proofs::TakeLemmas::kept_taken))]
+fn take_period(fields: &mut Fields, is_afternoon: bool) -> bool
+    ensures { Takes (spec.period_with fields.old is_afternoon fields.old.is_afternoon) fields.new
+        result }
+{
+    match fields.is_afternoon {
+        Some(before) => same(before, is_afternoon),
+        None => {
+            fields.is_afternoon = Some(is_afternoon);
+            true
+        }
+    }
+}
+
+fn take_fraction(fields: &mut Fields, fraction: Fraction) -> bool
+    ensures { Takes (spec.fraction_with fields.old fraction fields.old.subsecond) fields.new result }
+{
+    match fields.subsecond {
+        Some(before) => take_finer(fields, before, fraction),
+        None => {
+            fields.subsecond = Some(fraction);
+            true
+        }
+    }
+}
+
+fn take_finer(fields: &mut Fields, before: Fraction, fraction: Fraction) -> bool
+    ensures { Takes (spec.with_finer fields.old before fraction) fields.new result }
 {
     if agree(before, fraction) {
-        Some(with_fraction(fields, finer(before, fraction)))
+        fields.subsecond = Some(finer(before, fraction));
+        true
     } else {
-        None
+        false
     }
 }
 

@@ -4,58 +4,96 @@ ghost use Rattle.std.specs.Prelude.{◌≡◌, None};
 ghost use Rattle.timefd_component.specs.Tree.{trees};
 ghost use Rattle.timefd_node_list.specs.Views.{member_trees, view_tree};
 ghost use Rattle.timefd_read_dates.specs.Reads as spec;
-ghost use Rattle.timefd_read_dates.specs.Reads.{Gives, point};
+ghost use Rattle.timefd_read_dates.specs.Reads.{Gives, at};
 
 use crate::fault::Fault;
-use crate::state::{State, read_component, read_literal};
+use crate::fields::Fields;
+use crate::part::{read_component, read_literal};
 use timefd_node_list::{Members, Shape, View};
 
-/// Reads a description at the front of what is left.
+/// Reads a description at the front of what is left, and answers what is left behind it. Where it does
+/// not read, the fields of the members in front of the fault may have been read.
 #[cycle(view)]
-pub(crate) fn read<'t>(view: View<'_, '_>, state: State<'t>) -> Result<State<'t>, Fault>
-    ensures { Gives (spec.read (view_tree view.entry) (point state.entry)) result }
+pub(crate) fn read<'t>(
+    view: View<'_, '_>,
+    rest: &'t [u8],
+    fields: &mut Fields,
+) -> Result<&'t [u8], Fault>
+    ensures { Gives (spec.read (view_tree view.entry) (at rest.now fields.old)) fields.new result }
 {
     match view.shape() {
-        Shape::Component(component) => read_component(component, state),
-        Shape::Literal(text) => read_literal(text.as_bytes(), state),
-        Shape::Compound(members) => read_all(members, state),
-        Shape::Optional { member, .. } => match read(member, state) {
-            Ok(reached) => Ok(reached),
-            Err(_) => Ok(state),
-        },
-        Shape::First(alternatives) => read_first(alternatives, state),
+        Shape::Component(component) => read_component(component, rest, fields),
+        Shape::Literal(text) => read_literal(text.as_bytes(), rest, fields),
+        Shape::Compound(members) => read_all(members, rest, fields),
+        Shape::Optional { member, .. } => read_optional(member, rest, fields),
+        Shape::First(alternatives) => read_first(alternatives, rest, fields),
+    }
+}
+
+/// Reads a member that may be left out. Where it does not read, the fields are as they were.
+#[cycle(view)]
+#[inline(never)]
+fn read_optional<'t>(
+    member: View<'_, '_>,
+    rest: &'t [u8],
+    fields: &mut Fields,
+) -> Result<&'t [u8], Fault>
+    ensures { Gives (spec.perhaps (at rest.now fields.old) (spec.read (view_tree member.entry)
+        (at rest.now fields.old))) fields.new result }
+{
+    let without = *fields;
+    match read(member, rest, fields) {
+        Ok(left) => Ok(left),
+        Err(_) => {
+            *fields = without;
+            Ok(rest)
+        }
     }
 }
 
 /// Reads members in turn.
 #[cycle(view)]
-fn read_all<'t>(members: Members<'_, '_>, state: State<'t>) -> Result<State<'t>, Fault>
-    ensures { Gives (spec.read_all (trees (member_trees members.entry)) (point state.entry)) result }
+fn read_all<'t>(
+    members: Members<'_, '_>,
+    rest: &'t [u8],
+    fields: &mut Fields,
+) -> Result<&'t [u8], Fault>
+    ensures { Gives (spec.read_all (trees (member_trees members.entry)) (at rest.now fields.old))
+        fields.new result }
 {
-    let mut reached = state;
+    let mut left = rest;
     'members: for member in members.in_turn() {
-        match read(member, reached) {
-            Ok(next) => reached = next,
+        match read(member, left, fields) {
+            Ok(behind) => left = behind,
             Err(fault) => return Err(fault),
         }
     }
-    Ok(reached)
+    Ok(left)
 }
 
 /// Reads the first alternative that reads. Where none does, the fault is that of the first one.
 #[cycle(view)]
-fn read_first<'t>(alternatives: Members<'_, '_>, state: State<'t>) -> Result<State<'t>, Fault>
+#[inline(never)]
+fn read_first<'t>(
+    alternatives: Members<'_, '_>,
+    rest: &'t [u8],
+    fields: &mut Fields,
+) -> Result<&'t [u8], Fault>
     ensures { Gives (spec.read_first None (trees (member_trees alternatives.entry))
-        (point state.entry)) result }
+        (at rest.now fields.old)) fields.new result }
 {
+    let before = *fields;
     let mut first_fault = None;
     'alternatives: for alternative in alternatives.in_turn() {
-        match read(alternative, state) {
-            Ok(reached) => return Ok(reached),
-            Err(fault) => first_fault = earlier(first_fault, fault),
+        match read(alternative, rest, fields) {
+            Ok(left) => return Ok(left),
+            Err(fault) => {
+                first_fault = earlier(first_fault, fault);
+                *fields = before;
+            }
         }
     }
-    none_reads(state, first_fault)
+    none_reads(rest, fields, first_fault)
 }
 
 /// The fault of the first alternative.
@@ -69,11 +107,15 @@ pub(crate) fn earlier(before: Option<Fault>, fault: Fault) -> Option<Fault>
 }
 
 /// What is answered where no alternative reads: none at all read nothing.
-pub(crate) fn none_reads(state: State<'_>, fault: Option<Fault>) -> Result<State<'_>, Fault>
-    ensures { Gives (spec.none_reads (point state.entry) fault) result }
+pub(crate) fn none_reads<'t>(
+    rest: &'t [u8],
+    fields: &Fields,
+    fault: Option<Fault>,
+) -> Result<&'t [u8], Fault>
+    ensures { Gives (spec.none_reads (at rest.now fields.now) fault) fields.now result }
 {
     match fault {
         Some(fault) => Err(fault),
-        None => Ok(state),
+        None => Ok(rest),
     }
 }

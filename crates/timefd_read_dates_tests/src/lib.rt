@@ -5,3 +5,5 @@
 mod answers;
 #[cfg(test)]
 mod readings;
+#[cfg(test)]
+mod settled;

@@ -1,4 +1,4 @@
-use Rattle.std.proofs.Common.{◌≡◌, ◌≤◌, ◌<◌, ◌+◌, ◌*◌, ◌^◌, arith}
+use Rattle.std.proofs.Common.{◌<◌, arith}
 use Rattle.timefd_read_dates.proofs.DigitLemmas.{all_small, next_small, next_value}
 use Rattle.timefd_read_dates.proofs.digits.leading_digits.Goals as goal
 
