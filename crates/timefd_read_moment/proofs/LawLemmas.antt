@@ -86,7 +86,7 @@ offset_by f (Err q) o p is h a b = absurd h
 pub one_offset : OneOffset
 one_offset f o p h a b = offset_by f (shift_read f) o p refl h a b
 
-date_answered : (f : Fields) (d : Date) (r : Result Date ValueError) → IsDetermined (date_way f)
+pub date_answered : (f : Fields) (d : Date) (r : Result Date ValueError) → IsDetermined (date_way f)
     → DateAgrees f d → IsDateByParts f r → Answers of_date.IsSame d r
 date_answered f d (Ok e) h a is = one_date f d e h a is.0
 date_answered f d (Err (error.Missing (part.Date p))) h a is = undetermined (date_way f) p is h
@@ -99,7 +99,7 @@ pub date_back : DateBack
 date_back f d r none h a is =
     date_answered f d r h a (subst (λ (o : Option UnixTime). IsDateBy o f r) none is)
 
-time_answered : (f : Fields) (t : Time) (r : Result Time ValueError) → IsDetermined (clock_read f)
+pub time_answered : (f : Fields) (t : Time) (r : Result Time ValueError) → IsDetermined (clock_read f)
     → TimeAgrees f t → IsTimeByParts f r → Answers of_time.IsSame t r
 time_answered f t (Ok u) h a is = one_time f t u h a is.0
 time_answered f t (Err (error.Missing (part.Date p))) h a is = absurd is

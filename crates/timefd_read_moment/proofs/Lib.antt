@@ -8,4 +8,6 @@ pub mod OffsetLemmas
 pub mod LawLemmas
 pub mod LocalLemmas
 pub mod StampedLemmas
+pub mod InstantLemmas
 pub mod ValueLemmas
+pub mod StampLawLemmas

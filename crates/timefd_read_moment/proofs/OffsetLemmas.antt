@@ -25,7 +25,7 @@ same_is true false e = absurd cc
 same_is false true e = absurd cc
 same_is false false e = refl
 
-sign_is : (a b : Bool) (n : ℕ) → ((n == 0) || same a b) ≡ true → (n ≡ 0) ⊎ (a ≡ b)
+pub sign_is : (a b : Bool) (n : ℕ) → ((n == 0) || same a b) ≡ true → (n ≡ 0) ⊎ (a ≡ b)
 sign_is a b n e = by (or_cases (n == 0) (same a b) e)
   where
     by : ((n == 0) ≡ true) ⊎ (same a b ≡ true) → (n ≡ 0) ⊎ (a ≡ b)

@@ -82,7 +82,7 @@ same_time f TimePart.Second t u s = ap (λ (n : ℕ). is_count f.second n) s.2
 same_time f TimePart.Subsecond t u s = ap (λ (n : ℕ). has_digits f.subsecond n) s.3
 
 -- the instant of so many nanoseconds
-abbrev unix_at : ℕ → UnixTime
+abbrev pub unix_at : ℕ → UnixTime
 unix_at n =
     if nat_lt n (unix_start * 1000000000) then (record {
       is_negative = true;

@@ -13,3 +13,4 @@ pub mod Values
 pub mod Laws
 pub mod Sentences
 pub mod DateTimes
+pub mod StampLaws

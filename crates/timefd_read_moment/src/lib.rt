@@ -16,6 +16,7 @@ mod offsets;
 mod part;
 mod shown;
 mod stamp;
+pub mod stamp_laws;
 mod stamped;
 mod times;
 mod way;

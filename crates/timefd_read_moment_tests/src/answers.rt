@@ -2,8 +2,10 @@
 
 use std::alloc::Global;
 use std::process::Abort;
-use timefd_parse::{BorrowedOutput, DescriptionVersion, FormatDescriptionV3, parse_borrowed};
-use timefd_read_dates::{Fields, read_fields};
+use timefd_parse::{
+    BorrowedOutput, DescriptionVersion, FormatDescriptionV3, parse, parse_borrowed,
+};
+use timefd_read_dates::{Fields, read_fields, read_item_fields};
 use timefd_read_moment::{date, date_time, instant, moment, offset, time};
 
 const AMPLE: &str = "ample memory";
@@ -105,4 +107,30 @@ pub fn expect_instant(rt: &impl Abort, alloc: Global, by: &str, text: &str, expe
         expected,
         "{by} of {text}"
     );
+}
+
+fn moment_text(rt: &impl Abort, alloc: Global, fields: &Fields) -> String {
+    match moment(fields) {
+        Ok(found) => format!(in alloc; "{found}").expect(rt, AMPLE),
+        Err(_) => format!(in alloc; "refused").expect(rt, AMPLE),
+    }
+}
+
+/// Expects the moment of a text by a description of version 1, or that it is refused.
+pub fn expect_beside(rt: &impl Abort, alloc: Global, by: &str, text: &str, expected: &str) {
+    let items = parse(alloc, by).ok().expect(rt, "items");
+    let shown = match read_item_fields(&items, text) {
+        Ok(fields) => moment_text(rt, alloc, &fields),
+        Err(_) => format!(in alloc; "refused").expect(rt, AMPLE),
+    };
+    assert_eq!(rt; shown.as_str(), expected, "{by} of {text}");
+}
+
+/// Expects the moment of a text by a description of version 3, or that it is refused.
+pub fn expect_nested_beside(rt: &impl Abort, alloc: Global, by: &str, text: &str, expected: &str) {
+    let shown = match read_fields(description(rt, alloc, by).view(), text) {
+        Ok(fields) => moment_text(rt, alloc, &fields),
+        Err(_) => format!(in alloc; "refused").expect(rt, AMPLE),
+    };
+    assert_eq!(rt; shown.as_str(), expected, "{by} of {text}");
 }

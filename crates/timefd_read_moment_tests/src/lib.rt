@@ -4,6 +4,8 @@
 #[cfg(test)]
 mod answers;
 #[cfg(test)]
+mod beside_time;
+#[cfg(test)]
 mod dates;
 #[cfg(test)]
 mod stamps;

@@ -1,0 +1,148 @@
+-- What is written of what was read of a text is read as the same.
+use Rattle.std.proofs.Common.{◌≡◌, ◌∙◌, ◌||◌, Bool, true, false, Option, Some, None, Result, Ok, Err, IfSome, refl, sym, ap}
+use Rattle.std.proofs.Common.{subst}
+use Rattle.std.specs.Prelude.{is_some}
+use Rattle.timefd_component.specs.Tree.{Text, Tree}
+use Rattle.timefd_moment.specs.declared.date.Date.{Date}
+use Rattle.timefd_moment.specs.declared.time.Time.{Time}
+use Rattle.timefd_moment.specs.declared.offset.UtcOffset.{UtcOffset}
+use Rattle.timefd_moment.specs.declared.moment.Moment.{Moment}
+use Rattle.timefd_moment.specs.declared.unix_time.UnixTime.{UnixTime}
+use Rattle.timefd_read_dates.specs.declared.fields.Fields.{Fields}
+use Rattle.timefd_read_moment.specs.declared.error.ValueError.{ValueError}
+use Rattle.timefd_read_moment.specs.Dates as of_date
+use Rattle.timefd_read_moment.specs.Dates.{IsDateByParts}
+use Rattle.timefd_read_moment.specs.Known.{has_date, has_offset, has_time}
+use Rattle.timefd_read_moment.specs.Offsets as of_offset
+use Rattle.timefd_read_moment.specs.Offsets.{IsOffsetOf, shift_read}
+use Rattle.timefd_read_moment.specs.Shown.{OffsetAgrees, TimeAgrees}
+use Rattle.timefd_read_moment.specs.StampLaws.{AnswersParts, IsKnown}
+use Rattle.timefd_read_moment.specs.Stamps.{instant_read}
+use Rattle.timefd_read_moment.specs.Times as of_time
+use Rattle.timefd_read_moment.specs.Times.{IsTimeByParts, clock_read}
+use Rattle.timefd_read_moment.specs.Values.{IsMomentBy, IsMomentByParts, IsMomentOf, IsPart}
+use Rattle.timefd_read_moment.specs.Ways.{IsDetermined, date_way}
+use Rattle.timefd_read_moment.proofs.ShownLemmas.{clash}
+use Rattle.timefd_read_laws.specs.Again.{AnswersSame, BothKnown, FieldsAgain, IsWrittenAgain, ShowsBack, parts}
+use Rattle.timefd_read_laws.specs.Shown.{Shows, fields_shown, shows}
+use Rattle.timefd_read_laws.specs.Values.{HasNoMoreOffset, HasNoMoreTime, IsReadBack}
+use Rattle.timefd_read_laws.proofs.KnownLemmas.{same_date, same_has_time, same_offset, same_stamp, same_time}
+use Rattle.timefd_read_laws.proofs.MoreLemmas.{offset_again, time_again}
+use Rattle.timefd_read_laws.proofs.PlainLemmas.{whole_read}
+use Rattle.timefd_read_laws.proofs.ShownPartLemmas.{same_shown}
+use Rattle.timefd_read_laws.proofs.StampedAgainLemmas.{stamped_again}
+use Rattle.timefd_read_laws.proofs.StepLemmas.{in_ok}
+use Rattle.timefd_read_laws.proofs.TreeLemmas.{reads_back}
+use Rattle.timefd_read_laws.proofs.ValueBackLemmas.{moment_read_back}
+
+-- A part that was read is known, and is this one.
+part_is : {A : Type 0} (P : A → Type 0) (Is : Result A ValueError → Type 0) (b : Bool) (x : Option A) (a : A)
+    → ((e : A) → Is (Ok e) → P e) → b ≡ true → IsPart b Is (Ok x) → IfSome x (λ e. e ≡ a) → P a
+part_is P Is true (Some e) a f is h same = subst P same (f e h)
+part_is P Is true None a f is h same = absurd h
+part_is P Is false x a f is h same = absurd (clash true (sym is) refl)
+
+-- the same is known of both
+both_known : {A : Type 0} (b : Bool) (IsSame : A → A → Type 0) (Is : Result A ValueError → Type 0) (x y : Option A)
+    (a : A) → IsPart b Is (Ok x) → IfSome x (λ e. e ≡ a) → IsKnown b IsSame a y → BothKnown IsSame x y
+both_known false IsSame Is None None a h same k = tt
+both_known false IsSame Is None (Some y) a h same k = absurd k
+both_known false IsSame Is (Some x) y a h same k = absurd h
+both_known true IsSame Is None y a h same k = absurd h
+both_known true IsSame Is (Some x) None a h same k = absurd k
+both_known {A = A} true IsSame Is (Some x) (Some y) a h same k =
+    subst (λ (z : A). IsSame z y) (sym same) k
+
+none_is : (x : Option UnixTime) → is_some x ≡ false → x ≡ None
+none_is None e = refl
+none_is (Some u) e = absurd (clash true e refl)
+
+abbrev date_shown : Shows → Bool
+date_shown s =
+    ((((s.year || s.century) || s.year_last_two) || ((s.iso_year || s.iso_century) || s.iso_year_last_two))
+    || ((s.month || s.day) || s.ordinal)) || (((s.weekday || s.iso_week) || s.sunday_week) || s.monday_week)
+
+-- The fields of the new text.
+
+pub fields_again : FieldsAgain
+fields_again m d t o tree f again h = reads_back m d t o tree again h.is_of h.settles h.wrote
+
+module _ (m : Moment) (d : Date) (t : Time) (o : UtcOffset) (tree : Tree) (f : Fields) (again : Text)
+    (h : IsWrittenAgain m d t o tree f again) (none : instant_read f ≡ None) where
+  abbrev anew : Fields
+  anew = fields_shown d t o (shows tree)
+
+  parts_same : parts f ≡ parts anew
+  parts_same = same_shown d t o f (shows tree) h.same_parts
+
+  was : IsMomentByParts f (Ok m)
+  was = subst (λ (u : Option UnixTime). IsMomentBy u f (Ok m)) none h.moment
+
+  back : IsReadBack d t o tree anew
+  back = record {
+    moment = m;
+    text = again;
+    is_of = h.is_of;
+    settles = h.settles;
+    wrote = h.wrote;
+    read = fields_again m d t o tree f again h;
+  }
+
+  has_same_date : has_date anew ≡ has_date f
+  has_same_date = ap (λ (s : Shows). date_shown s) (sym parts_same)
+
+  has_same_offset : has_offset anew ≡ has_offset f
+  has_same_offset = ap (λ (s : Shows). (s.offset_hour || s.offset_minute) || s.offset_second) (sym parts_same)
+
+  has_same_time : has_time anew ≡ has_time f
+  has_same_time = same_has_time anew f (sym parts_same)
+
+  date : has_date anew ≡ true → IsDetermined (date_way anew)
+  date e =
+      part_is (λ _. IsDetermined (date_way anew)) (IsDateByParts f) (has_date f) m.date d
+      (λ x is. same_date f anew parts_same is.1) (sym has_same_date ∙ e) was.0 h.is_of.0
+
+  time : has_time anew ≡ true → IsDetermined (clock_read anew) × HasNoMoreTime anew t
+  time e =
+      let agrees = part_is (λ x. IsDetermined (clock_read anew) × TimeAgrees f x) (IsTimeByParts f) (has_time f) m.time t
+      (λ x is. (same_time f anew parts_same is.1, is.0)) (sym has_same_time ∙ e) was.1 h.is_of.1 in (
+        agrees.0,
+        subst (λ (s : Shows). HasNoMoreTime (fields_shown d t o s) t) h.same_parts
+            (time_again d t o f (whole_read tree h.text f h.read) agrees.1),
+      )
+
+  offset : has_offset anew ≡ true → IsDetermined (shift_read anew) × HasNoMoreOffset anew o
+  offset e =
+      let agrees = part_is (λ x. IsDetermined (shift_read anew) × OffsetAgrees f x) (IsOffsetOf f) (has_offset f) m.offset o
+      (λ x is. (same_offset f anew parts_same is.1, is.0)) (sym has_same_offset ∙ e) was.2 h.is_of.2 in (
+        agrees.0,
+        subst (λ (s : Shows). HasNoMoreOffset (fields_shown d t o s) o) h.same_parts
+            (offset_again d t o f agrees.1),
+      )
+
+  same_moment : (r : Result Moment ValueError) → AnswersParts anew d t o r → AnswersSame m r
+  same_moment (Ok n) k = (
+    both_known (has_date f) of_date.IsSame (IsDateByParts f) m.date n.date d was.0 h.is_of.0
+        (subst (λ (b : Bool). IsKnown b of_date.IsSame d n.date) has_same_date k.0),
+    both_known (has_time f) of_time.IsSame (IsTimeByParts f) m.time n.time t was.1 h.is_of.1
+        (subst (λ (b : Bool). IsKnown b of_time.IsSame t n.time) has_same_time k.1),
+    both_known (has_offset f) of_offset.IsSame (IsOffsetOf f) m.offset n.offset o was.2 h.is_of.2
+        (subst (λ (b : Bool). IsKnown b of_offset.IsSame o n.offset) has_same_offset k.2),
+  )
+  same_moment (Err e) k = absurd k
+
+  answer : (r : Result Moment ValueError) → IsMomentOf anew r → AnswersSame m r
+  answer r is =
+      let without : instant_read anew ≡ None =
+      none_is (instant_read anew) (sym (same_stamp f anew parts_same) ∙ ap is_some none) in
+      same_moment r (moment_read_back d t o tree anew r back without date time offset is)
+
+-- The moment of the new text, without a timestamp or with one.
+pub shows_back : ShowsBack
+shows_back m d t o tree f g again r h read is =
+    by (instant_read f) refl
+    (subst (λ (x : Fields). IsMomentOf x r) (ap (in_ok g) (sym read ∙ fields_again m d t o tree f again h)) is)
+  where
+    by : (x : Option UnixTime) → instant_read f ≡ x → IsMomentOf (fields_shown d t o (shows tree)) r → AnswersSame m r
+    by None none is = answer m d t o tree f again h none r is
+    by (Some u) stamp is = stamped_again m d t o tree f again h u stamp r is

@@ -1,0 +1,97 @@
+-- Worked examples.
+use Rattle.std.proofs.Common.{ℕ, ◌≡◌, ◌∙◌, ◌-◌, ◌++◌, false, codes, length, replicate, Some, Result, Ok, refl, sym, ap, arith}
+use Rattle.std.proofs.lemmas.Bool.{eq-eqb}
+use Rattle.std.specs.Fmt.{decimal}
+use Rattle.timefd_component.specs.declared.component.Component.TheVariants.{CalendarYearFullExtendedRange, Day, MonthNumerical}
+use Rattle.timefd_component.specs.Texts.{filled}
+use Rattle.timefd_component.specs.Tree.{Text}
+use Rattle.timefd_format.specs.declared.unshown.Unshown.{Unshown}
+use Rattle.timefd_format.specs.Fields.{plain, year}
+use Rattle.timefd_format.specs.Puts.{pair}
+use Rattle.timefd_format.specs.Written.{followed, text_of}
+use Rattle.timefd_format.proofs.DigitLemmas.{one_step, two_digits, two_filled}
+use Rattle.timefd_modifier.specs.declared.enums.Padding.{Padding}
+use Rattle.timefd_moment.specs.declared.date.Date.{Date}
+use Rattle.timefd_read_moment.specs.declared.part.DatePart.{DatePart}
+use Rattle.timefd_read_moment.specs.Shown.{DateAgrees, is_year}
+use Rattle.timefd_read_laws.specs.Shown.{with_sign}
+use Rattle.timefd_read_laws.specs.Examples.{AgainExample, DateExample, OffsetExample, StampExample, TimeExample, date_fields}
+
+-- what is written of these numbers
+abbrev of_numbers : ℕ → ℕ → ℕ → Result Text Unshown
+of_numbers y m d = followed
+    (text_of (CalendarYearFullExtendedRange (record { padding = Padding.Zero; sign_is_mandatory = false }))
+    (year 999999 4 1 Padding.Zero false y))
+    (followed (Ok (codes "-"))
+    (followed (text_of (MonthNumerical (record { padding = Padding.Zero })) (Ok (plain Padding.Zero 2 m)))
+    (followed (Ok (codes "-"))
+    (followed (text_of (Day (record { padding = Padding.Zero })) (Ok (plain Padding.Zero 2 d))) (Ok (codes ""))))))
+
+abbrev of_texts : Text → Text → Text → Result Text Unshown
+of_texts y m d = followed (Ok y)
+    (followed (Ok (codes "-")) (followed (Ok m) (followed (Ok (codes "-")) (followed (Ok d) (Ok (codes ""))))))
+
+four : filled Padding.Zero 4 2026 ≡ codes "2026"
+four =
+    let digits : decimal 2026 ≡ pair 20 ++ pair 26 =
+    one_step 2026 (omega arith) (omega arith) ∙ ap (λ (xs : Text). xs ++ pair 26) (two_digits 20 (omega arith) (omega arith)) in
+    ap (λ (xs : Text). replicate (4 - length xs) 48 ++ xs) digits
+
+month : filled Padding.Zero 2 11 ≡ pair 11
+month = two_filled 11 (omega arith)
+
+day : filled Padding.Zero 2 23 ≡ pair 23
+day = two_filled 23 (omega arith)
+
+numbers : of_numbers 1002026 11 23 ≡ Ok (codes "2026-11-23")
+numbers = λ i. of_texts (four i) (month i) (day i)
+
+pub date_example : DateExample
+date_example = (
+  (λ d y m n. (λ i. of_numbers (y i) (m i) (n i)) ∙ numbers),
+  refl,
+  refl,
+  refl,
+  refl,
+  refl,
+  refl,
+  refl,
+  tt,
+  refl,
+)
+
+pub time_example : TimeExample
+time_example = (refl, refl, tt)
+
+pub offset_example : OffsetExample
+offset_example = (refl, refl, tt)
+
+pub stamp_example : StampExample
+stamp_example = (refl, refl)
+
+-- the date has what was read
+date_agrees : (d : Date) → d.years ≡ 1002026 → d.month ≡ 11 → d.day ≡ 23 → DateAgrees date_fields d
+date_agrees d y m n DatePart.Day = eq-eqb 23 d.day (sym n)
+date_agrees d y m n DatePart.Month = eq-eqb 11 d.month (sym m)
+date_agrees d y m n DatePart.Ordinal = refl
+date_agrees d y m n DatePart.Weekday = refl
+date_agrees d y m n DatePart.IsoWeek = refl
+date_agrees d y m n DatePart.SundayWeek = refl
+date_agrees d y m n DatePart.MondayWeek = refl
+date_agrees d y m n DatePart.YearLastTwo = refl
+date_agrees d y m n DatePart.Century = refl
+date_agrees d y m n DatePart.Year = ap (λ x. is_year (Some (with_sign false 2026)) x) y
+date_agrees d y m n DatePart.IsoYearLastTwo = refl
+date_agrees d y m n DatePart.IsoCentury = refl
+date_agrees d y m n DatePart.IsoYear = refl
+
+pub again_example : AgainExample
+again_example d t o y m n = record {
+  text = codes "+2026-11-23";
+  settles = refl;
+  read = refl;
+  same_parts = refl;
+  moment = ((date_agrees d y m n, tt), tt, tt);
+  is_of = (refl, tt, tt);
+  wrote = date_example.0 d y m n;
+}

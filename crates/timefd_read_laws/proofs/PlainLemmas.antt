@@ -1,0 +1,97 @@
+-- What is read of a whole text. Of a plain description that is all that is written.
+use Rattle.std.proofs.Common.{◌≡◌, ◌∙◌, ◌-◌, ◌==◌, inl, inr, Bool, true, false, if◌then◌else◌, length, Result, Ok, Err}
+use Rattle.std.proofs.Common.{refl, sym, ap, subst}
+use Rattle.timefd_component.specs.Modern.{modern}
+use Rattle.timefd_component.specs.Tree.{Text, Tree, component, literal, compound, optional, first, Trees, no_trees, more_trees}
+use Rattle.timefd_read_dates.specs.declared.fault.ReadError.{ReadError}
+use Rattle.timefd_read_dates.specs.declared.fault.Reason.TheVariants as for
+use Rattle.timefd_read_dates.specs.declared.fields.Fields.{Fields}
+use Rattle.timefd_read_dates.specs.Reads.{Point, fields_of, read, start, whole}
+use Rattle.timefd_read_dates.specs.Relations.{Reads, ReadsAll, ReadsFirst}
+use Rattle.timefd_read_dates.proofs.RelationLemmas.{reads_exactly}
+use Rattle.timefd_read_moment.proofs.ShownLemmas.{clash}
+use Rattle.timefd_read_moment.proofs.YearLemmas.{both}
+use Rattle.timefd_read_laws.specs.Again.{PartsRead, are_plain, is_plain, parts}
+use Rattle.timefd_read_laws.specs.Shown.{with_tree, with_trees}
+use Rattle.timefd_read_laws.proofs.ComponentStepLemmas.{component_step}
+use Rattle.timefd_read_laws.proofs.StepLemmas.{IsWhole, in_ok, is_ok}
+
+-- What was read of the whole text was read up to its end.
+
+ended_is : (f g : Fields) (error : ReadError) (b : Bool) → (if b then Ok f else Err error) ≡ Ok g → f ≡ g
+ended_is f g error true e = ap (in_ok f) e
+ended_is f g error false e = absurd (clash true (sym (ap is_ok e)) refl)
+
+pub record IsReadWhole (t : Tree) (text : Text) (f : Fields) : Type 0 where
+  pub end : Point
+  pub fields : end.fields ≡ f
+  pub reads : Reads t (start text) end
+
+-- where nothing comes of a fault
+end_of : {E : Type 0} (g : Result Point E → Result Fields ReadError) (r : Result Point E) (f : Fields)
+    (P : Type 0) → ((x : E) → is_ok (g (Err x)) ≡ false) → ((p : Point) → r ≡ Ok p → g (Ok p) ≡ Ok f → P)
+    → g r ≡ Ok f → P
+end_of g (Ok p) f P none k e = k p refl e
+end_of g (Err x) f P none k e = absurd (clash (is_ok (g (Err x))) (none x) (ap is_ok e))
+
+pub read_whole : (t : Tree) (text : Text) (f : Fields) → fields_of t text ≡ Ok f → IsReadWhole t text f
+read_whole t text f e =
+    end_of (whole (length text)) (read t (start text)) f (IsReadWhole t text f) (λ x. refl) (λ p is ends. record {
+      end = p;
+      fields = ended_is p.fields f (record { reason = for.Trailing; index = length text - length p.rest })
+          (length p.rest == 0) ends;
+      reads = (reads_exactly t (start text) p).1 is;
+    }) e
+
+-- the parts of plain trees
+
+mutual
+  tree_parts : (t : Tree) (p q : Point) → is_plain t ≡ true → Reads t p q
+      → parts q.fields ≡ with_tree t (parts p.fields)
+  tree_parts (component c) p q plain h = (component_step p q (modern c) ((reads_exactly (component c) p q).0 h)).0
+  tree_parts (literal bytes) p q plain h = ap parts h.1
+  tree_parts (compound ts) p q plain h = trees_parts ts p q plain h
+  tree_parts (optional format t) p q plain h = absurd (clash true (sym plain) refl)
+  tree_parts (first ts) p q plain h = absurd (clash true (sym plain) refl)
+
+  trees_parts : (ts : Trees) (p q : Point) → are_plain ts ≡ true → ReadsAll ts p q
+      → parts q.fields ≡ with_trees ts (parts p.fields)
+  trees_parts no_trees p q plain h = ap (λ (x : Point). parts x.fields) h
+  trees_parts (more_trees t ts) p q plain (mid, one, more) =
+      let each = both (is_plain t) (are_plain ts) plain in
+      trees_parts ts mid q each.1 more ∙ ap (with_trees ts) (tree_parts t p mid each.0 one)
+
+pub parts_read : PartsRead
+parts_read tree text f plain e =
+    let h = read_whole tree text f e in
+    ap parts (sym h.fields) ∙ tree_parts tree (start text) h.end plain h.reads
+
+-- the fraction of a second of any tree
+
+mutual
+  tree_whole : (t : Tree) (p q : Point) → Reads t p q → IsWhole p.fields.subsecond → IsWhole q.fields.subsecond
+  tree_whole (component c) p q r h = (component_step p q (modern c) ((reads_exactly (component c) p q).0 r)).1 h
+  tree_whole (literal bytes) p q r h = subst (λ (x : Fields). IsWhole x.subsecond) (sym r.1) h
+  tree_whole (compound ts) p q r h = trees_whole ts p q r h
+  tree_whole (optional format t) p q (inl r) h = tree_whole t p q r h
+  tree_whole (optional format t) p q (inr r) h = subst (λ (x : Point). IsWhole x.fields.subsecond) (sym r.1) h
+  tree_whole (first no_trees) p q r h = subst (λ (x : Point). IsWhole x.fields.subsecond) (sym r) h
+  tree_whole (first (more_trees t ts)) p q (inl r) h = tree_whole t p q r h
+  tree_whole (first (more_trees t ts)) p q (inr r) h = first_whole ts p q r.1 h
+
+  trees_whole : (ts : Trees) (p q : Point) → ReadsAll ts p q → IsWhole p.fields.subsecond
+      → IsWhole q.fields.subsecond
+  trees_whole no_trees p q r h = subst (λ (x : Point). IsWhole x.fields.subsecond) (sym r) h
+  trees_whole (more_trees t ts) p q (mid, one, more) h =
+      trees_whole ts mid q more (tree_whole t p mid one h)
+
+  first_whole : (ts : Trees) (p q : Point) → ReadsFirst ts p q → IsWhole p.fields.subsecond
+      → IsWhole q.fields.subsecond
+  first_whole no_trees p q r h = absurd r
+  first_whole (more_trees t ts) p q (inl r) h = tree_whole t p q r h
+  first_whole (more_trees t ts) p q (inr r) h = first_whole ts p q r.1 h
+
+pub whole_read : (t : Tree) (text : Text) (f : Fields) → fields_of t text ≡ Ok f → IsWhole f.subsecond
+whole_read t text f e =
+    let h = read_whole t text f e in
+    subst (λ (x : Fields). IsWhole x.subsecond) h.fields (tree_whole t (start text) h.end h.reads tt)

@@ -1,0 +1,130 @@
+-- What one component reads, and the fields with it.
+use Rattle.std.proofs.Common.{ℕ, ◌≡◌, ◌∙◌, ◌≤◌, ◌<◌, ◌/◌, ◌++◌, ◌==◌, Bool, true, false, ◌||◌, nat_le, if◌then◌else◌}
+use Rattle.std.proofs.Common.{length, Option, Some, None, Result, Ok, Err, IfOk, IfSome, refl, sym, ap, subst}
+use Rattle.std.proofs.Math.Seq.{drop-append_seam}
+use Rattle.std.proofs.lemmas.Bool.{eq-eqb, leb-false, leb-true}
+use Rattle.timefd_component.specs.declared.component.Component.{Component}
+use Rattle.timefd_component.specs.Tree.{Text}
+use Rattle.timefd_format.specs.declared.field.Field.{Field}
+use Rattle.timefd_format.specs.declared.field.Lack.{Lack}
+use Rattle.timefd_format.specs.Fields.{on_date, on_time, on_offset, signed, year}
+use Rattle.timefd_modifier.specs.declared.enums.Padding.{Padding}
+use Rattle.timefd_moment.specs.declared.date.Date.{Date}
+use Rattle.timefd_moment.specs.declared.time.Time.{Time}
+use Rattle.timefd_moment.specs.declared.offset.UtcOffset.{UtcOffset}
+use Rattle.timefd_moment.specs.Moments.{is_before_zero, magnitude}
+use Rattle.timefd_read_dates.specs.declared.fields.Fields.{Fields}
+use Rattle.timefd_read_dates.specs.declared.fields.Signed.{Signed}
+use Rattle.timefd_read_dates.specs.Readings.{kept, same, same_signed}
+use Rattle.timefd_read_dates.specs.Reads.{Point, agreed, read_component}
+use Rattle.timefd_read_moment.proofs.ShownLemmas.{clash}
+use Rattle.timefd_settled.specs.Bounds.{bound_of}
+use Rattle.timefd_read_laws.specs.Bounds.{IsBounded}
+use Rattle.timefd_read_laws.specs.Laws.{at}
+use Rattle.timefd_read_laws.specs.Shown.{Shows, fields_shown, if_shown, with_component}
+
+-- The text of a component is read with its fields, and no more of what stands behind it.
+abbrev pub Row : Date → Time → UtcOffset → Shows → Component → Text → Type 0
+Row d t o s c text = (rest : Text) → IsBounded (bound_of c) rest
+    → read_component c (at d t o s (text ++ rest)) ≡ Ok (at d t o (with_component c s) rest)
+
+-- What was found is taken. The reading is some function of it.
+pub found : {A B E F : Type 0} (put : F → Option A → Option B) (field : F) (g : Option B → Result Point E)
+    (r : Option A) (a : A) (q : Point) → r ≡ Some a → g (put field (Some a)) ≡ Ok q → g (put field r) ≡ Ok q
+found put field g r a q e h = ap (λ x. g (put field x)) e ∙ h
+
+-- Behind it is what follows the text.
+pub behind : (c : Component) (d : Date) (t : Time) (o : UtcOffset) (s v : Shows) (text rest : Text)
+    (r : Option Fields) → r ≡ Some (fields_shown d t o v)
+    → agreed c (at d t o s (text ++ rest)) (length text) r ≡ Ok (at d t o v rest)
+behind c d t o s v text rest r e =
+    ap (agreed c (at d t o s (text ++ rest)) (length text)) e
+    ∙ ap (λ (xs : Text). Ok (at d t o v xs)) (drop-append_seam text rest)
+
+-- What is read once more has to be the same.
+abbrev pub merged : {A : Type 0} → (A → A → Bool) → Fields → (A → Fields) → A → Option A → Option Fields
+merged is_same f set n None = Some (set n)
+merged is_same f set n (Some before) = kept f (is_same before n)
+
+once_more : {A : Type 0} (is_same : A → A → Bool) (f h : Fields) (set : A → Fields) (b : Bool) (k n : A)
+    → k ≡ n → is_same n n ≡ true → set n ≡ h → (b ≡ true → f ≡ h)
+    → merged is_same f set k (if_shown b n) ≡ Some h
+once_more {A = A} is_same f h set true k n e one first is =
+    ap (λ (j : A). merged is_same f set j (Some n)) e ∙ ap (kept f) one ∙ ap (λ x. Some x) (is refl)
+once_more {A = A} is_same f h set false k n e one first is =
+    ap (λ (j : A). merged is_same f set j None) e ∙ ap (λ x. Some x) first
+
+abbrev pub equal : ℕ → ℕ → Bool
+equal a b = a == b
+
+pub counted : (c : Component) (d : Date) (t : Time) (o : UtcOffset) (s v : Shows) (text rest : Text)
+    (set : ℕ → Fields) (b : Bool) (k n : ℕ) → k ≡ n → set n ≡ fields_shown d t o v
+    → (b ≡ true → fields_shown d t o s ≡ fields_shown d t o v)
+    → agreed c (at d t o s (text ++ rest)) (length text) (merged equal (fields_shown d t o s) set k (if_shown b n))
+    ≡ Ok (at d t o v rest)
+counted c d t o s v text rest set b k n e first is =
+    behind c d t o s v text rest _
+    (once_more equal (fields_shown d t o s) (fields_shown d t o v) set b k n e (eq-eqb n n refl) first is)
+
+pub same_sign : (b : Bool) → same b b ≡ true
+same_sign true = refl
+same_sign false = refl
+
+same_number : (a : Signed) → same_signed a a ≡ true
+same_number a =
+    ap (λ b. if b then a.magnitude == a.magnitude else false) (same_sign a.is_negative)
+    ∙ eq-eqb a.magnitude a.magnitude refl
+
+pub amounted : (c : Component) (d : Date) (t : Time) (o : UtcOffset) (s v : Shows) (text rest : Text)
+    (set : Signed → Fields) (b : Bool) (n : Signed) → set n ≡ fields_shown d t o v
+    → (b ≡ true → fields_shown d t o s ≡ fields_shown d t o v)
+    → agreed c (at d t o s (text ++ rest)) (length text) (merged same_signed (fields_shown d t o s) set n (if_shown b n))
+    ≡ Ok (at d t o v rest)
+amounted c d t o s v text rest set b n first is =
+    behind c d t o s v text rest _
+    (once_more same_signed (fields_shown d t o s) (fields_shown d t o v) set b n n refl (same_number n) first is)
+
+pub flagged : (c : Component) (d : Date) (t : Time) (o : UtcOffset) (s v : Shows) (text rest : Text)
+    (set : Bool → Fields) (b k n : Bool) → k ≡ n → set n ≡ fields_shown d t o v
+    → (b ≡ true → fields_shown d t o s ≡ fields_shown d t o v)
+    → agreed c (at d t o s (text ++ rest)) (length text) (merged same (fields_shown d t o s) set k (if_shown b n))
+    ≡ Ok (at d t o v rest)
+flagged c d t o s v text rest set b k n e first is =
+    behind c d t o s v text rest _
+    (once_more same (fields_shown d t o s) (fields_shown d t o v) set b k n e (same_sign n) first is)
+
+-- What a moment has is what these have.
+
+pub of_date : (P : Field → Type 0) (known : Option Date) (d : Date) (g : Date → Result Field Lack)
+    → IfSome known (λ e. e ≡ d) → IfOk (g d) P → IfOk (on_date known g) P
+of_date P None d g is h = tt
+of_date P (Some e) d g is h = subst (λ (x : Date). IfOk (g x) P) (sym is) h
+
+pub of_time : (P : Field → Type 0) (known : Option Time) (t : Time) (g : Time → Result Field Lack)
+    → IfSome known (λ e. e ≡ t) → IfOk (g t) P → IfOk (on_time known g) P
+of_time P None t g is h = tt
+of_time P (Some e) t g is h = subst (λ (x : Time). IfOk (g x) P) (sym is) h
+
+pub of_offset : (P : Field → Type 0) (known : Option UtcOffset) (o : UtcOffset) (g : UtcOffset → Result Field Lack)
+    → IfSome known (λ e. e ≡ o) → IfOk (g o) P → IfOk (on_offset known g) P
+of_offset P None o g is h = tt
+of_offset P (Some e) o g is h = subst (λ (x : UtcOffset). IfOk (g x) P) (sym is) h
+
+-- a year that is not too long
+pub of_year : (P : Field → Type 0) (greatest width unit : ℕ) (p : Padding) (mandatory : Bool) (y : ℕ)
+    → (magnitude y ≤ greatest
+    → P (signed (is_before_zero y) (mandatory || nat_le 10000 (magnitude y)) p width (magnitude y / unit)))
+    → IfOk (year greatest width unit p mandatory y) P
+of_year P greatest width unit p mandatory y h = by (nat_le (magnitude y) greatest) refl
+  where
+    by : (t : Bool) → t ≡ nat_le (magnitude y) greatest
+        → IfOk (if t then Ok (signed (is_before_zero y) (mandatory || nat_le 10000 (magnitude y)) p width
+        (magnitude y / unit)) else Err Lack.YearTooLong) P
+    by true e = h (leb-true _ _ (sym e))
+    by false e = tt
+
+-- without a plus
+pub no_plus : (mandatory : Bool) (n : ℕ) → (mandatory || nat_le 10000 n) ≡ false
+    → (mandatory ≡ false) × (n < 10000)
+no_plus true n e = absurd (clash true e refl)
+no_plus false n e = (refl, leb-false 10000 n e)

@@ -1,0 +1,11 @@
+-- What is left of a text is as a bound wants it.
+use Rattle.std.specs.Prelude.{◌≡◌, [], ⊤}
+use Rattle.timefd_component.specs.Tree.{Text}
+use Rattle.timefd_read_dates.specs.Laws.{HasNoDigit}
+use Rattle.timefd_settled.specs.declared.bound.Bound.{Bound}
+
+abbrev pub IsBounded : Bound → Text → Type 0
+IsBounded Bound.Anything rest = ⊤
+IsBounded Bound.NoDigit rest = HasNoDigit rest
+IsBounded Bound.End rest = rest ≡ []
+IsBounded Bound.Never rest = ⊥

@@ -1,0 +1,10 @@
+//! What is written of a moment is read back as that moment.
+#![tactic(auto)]
+
+pub mod again_laws;
+pub mod examples;
+pub mod laws;
+pub mod stamped_laws;
+pub mod value_laws;
+
+pub use timefd_settled::Bound;

@@ -1,0 +1,106 @@
+-- What is answered of what was read is answered of what the text spells.
+use Rattle.std.proofs.Common.{◌≡◌, ◌∙◌, [], ◌∷◌, List, Result, Ok, Err, map, refl, sym, ap, subst}
+use Rattle.std.specs.declared.alloc.Global.{Global}
+use Rattle.std.specs.declared.vec.Vec.{Vec}
+use Rattle.std.specs.Prelude.{length}
+use Rattle.std.specs.Result.{IfErr}
+use Rattle.timefd_component.specs.Tree.{Text, Tree, compound, trees, pack}
+use Rattle.timefd_borrowed_fault.specs.declared.borrowed_parse_error.BorrowedParseError.{BorrowedParseError}
+use Rattle.timefd_borrowed_fault.specs.declared.borrowed_parse_error.BorrowedParseError.TheVariants as parses
+use Rattle.timefd_borrowed_fault.specs.BorrowedFaults as lent
+use Rattle.timefd_fault.specs.Faults.{Fault}
+use Rattle.timefd_format_item.specs.declared.borrowed_format_item.BorrowedFormatItem.{BorrowedFormatItem}
+use Rattle.timefd_format_item.specs.Meaning.{item_tree, item_trees}
+use Rattle.timefd_items.specs.Description.{description_tree}
+use Rattle.timefd_items.specs.declared.format_description_v3.FormatDescriptionV3.{FormatDescriptionV3}
+use Rattle.timefd_language.specs.declared.description_version.DescriptionVersion.{DescriptionVersion}
+use Rattle.timefd_language.specs.declared.description_version.DescriptionVersion.TheVariants.{One, Two, Three}
+use Rattle.timefd_parse.specs.declared.parsing.BorrowedOutput.TheVariants.{Items, Description}
+use Rattle.timefd_parse.specs.Answers.{IsOutput}
+use Rattle.timefd_read_dates.specs.declared.fault.ReadError.{ReadError}
+use Rattle.timefd_read_dates.specs.declared.fields.Fields.{Fields}
+use Rattle.timefd_read_dates.specs.Reads.{fields_of, followed, read, start, whole}
+use Rattle.timefd_read_text.specs.declared.error.ReadTextError.{ReadTextError}
+use Rattle.timefd_read_text.specs.declared.error.ReadTextError.TheVariants as fails
+use Rattle.timefd_read_text.specs.Answers.{AreFieldsAs, HasFaultOf, IsFaulty, IsMemory, fields_in, of_parse_error, told}
+
+-- the one tree of a list reads what the list reads
+
+alone : (r : _) → followed r (λ q. Ok q) ≡ r
+alone (Ok q) = refl
+alone (Err f) = refl
+
+packed : (list : List Tree) (text : Text) → fields_of (pack list) text ≡ fields_in list text
+packed [] text = refl
+packed (t ∷ []) text = ap (λ r. whole (length text) r) (sym (alone (read t (start text))))
+packed (t ∷ u ∷ ts) text = refl
+
+as_told : (w : Result Fields ReadError) (r : Result Fields ReadTextError) → r ≡ told w
+    → AreFieldsAs w r
+as_told (Ok f) r e = subst (λ x. AreFieldsAs (Ok f) x) (sym e) refl
+as_told (Err u) r e = subst (λ x. AreFieldsAs (Err u) x) (sym e) refl
+
+module _ (text : Text) (list : List Tree) (r : Result Fields ReadTextError) where
+  of_items : (items : List BorrowedFormatItem) → item_trees items ≡ list
+      → r ≡ told (fields_of (compound (trees (item_trees items))) text)
+      → AreFieldsAs (fields_in list text) r
+  of_items items is e =
+      as_told (fields_in list text) r (e ∙ ap (λ l. told (fields_in l text)) is)
+
+  pub items_read : (v : DescriptionVersion) (vec : Vec BorrowedFormatItem Global)
+      (lent : List BorrowedFormatItem) → lent ≡ vec.items → IsOutput v list (Items vec)
+      → r ≡ told (fields_of (compound (trees (item_trees lent))) text)
+      → AreFieldsAs (fields_in list text) r
+  items_read One vec lent e is same = of_items lent (ap (λ xs. map item_tree xs) e ∙ is) same
+  items_read Two vec lent e is same = of_items lent (ap (λ xs. map item_tree xs) e ∙ is) same
+  items_read Three vec lent e is same = absurd is
+
+  pub strftime_read : (items lent : List BorrowedFormatItem) → lent ≡ items
+      → item_trees items ≡ list → r ≡ told (fields_of (compound (trees (item_trees lent))) text)
+      → AreFieldsAs (fields_in list text) r
+  strftime_read items lent e is same =
+      of_items lent (ap (λ xs. map item_tree xs) e ∙ is) same
+
+  pub description_read : (v : DescriptionVersion) (d : FormatDescriptionV3)
+      → IsOutput v list (Description d) → r ≡ told (fields_of (description_tree d) text)
+      → AreFieldsAs (fields_in list text) r
+  description_read One d is same = absurd is
+  description_read Two d is same = absurd is
+  description_read Three d is same = as_told (fields_in list text) r
+      (same ∙ (ap (λ t. told (fields_of t text)) is ∙ ap (λ w. told w) (packed list text)))
+
+-- what reads, or doesn't, has no fault
+pub no_fault : (P : Fault → Type 0) (w : Result Fields ReadError) (r : Result Fields ReadTextError)
+    → r ≡ told w → IfErr r (HasFaultOf P)
+no_fault P (Ok f) r e = subst (λ x. IfErr x (HasFaultOf P)) (sym e) tt
+no_fault P (Err u) r e = subst (λ x. IfErr x (HasFaultOf P)) (sym e) tt
+
+-- where memory ran out, whatever was to be read
+pub nothing_read : (w : Result Fields ReadError) (e : ReadTextError) → IsMemory e
+    → AreFieldsAs w (Err e)
+nothing_read (Ok f) (fails.Fault g) wrong = absurd wrong
+nothing_read (Ok f) (fails.Unread u) wrong = absurd wrong
+nothing_read (Ok f) (fails.Value v) wrong = absurd wrong
+nothing_read (Ok f) (fails.Memory e) right = tt
+nothing_read (Err w) (fails.Fault g) wrong = absurd wrong
+nothing_read (Err w) (fails.Unread u) wrong = absurd wrong
+nothing_read (Err w) (fails.Value v) wrong = absurd wrong
+nothing_read (Err w) (fails.Memory e) right = tt
+
+-- what is answered where the text of the description was not read
+
+pub memory_told : (w : Result Fields ReadError) (e : BorrowedParseError) (t : ReadTextError)
+    → t ≡ of_parse_error e → lent.IsMemory e → AreFieldsAs w (Err t)
+memory_told w (parses.Invalid f) t same wrong = absurd wrong
+memory_told w (parses.Memory e) t same right =
+    nothing_read w t (subst (λ x. IsMemory x) (sym same) tt)
+
+pub fault_told : (f : Fault) (e : BorrowedParseError) (t : ReadTextError)
+    → t ≡ of_parse_error e → lent.IsLent f e → IsFaulty f t
+fault_told f (parses.Invalid g) t same is = subst (λ x. IsFaulty f x) (sym same) is
+fault_told f (parses.Memory e) t same wrong = absurd wrong
+
+pub fault_kept : (P : Fault → Type 0) (e : BorrowedParseError) (t : ReadTextError)
+    → t ≡ of_parse_error e → lent.IsLentOf P e → HasFaultOf P t
+fault_kept P (parses.Invalid g) t same is = subst (λ x. HasFaultOf P x) (sym same) is
+fault_kept P (parses.Memory e) t same is = subst (λ x. HasFaultOf P x) (sym same) tt

@@ -1,0 +1,14 @@
+use Rattle.std.proofs.Common.{subst}
+use Rattle.timefd_parse.specs.Language.{FaultIn}
+use Rattle.timefd_language.specs.Grammar.{nesting_limit}
+use Rattle.timefd_read_text.proofs.by_language.read_text_fields.Goals as goal
+
+pub returns-in-Version-clause-refused : goal.returns-in-Version-clause-refused
+returns-in-Version-clause-refused c = λ f has.
+    c.by_version.ensures.refused f
+    (subst (λ l. FaultIn l nesting_limit c.args.description.now f) c.in-Version.is has)
+
+pub returns-in-Strftime-clause-refused : goal.returns-in-Strftime-clause-refused
+returns-in-Strftime-clause-refused c = λ f has.
+    c.by_strftime.ensures.refused f
+    (subst (λ l. FaultIn l nesting_limit c.args.description.now f) c.in-Strftime.is has)

@@ -1,0 +1,21 @@
+-- The sentence of a part of a text that does not read.
+use Rattle.std.specs.Prelude.{◌++◌, codes}
+use Rattle.std.specs.Fmt.{decimal}
+use Rattle.timefd_component.specs.Tree.{Text}
+use Rattle.timefd_format.specs.Sentences.{name}
+use Rattle.timefd_read_dates.specs.declared.fault.ReadError.{ReadError}
+use Rattle.timefd_read_dates.specs.declared.fault.Reason.{Reason}
+use Rattle.timefd_read_dates.specs.declared.fault.Reason.TheVariants as for
+
+-- Why it does not read, without a place.
+abbrev pub reason_sentence : Reason → Text
+reason_sentence (for.Unread c) =
+    codes "the component `" ++ (name c ++ codes "` reads nothing")
+reason_sentence (for.Contradiction c) =
+    codes "the component `" ++ (name c ++ codes "` reads another value")
+reason_sentence for.Literal = codes "the description has another text"
+reason_sentence for.Trailing = codes "the description ends"
+
+-- The same with its place.
+abbrev pub unread_sentence : ReadError → Text
+unread_sentence u = reason_sentence u.reason ++ (codes " at byte index " ++ decimal u.index)

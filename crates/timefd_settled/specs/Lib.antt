@@ -1,0 +1,3 @@
+pub mod Bounds
+pub mod Settled
+pub mod Reached

@@ -1,0 +1,54 @@
+//! Items of versions 1 and 2 and of strftime, from the last one to the front.
+
+ghost use Rattle.std.specs.Prelude.{◌≡◌};
+ghost use Rattle.timefd_component.specs.Tree.{compound, trees};
+ghost use Rattle.timefd_format_item.specs.Meaning.{item_tree, item_trees};
+ghost use Rattle.timefd_settled.specs.Reached.{reached, reached_all};
+ghost use Rattle.timefd_settled.specs.Settled as spec;
+
+use crate::bound::Bound;
+use crate::components::before_component;
+use timefd_format_item::BorrowedFormatItem;
+
+/// Whether the items, one after another, read back whatever is written by them: as
+/// [`is_settled`](crate::is_settled). It takes no memory.
+pub fn are_settled(items: &[BorrowedFormatItem<'_>]) -> bool
+    ensures { result ≡ spec.is_settled (compound (trees (item_trees items.now))) }
+{
+    before_all(items, Bound::End).is_some()
+}
+
+/// What is known of the item's text with what follows it, of which so much is known; `None` where
+/// the item isn't settled there.
+#[cycle(items)]
+fn before(item: &BorrowedFormatItem<'_>, known: Bound) -> Option<Bound>
+    ensures { result ≡ reached (item_tree item.now) known }
+{
+    match *item {
+        BorrowedFormatItem::Literal(bytes) => Some(Bound::before_literal(bytes, known)),
+        BorrowedFormatItem::StringLiteral(text) => {
+            Some(Bound::before_literal(text.as_bytes(), known))
+        }
+        BorrowedFormatItem::Component(component) => before_component(component, known),
+        BorrowedFormatItem::Compound(items) => before_all(items, known),
+        BorrowedFormatItem::Optional(item) => before(item, known),
+        BorrowedFormatItem::First(items) => match items {
+            [] => Some(known),
+            [first, ..] => before(first, known),
+        },
+    }
+}
+
+/// The same of items in turn, the last one first.
+#[cycle(items)]
+fn before_all(items: &[BorrowedFormatItem<'_>], known: Bound) -> Option<Bound>
+    ensures { result ≡ reached_all (trees (item_trees items.now)) known }
+{
+    let mut reached = known;
+    let mut left = items.len();
+    'items: while left > 0 {
+        left -= 1;
+        reached = before(&items[left], reached)?;
+    }
+    Some(reached)
+}

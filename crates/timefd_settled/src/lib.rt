@@ -1,0 +1,11 @@
+//! Whether a description is settled: whatever is written by it is read back by it, part by part.
+#![tactic(auto)]
+
+mod bound;
+mod components;
+mod items;
+mod view;
+
+pub use bound::Bound;
+pub use items::are_settled;
+pub use view::is_settled;

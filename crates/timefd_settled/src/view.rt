@@ -1,0 +1,68 @@
+//! Descriptions of version 3, from the last part to the front.
+
+ghost use Rattle.std.specs.Prelude.{◌≡◌};
+ghost use Rattle.timefd_component.specs.Tree.{first, optional, trees};
+ghost use Rattle.timefd_node_list.specs.Views.{member_trees, view_tree};
+ghost use Rattle.timefd_settled.specs.Reached.{reached, reached_all};
+ghost use Rattle.timefd_settled.specs.Settled as spec;
+
+use crate::bound::Bound;
+use crate::components::before_component;
+use timefd_node_list::{Members, Shape, View};
+
+/// Whether the description reads back whatever is written by it: the text of each part ends where that
+/// of the next one begins. Not so are numbers side by side of which one isn't filled to its width, parts
+/// that no formatter writes, and ignored bytes. It takes no memory.
+pub fn is_settled(view: View<'_, '_>) -> bool
+    ensures { result ≡ spec.is_settled (view_tree view.entry) }
+{
+    before(view, Bound::End).is_some()
+}
+
+/// What is known of the description's text with what follows it, of which so much is known; `None`
+/// where the description isn't settled there.
+#[cycle(view)]
+fn before(view: View<'_, '_>, known: Bound) -> Option<Bound>
+    ensures { result ≡ reached (view_tree view.entry) known }
+{
+    match view.shape() {
+        Shape::Component(component) => before_component(component, known),
+        Shape::Literal(text) => Some(Bound::before_literal(text.as_bytes(), known)),
+        Shape::Compound(members) => before_all(members, known),
+        Shape::Optional { format, member } => before_optional(format, member, known),
+        Shape::First(alternatives) => before_first(alternatives, known),
+    }
+}
+
+/// The same of members in turn, the last one first.
+#[cycle(view)]
+fn before_all(members: Members<'_, '_>, known: Bound) -> Option<Bound>
+    ensures { result ≡ reached_all (trees (member_trees members.entry)) known }
+{
+    let mut left = members;
+    let mut reached = known;
+    'members: while let Some((front, last)) = left.split_last() {
+        reached = before(last, reached)?;
+        left = front;
+    }
+    Some(reached)
+}
+
+/// The same of a member that may be left out: one that isn't written might be read.
+#[cycle(view)]
+fn before_optional(format: bool, member: View<'_, '_>, known: Bound) -> Option<Bound>
+    ensures { result ≡ reached (optional format (view_tree member.entry)) known }
+{
+    if format { before(member, known) } else { None }
+}
+
+/// The same of alternatives, of which the first one is written and read.
+#[cycle(view)]
+fn before_first(alternatives: Members<'_, '_>, known: Bound) -> Option<Bound>
+    ensures { result ≡ reached (first (trees (member_trees alternatives.entry))) known }
+{
+    match alternatives.in_turn().next() {
+        Some(alternative) => before(alternative, known),
+        None => Some(known),
+    }
+}
