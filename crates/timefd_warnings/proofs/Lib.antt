@@ -1,2 +1,4 @@
 pub mod ScanLemmas
 pub mod LawLemmas
+pub mod LevelLemmas
+pub mod ReadLemmas

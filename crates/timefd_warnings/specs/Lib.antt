@@ -8,6 +8,8 @@ pub mod Codes
 pub mod Explanations
 pub mod Clock
 pub mod Dates
+pub mod Reads
 pub mod Twice
 pub mod Warns
+pub mod Levels
 pub mod Laws

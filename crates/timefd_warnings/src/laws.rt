@@ -1,6 +1,8 @@
 //! What holds of the definitions: each law is the contract of a function with an empty body.
 
 ghost use Rattle.timefd_warnings.specs.Codes.{NamesAreRead};
+ghost use Rattle.timefd_warnings.specs.Levels.{FoundAsDefined, LevelIsSet};
+ghost use Rattle.timefd_warnings.specs.Reads.{DeterminedAsRead};
 ghost use Rattle.timefd_warnings.specs.Laws.{ClockExamples, DateExamples, TextExamples, WidthExamples};
 
 /// Each warning is read back from its name, so no two have one.
@@ -31,4 +33,22 @@ pub fn date_examples()
 #[tactic(auto, using(crate::proofs::LawLemmas::width_examples))]
 pub fn width_examples()
     ensures { WidthExamples }
+{}
+
+/// The parts determine a date where the reader of dates finds one in what is read of them.
+#[tactic(auto, using(crate::proofs::ReadLemmas::determined_as_read))]
+pub fn determined_as_read()
+    ensures { DeterminedAsRead }
+{}
+
+/// What is found of a warning is what its definition says.
+#[tactic(auto, using(crate::proofs::LevelLemmas::found_as_defined))]
+pub fn found_as_defined()
+    ensures { FoundAsDefined }
+{}
+
+/// A level that is set is the warning's.
+#[tactic(auto, using(crate::proofs::LevelLemmas::level_is_set))]
+pub fn level_is_set()
+    ensures { LevelIsSet }
 {}

@@ -8,6 +8,7 @@ mod elsewhere;
 mod explanation;
 mod field;
 pub mod laws;
+mod levels;
 mod mark;
 mod parts;
 mod sought;
@@ -17,6 +18,7 @@ mod warning;
 mod width;
 
 pub use elsewhere::{Elsewhere, read_elsewhere};
+pub use levels::{Level, Levels};
 pub use parts::Description;
 pub use warned::{Style, warns};
 pub use warning::Warning;

@@ -1,0 +1,27 @@
+-- The warnings of a text, by what it spells.
+use Rattle.std.specs.Prelude.{List}
+use Rattle.timefd_component.specs.Tree.{Tree, trees}
+use Rattle.timefd_format_item.specs.Meaning.{item_trees}
+use Rattle.timefd_items.specs.Description.{description_tree}
+use Rattle.timefd_node_list.specs.Leaves.{leaves, leaves_all, leaves_in}
+use Rattle.timefd_parse.specs.declared.language.Language.{Language}
+use Rattle.timefd_parse.specs.declared.language.Language.TheVariants.{Version, Strftime}
+use Rattle.timefd_parse.specs.declared.parsing.BorrowedOutput.{BorrowedOutput}
+use Rattle.timefd_parse.specs.declared.parsing.BorrowedOutput.TheVariants.{Items, Description}
+use Rattle.timefd_warnings.specs.declared.levels.Levels.{Levels}
+use Rattle.timefd_warnings.specs.declared.warned.Style.{Style}
+use Rattle.timefd_warnings.specs.Levels.{found}
+
+-- how components are written in the language
+abbrev pub style_of : Language → Style
+style_of (Version version) = Style.Brackets
+style_of Strftime = Style.Percents
+
+-- what is told of the parts of what a text spells
+abbrev pub found_in : Language → Levels → List Tree → Levels
+found_in language levels list = found levels (style_of language) (leaves_in list)
+
+-- the parts of what was read
+abbrev pub output_parts : BorrowedOutput → List Tree
+output_parts (Items items) = leaves_all (trees (item_trees items.items))
+output_parts (Description d) = leaves (description_tree d)

@@ -1,0 +1,108 @@
+-- What is told of the warnings of a text.
+use Rattle.std.specs.Prelude.{ℕ, Bool, true, false, List, [], ◌∷◌, ◌++◌, codes, decimal, flat_map}
+use Rattle.timefd_component.specs.Tree.{Text}
+use Rattle.timefd_drawing.specs.declared.draw.Format.{Format}
+use Rattle.timefd_drawing.specs.declared.draw.Format.TheVariants.{Human, Json, Short}
+use Rattle.timefd_drawing.specs.declared.draw.Style.{Style}
+use Rattle.timefd_drawing.specs.declared.position.Origin.{Origin}
+use Rattle.timefd_drawing.specs.Json.{text_field, number_field}
+use Rattle.timefd_drawing.specs.Shown.{safe}
+use Rattle.timefd_warnings.specs.declared.levels.Level.{Level}
+use Rattle.timefd_warnings.specs.declared.levels.Level.TheVariants.{Allowed, Warned, Denied}
+use Rattle.timefd_warnings.specs.declared.levels.Levels.{Levels}
+use Rattle.timefd_warnings.specs.declared.warning.Warning.{Warning}
+use Rattle.timefd_warnings.specs.Codes.{all, name_of, sentence_of}
+use Rattle.timefd_warnings.specs.Explanations.{explanation_of}
+use Rattle.timefd_warnings.specs.Levels.{level_of}
+
+-- what a warning of the level counts as
+abbrev pub severity : Level → Text
+severity Allowed = codes "note"
+severity Warned = codes "warning"
+severity Denied = codes "error"
+
+-- what is put in front of what is coloured, and behind it
+abbrev pub paint : Bool → Level → Text
+paint false level = []
+paint true Allowed = 27 ∷ codes "[1;36m"
+paint true Warned = 27 ∷ codes "[1;33m"
+paint true Denied = 27 ∷ codes "[1;31m"
+
+abbrev pub blue : Bool → Text
+blue true = 27 ∷ codes "[1;36m"
+blue false = []
+
+abbrev pub plain : Bool → Text
+plain true = 27 ∷ codes "[0m"
+plain false = []
+
+-- `warning[CODE]: SENTENCE`
+abbrev pub head : Bool → Level → Warning → Text
+head colored level w =
+    paint colored level ++ (severity level ++ (codes "[" ++ (name_of w ++ (codes "]"
+    ++ (plain colored ++ (codes ": " ++ (sentence_of w ++ codes "\n")))))))
+
+-- `--> FILE:LINE:COLUMN`
+abbrev pub place : Bool → Text → ℕ → ℕ → Text
+place colored file line column =
+    codes " " ++ (blue colored ++ (codes "-->" ++ (plain colored ++ (codes " " ++ (safe file
+    ++ (codes ":" ++ (decimal line ++ (codes ":" ++ (decimal column ++ codes "\n")))))))))
+
+-- `= help: EXPLANATION`
+abbrev pub help : Bool → Warning → Text
+help colored w =
+    codes "  " ++ (blue colored ++ (codes "=" ++ (plain colored ++ (codes " help: "
+    ++ (explanation_of w ++ codes "\n")))))
+
+-- The warning is one of the text as a whole, and so stands where that begins.
+abbrev pub human : Bool → Origin → ℕ → Level → Warning → Text
+human colored origin column level w =
+    head colored level w ++ (place colored origin.file.now origin.line column ++ (help colored w
+    ++ codes "\n"))
+
+-- `FILE:LINE:COLUMN: warning[CODE]: SENTENCE`
+abbrev pub short : Origin → ℕ → Level → Warning → Text
+short origin column level w =
+    safe origin.file.now ++ (codes ":" ++ (decimal origin.line ++ (codes ":" ++ (decimal column
+    ++ (codes ": " ++ (severity level ++ (codes "[" ++ (name_of w ++ (codes "]: "
+    ++ (sentence_of w ++ codes "\n"))))))))))
+
+-- an object on a line
+abbrev pub object : Text → ℕ → Text → Text → ℕ → Text → Text → Text
+object code column file help line message severity =
+    [] ++ text_field (codes "{\"code\":") code ++ number_field (codes ",\"column\":") column
+    ++ text_field (codes ",\"file\":") file ++ text_field (codes ",\"help\":") help ++ number_field (codes ",\"line\":") line
+    ++ text_field (codes ",\"message\":") message ++ text_field (codes ",\"severity\":") severity
+    ++ codes "}\n"
+
+abbrev pub json : Origin → ℕ → Level → Warning → Text
+json origin column level w =
+    object (name_of w) column origin.file.now (explanation_of w) origin.line (sentence_of w)
+    (severity level)
+
+abbrev pub message_in : Format → Bool → Origin → ℕ → Level → Warning → Text
+message_in Human colored origin column level w = human colored origin column level w
+message_in Json colored origin column level w = json origin column level w
+message_in Short colored origin column level w = short origin column level w
+
+abbrev pub message : Style → Origin → ℕ → Level → Warning → Text
+message style origin column level w =
+    message_in style.format style.is_colored origin column level w
+
+-- nothing of one that is allowed
+abbrev pub told_at : Style → Origin → ℕ → Level → Warning → Text
+told_at style origin column Allowed w = []
+told_at style origin column Warned w = message style origin column Warned w
+told_at style origin column Denied w = message style origin column Denied w
+
+abbrev pub messages_on : Style → Origin → ℕ → Levels → List Warning → Text
+messages_on style origin column found ws =
+    flat_map (λ w. told_at style origin column (level_of found w) w) ws
+
+-- A message on each warning that isn't allowed, in the order of the codes: of a text that begins in
+-- this column of its line, and of one that begins in the first.
+abbrev pub messages_at : Style → Origin → ℕ → Levels → Text
+messages_at style origin column found = messages_on style origin column found all
+
+abbrev pub messages : Style → Origin → Levels → Text
+messages style origin found = messages_at style origin 1 found

@@ -1,0 +1,197 @@
+//! What is told of one warning.
+
+ghost use Rattle.std.specs.Prelude.{◌≡◌, IfOk, string_bytes};
+ghost use Rattle.timefd_lint_warnings.specs.Messages as spec;
+
+use std::alloc::{AllocError, Global};
+use timefd_drawing::json::{push_number, push_text};
+use timefd_drawing::shown::safe;
+use timefd_drawing::{Format, Origin, Style};
+use timefd_warnings::{Level, Warning};
+
+/// The message on a warning of a text that begins in this column, in the form that is asked for. An
+/// `Err` says that memory ran out.
+pub fn message(
+    alloc: Global,
+    style: Style,
+    origin: Origin<'_>,
+    column: usize,
+    level: Level,
+    warning: Warning,
+) -> Result<Vec<u8>, AllocError>
+    ensures { IfOk result (λ told. told.items ≡ spec.message style origin.entry column level warning) }
+{
+    match style.format {
+        Format::Human => {
+            let drawing = human(alloc, style.is_colored, origin, column, level, warning)?;
+            Ok(drawing.into_bytes())
+        }
+        Format::Short => {
+            let line = short(alloc, origin, column, level, warning)?;
+            Ok(line.into_bytes())
+        }
+        Format::Json => json(alloc, origin, column, level, warning),
+    }
+}
+
+// What it counts as.
+fn severity(level: Level) -> &'static str
+    ensures { result.now ≡ spec.severity level }
+{
+    match level {
+        Level::Allowed => "note",
+        Level::Warned => "warning",
+        Level::Denied => "error",
+    }
+}
+
+// What is put in front of what is coloured by that.
+fn paint(is_colored: bool, level: Level) -> &'static str
+    ensures { result.now ≡ spec.paint is_colored level }
+{
+    if !is_colored {
+        return "";
+    }
+    match level {
+        Level::Allowed => "\u{1B}[1;36m",
+        Level::Warned => "\u{1B}[1;33m",
+        Level::Denied => "\u{1B}[1;31m",
+    }
+}
+
+// What is put in front of what is blue.
+fn blue(is_colored: bool) -> &'static str
+    ensures { result.now ≡ spec.blue is_colored }
+{
+    if is_colored { "\u{1B}[1;36m" } else { "" }
+}
+
+// What is put behind what is coloured.
+fn plain(is_colored: bool) -> &'static str
+    ensures { result.now ≡ spec.plain is_colored }
+{
+    if is_colored { "\u{1B}[0m" } else { "" }
+}
+
+fn human(
+    alloc: Global,
+    is_colored: bool,
+    origin: Origin<'_>,
+    column: usize,
+    level: Level,
+    warning: Warning,
+) -> Result<String, AllocError>
+    ensures { IfOk result (λ drawing. string_bytes drawing
+        ≡ spec.human is_colored origin.entry column level warning) }
+{
+    let (head, place, help) = (
+        head(alloc, is_colored, level, warning)?,
+        place(alloc, is_colored, origin, column)?,
+        help(alloc, is_colored, warning)?,
+    );
+    format!(in alloc; "{head}{place}{help}\n")
+}
+
+// `warning[CODE]: SENTENCE`
+fn head(
+    alloc: Global,
+    is_colored: bool,
+    level: Level,
+    warning: Warning,
+) -> Result<String, AllocError>
+    ensures { IfOk result (λ line. string_bytes line ≡ spec.head is_colored level warning) }
+{
+    let (paint, plain) = (paint(is_colored, level), plain(is_colored));
+    let (severity, code, sentence) = (severity(level), warning.name(), warning.sentence());
+    format!(in alloc; "{paint}{severity}[{code}]{plain}: {sentence}\n")
+}
+
+// `--> FILE:LINE:COLUMN`
+fn place(
+    alloc: Global,
+    is_colored: bool,
+    origin: Origin<'_>,
+    column: usize,
+) -> Result<String, AllocError>
+    ensures { IfOk result (λ line. string_bytes line
+        ≡ spec.place is_colored origin.entry.file.now origin.entry.line column) }
+{
+    let (blue, plain) = (blue(is_colored), plain(is_colored));
+    let file = safe(alloc, origin.file)?;
+    let line = origin.line;
+    format!(in alloc; " {blue}-->{plain} {file}:{line}:{column}\n")
+}
+
+// `= help: EXPLANATION`
+fn help(alloc: Global, is_colored: bool, warning: Warning) -> Result<String, AllocError>
+    ensures { IfOk result (λ line. string_bytes line ≡ spec.help is_colored warning) }
+{
+    let (blue, plain) = (blue(is_colored), plain(is_colored));
+    let explanation = warning.explanation();
+    format!(in alloc; "  {blue}={plain} help: {explanation}\n")
+}
+
+// `FILE:LINE:COLUMN: warning[CODE]: SENTENCE`
+fn short(
+    alloc: Global,
+    origin: Origin<'_>,
+    column: usize,
+    level: Level,
+    warning: Warning,
+) -> Result<String, AllocError>
+    ensures { IfOk result (λ line. string_bytes line ≡ spec.short origin.entry column level warning) }
+{
+    let file = safe(alloc, origin.file)?;
+    let line = origin.line;
+    let (severity, code, sentence) = (severity(level), warning.name(), warning.sentence());
+    format!(in alloc; "{file}:{line}:{column}: {severity}[{code}]: {sentence}\n")
+}
+
+// The texts of a warning that its object has.
+#[derive(Clone, Copy)]
+struct Words<'a> {
+    code: &'a str,
+    help: &'a str,
+    message: &'a str,
+    severity: &'a str,
+}
+
+fn json(
+    alloc: Global,
+    origin: Origin<'_>,
+    column: usize,
+    level: Level,
+    warning: Warning,
+) -> Result<Vec<u8>, AllocError>
+    ensures { IfOk result (λ line. line.items ≡ spec.json origin.entry column level warning) }
+{
+    let words = Words {
+        code: warning.name(),
+        help: warning.explanation(),
+        message: warning.sentence(),
+        severity: severity(level),
+    };
+    object(alloc, origin, column, words)
+}
+
+fn object(
+    alloc: Global,
+    origin: Origin<'_>,
+    column: usize,
+    words: Words<'_>,
+) -> Result<Vec<u8>, AllocError>
+    ensures { IfOk result (λ made. made.items ≡ spec.object words.entry.code.now column
+        origin.entry.file.now words.entry.help.now origin.entry.line words.entry.message.now
+        words.entry.severity.now) }
+{
+    let mut out = Vec::new(alloc);
+    push_text(&mut out, "{\"code\":", words.code)?;
+    push_number(alloc, &mut out, ",\"column\":", column as u64)?;
+    push_text(&mut out, ",\"file\":", origin.file)?;
+    push_text(&mut out, ",\"help\":", words.help)?;
+    push_number(alloc, &mut out, ",\"line\":", origin.line)?;
+    push_text(&mut out, ",\"message\":", words.message)?;
+    push_text(&mut out, ",\"severity\":", words.severity)?;
+    out.extend_from_slice(b"}\n")?;
+    Ok(out)
+}
