@@ -1,5 +1,5 @@
-/* The functions of the static library libtimefd_c.a: they parse format descriptions, give their nodes, convert them, and write
-   dates by them. */
+/* The functions of the static library libtimefd_c.a: they parse format descriptions, give their nodes, convert them, and write and
+   read dates by them. */
 
 #ifndef TIMEFD_H
 #define TIMEFD_H
@@ -55,6 +55,20 @@ uint32_t timefd_version(void);
 /* From timefd_format_nodes alone: the nodes are no description. The value is the index of the first node that is no part of
    one: a number of it means nothing, its bytes aren't all among the literals, or it takes more members than stand before it. */
 #define TIMEFD_NO_DESCRIPTION 8u
+
+/* From timefd_read_date alone: a part of the date doesn't read by the description. The value is the index of the first such part: how
+   many bytes of the date stand before it. */
+#define TIMEFD_UNREAD 9u
+
+/* From timefd_read_date alone: the whole date was read, and no moment has all that was read. The value is 0. */
+#define TIMEFD_CONTRADICTION 10u
+
+/* From timefd_read_date alone: the whole date was read, and more has to be known for a moment. The value is 0. */
+#define TIMEFD_MISSING 11u
+
+/* From timefd_read_date alone: the bytes of the date are no UTF-8, whatever the description is that is UTF-8 itself. The value
+   is 0. */
+#define TIMEFD_DATE_NOT_UTF8 12u
 
 /* What is said of a text. No other status comes than the first five above, and from timefd_convert the last one. */
 typedef struct timefd_answer {
@@ -251,10 +265,10 @@ typedef struct timefd_read_answer {
 
 /* Says what timefd_judge says, and writes the nodes of a description to the front of the `node_room` nodes at `nodes`, and
    the bytes of its literals in turn to the front of the `literal_room` bytes at `literals`, with no 0 between or behind them.
-   If either has no room for all, or the text is not accepted, both are as they were. The answer tells how much room is
-   needed, so a program may come again with more. These are always enough: for version 3 len + 1 nodes, for versions 1 and 2
-   len nodes, and for each len bytes of literals; for strftime 7 * len nodes and 3 * len bytes. What is behind the fronts is
-   as it was.
+   If either has no room for all, what both hold then means nothing. The answer tells how much room is needed, so a program
+   may come again with more. These are always enough: for version 3 len + 1 nodes, for versions 1 and 2 len nodes, and for
+   each len bytes of literals; for strftime 7 * len nodes and 3 * len bytes. What is behind the fronts is as it was. If the
+   text is not accepted, and memory doesn't run out, both are as they were.
 
    Each node stands behind those of its members. In version 3 the last node is the whole description: of one part that part,
    else a compound, and that of the empty text has no members. The members of the node with the index i are found from the
@@ -334,6 +348,71 @@ timefd_format_answer timefd_format(uint32_t kind, const uint8_t *text, size_t le
 timefd_format_answer timefd_format_nodes(const timefd_node *nodes, size_t node_count, const uint8_t *literals,
                                          size_t literal_count, const timefd_moment *moment, uint8_t *buffer, size_t room);
 
+/* Why a part of a date doesn't read: the date goes on with nothing that the component reads; the component was read before, and
+   reads another value here; the date doesn't go on with the literal text of the description; the description has been read, and
+   the date goes on. */
+#define TIMEFD_READS_NOTHING 1u
+#define TIMEFD_READS_ANOTHER_VALUE 2u
+#define TIMEFD_ANOTHER_TEXT 3u
+#define TIMEFD_TEXT_FOLLOWS 4u
+
+/* What can be read of a moment. Several components read the same part, and of a year its century and its last two digits are parts
+   of their own. */
+#define TIMEFD_PART_DAY 1u
+#define TIMEFD_PART_MONTH 2u
+#define TIMEFD_PART_ORDINAL 3u
+#define TIMEFD_PART_WEEKDAY 4u
+#define TIMEFD_PART_ISO_WEEK 5u
+#define TIMEFD_PART_SUNDAY_WEEK 6u
+#define TIMEFD_PART_MONDAY_WEEK 7u
+#define TIMEFD_PART_YEAR_LAST_TWO 8u
+#define TIMEFD_PART_CENTURY 9u
+#define TIMEFD_PART_YEAR 10u
+#define TIMEFD_PART_ISO_YEAR_LAST_TWO 11u
+#define TIMEFD_PART_ISO_CENTURY 12u
+#define TIMEFD_PART_ISO_YEAR 13u
+#define TIMEFD_PART_HOUR 14u
+#define TIMEFD_PART_HOUR_12 15u
+#define TIMEFD_PART_PERIOD 16u
+#define TIMEFD_PART_MINUTE 17u
+#define TIMEFD_PART_SECOND 18u
+#define TIMEFD_PART_SUBSECOND 19u
+#define TIMEFD_PART_OFFSET_HOUR 20u
+#define TIMEFD_PART_OFFSET_MINUTE 21u
+#define TIMEFD_PART_OFFSET_SECOND 22u
+#define TIMEFD_PART_UNIX_SECOND 23u
+#define TIMEFD_PART_UNIX_MILLISECOND 24u
+#define TIMEFD_PART_UNIX_MICROSECOND 25u
+#define TIMEFD_PART_UNIX_NANOSECOND 26u
+
+/* What is said of a date that is read. */
+typedef struct timefd_date_answer {
+    uint32_t status;
+    uint32_t reason;      /* of TIMEFD_UNREAD why, or else 0 */
+    uint32_t component;   /* of TIMEFD_UNREAD the component that doesn't read, by its number in nodes; 0 where it is a literal or
+                             the description's end, and of any other status */
+    uint32_t part;        /* of TIMEFD_MISSING a part that was not read, of TIMEFD_CONTRADICTION one that disagrees with others, or
+                             else 0 */
+    size_t value;         /* of TIMEFD_REFUSED the index of the description's fault, of TIMEFD_UNREAD an index in the date, or
+                             else 0 */
+    timefd_moment moment; /* what was read; of any other status than TIMEFD_ACCEPTED nothing is known. The fields of what isn't
+                             known are 0. */
+} timefd_date_answer;
+
+/* Reads the `date_len` bytes at `date` by the description, the `len` bytes at `text` in the language `kind`. All of the date is read,
+   unless an `end` drops what follows. Each component takes as much as it can, so that two numbers without a width want something
+   between them; a name is read in any case where the description says so. An `optional` is skipped where its member doesn't read,
+   and of the members of a `first` the first one that reads is taken.
+
+   A date, a time of day or an offset is known where something of it was read; after a Unix timestamp all three are. Where what
+   was read tells a part twice, as a weekday beside a date, both agree, else the status is TIMEFD_CONTRADICTION. A description
+   with a fault is refused for it, whatever the date is that is UTF-8, and timefd_diagnose tells the fault whole. TIMEFD_NO_MEMORY
+   may come of a description in any language.
+
+   It takes 15 KiB of stack for each level that a description of version 3 is nested, so that it wants 2 MiB where one is nested
+   127 deep; one that is nested five deep keeps within the 112 KiB. Both texts are as that of timefd_judge, and may overlap. */
+timefd_date_answer timefd_read_date(uint32_t kind, const uint8_t *text, size_t len, const uint8_t *date, size_t date_len);
+
 /* Where each field stands, as the library and this compiler have to agree on it. */
 #ifdef __cplusplus
 #define TIMEFD_IS(what) static_assert(what, #what)
@@ -402,6 +481,14 @@ TIMEFD_FIELD(timefd_format_answer, component, 8, 4);
 TIMEFD_FIELD(timefd_format_answer, value, 16, 8);
 TIMEFD_FIELD(timefd_format_answer, written, 24, 8);
 TIMEFD_IS(sizeof(timefd_format_answer) == 32);
+
+TIMEFD_FIELD(timefd_date_answer, status, 0, 4);
+TIMEFD_FIELD(timefd_date_answer, reason, 4, 4);
+TIMEFD_FIELD(timefd_date_answer, component, 8, 4);
+TIMEFD_FIELD(timefd_date_answer, part, 12, 4);
+TIMEFD_FIELD(timefd_date_answer, value, 16, 8);
+TIMEFD_FIELD(timefd_date_answer, moment, 24, 24);
+TIMEFD_IS(sizeof(timefd_date_answer) == 48);
 
 #undef TIMEFD_FIELD
 #undef TIMEFD_IS

@@ -148,6 +148,21 @@ timefd_format_answer format_nodes(uint32_t kind, const struct text *text,
     return answer;
 }
 
+timefd_date_answer read_date(uint32_t kind, const struct text *text, const struct text *date) {
+    uint8_t *bytes = lend(kind, text);
+    uint8_t *date_bytes = __real_malloc(date->len + (date->len == 0));
+    if (date_bytes == NULL) {
+        abort();
+    }
+    memcpy(date_bytes, date->bytes, date->len);
+    timefd_date_answer answer = timefd_read_date(kind, bytes, text->len, date_bytes, date->len);
+    expect(memcmp(date_bytes, date->bytes, date->len) == 0, kind, text,
+           "that the date is not written to");
+    __real_free(date_bytes);
+    take_back(kind, text, bytes);
+    return answer;
+}
+
 timefd_read_answer read_nodes(uint32_t kind, const struct text *text, struct node_buffers *buffers,
                               size_t node_room, size_t literal_room) {
     uint8_t *bytes = lend(kind, text);
@@ -157,8 +172,10 @@ timefd_read_answer read_nodes(uint32_t kind, const struct text *text, struct nod
     timefd_read_answer answer = timefd_read(kind, bytes, text->len, buffers->nodes + 1, node_room,
                                             buffers->literals + GUARD, literal_room);
     take_back(kind, text, bytes);
-    size_t nodes = answer.written ? answer.nodes : 0;
-    size_t literals = answer.written ? answer.literals : 0;
+    /* What buffers hold that are too short for an accepted text is not told. */
+    bool is_short = answer.status == TIMEFD_ACCEPTED && !answer.written;
+    size_t nodes = is_short ? node_room : answer.written ? answer.nodes : 0;
+    size_t literals = is_short ? literal_room : answer.written ? answer.literals : 0;
     const uint8_t *filled = (const uint8_t *)buffers->nodes;
     size_t end = (1 + nodes) * sizeof(timefd_node);
     bool is_kept = nodes <= node_room && literals <= literal_room &&

@@ -95,6 +95,7 @@ timefd_answer check_text(uint32_t kind, const struct text *text) {
     check_sentence(kind, text, answer);
     check_nodes(kind, text, answer);
     check_format(kind, text, answer);
+    check_date(kind, text, answer);
     check_modern(kind, text, answer);
     expect(is_same(judge(kind, text), answer), kind, text, "the same answer from a second call");
     return answer;

@@ -90,16 +90,18 @@ timefd_format_answer format(uint32_t kind, const struct text *text, const timefd
 timefd_format_answer format_nodes(uint32_t kind, const struct text *text,
                                   const struct node_buffers *buffers, timefd_read_answer read,
                                   const timefd_moment *moment, struct buffer *buffer, size_t room);
+timefd_date_answer read_date(uint32_t kind, const struct text *text, const struct text *date);
 timefd_read_answer read_nodes(uint32_t kind, const struct text *text, struct node_buffers *buffers,
                               size_t node_room, size_t literal_room);
 
-/* checks.c, diagnoses.c, nodes.c, formats.c, modern.c, pairs.c and versions.c: what holds of one text, of
-   its fault, of its nodes, of what it writes, of its text of version 3, of two texts, and of what becomes
-   of a text that is changed. */
+/* checks.c, diagnoses.c, nodes.c, formats.c, dates.c, modern.c, pairs.c and versions.c: what holds of one
+   text, of its fault, of its nodes, of what it writes, of a date that it reads, of its text of version 3,
+   of two texts, and of what becomes of a text that is changed. */
 timefd_answer check_text(uint32_t kind, const struct text *text);
 void check_diagnosis(uint32_t kind, const struct text *text, timefd_answer answer);
 void check_nodes(uint32_t kind, const struct text *text, timefd_answer judged);
 void check_format(uint32_t kind, const struct text *text, timefd_answer judged);
+void check_date(uint32_t kind, const struct text *text, timefd_answer judged);
 timefd_format_answer show(uint32_t kind, const struct text *text, struct buffer *buffer);
 void check_modern(uint32_t kind, const struct text *text, timefd_answer judged);
 void check_pair(uint32_t kind, const struct text *first, const struct text *second);

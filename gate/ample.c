@@ -17,8 +17,9 @@ void *__wrap_malloc(size_t size);
 void *__wrap_realloc(void *block, size_t size);
 void __wrap_free(void *block);
 
-/* A block's length in front of it; the first room of a list; the bytes of an item and of a node; the nodes of a piece. */
-enum { FRONT = 16, FIRST_ROOM = 16, ITEM = 24, NODE = 32, PIECE_NODES = 14 };
+/* A block's length in front of it; the first room of a list, of what items write, and of any text; the bytes of an item and of a
+   node; the nodes of a piece. */
+enum { FRONT = 16, FIRST_ROOM = 16, FIRST_TEXT = 64, FIRST_BYTES = 8, ITEM = 24, NODE = 32, PIECE_NODES = 14 };
 
 static size_t asked; /* how many blocks a call asked for */
 static size_t held;  /* how many bytes it holds, and how many it held at most */
@@ -164,8 +165,37 @@ static void try_read(const struct text *text) {
     begin();
     read = timefd_read(text->kind, text->bytes, text->len, NULL, 0, NULL, 0);
     expect("timefd_read without room", text->name, read.status, list.blocks, list.most);
+    begin();
+    timefd_date_answer date = timefd_read_date(text->kind, text->bytes, text->len, NULL, 0);
+    uint32_t status = date.status == TIMEFD_UNREAD && date.value == 0 ? TIMEFD_ACCEPTED : date.status;
+    expect("timefd_read_date", text->name, status, list.blocks, list.most);
+    if (text->parts == 1) {
+        /* One literal, which is read by itself. */
+        begin();
+        status = timefd_read_date(text->kind, text->bytes, text->len, text->bytes, text->len).status;
+        expect("timefd_read_date of a long text", text->name, status, list.blocks, list.most);
+    }
     __real_free(nodes);
     __real_free(literals);
+}
+
+/* What is known of the moment that is written. */
+static const timefd_moment MOMENT = {
+    .known = TIMEFD_HAS_DATE | TIMEFD_HAS_TIME, .year = 2026, .month = 11, .day = 23, .hour = 5, .minute = 36, .second = 7};
+
+/* What is written is written in a buffer first, which lies beside the list: in version 3 one of the reserved bytes, else one that
+   is given back and doubled until there is room. Then it gets a block of its own. */
+static void try_format(const struct text *text) {
+    struct taken list = list_of(text);
+    size_t room = timefd_read(text->kind, text->bytes, text->len, NULL, 0, NULL, 0).bytes;
+    uint8_t *bytes = __real_malloc(room);
+    begin();
+    timefd_format_answer answer = timefd_format(text->kind, text->bytes, text->len, &MOMENT, bytes, room);
+    struct taken first = text->kind == TIMEFD_VERSION_3 ? doubled(room, room) : doubled(FIRST_TEXT, answer.value);
+    uint32_t status = answer.written == answer.value ? answer.status : TIMEFD_NO_MEMORY;
+    expect("timefd_format", text->name, status, list.blocks + first.blocks + 1,
+           greater(list.most, list.room + first.room + answer.value));
+    __real_free(bytes);
 }
 
 typedef timefd_answer conversion(const uint8_t *text, size_t len, uint8_t *buffer, size_t room);
@@ -185,10 +215,31 @@ static void try_conversion(const char *call, conversion *convert, const struct t
     __real_free(buffer);
 }
 
+/* The answer in version 3, in its normal form. Version 1 goes over version 2, whose text lies beside all else, and which has here
+   at most twice as many items. */
+static void try_convert(const struct text *text) {
+    bool is_first = text->kind == TIMEFD_VERSION_1;
+    struct text read = *text;
+    read.parts = is_first ? 2 * text->parts : text->parts;
+    struct taken between = is_first ? doubled(text->len, 2 * text->len) : NOTHING;
+    struct taken list = list_of(&read);
+    size_t room = text->kind == TIMEFD_STRFTIME ? 64 * text->len : 8 * text->len;
+    uint8_t *buffer = __real_malloc(room);
+    begin();
+    timefd_answer answer = timefd_convert(text->kind, TIMEFD_VERSION_3, text->bytes, text->len, buffer, room);
+    struct taken written = doubled(FIRST_BYTES, answer.value);
+    uint32_t status = answer.written == answer.value ? answer.status : TIMEFD_NO_MEMORY;
+    expect("timefd_convert", text->name, status, between.blocks + list.blocks + written.blocks,
+           greater(greater(between.most, between.room + list.most), between.room + list.room + written.most));
+    __real_free(buffer);
+}
+
 /* Each call of a language over a text. */
 static void try_all(const struct text *text) {
     try_counts(text);
     try_read(text);
+    try_format(text);
+    try_convert(text);
     if (text->kind == TIMEFD_VERSION_1) {
         try_conversion("timefd_v1_to_v2", timefd_v1_to_v2, text, NOTHING);
     }
@@ -205,6 +256,7 @@ static void try_null(void) {
         expect("timefd_check", "null", timefd_check(kind, NULL, 0, NULL, 0).status, 0, 0);
         expect("timefd_diagnose", "null", timefd_diagnose(kind, NULL, 0, NULL, 0, NULL, 0).answer.status, 0, 0);
         expect("timefd_read", "null", timefd_read(kind, NULL, 0, NULL, 0, NULL, 0).status, 0, 0);
+        expect("timefd_read_date", "null", timefd_read_date(kind, NULL, 0, NULL, 0).status, 0, 0);
         begin();
         const uint8_t *day = (const uint8_t *)(kind == TIMEFD_STRFTIME ? "%d" : "[day]");
         size_t len = kind == TIMEFD_STRFTIME ? 2 : 5;

@@ -51,12 +51,16 @@ struct outcome {
     timefd_read_answer read;
     timefd_format_answer format;
     timefd_diagnosis diagnosis;
+    timefd_date_answer date;
     uint8_t buffer[ROOM];
     uint8_t word[ROOM];
     timefd_node nodes[ROOM];
 };
 
-enum call { CHECK_OR_CONVERT, READ, FORMAT, DIAGNOSE };
+enum call { CHECK_OR_CONVERT, READ, FORMAT, DIAGNOSE, READ_DATE };
+
+/* What is read by each text: some read it, and of others a part of it doesn't read. */
+static const char DATE[] = "2026-11-23 at 05:06:07";
 
 /* A date and a time of day, of which a component of an offset shows nothing. */
 static const timefd_moment MOMENT = {
@@ -106,6 +110,7 @@ static const struct sample SAMPLES[] = {
     {TIMEFD_VERSION_2, "[day] [offset_hour]"},
     {TIMEFD_VERSION_3, "[first [[offset_hour]] [x]] [day]"},
     {TIMEFD_VERSION_3, "[first [a] [[mnth of a name that is longer than others]]]"},
+    {TIMEFD_VERSION_3, "[mnthmnthmnthmnthmnthmnthmnthmnthmnthmnthmnthmnthmnthmnthmnthmnthmnth]"},
     {TIMEFD_VERSION_1, "[day][year] a [hour] b [minute]: [mnth]"},
     {TIMEFD_VERSION_2, "[day][year] a [hour] \\b"},
     {TIMEFD_VERSION_3, "[first [a] [b]]x[foo]"},
@@ -154,6 +159,11 @@ static struct outcome outcome_of(enum call call, const struct sample *sample, si
         refused = 0;
         return outcome;
     }
+    if (call == READ_DATE) {
+        outcome.date = timefd_read_date(sample->kind, text, len, (const uint8_t *)DATE, strlen(DATE));
+        refused = 0;
+        return outcome;
+    }
     if (call == DIAGNOSE) {
         outcome.diagnosis = timefd_diagnose(sample->kind, text, len, outcome.buffer, ROOM, outcome.word, ROOM);
         refused = 0;
@@ -173,9 +183,20 @@ static bool is_same_fault(const timefd_fault *a, const timefd_fault *b) {
            a->nearest_len == b->nearest_len && a->nearest_written == b->nearest_written;
 }
 
+static bool is_same_moment(const timefd_moment *a, const timefd_moment *b) {
+    return a->known == b->known && a->year == b->year && a->nanosecond == b->nanosecond &&
+           a->offset_seconds == b->offset_seconds && a->month == b->month && a->day == b->day && a->hour == b->hour &&
+           a->minute == b->minute && a->second == b->second;
+}
+
+static bool is_same_date(const timefd_date_answer *a, const timefd_date_answer *b) {
+    return a->status == b->status && a->reason == b->reason && a->component == b->component && a->part == b->part &&
+           a->value == b->value && is_same_moment(&a->moment, &b->moment);
+}
+
 static bool is_same(const struct outcome *a, const struct outcome *b) {
     return is_same_answer(&a->answer, &b->answer) && is_same_answer(&a->diagnosis.answer, &b->diagnosis.answer) &&
-           is_same_fault(&a->diagnosis.fault, &b->diagnosis.fault) &&
+           is_same_fault(&a->diagnosis.fault, &b->diagnosis.fault) && is_same_date(&a->date, &b->date) &&
            memcmp(a->word, b->word, ROOM) == 0 && a->read.status == b->read.status && a->read.value == b->read.value && a->read.nodes == b->read.nodes &&
            a->read.literals == b->read.literals && a->read.written == b->read.written && a->read.bytes == b->read.bytes &&
            a->format.status == b->format.status && a->format.reason == b->format.reason &&
@@ -197,6 +218,8 @@ static struct outcome out_of_memory(enum call call) {
         out.read.status = TIMEFD_NO_MEMORY;
     } else if (call == FORMAT) {
         out.format.status = TIMEFD_NO_MEMORY;
+    } else if (call == READ_DATE) {
+        out.date.status = TIMEFD_NO_MEMORY;
     } else {
         out.answer.status = TIMEFD_NO_MEMORY;
     }
@@ -229,6 +252,7 @@ static bool holds(enum call call, const struct sample *sample, size_t *count) {
     struct outcome out = out_of_memory(call);
     uint32_t status = call == READ     ? ample.read.status
                       : call == FORMAT ? ample.format.status
+                      : call == READ_DATE ? ample.date.status
                       : call == DIAGNOSE ? ample.diagnosis.answer.status
                                          : ample.answer.status;
     bool may_run_out = status != TIMEFD_REFUSED;
@@ -386,7 +410,7 @@ int main(void) {
     for (size_t i = 0; i < sizeof SAMPLES / sizeof SAMPLES[0]; i++) {
         bool is_read = SAMPLES[i].kind >= LIFT ||
                        (holds(READ, &SAMPLES[i], &count) && holds(FORMAT, &SAMPLES[i], &count) &&
-                        holds(DIAGNOSE, &SAMPLES[i], &count) && writes_alike(&SAMPLES[i]));
+                        holds(DIAGNOSE, &SAMPLES[i], &count) && holds(READ_DATE, &SAMPLES[i], &count) && writes_alike(&SAMPLES[i]));
         if (!holds(CHECK_OR_CONVERT, &SAMPLES[i], &count) || !is_read || !takes_little(&SAMPLES[i])) {
             failed++;
             fprintf(stderr, "gate/library: %" PRIu32 ": %s\n", SAMPLES[i].kind, SAMPLES[i].text);

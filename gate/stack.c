@@ -1,5 +1,5 @@
 /* Calls the library on a thread with a stack of 128 KiB, a common default, over texts nested as deep as they may be, and deeper;
-   and timefd_convert, which wants more, on one of 208 KiB. A stack that is too small ends the process by a signal. */
+   and timefd_convert, which wants more, on one of 208 KiB, and timefd_read_date on one of 2 MiB. A stack that is too small ends the process by a signal. */
 #include "../examples/timefd.h"
 
 #include <pthread.h>
@@ -7,7 +7,7 @@
 #include <stdlib.h>
 #include <string.h>
 
-enum { STACK = 128 * 1024, CONVERTING = 208 * 1024, DEEPEST = 127, DEEPER = 20000, BUFFER = 256 };
+enum { STACK = 128 * 1024, CONVERTING = 208 * 1024, READING = 2048 * 1024, DEEPEST = 127, DEEPER = 20000, BUFFER = 256 };
 
 typedef struct text {
     char *bytes;
@@ -15,6 +15,22 @@ typedef struct text {
 } text;
 
 static int failed;
+
+/* So many descriptions of a literal and an alternative, each inside the one before, around a day; reading takes the most stack
+   by it. */
+static text alternatives(size_t depth) {
+    static const char inside[] = "[day]";
+    text made = {malloc(depth * 11 + sizeof inside), 0};
+    if (made.bytes == NULL)
+        exit(2);
+    for (size_t at = 0; at < depth; at++, made.len += 9)
+        memcpy(made.bytes + made.len, "[first [a", 9);
+    memcpy(made.bytes + made.len, inside, sizeof inside - 1);
+    made.len += sizeof inside - 1;
+    for (size_t at = 0; at < depth; at++, made.len += 2)
+        memcpy(made.bytes + made.len, "]]", 2);
+    return made;
+}
 
 /* So many nested descriptions around a component with a modifier; the closing brackets only where asked. */
 static text nested(size_t depth, int closed) {
@@ -84,6 +100,19 @@ static void convert_each(text given, uint32_t in_three) {
     free(given.bytes);
 }
 
+/* A date of as many letters as a description is nested deep, and a day, which alone is no date. */
+static void read_each(text given, uint32_t in_three) {
+    uint8_t date[DEEPEST + 2];
+    memset(date, 'a', DEEPEST);
+    memcpy(date + DEEPEST, "23", 2);
+    for (uint32_t kind = TIMEFD_VERSION_1; kind <= TIMEFD_VERSION_3; kind++) {
+        uint32_t expected = kind == TIMEFD_VERSION_3 ? in_three : TIMEFD_REFUSED;
+        timefd_date_answer answer = timefd_read_date(kind, (const uint8_t *)given.bytes, given.len, date, sizeof date);
+        expect("read_date", kind, expected, (timefd_answer){.status = answer.status});
+    }
+    free(given.bytes);
+}
+
 static void *run(void *unused) {
     call_each(nested(DEEPEST, 1), TIMEFD_ACCEPTED);
     call_each(nested(DEEPEST, 0), TIMEFD_REFUSED);
@@ -98,6 +127,14 @@ static void *run_conversions(void *unused) {
     return unused;
 }
 
+static void *run_readings(void *unused) {
+    read_each(alternatives(DEEPEST), TIMEFD_MISSING);
+    read_each(nested(DEEPEST, 1), TIMEFD_UNREAD);
+    read_each(nested(DEEPEST, 0), TIMEFD_REFUSED);
+    read_each(alternatives(DEEPER), TIMEFD_REFUSED);
+    return unused;
+}
+
 /* Whether the function could be run to its end on a thread with so much stack. */
 static int runs(void *(*function)(void *), size_t stack) {
     pthread_attr_t attributes;
@@ -107,10 +144,11 @@ static int runs(void *(*function)(void *), size_t stack) {
 }
 
 int main(void) {
-    if (!runs(run, STACK) || !runs(run_conversions, CONVERTING))
+    if (!runs(run, STACK) || !runs(run_conversions, CONVERTING) || !runs(run_readings, READING))
         return 2;
     if (!failed)
-        printf("stack: texts nested %d deep and deeper were read on a stack of %d bytes, and converted on one of %d\n", DEEPEST,
-               STACK, CONVERTING);
+        printf("stack: texts nested %d deep and deeper were read on a stack of %d bytes, converted on one of %d, and dates read by them "
+               "on one of %d\n",
+               DEEPEST, STACK, CONVERTING, READING);
     return failed;
 }

@@ -28,10 +28,12 @@ compare() {
 }
 
 compare first expected_first.txt
+compare write expected_write.txt
 compare check expected.txt
 compare convert expected_convert.txt
 compare nodes expected_nodes.txt
 compare lint expected_lint.txt formats.txt
+compare redate expected_redate.txt redates.txt
 
 # The script that computed what is expected has no limit; the library writes no timestamp of an instant in the year 1,000,000 of UTC.
 sed 's/^"31494784874398 .*/the instant is in no year that is shown/' expected_format.txt > "$out/expected_format.txt"

@@ -29,6 +29,8 @@ class Numbers(unittest.TestCase):
         ours = {"VERSION": library.VERSION, "FALSE": 1, "TRUE": 2, "ONE_OR_MORE": 10}
         for name in ("ACCEPTED", "REFUSED", "NOT_UTF8", "NO_MEMORY", "UNKNOWN_KIND", "UNSHOWN", "OUT_OF_RANGE"):
             ours[name] = getattr(library, name)
+        for name in ("NO_CONVERSION", "UNREAD", "CONTRADICTION", "MISSING"):
+            ours[name] = getattr(library, name)
         for name in ("HAS_DATE", "HAS_TIME", "HAS_OFFSET", "LITERAL", "COMPONENT", "COMPOUND", "OPTIONAL", "FIRST"):
             ours[name] = getattr(library, name)
         ours |= {f"PADDING_{it.name}": it for it in Padding}
@@ -45,6 +47,12 @@ class Numbers(unittest.TestCase):
         numbers = defined(HEADER.read_text()).items()
         self.assertEqual(faults, {name: number for name, number in numbers if name.startswith("FAULT_")})
 
+    def test_the_reasons_and_parts_are_all_of_the_header(self):
+        begin, end = "/* Why a part of a date", "/* What is said of a date that is read."
+        numbers = defined(HEADER.read_text().split(begin)[1].split(end)[0])
+        ours = {it.name: it.value for it in timefd.Unread} | {f"PART_{it.name}": it.value for it in timefd.Part}
+        self.assertEqual(ours, numbers)
+
     def test_the_fields_stand_where_the_header_has_them(self):
         rows = re.findall(r"^TIMEFD_FIELD\((\w+), (\w+), (\d+), (\d+)\);", HEADER.read_text(), re.M)
         self.assertGreater(len(rows), 15)
@@ -56,6 +64,7 @@ class Numbers(unittest.TestCase):
             "timefd_read_answer": library.ReadAnswer,
             "timefd_moment": library.RawMoment,
             "timefd_format_answer": library.FormatAnswer,
+            "timefd_date_answer": library.DateAnswer,
         }
         for struct, field, start, size in rows:
             placed = getattr(structs[struct], field)
@@ -81,6 +90,52 @@ class Formats(unittest.TestCase):
 
     def test_a_long_text(self):
         self.assertEqual(timefd.format("x" * 500, datetime.time()), "x" * 500)
+
+
+class Dates(unittest.TestCase):
+    def test_values(self):
+        west = datetime.timezone(-datetime.timedelta(minutes=30))
+        rows = [
+            ("[year]-[month]-[day]", "2026-11-23", datetime.date(2026, 11, 23)),
+            ("[hour]:[minute]:[second].[subsecond]", "05:36:07.0123456", datetime.time(5, 36, 7, 12345)),
+            ("[hour]:[minute] [offset_hour]:[offset_minute]", "05:00 -00:30", datetime.time(5, tzinfo=west)),
+            ("[offset_hour]:[offset_minute]", "-00:30", west),
+            ("[unix_timestamp]", "0", datetime.datetime(1970, 1, 1, tzinfo=datetime.timezone.utc)),
+            ("[year]-[ordinal] [hour]:[minute]", "2026-327 05:00", datetime.datetime(2026, 11, 23, 5)),
+        ]
+        for text, moment, value in rows:
+            self.assertEqual(timefd.read(text, moment), value)
+
+    def test_parts_that_do_not_read(self):
+        rows = [
+            ("é[month]", "é1x", timefd.Unread.READS_NOTHING, Name.MONTH_NUMERICAL, 2),
+            ("[day] [day]", "23 24", timefd.Unread.READS_ANOTHER_VALUE, Name.DAY, 3),
+            ("[day]/", "23-", timefd.Unread.ANOTHER_TEXT, None, 2),
+            ("[day]", "231", timefd.Unread.TEXT_FOLLOWS, None, 2),
+        ]
+        for text, moment, why, component, index in rows:
+            with self.assertRaises(timefd.NotRead) as caught:
+                timefd.read(text, moment)
+            error = caught.exception
+            self.assertEqual((error.why, error.component, error.index), (why, component, index))
+        self.assertEqual(str(error), "the description ends at byte index 2")
+
+    def test_no_moments(self):
+        with self.assertRaises(timefd.NoMoment) as caught:
+            timefd.read("[month]-[day]", "11-23")
+        self.assertEqual((caught.exception.part, caught.exception.is_missing), (timefd.Part.YEAR, True))
+        with self.assertRaises(timefd.NoMoment) as caught:
+            timefd.read("[weekday] [year]-[month]-[day]", "Tuesday 2026-11-23")
+        self.assertEqual(str(caught.exception), "weekday disagrees with what else was read")
+
+    def test_values_that_datetime_has_not(self):
+        for text, moment in (("", ""), ("[year]-[ordinal]", "-0001-001"), ("[year]-[ordinal] [offset_hour]", "2026-001 00")):
+            with self.assertRaises(ValueError):
+                timefd.read(text, moment)
+
+    def test_a_text_that_is_refused(self):
+        with self.assertRaises(timefd.InvalidDescription):
+            timefd.read("[mnth]", "11")
 
 
 class Nodes(unittest.TestCase):

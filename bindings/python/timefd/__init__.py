@@ -14,14 +14,16 @@
     '\\\\[a\\\\]'
     >>> timefd.format("[day].[month].[year]", datetime.date(2026, 11, 23))
     '23.11.2026'
+    >>> timefd.read("[day].[month].[year]", "23.11.2026")
+    datetime.date(2026, 11, 23)
 
 The reading is done by a library whose every function is proved; this module is only tested. Its calls may come from any thread.
 """
 
 from timefd.calls import check, convert, parse
-from timefd.errors import FaultKind, InvalidDescription, NothingShown
+from timefd.errors import FaultKind, InvalidDescription, NoMoment, NotRead, NothingShown, Part, Unread
 from timefd.language import Language
-from timefd.moments import format
+from timefd.moments import format, read
 from timefd.nodes import Component, Compound, First, Literal, Name, Node, Optional, Padding, TrailingInput
 
 __all__ = [
@@ -33,13 +35,18 @@ __all__ = [
     "Language",
     "Literal",
     "Name",
+    "NoMoment",
     "Node",
+    "NotRead",
     "NothingShown",
     "Optional",
     "Padding",
+    "Part",
     "TrailingInput",
+    "Unread",
     "check",
     "convert",
     "format",
     "parse",
+    "read",
 ]

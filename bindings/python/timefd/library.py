@@ -6,6 +6,7 @@ import pathlib
 VERSION = 1000
 
 ACCEPTED, REFUSED, NOT_UTF8, NO_MEMORY, UNKNOWN_KIND, UNSHOWN, OUT_OF_RANGE, NO_CONVERSION = range(8)
+UNREAD, CONTRADICTION, MISSING = 9, 10, 11
 
 HAS_DATE, HAS_TIME, HAS_OFFSET = 1, 2, 4
 
@@ -93,6 +94,17 @@ class FormatAnswer(ctypes.Structure):
     ]
 
 
+class DateAnswer(ctypes.Structure):
+    _fields_ = [
+        ("status", ctypes.c_uint32),
+        ("reason", ctypes.c_uint32),
+        ("component", ctypes.c_uint32),
+        ("part", ctypes.c_uint32),
+        ("value", ctypes.c_size_t),
+        ("moment", RawMoment),
+    ]
+
+
 def _load() -> ctypes.CDLL:
     beside = pathlib.Path(__file__).with_name("libtimefd.so")
     library = ctypes.CDLL(str(beside) if beside.exists() else "libtimefd.so.0.1")
@@ -104,6 +116,7 @@ def _load() -> ctypes.CDLL:
         "timefd_diagnose": ([kind, text, size, buffer, size, buffer, size], Diagnosis),
         "timefd_convert": ([kind, kind, text, size, buffer, size], Answer),
         "timefd_format": ([kind, text, size, moment, buffer, size], FormatAnswer),
+        "timefd_read_date": ([kind, text, size, text, size], DateAnswer),
         "timefd_read": ([kind, text, size, nodes, size, buffer, size], ReadAnswer),
     }
     for name, (arguments, answer) in calls.items():

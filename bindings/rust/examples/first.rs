@@ -1,4 +1,4 @@
-//! What a description is made of, how many bytes a date that it shows needs, and a date.
+//! What a description is made of, how many bytes a date that it shows needs, a date, and one read back.
 
 use std::error::Error;
 
@@ -14,5 +14,8 @@ fn main() -> Result<(), Box<dyn Error>> {
     let date = Some(Date { year: 2026, month: 11, day: 23 });
     let day = Moment { date, ..Moment::default() };
     println!("{}", timefd::format(Version::Three, "[day].[month].[year]", &day)?); // 23.11.2026
+
+    let day = timefd::read(Version::Three, "[day]/[month]/[year]", "23/11/2026")?;
+    println!("{}", timefd::format(Version::Three, "[weekday]", &day)?); // Monday
     Ok(())
 }

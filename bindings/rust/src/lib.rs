@@ -30,8 +30,18 @@
 //! # Ok::<(), timefd::FormatError>(())
 //! ```
 //!
+//! [`read`] reads one:
+//!
+//! ```
+//! use timefd::{Date, Version};
+//!
+//! let day = timefd::read(Version::Three, "[day]/[month]/[year]", "23/11/2026")?;
+//! assert_eq!(day.date, Some(Date { year: 2026, month: 11, day: 23 }));
+//! # Ok::<(), timefd::ReadError>(())
+//! ```
+//!
 //! Calls may come from any thread. Reading a text that is nested as deep as it may be, 127 deep,
-//! takes some 63 KiB of stack.
+//! takes some 63 KiB of stack, and reading a date by it up to 2 MiB.
 
 #![no_std]
 
@@ -53,6 +63,7 @@ mod modifier;
 mod moment;
 mod node;
 mod parts;
+mod read;
 mod sys;
 mod tree;
 mod version;
@@ -68,5 +79,6 @@ pub use modifier::{Padding, SubsecondDigits, TrailingInput};
 pub use moment::{Date, Moment, Time};
 pub use node::{Item, Members, Node, Nodes};
 pub use parts::{Part, Parts};
+pub use read::{MomentPart, ReadError, Unread, read, read_strftime};
 pub use version::{Language, UnknownVersion, Version};
 pub use write::{Shown, WriteError};

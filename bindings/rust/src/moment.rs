@@ -1,4 +1,4 @@
-//! What is known of a value that is written.
+//! What is known of a value that is written or read.
 
 use crate::sys::RawMoment;
 
@@ -67,5 +67,22 @@ impl Moment {
             raw.offset_seconds = seconds;
         }
         raw
+    }
+
+    /// What the library tells as known.
+    pub(crate) fn of_raw(raw: &RawMoment) -> Self {
+        let is_known = |bit| raw.known & bit != 0;
+        let date = Date { year: raw.year, month: raw.month, day: raw.day };
+        let time = Time {
+            hour: raw.hour,
+            minute: raw.minute,
+            second: raw.second,
+            nanosecond: raw.nanosecond,
+        };
+        Self {
+            date: is_known(RawMoment::HAS_DATE).then_some(date),
+            time: is_known(RawMoment::HAS_TIME).then_some(time),
+            offset_seconds: is_known(RawMoment::HAS_OFFSET).then_some(raw.offset_seconds),
+        }
     }
 }

@@ -22,6 +22,9 @@ pub(crate) const NO_MEMORY: u32 = 3;
 pub(crate) const UNSHOWN: u32 = 5;
 pub(crate) const OUT_OF_RANGE: u32 = 6;
 pub(crate) const NO_CONVERSION: u32 = 7;
+pub(crate) const UNREAD: u32 = 9;
+pub(crate) const CONTRADICTION: u32 = 10;
+pub(crate) const MISSING: u32 = 11;
 
 pub(crate) const LITERAL: u32 = 1;
 pub(crate) const COMPONENT: u32 = 2;
@@ -119,6 +122,17 @@ pub(crate) struct FormatAnswer {
     pub(crate) written: usize,
 }
 
+/// `timefd_date_answer` of the header.
+#[repr(C)]
+pub(crate) struct DateAnswer {
+    pub(crate) status: u32,
+    pub(crate) reason: u32,
+    pub(crate) component: u32,
+    pub(crate) part: u32,
+    pub(crate) value: usize,
+    pub(crate) moment: RawMoment,
+}
+
 /// Where each field stands, as the header has it.
 const _: () = {
     use core::mem::{offset_of, size_of};
@@ -150,6 +164,10 @@ const _: () = {
     assert!(offset_of!(RawMoment, second) == 20 && offset_of!(FormatAnswer, status) == 0);
     assert!(offset_of!(FormatAnswer, reason) == 4 && offset_of!(FormatAnswer, component) == 8);
     assert!(offset_of!(FormatAnswer, value) == 16 && offset_of!(FormatAnswer, written) == 24);
+    assert!(size_of::<DateAnswer>() == 48 && offset_of!(DateAnswer, status) == 0);
+    assert!(offset_of!(DateAnswer, reason) == 4 && offset_of!(DateAnswer, component) == 8);
+    assert!(offset_of!(DateAnswer, part) == 12 && offset_of!(DateAnswer, value) == 16);
+    assert!(offset_of!(DateAnswer, moment) == 24);
 };
 
 unsafe extern "C" {
@@ -204,6 +222,13 @@ unsafe extern "C" {
         buffer: *mut u8,
         room: usize,
     ) -> FormatAnswer;
+    fn timefd_read_date(
+        kind: u32,
+        text: *const u8,
+        len: usize,
+        date: *const u8,
+        date_len: usize,
+    ) -> DateAnswer;
 }
 
 /// Stops a program that was linked with another library.
@@ -302,6 +327,13 @@ pub(crate) fn format_nodes(
             buffer.len(),
         )
     }
+}
+
+/// What a date shows by the text of a description.
+pub(crate) fn read_date(kind: u32, text: &str, date: &str) -> DateAnswer {
+    expect_version();
+    // SAFETY: the pointers and the lengths are those of two slices that are borrowed for the call.
+    unsafe { timefd_read_date(kind, text.as_ptr(), text.len(), date.as_ptr(), date.len()) }
 }
 
 #[cfg(test)]

@@ -10,18 +10,20 @@ use std::string::String;
 use std::vec::Vec;
 
 use super::{ACCEPTED, COMPONENT, COMPOUND, FIRST, LITERAL, NO_MEMORY, OPTIONAL, REFUSED};
+use super::{CONTRADICTION, MISSING, UNREAD};
 use super::{NO_CONVERSION, OUT_OF_RANGE, RawMoment, RawNode, UNSHOWN, VERSION};
 use crate::decode;
 use crate::fault::FaultKind;
 use crate::format::{Lack, Number};
 use crate::modifier::{Padding, SubsecondDigits, TrailingInput, boolean};
+use crate::read::{MomentPart, Unread};
 use crate::version::{Language, Version};
 
 const HEADER: &str = concat!(env!("CARGO_MANIFEST_DIR"), "/../../examples/timefd.h");
 
 /// The statuses that no call of this crate answers: its texts are UTF-8, its languages known, and its
 /// nodes those of a description.
-const UNUSED: [&str; 3] = ["NOT_UTF8", "UNKNOWN_KIND", "NO_DESCRIPTION"];
+const UNUSED: [&str; 4] = ["NOT_UTF8", "UNKNOWN_KIND", "NO_DESCRIPTION", "DATE_NOT_UTF8"];
 
 /// Each `#define TIMEFD_NAME 12u` of the header, by its name.
 fn defined(header: &str) -> BTreeMap<String, u32> {
@@ -72,6 +74,13 @@ fn reason_names(number: u32) -> Vec<String> {
     [lack, range].into_iter().flatten().collect()
 }
 
+/// What a number of an answer of `timefd_read_date` is taken for.
+fn date_names(number: u32) -> Vec<String> {
+    let why = Unread::from_number(number, 1).map(header_name);
+    let part = MomentPart::from_number(number).map(|it| format!("PART_{}", header_name(it)));
+    [why, part].into_iter().flatten().collect()
+}
+
 /// The fault that a number of the header is taken for.
 fn fault_name(number: u32) -> Option<String> {
     FaultKind::from_number(number).map(|it| format!("FAULT_{}", header_name(it)))
@@ -91,6 +100,9 @@ fn taken() -> BTreeMap<String, u32> {
         ("UNSHOWN", UNSHOWN),
         ("OUT_OF_RANGE", OUT_OF_RANGE),
         ("NO_CONVERSION", NO_CONVERSION),
+        ("UNREAD", UNREAD),
+        ("CONTRADICTION", CONTRADICTION),
+        ("MISSING", MISSING),
         ("HAS_DATE", RawMoment::HAS_DATE),
         ("HAS_TIME", RawMoment::HAS_TIME),
         ("HAS_OFFSET", RawMoment::HAS_OFFSET),
@@ -107,8 +119,11 @@ fn taken() -> BTreeMap<String, u32> {
     });
     let reasons = (0..=255)
         .flat_map(|number| reason_names(number).into_iter().map(move |name| (name, number)));
+    let dates =
+        (0..=255).flat_map(|number| date_names(number).into_iter().map(move |name| (name, number)));
     let faults = (0..=255).filter_map(|number| Some((fault_name(number)?, number)));
-    named.into_iter().chain(faults).chain(components).chain(modifiers).chain(reasons).collect()
+    let numbers = named.into_iter().chain(faults).chain(components);
+    numbers.chain(modifiers).chain(reasons).chain(dates).collect()
 }
 
 #[test]

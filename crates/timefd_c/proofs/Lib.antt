@@ -5,3 +5,4 @@ pub mod RoomLemmas
 pub mod LongestLemmas
 pub mod ReadingLemmas
 pub mod ReportLemmas
+pub mod MomentLemmas

@@ -124,8 +124,8 @@ reported language bytes ns ms a b r utf8 found spelled no_fault = record {
   longest = λ e list d. is_longest language list r.bytes (spelled list d.1).bytes;
   reserved = λ e three. three_reserved language found.0 r.bytes r.value three found.2.bytes
       found.2.value;
-  nodes_kept = λ accepted. absurd (accepted refl);
-  literals_kept = λ accepted. absurd (accepted refl);
+  nodes_kept = λ accepted memory. absurd (accepted refl);
+  literals_kept = λ accepted memory. absurd (accepted refl);
   none_counted = λ accepted. absurd (accepted refl);
 }
 
@@ -143,8 +143,8 @@ silent_reads language bytes ns a status value not_accepted is = record {
   literals_within = omega arith;
   longest = λ e. absurd (not_accepted e);
   reserved = λ e. absurd (not_accepted e);
-  nodes_kept = λ accepted. refl;
-  literals_kept = λ accepted. refl;
+  nodes_kept = λ accepted memory. refl;
+  literals_kept = λ accepted memory. refl;
   none_counted = λ accepted. (refl, refl, refl, refl);
 }
 

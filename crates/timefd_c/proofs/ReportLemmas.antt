@@ -1,5 +1,5 @@
 -- What is reported of a description.
-use Rattle.std.proofs.Common.{◌≡◌, ◌∙◌, ℕ, ◌≤◌, ◌++◌, ◌↔◌, Bool, true, false, IsTrue, IfOk, IsErr, IsOk, MatchResult, Result, Ok, Err, List, [], inl, inr, map, length, drop, refl, sym, ap, subst, arith}
+use Rattle.std.proofs.Common.{◌≡◌, ◌∙◌, ℕ, ◌≤◌, ◌↔◌, Bool, IsTrue, IfOk, IsErr, IsOk, MatchResult, Result, Ok, Err, List, [], inl, inr, map, length, refl, sym, ap, subst, arith}
 use Rattle.std.proofs.lemmas.List.{length-map}
 use Rattle.std.specs.Result.{IfErr}
 use Rattle.std.specs.declared.alloc.Global.{Global}
@@ -20,9 +20,11 @@ use Rattle.timefd_parse.specs.declared.language.Language.TheVariants.{Version, S
 use Rattle.timefd_parse.specs.declared.parsing.BorrowedOutput.TheVariants.{Items, Description}
 use Rattle.timefd_parse.specs.Answers.{IsOutput}
 use Rattle.timefd_c_nodes.specs.declared.node.Node.{Node}
-use Rattle.timefd_c_nodes.specs.declared.size.Size.{Size}
-use Rattle.timefd_c_nodes.specs.Encoding.{nodes_from, literals_of}
-use Rattle.timefd_c_nodes.specs.Sizes.{IsSize, IsTooLarge}
+use Rattle.timefd_c_nodes.specs.declared.place.Place.{Place}
+use Rattle.timefd_c_nodes.specs.declared.place.TheConstants.{START}
+use Rattle.timefd_c_nodes.specs.Encoding.{literals_of}
+use Rattle.timefd_c_nodes.specs.Writing.{IsPast, WritesWithin}
+use Rattle.timefd_c_nodes.proofs.WriteLemmas.{fronts}
 use Rattle.timefd_language.specs.Grammar.{Spells, nesting_limit, no_pieces}
 use Rattle.timefd_language.specs.Strftime.{SpellsStrftime, no_directives}
 use Rattle.timefd_parse.proofs.ParseLemmas.{one}
@@ -30,61 +32,47 @@ use Rattle.timefd_strftime.proofs.DirectiveLemmas.{one as strftime_one}
 use Rattle.timefd_c.specs.declared.read.Report.{Report}
 use Rattle.timefd_c.specs.Reports.{Reports, IsReport}
 
-abbrev pub report : ℕ → ℕ → Size → Bool → Report
-report value bytes size written = record {
+abbrev pub report : ℕ → ℕ → Place → Bool → Report
+report value bytes end written = record {
   value = value;
   bytes = bytes;
-  nodes = size.nodes;
+  nodes = end.nodes;
   literals =
-      size.literals;
+      end.literals;
   written = written;
 }
 
--- both buffers have room
-abbrev pub Fit : Size → List Node → Text → Type 0
-Fit size ns a = (size.nodes ≤ length ns) × (size.literals ≤ length a)
+-- all that stands before a place has room
+abbrev pub Fit : Place → List Node → Text → Type 0
+Fit end ns a = (end.nodes ≤ length ns) × (end.literals ≤ length a)
 
-sized : (ts : List Tree) (size : Size) (ns : List Node) (a : Text) → IsSize ts size
-    → (length ts ≤ length ns) × (length (literals_of ts) ≤ length a) → Fit size ns a
-sized ts size ns a is h = (omega (arith, is.0, h.0), omega (arith, is.1, h.1))
-
-unsized : (ts : List Tree) (size : Size) (ns : List Node) (a : Text) → IsSize ts size
-    → Fit size ns a → (length ts ≤ length ns) × (length (literals_of ts) ≤ length a)
-unsized ts size ns a is h = (omega (arith, is.0, h.0), omega (arith, is.1, h.1))
-
-pub reports_kept : (ts : List Tree) (value bytes : ℕ) (size : Size) (ns : List Node) (a : Text)
-    (t : Bool) → IsSize ts size → (IsTrue t ↔ Fit size ns a) → t ≡ false
-    → Reports ts value bytes ns ns a a (report value bytes size false)
-reports_kept ts value bytes size ns a t is fits off = record {
-  value = refl;
-  bytes = refl;
-  nodes = is.0;
-  literals = is.1;
-  room = (
-    λ h. let no : false ≡ true = h in absurd cc,
-    λ h. let no : t ≡ true =
-        fits.1 (sized ts size ns a is h) in absurd cc,
-  );
-  nodes_written = λ h. let no : false ≡ true = h in absurd cc;
-  literals_written = λ h. let no : false ≡ true = h in absurd cc;
-  kept = λ h. (refl, refl);
-}
-
-pub reports_written : (ts : List Tree) (value bytes : ℕ) (size : Size) (ns ms : List Node)
-    (a b : Text) (t : Bool) → IsSize ts size → (IsTrue t ↔ Fit size ns a) → t ≡ true
-    → ms ≡ nodes_from 0 0 ts ++ drop (length ts) ns
-    → b ≡ literals_of ts ++ drop (length (literals_of ts)) a
-    → Reports ts value bytes ns ms a b (report value bytes size true)
-reports_written ts value bytes size ns ms a b t is fits on nodes literals = record {
-  value = refl;
-  bytes = refl;
-  nodes = is.0;
-  literals = is.1;
-  room = (λ h. unsized ts size ns a is (fits.0 on), λ h. refl);
-  nodes_written = λ h. nodes;
-  literals_written = λ h. literals;
-  kept = λ h. let no : true ≡ false = h in absurd cc;
-}
+-- what was written as far as there was room
+pub reports_within : (ts : List Tree) (counted greatest value bytes : ℕ) (end : Place)
+    (ns ms : List Node) (a b : Text) (t : Bool) (r : Report) → WritesWithin ts START end ns ms a b
+    → (IsTrue t ↔ Fit end ms b) → value ≡ counted → bytes ≡ greatest → r ≡ report value bytes end t
+    → Reports ts counted greatest ns ms a b r
+reports_within ts counted greatest value bytes end ns ms a b t r w fits counts reserves is =
+    subst (Reports ts counted greatest ns ms a b) (sym is) (record {
+      value = counts;
+      bytes = reserves;
+      nodes = omega (arith, w.node_at);
+      literals = omega (arith, w.literal_at);
+      room = (
+        roomy,
+        λ h. fits.1 (
+          omega (arith, h.0, w.node_at, w.node_room),
+          omega (arith, h.1, w.literal_at, w.literal_room),
+        ),
+      );
+      nodes_written = λ h. (fronts ts end ns ms a b (roomy h).0 (roomy h).1 w).nodes;
+      literals_written = λ h. (fronts ts end ns ms a b (roomy h).0 (roomy h).1 w).literals;
+    })
+  where
+    roomy : IsTrue t → (length ts ≤ length ns) × (length (literals_of ts) ≤ length a)
+    roomy h = (
+      omega (arith, (fits.0 h).0, w.node_at, w.node_room),
+      omega (arith, (fits.0 h).1, w.literal_at, w.literal_room),
+    )
 
 -- The reports on outputs of each language.
 
@@ -150,11 +138,11 @@ strftime_spelled list items lent ns ms a b (Err x) e is reports memory = memory
 
 -- The empty text is reported.
 
-none_large : IsTooLarge [] → ⊥
+none_large : IsPast [] START → ⊥
 none_large (inl h) = omega (arith, h)
 none_large (inr h) = omega (arith, h)
 
-empty_large : IsTooLarge (walked (pack [])) → ⊥
+empty_large : IsPast (walked (pack [])) START → ⊥
 empty_large (inl h) = omega (arith, h)
 empty_large (inr h) = omega (arith, h)
 
@@ -164,10 +152,10 @@ reported_ok (Err e) no_err = absurd (no_err refl)
 
 items_none : (items : List BorrowedFormatItem) (list : List Tree)
     (r : Result Report BorrowedParseError) → map item_tree items ≡ list → list ≡ []
-    → (IsErr r → IsTooLarge (walked_all (trees (item_trees items)))) → IsOk r
+    → (IsErr r → IsPast (walked_all (trees (item_trees items))) START) → IsOk r
 items_none items list r is none large =
     reported_ok r (λ err. none_large
-    (subst (λ ts. IsTooLarge (walked_all (trees ts))) (is ∙ none) (large err)))
+    (subst (λ ts. IsPast (walked_all (trees ts)) START) (is ∙ none) (large err)))
 
 no_list : (v : DescriptionVersion) (text : Text) (list : List Tree) → text ≡ []
     → Spells v nesting_limit 0 text list → list ≡ []
@@ -178,7 +166,7 @@ pub items_empty : (v : DescriptionVersion) (text : Text)
     (vec : Vec BorrowedFormatItem Global) (lent : List BorrowedFormatItem)
     (r : Result Report BorrowedParseError) → text ≡ []
     → ((list : List Tree) × Spells v nesting_limit 0 text list × IsOutput v list (Items vec))
-    → lent ≡ vec.items → (IsErr r → IsTooLarge (walked_all (trees (item_trees lent)))) → IsOk r
+    → lent ≡ vec.items → (IsErr r → IsPast (walked_all (trees (item_trees lent))) START) → IsOk r
 items_empty One text vec lent r nil found e large =
     items_none lent found.0 r (ap (λ xs. map item_tree xs) e ∙ found.2)
     (no_list One text found.0 nil found.1) large
@@ -190,17 +178,17 @@ items_empty Three text vec lent r nil found e large = absurd found.2
 pub description_empty : (v : DescriptionVersion) (text : Text) (d : FormatDescriptionV3)
     (r : Result Report BorrowedParseError) → text ≡ []
     → ((list : List Tree) × Spells v nesting_limit 0 text list × IsOutput v list (Description d))
-    → (IsErr r → IsTooLarge (walked (description_tree d))) → IsOk r
+    → (IsErr r → IsPast (walked (description_tree d)) START) → IsOk r
 description_empty One text d r nil found large = absurd found.2
 description_empty Two text d r nil found large = absurd found.2
 description_empty Three text d r nil found large =
     reported_ok r (λ err. empty_large
-    (subst (λ t. IsTooLarge (walked t))
+    (subst (λ t. IsPast (walked t) START)
     (found.2 ∙ ap pack (no_list Three text found.0 nil found.1)) (large err)))
 
 pub strftime_empty : (text : Text) (items lent : List BorrowedFormatItem)
     (r : Result Report BorrowedParseError) → text ≡ [] → SpellsStrftime text (item_trees items)
-    → lent ≡ items → (IsErr r → IsTooLarge (walked_all (trees (item_trees lent)))) → IsOk r
+    → lent ≡ items → (IsErr r → IsPast (walked_all (trees (item_trees lent))) START) → IsOk r
 strftime_empty text items lent r nil spelled e large =
     items_none lent (item_trees items) r (ap (λ xs. map item_tree xs) e)
     ((strftime_one text).one_list (item_trees items) [] spelled (no_directives, tt, nil, refl))

@@ -9,3 +9,4 @@ pub mod Moments
 pub mod Formats
 pub mod NodeFormats
 pub mod Diagnoses
+pub mod Dates

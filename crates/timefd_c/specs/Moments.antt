@@ -1,5 +1,5 @@
 -- The moment of the numbers that C gives.
-use Rattle.std.specs.Prelude.{ℕ, ◌≡◌, ◌/◌, ◌%◌, ◌==◌, nat_lt, if◌then◌else◌, Bool, IsTrue, IsFalse, Option, Some, None, Result, Ok, Err, unsigned_abs}
+use Rattle.std.specs.Prelude.{ℕ, ◌≡◌, ◌+◌, ◌/◌, ◌%◌, ◌==◌, nat_lt, if◌then◌else◌, Bool, IsTrue, IsFalse, Option, Some, None, Result, Ok, Err, ℤ, pos, ◌+ℤ◌, unsigned_abs}
 use Rattle.timefd_c.specs.declared.moment.MomentFields.{MomentFields}
 use Rattle.timefd_moment.specs.Calendar.{counted}
 use Rattle.timefd_moment.specs.Faults.{date_fault, time_fault}
@@ -74,3 +74,51 @@ IsPart fault Is (Err e) = fault ≡ Some e
 abbrev pub IsMomentOf : MomentFields → Result Moment ComponentRange → Type 0
 IsMomentOf f (Ok m) = IsMoment f m × (range_fault f ≡ None)
 IsMomentOf f (Err e) = range_fault f ≡ Some e
+
+-- The numbers of a moment, in which those of what isn't known are 0.
+
+abbrev pub unknown : MomentFields
+unknown = record {
+  known = 0;
+  year = pos 0;
+  nanosecond = 0;
+  offset_seconds = pos 0;
+  month = 0;
+  day = 0;
+  hour = 0;
+  minute = 0;
+  second = 0;
+}
+
+abbrev pub date_bit : Option Date → ℕ
+date_bit (Some d) = 1
+date_bit None = 0
+
+abbrev pub time_bit : Option Time → ℕ
+time_bit (Some t) = 2
+time_bit None = 0
+
+abbrev pub offset_bit : Option UtcOffset → ℕ
+offset_bit (Some o) = 4
+offset_bit None = 0
+
+abbrev pub AreOfDate : Option Date → ℤ → ℕ → ℕ → Type 0
+AreOfDate (Some d) year month day =
+    (year +ℤ pos 1000000 ≡ pos d.years) × (month ≡ d.month) × (day ≡ d.day)
+AreOfDate None year month day = (year ≡ pos 0) × (month ≡ 0) × (day ≡ 0)
+
+abbrev pub AreOfTime : Option Time → ℕ → ℕ → ℕ → ℕ → Type 0
+AreOfTime (Some t) hour minute second nanosecond =
+    (hour ≡ t.hour) × (minute ≡ t.minute) × (second ≡ t.second) × (nanosecond ≡ t.nanosecond)
+AreOfTime None hour minute second nanosecond =
+    (hour ≡ 0) × (minute ≡ 0) × (second ≡ 0) × (nanosecond ≡ 0)
+
+abbrev pub offset_number : Option UtcOffset → ℤ
+offset_number (Some o) = signed o.is_negative o.seconds
+offset_number None = pos 0
+
+pub record AreNumbers (m : Moment) (f : MomentFields) : Type 0 where
+  pub known : f.known ≡ date_bit m.date + time_bit m.time + offset_bit m.offset
+  pub date : AreOfDate m.date f.year f.month f.day
+  pub time : AreOfTime m.time f.hour f.minute f.second f.nanosecond
+  pub offset : f.offset_seconds ≡ offset_number m.offset

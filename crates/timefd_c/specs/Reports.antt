@@ -1,5 +1,5 @@
 -- What is said and written of a description that is read as nodes.
-use Rattle.std.specs.Prelude.{ℕ, ◌≡◌, ◌≤◌, ◌++◌, ◌↔◌, IsTrue, IsFalse, List, [], ◌∷◌, length, drop}
+use Rattle.std.specs.Prelude.{ℕ, ◌≡◌, ◌≤◌, ◌++◌, ◌↔◌, IsTrue, List, [], ◌∷◌, length, drop}
 use Rattle.timefd_component.specs.Reserved.{reserve, reserve_all}
 use Rattle.timefd_component.specs.Tree.{Text, Tree, trees, pack}
 use Rattle.timefd_node_list.specs.Nodes.{kept_bytes}
@@ -50,7 +50,6 @@ pub record Reports (ts : List Tree) (counted greatest : ℕ) (nodes_before nodes
       → nodes_after ≡ nodes_from 0 0 ts ++ drop (length ts) nodes_before
   pub literals_written : IsTrue r.written
       → after ≡ literals_of ts ++ drop (length (literals_of ts)) before
-  pub kept : IsFalse r.written → (nodes_after ≡ nodes_before) × (after ≡ before)
 
 -- the report on a text that spells the list in the language
 abbrev pub IsReport : Language → List Tree → List Node → List Node → Text → Text → Report → Type 0

@@ -82,7 +82,7 @@ pub struct ReadAnswer {
     pub nodes: usize,
     /// How many bytes its literals have together, or else 0.
     pub literals: usize,
-    /// Whether both buffers had room for all of them, and were written.
+    /// Whether both buffers had room for all of them.
     pub written: bool,
     /// How many bytes the longest rendering of an accepted text has, in each language, at most
     /// `usize::MAX`, or else 0.

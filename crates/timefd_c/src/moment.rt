@@ -1,6 +1,8 @@
-//! The moment that C gives.
+//! The moment that C gives, or is given.
 
-ghost use Rattle.timefd_c.specs.Moments.{IsDate, IsMomentOf, IsOffset, IsPart, IsTime, date_range, offset_range, time_range};
+ghost use Rattle.std.specs.Prelude.{◌≡◌, ◌≤◌, None};
+ghost use Rattle.timefd_c.specs.Moments as spec;
+ghost use Rattle.timefd_c.specs.Moments.{AreNumbers, AreOfDate, AreOfTime, IsDate, IsMoment, IsMomentOf, IsOffset, IsPart, IsTime, date_range, offset_range, range_fault, time_range, unknown};
 
 use timefd_moment::{ComponentRange, Date, Moment, Time, UtcOffset};
 
@@ -35,6 +37,53 @@ const _: () = prove!(size_of::<MomentFields>() == 24);
 const _: () = prove!(align_of::<MomentFields>() == 4);
 
 impl MomentFields {
+    /// Those of what is not known.
+    pub(crate) fn unknown() -> MomentFields
+        ensures { result ≡ unknown }
+    {
+        MomentFields {
+            known: 0,
+            year: 0,
+            nanosecond: 0,
+            offset_seconds: 0,
+            month: 0,
+            day: 0,
+            hour: 0,
+            minute: 0,
+            second: 0,
+        }
+    }
+
+    /// The numbers of a moment. Those of what is not known are 0.
+    #[tactic(auto, using(crate::proofs::MomentLemmas::same, crate::proofs::MomentLemmas::in_range))]
+    pub fn of(moment: Moment) -> MomentFields
+        ensures numbers { AreNumbers moment result }
+
+        // `moment` takes them for the same moment.
+        ensures same { IsMoment result moment }
+        ensures in_range { range_fault result ≡ None }
+    {
+        MomentFields::with_numbers(moment)
+    }
+
+    fn with_numbers(moment: Moment) -> MomentFields
+        ensures { AreNumbers moment result }
+    {
+        let (year, month, day) = date_numbers(moment.date);
+        let (hour, minute, second, nanosecond) = time_numbers(moment.time);
+        MomentFields {
+            known: date_bit(moment.date) + time_bit(moment.time) + offset_bit(moment.offset),
+            year,
+            nanosecond,
+            offset_seconds: offset_number(moment.offset),
+            month,
+            day,
+            hour,
+            minute,
+            second,
+        }
+    }
+
     /// The moment of these numbers. An `Err` names the first one that is out of its range.
     pub fn moment(&self) -> Result<Moment, ComponentRange>
         ensures { IsMomentOf self.now result }
@@ -71,5 +120,65 @@ impl MomentFields {
             return Ok(None);
         }
         Ok(Some(UtcOffset::from_whole_seconds(self.offset_seconds)?))
+    }
+}
+
+fn date_bit(date: Option<Date>) -> u32
+    ensures bit { result ≡ spec.date_bit date }
+    ensures most { result ≤ 1 }
+{
+    match date {
+        Some(_) => 1,
+        None => 0,
+    }
+}
+
+fn time_bit(time: Option<Time>) -> u32
+    ensures bit { result ≡ spec.time_bit time }
+    ensures most { result ≤ 2 }
+{
+    match time {
+        Some(_) => 2,
+        None => 0,
+    }
+}
+
+fn offset_bit(offset: Option<UtcOffset>) -> u32
+    ensures bit { result ≡ spec.offset_bit offset }
+    ensures most { result ≤ 4 }
+{
+    match offset {
+        Some(_) => 4,
+        None => 0,
+    }
+}
+
+// The year, the month and the day.
+fn date_numbers(date: Option<Date>) -> (i32, u8, u8)
+    ensures { AreOfDate date result.0 result.1 result.2 }
+{
+    match date {
+        Some(date) => (date.year(), date.month, date.day),
+        None => (0, 0, 0),
+    }
+}
+
+// The hour, the minute, the second and the nanosecond.
+fn time_numbers(time: Option<Time>) -> (u8, u8, u8, u32)
+    ensures { AreOfTime time result.0 result.1 result.2 result.3 }
+{
+    match time {
+        Some(time) => (time.hour, time.minute, time.second, time.nanosecond),
+        None => (0, 0, 0, 0),
+    }
+}
+
+// How many seconds the clock is ahead of UTC.
+fn offset_number(offset: Option<UtcOffset>) -> i32
+    ensures { result ≡ spec.offset_number offset }
+{
+    match offset {
+        Some(offset) => offset.whole_seconds(),
+        None => 0,
     }
 }

@@ -23,7 +23,8 @@ pub extern "C" fn timefd_version() -> u32
 }
 
 /// Says what `timefd_judge` says, and writes the nodes of a description and the bytes of its
-/// literals over the fronts of the buffers, if both have room for all of them.
+/// literals over the fronts of the buffers, as far as there is room. If either has no room for all,
+/// both may hold parts of them.
 #[unsafe(no_mangle)]
 pub extern "C" fn timefd_read(
     alloc: Global,

@@ -5,7 +5,7 @@ ghost use Rattle.std.specs.Result.{IfErr};
 ghost use Rattle.timefd_fault.specs.Faults as spec;
 ghost use Rattle.timefd_component.specs.Tree.{Tree};
 ghost use Rattle.timefd_language.specs.Grammar.{nesting_limit};
-ghost use Rattle.timefd_borrowed_fault.specs.BorrowedFaults.{IsLent, IsLentOf, IsMemory};
+ghost use Rattle.timefd_borrowed_fault.specs.BorrowedFaults.{IsLent, IsLentOf, IsMemory, IsRefusal};
 ghost use Rattle.timefd_parse.specs.Language.{FaultIn, SpellsIn};
 ghost use Rattle.timefd_items.specs.Description.{description_tree};
 ghost use Rattle.timefd_format_item.specs.Meaning.{item_trees};
@@ -13,12 +13,12 @@ ghost use Rattle.timefd_component.specs.Reserved.{reserve, reserve_all};
 ghost use Rattle.timefd_component.specs.Tree.{trees};
 ghost use Rattle.timefd_node_list.specs.Nodes.{kept_bytes};
 ghost use Rattle.timefd_node_list.specs.Views.{walked, walked_all};
-ghost use Rattle.timefd_c_nodes.specs.Sizes.{IsTooLarge};
+ghost use Rattle.timefd_c_nodes.specs.Writing.{IsPast};
 ghost use Rattle.timefd_c.specs.Reports.{IsReport, Reports};
 
 use std::alloc::{AllocError, Global};
-use timefd_c_nodes::{Node, Size, items_size, view_size, write_items, write_view};
-use timefd_items::{BorrowedFormatItem, items_bytes};
+use timefd_c_nodes::{Node, Place, START, write_items, write_view};
+use timefd_items::BorrowedFormatItem;
 use timefd_parse::{
     BorrowedOutput, BorrowedParseError, DescriptionVersion, FormatDescriptionV3, Language,
     NESTING_LIMIT, StrftimeTables, count_strftime, parse_all_borrowed, parse_strftime_all_borrowed,
@@ -35,12 +35,12 @@ pub struct Report {
     pub nodes: usize,
     /// How many bytes its literals have together.
     pub literals: usize,
-    /// Whether both buffers had room, and were written.
+    /// Whether both buffers had room for all of it.
     pub written: bool,
 }
 
 /// Reads a text of a language, and writes its nodes and the bytes of its literals to the fronts of
-/// the buffers, if both have room for all of them.
+/// the buffers, as far as there is room.
 ///
 /// The error is `Invalid` with the fault of the text, or `Memory` where memory ran out. A text that
 /// has a fault is refused for it even then.
@@ -67,9 +67,9 @@ pub fn read<'a>(
     // The empty text takes no memory.
     ensures empty { text.now ≡ [] → IsOk result }
 
-    // Behind an error the buffers are as they were.
-    ensures nodes_kept { IsErr result → nodes.new ≡ nodes.old }
-    ensures literals_kept { IsErr result → literals.new ≡ literals.old }
+    // Behind a fault the buffers are as they were.
+    ensures nodes_kept { IfErr result (λ e. IsRefusal e → nodes.new ≡ nodes.old) }
+    ensures literals_kept { IfErr result (λ e. IsRefusal e → literals.new ≡ literals.old) }
 {
     match language {
         Language::Version(version) => read_version(alloc, version, text, nodes, literals),
@@ -102,9 +102,9 @@ fn read_version<'a>(
     // The empty text takes no memory.
     ensures empty { text.now ≡ [] → IsOk result }
 
-    // Behind an error the buffers are as they were.
-    ensures nodes_kept { IsErr result → nodes.new ≡ nodes.old }
-    ensures literals_kept { IsErr result → literals.new ≡ literals.old }
+    // Behind a fault the buffers are as they were.
+    ensures nodes_kept { IfErr result (λ e. IsRefusal e → nodes.new ≡ nodes.old) }
+    ensures literals_kept { IfErr result (λ e. IsRefusal e → literals.new ≡ literals.old) }
 {
     match parse_all_borrowed(alloc, version, NESTING_LIMIT, text) {
         Ok(BorrowedOutput::Items(items)) => report_items(&items, nodes, literals),
@@ -138,9 +138,9 @@ fn read_strftime<'a>(
     // The empty text takes no memory.
     ensures empty { text.now ≡ [] → IsOk result }
 
-    // Behind an error the buffers are as they were.
-    ensures nodes_kept { IsErr result → nodes.new ≡ nodes.old }
-    ensures literals_kept { IsErr result → literals.new ≡ literals.old }
+    // Behind a fault the buffers are as they were.
+    ensures nodes_kept { IfErr result (λ e. IsRefusal e → nodes.new ≡ nodes.old) }
+    ensures literals_kept { IfErr result (λ e. IsRefusal e → literals.new ≡ literals.old) }
 {
     let tables = StrftimeTables::new();
     match parse_strftime_all_borrowed(alloc, &tables, text) {
@@ -163,7 +163,7 @@ fn strftime_error(text: &str) -> BorrowedParseError<'_>
     }
 }
 
-/// Writes what items are. An `Err` says that a `usize` doesn't count it, and then nothing is written.
+/// Writes what items are, as far as there is room. An `Err` says that a `usize` doesn't count it.
 fn report_items<'e>(
     items: &[BorrowedFormatItem<'_>],
     nodes: &mut [Node],
@@ -172,23 +172,23 @@ fn report_items<'e>(
     ensures reports { IfOk result (Reports (walked_all (trees (item_trees items.now)))
         (length items.now) (kept_bytes (reserve_all (trees (item_trees items.now)))) nodes.old nodes.new literals.old literals.new) }
     ensures memory { IfErr result IsMemory }
-    ensures large { IsErr result → IsTooLarge (walked_all (trees (item_trees items.now))) }
-    ensures nodes_kept { IsErr result → nodes.new ≡ nodes.old }
-    ensures literals_kept { IsErr result → literals.new ≡ literals.old }
+    ensures large { IsErr result → IsPast (walked_all (trees (item_trees items.now))) START }
+    ensures nodes_kept { IfErr result (λ e. IsRefusal e → nodes.new ≡ nodes.old) }
+    ensures literals_kept { IfErr result (λ e. IsRefusal e → literals.new ≡ literals.old) }
 {
-    let Some(size) = items_size(items) else {
-        return Err(BorrowedParseError::Memory(AllocError));
-    };
-    let bytes = items_bytes(items);
-    if !has_room(size, nodes, literals) {
-        return Ok(report_of(items.len(), bytes, size, false));
+    match write_items(items, nodes, literals) {
+        Some(written) => Ok(report_of(
+            items.len(),
+            written.bytes,
+            written.end,
+            has_room(written.end, nodes, literals),
+        )),
+        None => Err(BorrowedParseError::Memory(AllocError)),
     }
-    write_items(items, nodes, literals);
-    Ok(report_of(items.len(), bytes, size, true))
 }
 
-/// Writes what a description is. An `Err` says that a `usize` doesn't count it, and then nothing is
-/// written.
+/// Writes what a description is, as far as there is room. An `Err` says that a `usize` doesn't count
+/// it.
 fn report_description<'e>(
     description: &FormatDescriptionV3<'_>,
     nodes: &mut [Node],
@@ -198,44 +198,39 @@ fn report_description<'e>(
         (reserve (description_tree description.now)) (reserve (description_tree description.now))
         nodes.old nodes.new literals.old literals.new) }
     ensures memory { IfErr result IsMemory }
-    ensures large { IsErr result → IsTooLarge (walked (description_tree description.now)) }
-    ensures nodes_kept { IsErr result → nodes.new ≡ nodes.old }
-    ensures literals_kept { IsErr result → literals.new ≡ literals.old }
+    ensures large { IsErr result → IsPast (walked (description_tree description.now)) START }
+    ensures nodes_kept { IfErr result (λ e. IsRefusal e → nodes.new ≡ nodes.old) }
+    ensures literals_kept { IfErr result (λ e. IsRefusal e → literals.new ≡ literals.old) }
 {
-    let view = description.view();
-    let Some(size) = view_size(view) else {
-        return Err(BorrowedParseError::Memory(AllocError));
-    };
     let bytes = description.max_bytes_needed();
-    if !has_room(size, nodes, literals) {
-        return Ok(report_of(bytes, bytes, size, false));
+    match write_view(description.view(), nodes, literals) {
+        Some(end) => Ok(report_of(bytes, bytes, end, has_room(end, nodes, literals))),
+        None => Err(BorrowedParseError::Memory(AllocError)),
     }
-    write_view(view, nodes, literals);
-    Ok(report_of(bytes, bytes, size, true))
 }
 
-fn has_room(size: Size, nodes: &[Node], literals: &[u8]) -> bool
-    ensures { IsTrue result ↔ ((size.nodes ≤ length nodes.now)
-        × (size.literals ≤ length literals.now)) }
+/// Whether all that stands before a place has room.
+fn has_room(end: Place, nodes: &[Node], literals: &[u8]) -> bool
+    ensures { IsTrue result ↔ ((end.nodes ≤ length nodes.now) × (end.literals ≤ length literals.now)) }
 {
-    size.nodes <= nodes.len() && size.literals <= literals.len()
+    end.nodes <= nodes.len() && end.literals <= literals.len()
 }
 
-fn report_of(value: usize, bytes: usize, size: Size, written: bool) -> Report
+fn report_of(value: usize, bytes: usize, end: Place, written: bool) -> Report
     ensures { result ≡ record {
       value = value;
       bytes = bytes;
-      nodes = size.nodes;
+      nodes = end.nodes;
       literals =
-          size.literals;
+          end.literals;
       written = written;
     } }
 {
     Report {
         value,
         bytes,
-        nodes: size.nodes,
-        literals: size.literals,
+        nodes: end.nodes,
+        literals: end.literals,
         written,
     }
 }

@@ -3,6 +3,7 @@
 mod answers;
 mod buffers;
 mod conversions;
+mod dates;
 mod formats;
 mod longest;
 mod node_buffers;

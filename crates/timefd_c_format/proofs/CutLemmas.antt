@@ -18,7 +18,7 @@ use Rattle.std.specs.Prelude.{IsSome}
 abbrev pub as_part : Role → Part
 as_part r = record { role = r; nodes = 0; bytes = 0 }
 
-same_role : (r s : Role) → Some r ≡ Some s → r ≡ s
+pub same_role : (r s : Role) → Some r ≡ Some s → r ≡ s
 same_role r s e = cc
 
 -- the trees so far, and one node more that is a part of a description
@@ -72,13 +72,13 @@ whole_role l n ts r is fits =
     (nat_lt (length l) (n.start + n.count)) ((n.component == 32) && nat_lt 65535 n.ignored)
     (take n.count (drop n.start l)) (component_of n) n.count (flag_of n.format) r fits is
 
-record Opened (count : ℕ) (o : Option Role) (rest : ℕ → Option ℕ) : Type 0 where
+pub record Opened (count : ℕ) (o : Option Role) (rest : ℕ → Option ℕ) : Type 0 where
   pub role : Role
   pub is : o ≡ Some role
   pub fits : arity role ≤ count
   pub on : rest (count - arity role + 1) ≡ None
 
-opened_step : (at count : ℕ) (o : Option Role) (rest : ℕ → Option ℕ)
+pub opened_step : (at count : ℕ) (o : Option Role) (rest : ℕ → Option ℕ)
     → fault_behind at (count_behind count o) rest ≡ None → Opened count o rest
 opened_step at count None rest e = absurd cc
 opened_step at count (Some r) rest e = by (nat_lt count (arity r)) refl e
@@ -112,7 +112,7 @@ pub record Cut (l : Text) (at : ℕ) (ns : List Node) (n : Node) (ts : List Tree
   pub is : role_in l n ≡ Some role
   pub fits : arity role ≤ length fs
 
-cut_last : (l : Text) (at : ℕ) (ns : List Node) (n : Node) (ts : List Tree)
+pub cut_last : (l : Text) (at : ℕ) (ns : List Node) (n : Node) (ts : List Tree)
     → fault_from l at (ns ++ n ∷ []) (length ts) ≡ None → Cut l at ns n ts
 cut_last l at [] n ts e =
     let o = opened_step at (length ts) (role_in l n) (fault_from l (at + 1) []) e in

@@ -3,3 +3,4 @@ pub mod CutLemmas
 pub mod WriteLemmas
 pub mod SoundLemmas
 pub mod ShortLemmas
+pub mod WalkLemmas

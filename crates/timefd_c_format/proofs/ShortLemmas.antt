@@ -1,12 +1,11 @@
 -- A text that was written in a room of its own, and copied from there.
-use Rattle.std.proofs.Common.{ℕ, ◌≡◌, ◌∙◌, ◌^◌, ◌<◌, ◌≤◌, ◌++◌, length, drop, Result, Ok, Err, refl, subst, arith}
+use Rattle.std.proofs.Common.{ℕ, ◌≡◌, ◌∙◌, ◌^◌, ◌<◌, ◌≤◌, ◌++◌, length, drop, Result, Ok, Err, subst, arith}
 use Rattle.timefd_component.specs.Tree.{Text}
 use Rattle.timefd_format.specs.declared.place.Place.TheVariants as place
 use Rattle.timefd_format.specs.declared.unshown.Unshown.{Unshown}
 use Rattle.timefd_format.specs.Writes.{Writes}
 use Rattle.timefd_format.proofs.OutcomeLemmas.{ends_with, placed}
 use Rattle.timefd_c_format.specs.Texts.{IsShown, ShowsNodes}
-use Rattle.timefd_c_format.specs.declared.format.NodesError.TheVariants as answers
 
 -- what is written in the room is the text, and it was copied if there is room
 pub copied : (x : Result Text Unshown) (room filled text old new : Text) (at n len : ℕ)
@@ -23,10 +22,3 @@ copied (Ok shown) room filled text old new at n len w is size small whole short 
       too_short = short;
     })
 copied (Err v) room filled text old new at n len w is size small whole short = absurd cc
-
--- what shows nothing is told
-pub told : (x : Result Text Unshown) (room filled old : Text) (u : Unshown)
-    → Writes x room (place.At (length room)) filled (place.Unshown u)
-    → ShowsNodes x old old (Err (answers.Unshown u))
-told (Ok text) room filled old u w = absurd w
-told (Err v) room filled old u w = (cc, refl)

@@ -1,6 +1,6 @@
 -- What nodes write is written of their leaves, the last one first.
-use Rattle.std.proofs.Common.{ℕ, zero, suc, ◌≡◌, ◌∙◌, ◌+◌, ◌-◌, ◌^◌, ◌<◌, ◌≤◌, List, [], ◌∷◌, ◌++◌, length, take, drop, Result, Ok, Err, IfOk, refl, sym, ap, subst, arith, append_assoc, append-nil, length-append, length-take}
-use Rattle.std.proofs.lemmas.List.{take_all, drop_all}
+use Rattle.std.proofs.Common.{ℕ, zero, suc, ◌≡◌, ◌∙◌, ◌+◌, ◌-◌, ◌^◌, ◌<◌, ◌≤◌, List, [], ◌∷◌, ◌++◌, Option, Some, None, length, take, drop, Result, Ok, Err, IfOk, refl, sym, ap, subst, arith, append_assoc, append-nil, length-append, length-take}
+use Rattle.std.proofs.lemmas.List.{take_all, drop_all, take-append-drop}
 use Rattle.timefd_component.specs.declared.component.Component.{Component}
 use Rattle.timefd_component.specs.declared.component.Component.TheVariants.{Subsecond}
 use Rattle.timefd_component.specs.Modern.{modern}
@@ -22,13 +22,12 @@ use Rattle.timefd_format.specs.Writes.{IsIn, Writes}
 use Rattle.timefd_format.specs.Written.{followed, shown, text_of, written, written_all}
 use Rattle.timefd_format.proofs.LeafLemmas.{by_leaves}
 use Rattle.timefd_format.proofs.RoomLemmas.{fits}
-use Rattle.timefd_format.proofs.WalkLemmas.{writes_behind, writes_in}
-use Rattle.timefd_c_format.specs.Places.{place_of}
+use Rattle.timefd_c_format.specs.Places.{TriesToWrite}
 use Rattle.timefd_c_format.specs.Texts.{IsLen, ShowsNodes}
 use Rattle.timefd_c_format.specs.declared.format.NodesError.TheVariants as answers
 
 -- the texts of all leaves are those of the trees
-by_leaves_in : (m : Moment) (ts : List Tree) → written_all m (trees (leaves_in ts)) ≡ written_all m (trees ts)
+pub by_leaves_in : (m : Moment) (ts : List Tree) → written_all m (trees (leaves_in ts)) ≡ written_all m (trees ts)
 by_leaves_in m ts = by_leaves m (compound (trees ts))
 
 -- Leaves that are left, and what is written of those behind them.
@@ -47,17 +46,6 @@ none_put m whole old = record {
   inside = omega arith;
 }
 
-pub one_put : (m : Moment) (whole left rest : List Tree) (t : Tree) (old mid new : Text) (e k : Place)
-    → IsPutTo m whole left old mid e → left ≡ rest ++ t ∷ [] → Writes (written m t) mid e new k
-    → IsPutTo m whole rest old new k
-one_put m whole left rest t old mid new e k w is one = record {
-  done = t ∷ w.done;
-  split = w.split ∙ ap (λ x. x ++ w.done) is ∙ append_assoc rest (t ∷ []) w.done;
-  writes = writes_behind (written m t) (written_all m (trees w.done)) old mid new (place.At (length old)) e k
-      (omega arith) w.writes one;
-  inside = writes_in (written m t) mid new e k w.inside one;
-}
-
 pub all_put : (m : Moment) (ts left : List Tree) (old new : Text) (e : Place)
     → IsPutTo m (leaves_in ts) left old new e → left ≡ []
     → Writes (written_all m (trees ts)) old (place.At (length old)) new e
@@ -67,10 +55,10 @@ all_put m ts left old new e w none =
     (ap (λ us. written_all m (trees us)) all ∙ by_leaves_in m ts) w.writes
 
 -- what is written at the end of the front of a buffer
-pub put_in_front : (x : Result Text Unshown) (old new : Text) (end : ℕ) (r : Result ℕ FormatError)
-    → end ≤ length old → IsOutcome x (take end old) new r
-    → Writes x old (place.At end) (new ++ drop end old) (place_of r)
-put_in_front (Ok text) old new end (Ok at) h o =
+pub put_in_front : (x : Result Text Unshown) (old new : Text) (end at : ℕ) → end ≤ length old
+    → IsOutcome x (take end old) new (Ok at)
+    → Writes x old (place.At end) (new ++ drop end old) (place.At at)
+put_in_front (Ok text) old new end at h o =
     let size : length (take end old) ≡ end = omega (arith, length-take end old, h) in
     let front : take at (take end old) ≡ take at old = take_take at end old (omega (arith, size, o.0)) in (
       omega (arith, size, o.0),
@@ -84,26 +72,33 @@ put_in_front (Ok text) old new end (Ok at) h o =
     take_take (suc q) zero xs h = absurd (omega (arith, h))
     take_take (suc q) (suc k) [] h = refl
     take_take (suc q) (suc k) (x ∷ xs) h = ap (λ ys. x ∷ ys) (take_take q k xs (omega (arith, h)))
-put_in_front (Ok text) old new end (Err fails.Room) h o = omega (arith, length-take end old, h, o)
-put_in_front (Ok text) old new end (Err (fails.Unshown u)) h o = absurd o
-put_in_front (Err v) old new end (Ok at) h o = absurd o
-put_in_front (Err v) old new end (Err fails.Room) h o = absurd o
-put_in_front (Err v) old new end (Err (fails.Unshown u)) h o = ap (λ w. place.Unshown w) o
+put_in_front (Err v) old new end at h o = absurd o
 
--- What is answered of a part that isn't written, since there was no room behind it, or nothing to show.
-pub put_nowhere : (x : Result Text Unshown) (old new other : Text) (e : FormatError) (r : Result ℕ FormatError)
-    → IsOutcome x [] other r → ((u : Unshown) → r ≡ Err (fails.Unshown u) → ⊥)
-    → Writes x old (place_of (Err e)) new (place_of (Err e))
-put_nowhere (Ok text) old new other fails.Room r o never = refl
-put_nowhere (Ok text) old new other (fails.Unshown u) r o never = refl
-put_nowhere (Err v) old new other e (Ok at) o never = absurd o
-put_nowhere (Err v) old new other e (Err fails.Room) o never = absurd o
-put_nowhere (Err v) old new other e (Err (fails.Unshown u)) o never = absurd (never u refl)
+-- what was not
+pub not_put : (x : Result Text Unshown) (old new : Text) (end : ℕ) (e : FormatError) → end ≤ length old
+    → IsOutcome x (take end old) new (Err e) → IfOk x (λ text. end < length text)
+not_put (Ok text) old new end fails.Room h o = omega (arith, length-take end old, h, o)
+not_put (Ok text) old new end (fails.Unshown u) h o = absurd o
+not_put (Err v) old new end e h o = tt
 
-pub told_nowhere : (x : Result Text Unshown) (old new other : Text) (p : Place) (u : Unshown)
-    → IsOutcome x [] other (Err (fails.Unshown u)) → Writes x old p new (place.Unshown u)
-told_nowhere (Ok text) old new other p u o = absurd o
-told_nowhere (Err v) old new other p u o = ap (λ w. place.Unshown w) o
+-- no bytes are put anywhere
+pub nothing_put : (old : Text) (end : ℕ) → Writes (Ok []) old (place.At end) old (place.At end)
+nothing_put old end = (omega arith, sym (take-append-drop end old))
+
+-- Where a text has no room behind which something is written, nor has all of it.
+pub no_room_for : (x y z : Result Text Unshown) (old mid : Text) (end : ℕ) → IfOk y (λ text. end < length text)
+    → Writes z old (place.At (length old)) mid (place.At end)
+    → IfOk (followed x (followed y z)) (λ text. length old < length text)
+no_room_for (Err u) y z old mid end h w = tt
+no_room_for (Ok a) (Err u) z old mid end h w = tt
+no_room_for (Ok a) (Ok b) (Err u) old mid end h w = absurd cc
+no_room_for (Ok a) (Ok b) (Ok c) old mid end h w =
+    omega (arith, length-append a (b ++ c), length-append b c, h, w.0)
+
+-- what a component is by itself shows what it shows
+pub component_by_itself : (m : Moment) (c : Component) → written_all m (trees (component (modern c) ∷ [])) ≡ shown m c
+component_by_itself m c =
+    by_leaves m (component (modern c)) ∙ ap (λ d. text_of d (field m d)) (modern_again c (modern c) refl)
 
 -- A text that has the buffer's length is all of the buffer.
 pub exact : (text old new : Text) (p : Place) → length text ≡ length old
@@ -249,3 +244,12 @@ front_exact x text old new len p e is fits w =
     let size : length text ≡ length (take len old) = omega (arith, is, fits, length-take len old) in
     (λ i. exact text (take len old) new p size (subst (λ y. Writes y (take len old) (place.At (length (take len old))) new p) e w) i
     ++ drop (is i) old)
+
+-- the same where the length of the text is known
+pub front_written : (x : Result Text Unshown) (text old new : Text) (len : ℕ) (r : Option ℕ) → x ≡ Ok text
+    → len ≡ length text → len ≤ length old → TriesToWrite x (take len old) (length (take len old)) new r
+    → new ++ drop len old ≡ text ++ drop (length text) old
+front_written x text old new len None e is fits w =
+    absurd (omega (arith, subst (λ y. IfOk y (λ t. length (take len old) < length t)) e w, is, fits, length-take len old))
+front_written x text old new len (Some at) e is fits w =
+    front_exact x text old new len (place.At at) e is fits w

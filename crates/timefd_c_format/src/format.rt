@@ -11,7 +11,7 @@ ghost use Rattle.std.specs.Prelude.{ℕ};
 use crate::fault::node_fault;
 use crate::len::text_len;
 use crate::short::format_short;
-use crate::write::write_whole;
+use crate::write::write_nodes;
 use timefd_c_nodes::Node;
 use timefd_format::Unshown;
 use timefd_moment::Moment;
@@ -48,18 +48,34 @@ pub fn format_nodes(
         → ShowsNodes (written_all moment (trees (node_trees literals.now nodes.now))) buffer.old
         buffer.new result }
 {
-    if let Some(at) = node_fault(nodes, literals) {
-        return Err(NodesError::NoDescription(at));
-    }
     match format_short(moment, nodes, literals, buffer) {
-        Some(answer) => answer,
+        Some(text) => Ok(text),
         None => format_long(moment, nodes, literals, buffer),
     }
 }
 
-/// The same of nodes that are a description, whatever the length of the text: that is found first.
-#[tactic(auto, using(crate::proofs::WriteLemmas::shows, crate::proofs::WriteLemmas::shows_none))]
+/// The same, whatever the length of the text. It is first told what is wrong, if something is.
 fn format_long(
+    moment: Moment,
+    nodes: &[Node],
+    literals: &[u8],
+    buffer: &mut [u8],
+) -> Result<NodesText, NodesError>
+    ensures no_description { (at : ℕ) → spec.node_fault literals.now nodes.now ≡ Some at
+        → (result ≡ Err (NodesError.NoDescription at)) × (buffer.new ≡ buffer.old) }
+    ensures shows { spec.node_fault literals.now nodes.now ≡ None
+        → ShowsNodes (written_all moment (trees (node_trees literals.now nodes.now))) buffer.old
+        buffer.new result }
+{
+    match node_fault(nodes, literals) {
+        Some(at) => Err(NodesError::NoDescription(at)),
+        None => format_counted(moment, nodes, literals, buffer),
+    }
+}
+
+/// The same of nodes that are a description: the length of the text is found first.
+#[tactic(auto, using(crate::proofs::WriteLemmas::shows, crate::proofs::WriteLemmas::shows_none))]
+fn format_counted(
     moment: Moment,
     nodes: &[Node],
     literals: &[u8],
@@ -80,6 +96,7 @@ fn format_long(
 
 /// Writes what nodes show over the front of the buffer, if that has room for it, and says how many
 /// bytes were written.
+#[tactic(auto, using(crate::proofs::WriteLemmas::len_is, crate::proofs::WriteLemmas::len_short, crate::proofs::WriteLemmas::front_written))]
 fn write_front(
     moment: Moment,
     nodes: &[Node],
@@ -100,6 +117,6 @@ fn write_front(
     if buffer.len() < len {
         return 0;
     }
-    let _ = write_whole(moment, nodes, literals, &mut buffer[..len]);
+    let _ = write_nodes(moment, nodes, literals, &mut buffer[..len]);
     len
 }

@@ -8,10 +8,9 @@ ghost use Rattle.timefd_component.specs.Tree.{Text, trees};
 ghost use Rattle.timefd_format.specs.Written.{followed, shown, written, written_all};
 
 use crate::leaf::{Leaf, split_last};
-use crate::write::write_leaf;
 use timefd_c_nodes::Node;
 use timefd_component::Component;
-use timefd_format::{FormatError, Unshown};
+use timefd_format::{FormatError, Unshown, write_component};
 use timefd_moment::Moment;
 
 // No component writes more bytes.
@@ -68,7 +67,7 @@ fn len_in(moment: Moment, component: Component, buffer: &mut [u8]) -> Result<usi
     requires { length buffer.old ≡ 32 }
     ensures { IsLen (shown moment component) result }
 {
-    match write_leaf(moment, Leaf::Component(component), buffer) {
+    match write_component(moment, component, buffer) {
         Ok(at) => Ok(MOST - at),
         Err(FormatError::Unshown(unshown)) => Err(unshown),
         Err(FormatError::Room) => unreachable!(),

@@ -10,7 +10,9 @@ mod leaf;
 mod len;
 mod modifier;
 mod part;
+mod put;
 mod short;
+mod walk;
 mod write;
 
 pub use format::{NodesError, NodesText, format_nodes};

@@ -36,6 +36,7 @@ pub enum Part<'l> {
 }
 
 /// What a node is, where its numbers mean something and its bytes are all among the literals.
+#[inline(always)]
 pub(crate) fn part_of<'l>(node: &Node, literals: &'l [u8]) -> Option<Part<'l>>
     ensures { spec.part_role result ≡ spec.role_in literals.now node.now }
 {
@@ -48,6 +49,7 @@ pub(crate) fn part_of<'l>(node: &Node, literals: &'l [u8]) -> Option<Part<'l>>
     }
 }
 
+#[inline(always)]
 fn kind_of(number: u32) -> Option<Kind>
     ensures { result ≡ spec.kind_of number }
 {
@@ -61,6 +63,7 @@ fn kind_of(number: u32) -> Option<Kind>
     }
 }
 
+#[inline(always)]
 fn literal_of<'l>(start: usize, count: usize, literals: &'l [u8]) -> Option<Part<'l>>
     ensures { spec.part_role result ≡ spec.literal_role start count literals.now }
 {
@@ -70,12 +73,14 @@ fn literal_of<'l>(start: usize, count: usize, literals: &'l [u8]) -> Option<Part
     Some(Part::Literal(&literals[start..start + count]))
 }
 
+#[inline(always)]
 fn optional_of<'l>(format: u8) -> Option<Part<'l>>
     ensures { spec.part_role result ≡ spec.perhaps_role (flag_of format) }
 {
     Some(Part::Optional(flag_of(format)?))
 }
 
+#[inline(always)]
 fn shown_of<'l>(node: &Node) -> Option<Part<'l>>
     ensures { spec.part_role result ≡ spec.component_role node.now }
 {
@@ -86,6 +91,7 @@ fn shown_of<'l>(node: &Node) -> Option<Part<'l>>
 }
 
 /// How many members it takes.
+#[inline(always)]
 pub(crate) fn members(part: Part<'_>) -> usize
     ensures { result ≡ arity (spec.role part.entry) }
 {
@@ -98,6 +104,7 @@ pub(crate) fn members(part: Part<'_>) -> usize
 }
 
 /// How many of its members, the last ones, no formatter writes.
+#[inline(always)]
 pub(crate) fn unwritten_members(part: Part<'_>) -> usize
     ensures { result ≡ unwritten (spec.role part.entry) }
 {

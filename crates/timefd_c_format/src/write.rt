@@ -1,77 +1,67 @@
-//! The text of nodes, at the end of a buffer.
+//! The text of nodes, at the end of a buffer: one walk from the last node to the first.
 
-ghost use Rattle.std.specs.Prelude.{◌≡◌, None, length};
+ghost use Rattle.std.specs.Prelude.{◌≡◌, ◌≤◌, IfSome, None, length};
 ghost use Rattle.timefd_c_format.specs.Nodes as spec;
-ghost use Rattle.timefd_c_format.specs.Nodes.{leaf_tree, node_trees};
-ghost use Rattle.timefd_c_format.specs.Places.{place_of};
+ghost use Rattle.timefd_c_format.specs.Nodes.{node_trees};
+ghost use Rattle.timefd_c_format.specs.Parts.{role};
+ghost use Rattle.timefd_c_format.specs.Places.{TriesToWrite};
+ghost use Rattle.timefd_c_format.specs.Walk.{leaves_here};
 ghost use Rattle.timefd_component.specs.Tree.{trees};
-ghost use Rattle.timefd_format.specs.declared.place.Place.{Place};
-ghost use Rattle.timefd_format.specs.Outcomes.{IsOutcome};
-ghost use Rattle.timefd_format.specs.Writes.{IsIn, Writes};
-ghost use Rattle.timefd_format.specs.Written.{written, written_all};
+ghost use Rattle.timefd_format.specs.Written.{written_all};
 
-use crate::leaf::{Leaf, split_last};
+use crate::part::{Part, part_of};
+use crate::put::{put_component, put_literal};
+use crate::walk::{needed, skipped};
 use timefd_c_nodes::Node;
-use timefd_format::{FormatError, write_items};
-use timefd_format_item::BorrowedFormatItem;
 use timefd_moment::Moment;
 
 /// Writes what nodes show of the moment at the end of the buffer, and answers where it begins there.
-pub(crate) fn write_whole(
+/// `None` where they are no description, a component shows nothing, or there is no room.
+pub(crate) fn write_nodes(
     moment: Moment,
     nodes: &[Node],
     literals: &[u8],
     buffer: &mut [u8],
-) -> Result<usize, FormatError>
-    requires { spec.node_fault literals.now nodes.now ≡ None }
-    ensures { Writes (written_all moment (trees (node_trees literals.now nodes.now))) buffer.old
-        (Place.At (length buffer.old)) buffer.new (place_of result) }
+) -> Option<usize>
+    ensures sound { IfSome result (λ _. spec.node_fault literals.now nodes.now ≡ None) }
+    ensures writes { spec.node_fault literals.now nodes.now ≡ None → TriesToWrite
+        (written_all moment (trees (node_trees literals.now nodes.now))) buffer.old
+        (length buffer.old) buffer.new result }
 {
-    let mut at = Ok(buffer.len());
-    let mut left = nodes;
-    'nodes: while let Some((front, leaf)) = split_last(left, literals) {
-        at = put_leaf(moment, leaf, buffer, at);
-        left = front;
+    let mut at = buffer.len();
+    let mut left = nodes.len();
+    // So many of the last trees in front are members of what is behind, and so many aren't written.
+    let mut need = 0;
+    let mut skip = 0;
+    'nodes: while left > 0 {
+        left -= 1;
+        let part = part_of(&nodes[left], literals)?;
+        at = put_part(moment, part, skip, buffer, at)?;
+        need = needed(part, need, left)?;
+        skip = skipped(part, skip, need);
     }
-    at
+    Some(at)
 }
 
-/// Puts what a part shows in front of what is written. Where there was no room, or what is behind shows
-/// nothing, it is only looked whether the part shows something.
-#[tactic(auto, using(crate::proofs::WriteLemmas::put_in_front, crate::proofs::WriteLemmas::put_nowhere, crate::proofs::WriteLemmas::told_nowhere))]
-fn put_leaf(
+/// Puts what a part shows by itself in front of what is written, unless it is skipped.
+#[inline(always)]
+fn put_part(
     moment: Moment,
-    leaf: Leaf<'_>,
+    part: Part<'_>,
+    skip: usize,
     buffer: &mut [u8],
-    place: Result<usize, FormatError>,
-) -> Result<usize, FormatError>
-    requires { IsIn (length buffer.old) (place_of place) }
-    ensures { Writes (written moment (leaf_tree leaf.entry)) buffer.old (place_of place) buffer.new
-        (place_of result) }
+    end: usize,
+) -> Option<usize>
+    requires { end ≤ length buffer.old }
+    ensures { TriesToWrite (written_all moment (trees (leaves_here skip (role part.entry))))
+        buffer.old end buffer.new result }
 {
-    match place {
-        Ok(end) => write_leaf(moment, leaf, &mut buffer[..end]),
-        Err(error) => match write_leaf(moment, leaf, &mut []) {
-            Err(FormatError::Unshown(unshown)) => Err(FormatError::Unshown(unshown)),
-            Ok(_) | Err(FormatError::Room) => Err(error),
-        },
+    if skip > 0 {
+        return Some(end);
     }
-}
-
-/// Writes what a part shows at the end of the buffer, and answers where it begins there.
-pub(crate) fn write_leaf(
-    moment: Moment,
-    leaf: Leaf<'_>,
-    buffer: &mut [u8],
-) -> Result<usize, FormatError>
-    ensures { IsOutcome (written moment (leaf_tree leaf.entry)) buffer.old buffer.new result }
-{
-    match leaf {
-        Leaf::Literal(bytes) => {
-            write_items(moment, &[BorrowedFormatItem::Literal(bytes)], buffer)
-        }
-        Leaf::Component(component) => {
-            write_items(moment, &[BorrowedFormatItem::Component(component)], buffer)
-        }
+    match part {
+        Part::Component(component) => put_component(moment, component, buffer, end),
+        Part::Literal(bytes) => put_literal(bytes, buffer, end),
+        Part::Compound(_) | Part::Optional(_) | Part::First(_) => Some(end),
     }
 }

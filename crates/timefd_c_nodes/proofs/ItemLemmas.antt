@@ -5,7 +5,11 @@ use Rattle.timefd_format_item.specs.declared.borrowed_format_item.BorrowedFormat
 use Rattle.timefd_format_item.specs.declared.borrowed_format_item.BorrowedFormatItem.TheVariants as item
 use Rattle.timefd_format_item.specs.declared.borrowed_format_item.BorrowedFormatItem.TheFolds.{the_lemmas}
 use Rattle.timefd_format_item.specs.Meaning.{item_tree}
-use Rattle.timefd_component.specs.Tree.{trees, compound, optional, first}
+use Rattle.timefd_component.specs.declared.component.Component.{Component}
+use Rattle.timefd_component.specs.Tree.{trees, component, compound, optional, first}
+
+pub component_tree : (c : Component) → item_tree (item.Component c) ≡ component c
+component_tree c = search (rules, the_lemmas)
 
 pub compound_tree : (members : Bor (List BorrowedFormatItem))
     → item_tree (item.Compound members) ≡ compound (trees (map item_tree members.now))

@@ -28,6 +28,23 @@ pub table_bytes : (c : Component) → (component_table c).bytes ≡ reserved c
 table_bytes (Subsecond s) = refl
 table_bytes c = refl
 
+digits_kept : (d : SubsecondDigits) → digits_shown d ≡ kept_bytes (digits_shown d)
+digits_kept SubsecondDigits.One = refl
+digits_kept SubsecondDigits.Two = refl
+digits_kept SubsecondDigits.Three = refl
+digits_kept SubsecondDigits.Four = refl
+digits_kept SubsecondDigits.Five = refl
+digits_kept SubsecondDigits.Six = refl
+digits_kept SubsecondDigits.Seven = refl
+digits_kept SubsecondDigits.Eight = refl
+digits_kept SubsecondDigits.Nine = refl
+digits_kept SubsecondDigits.OneOrMore = refl
+
+-- a `usize` counts what a component reserves
+pub reserved_kept : (c : Component) → reserved c ≡ kept_bytes (reserved c)
+reserved_kept (Subsecond s) = digits_kept s.digits
+reserved_kept c = refl
+
 pub trees_len_is : (ts : List Tree) → trees_len (trees ts) ≡ length ts
 trees_len_is [] = refl
 trees_len_is (t ∷ ts) = omega (arith, trees_len_is ts)

@@ -1,11 +1,18 @@
 -- What is written as far as there is room, one part after another.
-use Rattle.std.proofs.Common.{◌≡◌, ◌∙◌, ◌+◌, ◌<◌, ◌≤◌, List, [], ◌∷◌, ◌++◌, length, set, refl, sym, ap, arith, length-append}
-use Rattle.timefd_component.specs.Tree.{Text, Tree}
+use Rattle.std.proofs.Common.{◌≡◌, ◌∙◌, ℕ, ◌+◌, ◌≤◌, inl, inr, true, Option, Some, None, IfSome, List, [], ◌∷◌, ◌++◌, length, set, take, drop, refl, sym, ap, subst, arith, length-append, append-nil, append_assoc}
+use Rattle.std.proofs.lemmas.List.{take-append-drop}
+use Rattle.timefd_component.specs.declared.component.Component.{Component}
+use Rattle.timefd_component.specs.Reserved.{reserve, reserve_all}
+use Rattle.timefd_component.specs.Tree.{Text, Tree, component, compound, optional, first, trees}
+use Rattle.timefd_node_list.specs.Nodes.{kept_bytes}
+use Rattle.timefd_node_list.specs.Views.{walked, walked_all}
 use Rattle.timefd_c_nodes.specs.declared.node.Node.{Node}
 use Rattle.timefd_c_nodes.specs.declared.place.Place.{Place}
-use Rattle.timefd_c_nodes.specs.Encoding.{node_for, own_text, literals_of}
-use Rattle.timefd_c_nodes.specs.Writing.{overwritten, nodes_written, literals_written, WritesWithin}
-use Rattle.timefd_c_nodes.proofs.WriteLemmas.{Fronts, fronts, literals-length, literals_written-append, nodes_written-append}
+use Rattle.timefd_c_nodes.specs.declared.place.Written.{Written}
+use Rattle.timefd_c_nodes.specs.Encoding.{component_node, compound_node, first_node, optional_node, node_for, own_text, literals_of}
+use Rattle.timefd_c_nodes.specs.Writing.{overwritten, nodes_written, literals_written, IsPast, IsWritten, Puts, WritesWithin}
+use Rattle.timefd_c_nodes.proofs.TreeLemmas.{compound_behind, first_behind, optional_behind, reserved_kept, table_bytes}
+use Rattle.timefd_c_nodes.proofs.WriteLemmas.{literals-length, literals_written-append, nodes_written-append}
 
 pub within_none : (from : Place) (ns : List Node) (a : Text) → WritesWithin [] from from ns ns a a
 within_none from ns a = record {
@@ -41,36 +48,146 @@ within_both xs ys from mid to ns ms ks a b c v w = record {
       ∙ sym (literals_written-append xs ys from.literals a);
 }
 
--- one tree
-pub within_one : (t : Tree) (from to : Place) (ns ms : List Node) (a b text : Text) (n : Node)
-    → n ≡ node_for from.nodes from.literals t → text ≡ own_text t
-    → (from.nodes < length ns → ms ≡ set ns from.nodes n)
-    → (from.literals + length text ≤ length a → b ≡ overwritten from.literals text a)
-    → length ms ≡ length ns → length b ≡ length a
-    → to.nodes ≡ from.nodes + 1 → to.literals ≡ from.literals + length text
-    → WritesWithin (t ∷ []) from to ns ms a b
-within_one t from to ns ms a b text n is own nodes literals node_room literal_room node_at
-    literal_at = record {
-      node_at = omega (arith, node_at);
-      literal_at = omega (arith, literal_at, ap length own, length-append (own_text t) []);
-      node_room = node_room;
-      literal_room = literal_room;
-      nodes = λ h. nodes (omega (arith, h)) ∙ ap (λ x. set ns from.nodes x) is;
+overwritten-none : (at : ℕ) (bytes : Text) → overwritten at [] bytes ≡ bytes
+overwritten-none at bytes =
+    let place : at + 0 ≡ at = omega arith in
+    ap (λ l. l ++ drop (at + 0) bytes) (append-nil (take at bytes))
+    ∙ ap (λ k. take at bytes ++ drop k bytes) place
+    ∙ take-append-drop at bytes
+
+-- a tree that adds nothing to the literals
+pub within_node : (t : Tree) (at : Place) (n : Node) (w : Written) (ns ms : List Node) (a : Text)
+    → own_text t ≡ [] → n ≡ node_for at.nodes at.literals t → Puts n at ns ms w
+    → WritesWithin (t ∷ []) at w.end ns ms a a
+within_node t at n w ns ms a own is puts =
+    let none_added : length (literals_of (t ∷ [])) ≡ 0 = ap (λ x. length (x ++ [])) own in
+    record {
+      node_at = omega (arith, puts.node_at);
+      literal_at = omega (arith, puts.literal_at, none_added);
+      node_room = puts.node_room;
+      literal_room = refl;
+      nodes = λ h. puts.nodes (omega (arith, h)) ∙ ap (λ x. set ns at.nodes x) is;
       literals = λ h.
-          literals (omega (arith, h, ap length own, length-append (own_text t) []))
-          ∙ ap (λ x. overwritten from.literals x a) own;
+          sym (ap (λ x. overwritten at.literals x a) own ∙ overwritten-none at.literals a);
     }
 
--- The fronts of buffers that have room, once all is written from the first place on.
-pub within_fronts : (ts : List Tree) (from to : Place) (ns ms : List Node) (a b : Text)
-    → from.nodes ≡ 0 → from.literals ≡ 0
-    → length ts ≤ length ns → length (literals_of ts) ≤ length a → WritesWithin ts from to ns ms a b
-    → Fronts ts ns ms a b
-within_fronts ts from to ns ms a b zero_nodes zero_literals node_room literal_room w =
-    fronts ts from to ns ms a b zero_nodes zero_literals node_room literal_room
-    (record {
-      nodes = w.nodes (omega (arith, zero_nodes, node_room));
-      literals = w.literals (omega (arith, zero_literals, literal_room));
-      node_at = w.node_at;
-      literal_at = w.literal_at;
-    })
+pub put_node : (t : Tree) (at : Place) (n : Node) (r : Option Written) (ns ms : List Node) (a : Text)
+    → own_text t ≡ [] → n ≡ node_for at.nodes at.literals t → IfSome r (Puts n at ns ms)
+    → IfSome r (λ w. WritesWithin (t ∷ []) at w.end ns ms a a)
+put_node t at n None ns ms a own is puts = puts
+put_node t at n (Some w) ns ms a own is puts = within_node t at n w ns ms a own is puts
+
+pub written_component : (c : Component) (at : Place) (n : Node) (r : Option Written)
+    (ns ms : List Node) (a : Text) → n ≡ component_node c at.nodes → IfSome r (Puts n at ns ms)
+    → IfSome r (IsWritten (walked (component c)) (reserve (component c)) at ns ms a a)
+written_component c at n None ns ms a is puts = puts
+written_component c at n (Some w) ns ms a is puts = record {
+  within = within_node (component c) at n w ns ms a refl is puts;
+  bytes = puts.bytes ∙ ap (λ m. m.bytes) is ∙ table_bytes c ∙ reserved_kept c;
+}
+
+-- Trees in turn.
+
+-- some of all trees are written, and the others are left
+pub record Part (all left : List Tree) (from at : Place) (ns ms : List Node) (a b : Text) : Type 0
+  where
+    pub done : List Tree
+    pub split : all ≡ done ++ left
+    pub within : WritesWithin done from at ns ms a b
+
+pub part_init : (all left : List Tree) (from : Place) (ns : List Node) (a : Text) → all ≡ left
+    → Part all left from from ns ns a a
+part_init all left from ns a e = record { done = []; split = e; within = within_none from ns a }
+
+pub part_step : (all xs ys left : List Tree) (from at next : Place) (ns ms ks : List Node)
+    (a b c : Text) → left ≡ xs ++ ys → Part all left from at ns ms a b
+    → WritesWithin xs at next ms ks b c → Part all ys from next ns ks a c
+part_step all xs ys left from at next ns ms ks a b c e part w = record {
+  done = part.done ++ xs;
+  split = part.split ∙ ap (λ l. part.done ++ l) e ∙ sym (append_assoc part.done xs ys);
+  within = within_both part.done xs from at next ns ms ks a b c part.within w;
+}
+
+pub part_end : (all left : List Tree) (from at : Place) (ns ms : List Node) (a b : Text)
+    → left ≡ [] → Part all left from at ns ms a b → WritesWithin all from at ns ms a b
+part_end all left from at ns ms a b e part =
+    subst (λ l. WritesWithin l from at ns ms a b)
+    (sym (part.split ∙ ap (λ l. part.done ++ l) e ∙ append-nil part.done)) part.within
+
+-- what a `usize` doesn't count in part, it doesn't count
+pub part_past : (all xs ys left : List Tree) (from at : Place) (ns ms : List Node) (a b : Text)
+    → left ≡ xs ++ ys → Part all left from at ns ms a b → IsPast xs at → IsPast all from
+part_past all xs ys left from at ns ms a b e part past = counted past
+  where
+    whole : all ≡ part.done ++ (xs ++ ys)
+    whole = part.split ∙ ap (λ l. part.done ++ l) e
+
+    counted : IsPast xs at → IsPast all from
+    counted (inl h) = inl (omega (
+      arith,
+      h,
+      part.within.node_at,
+      ap length whole,
+      length-append part.done (xs ++ ys),
+      length-append xs ys,
+    ))
+    counted (inr h) = inr (omega (
+      arith,
+      h,
+      part.within.literal_at,
+      ap (λ l. length (literals_of l)) whole,
+      literals-length part.done (xs ++ ys),
+      literals-length xs ys,
+    ))
+
+-- A tree behind its members.
+
+pub past_inside : (xs : List Tree) (t : Tree) (from : Place) → IsPast xs from
+    → IsPast (xs ++ t ∷ []) from
+past_inside xs t from (inl h) = inl (omega (arith, h, length-append xs (t ∷ [])))
+past_inside xs t from (inr h) = inr (omega (arith, h, literals-length xs (t ∷ [])))
+
+pub written_compound : (ts : List Tree) (from : Place) (inner : Written) (r : Option Written)
+    (n : Node) (len : ℕ) (ns ms ks : List Node) (a b : Text)
+    → IsWritten (walked_all (trees ts)) (reserve_all (trees ts)) from ns ms a b inner
+    → len ≡ length ts → n ≡ compound_node from.nodes len inner.bytes
+    → IfSome r (Puts n inner.end ms ks)
+    → IfSome r (IsWritten (walked (compound (trees ts))) (reserve (compound (trees ts))) from ns ks a
+    b)
+written_compound ts from inner None n len ns ms ks a b members long is puts = puts
+written_compound ts from inner (Some w) n len ns ms ks a b members long is puts = record {
+  within = within_both (walked_all (trees ts)) (compound (trees ts) ∷ []) from inner.end w.end ns ms
+      ks a b b members.within (within_node (compound (trees ts)) inner.end n w ms ks b refl
+      (compound_behind ts from.nodes inner.end.nodes inner.end.literals inner.bytes len n
+      members.within.node_at long members.bytes is) puts);
+  bytes = puts.bytes ∙ ap (λ m. m.bytes) is ∙ members.bytes;
+}
+
+pub written_optional : (t : Tree) (from : Place) (inner : Written) (r : Option Written) (n : Node)
+    (ns ms ks : List Node) (a b : Text)
+    → IsWritten (walked t) (reserve t) from ns ms a b inner
+    → n ≡ optional_node from.nodes true inner.bytes → IfSome r (Puts n inner.end ms ks)
+    → IfSome r (IsWritten (walked (optional true t)) (reserve (optional true t)) from ns ks a b)
+written_optional t from inner None n ns ms ks a b member is puts = puts
+written_optional t from inner (Some w) n ns ms ks a b member is puts = record {
+  within = within_both (walked t) (optional true t ∷ []) from inner.end w.end ns ms ks a b b
+      member.within (within_node (optional true t) inner.end n w ms ks b refl
+      (optional_behind t true from.nodes inner.end.nodes inner.end.literals inner.bytes n
+      member.within.node_at member.bytes is) puts);
+  bytes = puts.bytes ∙ ap (λ m. m.bytes) is ∙ member.bytes;
+}
+
+pub written_first : (ts : List Tree) (from : Place) (inner : Written) (r : Option Written) (n : Node)
+    (len bytes : ℕ) (ns ms ks : List Node) (a b : Text)
+    → IsWritten (walked_all (trees ts)) (reserve_all (trees ts)) from ns ms a b inner
+    → len ≡ length ts → bytes ≡ kept_bytes (reserve (first (trees ts)))
+    → n ≡ first_node from.nodes len bytes → IfSome r (Puts n inner.end ms ks)
+    → IfSome r (IsWritten (walked (first (trees ts))) (reserve (first (trees ts))) from ns ks a b)
+written_first ts from inner None n len bytes ns ms ks a b members long reserves is puts = puts
+written_first ts from inner (Some w) n len bytes ns ms ks a b members long reserves is puts = record {
+  within = within_both (walked_all (trees ts)) (first (trees ts) ∷ []) from inner.end w.end ns ms ks
+      a b b members.within (within_node (first (trees ts)) inner.end n w ms ks b refl
+      (first_behind ts from.nodes inner.end.nodes inner.end.literals bytes len n
+      members.within.node_at long reserves is) puts);
+  bytes = puts.bytes ∙ ap (λ m. m.bytes) is ∙ reserves;
+}

@@ -6,7 +6,8 @@ use Rattle.timefd_component.specs.Tree.{Text, Tree}
 use Rattle.timefd_c_nodes.specs.declared.node.Node.{Node}
 use Rattle.timefd_c_nodes.specs.declared.place.Place.{Place}
 use Rattle.timefd_c_nodes.specs.Encoding.{node_for, nodes_from, own_text, literals_of}
-use Rattle.timefd_c_nodes.specs.Writing.{overwritten, nodes_written, literals_written, HasRoom, Writes}
+use Rattle.timefd_c_nodes.specs.declared.place.TheConstants.{START}
+use Rattle.timefd_c_nodes.specs.Writing.{overwritten, nodes_written, literals_written, WritesWithin}
 
 pub literals_of-append : (xs ys : List Tree)
     → literals_of (xs ++ ys) ≡ literals_of xs ++ literals_of ys
@@ -50,49 +51,6 @@ literals_written-append (t ∷ xs) ys used bytes =
     omega (arith, length-append (own_text t) (literals_of xs)) in
     literals_written-append xs ys next more ∙
     ap (λ k. literals_written k ys (literals_written next xs more)) u
-
--- some trees, and then more
-pub writes_both : (xs ys : List Tree) (from mid to : Place) (ns ms ks : List Node) (a b c : Text)
-    → Writes xs from mid ns ms a b → Writes ys mid to ms ks b c
-    → Writes (xs ++ ys) from to ns ks a c
-writes_both xs ys from mid to ns ms ks a b c v w = record {
-  nodes =
-      w.nodes
-      ∙ ap (λ k. nodes_written k mid.literals ys ms) v.node_at
-      ∙ ap (λ k. nodes_written (from.nodes + length xs) k ys ms) v.literal_at
-      ∙ ap (λ l. nodes_written (from.nodes + length xs) (from.literals + length (literals_of xs)) ys
-      l) v.nodes
-      ∙ sym (nodes_written-append xs ys from.nodes from.literals ns);
-  literals =
-      w.literals
-      ∙ ap (λ k. literals_written k ys b) v.literal_at
-      ∙ ap (λ l. literals_written (from.literals + length (literals_of xs)) ys l) v.literals
-      ∙ sym (literals_written-append xs ys from.literals a);
-  node_at = omega (arith, v.node_at, w.node_at, length-append xs ys);
-  literal_at = omega (arith, v.literal_at, w.literal_at, literals-length xs ys);
-}
-
--- one tree
-pub writes_one : (t : Tree) (from to : Place) (ns ms : List Node) (a b : Text)
-    → ms ≡ set ns from.nodes (node_for from.nodes from.literals t)
-    → b ≡ overwritten from.literals (own_text t) a
-    → to.nodes ≡ from.nodes + 1 → to.literals ≡ from.literals + length (own_text t)
-    → Writes (t ∷ []) from to ns ms a b
-writes_one t from to ns ms a b nodes literals node_at literal_at = record {
-  nodes = nodes;
-  literals = literals;
-  node_at = omega (arith, node_at);
-  literal_at = omega (arith, literal_at, length-append (own_text t) []);
-}
-
-pub writes_none : (from : Place) (ns : List Node) (a : Text) → Writes [] from from ns ns a a
-writes_none from ns a = record {
-  nodes = refl;
-  literals = refl;
-  node_at = omega arith;
-  literal_at =
-      omega arith;
-}
 
 -- The fronts of the buffers.
 
@@ -184,94 +142,21 @@ front_literals (t ∷ ts) used bytes h =
     ∙ ap (λ l. l ++ drop (next + length rest) bytes) (append_assoc (take used bytes) own rest)
     ∙ ap (λ k. (take used bytes ++ (own ++ rest)) ++ drop k bytes) place
 
--- A buffer keeps its length.
-
-nodes_written-length : (ts : List Tree) (at used : ℕ) (ns : List Node)
-    → length (nodes_written at used ts ns) ≡ length ns
-nodes_written-length [] at used ns = refl
-nodes_written-length (t ∷ ts) at used ns =
-    nodes_written-length ts (at + 1) (used + length (own_text t)) (set ns at (node_for at used t)) ∙
-    length-set ns at (node_for at used t)
-
-literals_written-length : (ts : List Tree) (used : ℕ) (bytes : Text)
-    → used + length (literals_of ts) ≤ length bytes
-    → length (literals_written used ts bytes) ≡ length bytes
-literals_written-length [] used bytes h = refl
-literals_written-length (t ∷ ts) used bytes h =
-    let own : Text = own_text t in
-    let total : length (own ++ literals_of ts) ≡ length own + length (literals_of ts) =
-    length-append own (literals_of ts) in
-    let same : length (overwritten used own bytes) ≡ length bytes =
-    overwritten-length used own bytes (omega (arith, h, total)) in
-    literals_written-length ts (used + length own) (overwritten used own bytes)
-    (omega (arith, h, total, same)) ∙ same
-
--- What is left to be written: there is room for it, and once it is written, all is.
-pub record Rest (ts left : List Tree) (from at : Place) (ns ms : List Node) (a b : Text) : Type 0
-  where
-    pub room : HasRoom left at ms b
-    pub completes : (to : Place) (ks : List Node) (c : Text) → Writes left at to ms ks b c
-        → Writes ts from to ns ks a c
-
-pub rest_init : (ts left : List Tree) (from : Place) (ns : List Node) (a : Text) → left ≡ ts
-    → HasRoom ts from ns a → Rest ts left from from ns ns a a
-rest_init ts left from ns a e h = subst (λ l. Rest ts l from from ns ns a a) (sym e)
-    (record { room = h; completes = λ to ks c w. w })
-
-pub rest_step : (ts xs ys left : List Tree) (from at mid : Place) (ns ms ks : List Node)
-    (a b c : Text) → left ≡ xs ++ ys
-    → Rest ts left from at ns ms a b → Writes xs at mid ms ks b c → Rest ts ys from mid ns ks a c
-rest_step ts xs ys left from at mid ns ms ks a b c e rest w =
-    step (subst (λ l. Rest ts l from at ns ms a b) e rest)
-  where
-    step : Rest ts (xs ++ ys) from at ns ms a b → Rest ts ys from mid ns ks a c
-    step r = record {
-      room = (
-        omega (
-          arith,
-          r.room.0,
-          w.node_at,
-          length-append xs ys,
-          ap length w.nodes,
-          nodes_written-length xs at.nodes at.literals ms,
-        ),
-        omega (
-          arith,
-          r.room.1,
-          w.literal_at,
-          literals-length xs ys,
-          ap length w.literals,
-          literals_written-length xs at.literals b
-              (omega (arith, r.room.1, literals-length xs ys)),
-        ),
-      );
-      completes = λ to ls d v. r.completes to ls d (writes_both xs ys at mid to ms ks ls b c d w v);
-    }
-
-pub rest_end : (ts left : List Tree) (from at : Place) (ns ms : List Node) (a b : Text) → left ≡ []
-    → Rest ts left from at ns ms a b → Writes ts from at ns ms a b
-rest_end ts left from at ns ms a b e rest =
-    (subst (λ l. Rest ts l from at ns ms a b) e rest).completes at ms b (writes_none at ms b)
-
 -- The fronts, once all is written from the first place on.
 pub record Fronts (ts : List Tree) (ns ms : List Node) (a b : Text) : Type 0 where
   pub nodes : ms ≡ nodes_from 0 0 ts ++ drop (length ts) ns
   pub literals : b ≡ literals_of ts ++ drop (length (literals_of ts)) a
 
-pub fronts : (ts : List Tree) (from to : Place) (ns ms : List Node) (a b : Text) → from.nodes ≡ 0
-    → from.literals ≡ 0
-    → length ts ≤ length ns → length (literals_of ts) ≤ length a → Writes ts from to ns ms a b
-    → Fronts ts ns ms a b
-fronts ts from to ns ms a b zero_nodes zero_literals node_room literal_room w = record {
+pub fronts : (ts : List Tree) (to : Place) (ns ms : List Node) (a b : Text)
+    → length ts ≤ length ns → length (literals_of ts) ≤ length a
+    → WritesWithin ts START to ns ms a b → Fronts ts ns ms a b
+fronts ts to ns ms a b node_room literal_room w = record {
   nodes =
-      w.nodes
-      ∙ ap (λ k. nodes_written k from.literals ts ns) zero_nodes
-      ∙ ap (λ k. nodes_written 0 k ts ns) zero_literals
+      w.nodes (omega (arith, node_room))
       ∙ front_nodes ts 0 0 ns (omega (arith, node_room))
       ∙ ap (λ k. nodes_from 0 0 ts ++ drop k ns) nothing_before;
   literals =
-      w.literals
-      ∙ ap (λ k. literals_written k ts a) zero_literals
+      w.literals (omega (arith, literal_room))
       ∙ front_literals ts 0 a (omega (arith, literal_room))
       ∙ ap (λ k. literals_of ts ++ drop k a) no_byte_before;
 }
@@ -281,76 +166,3 @@ fronts ts from to ns ms a b zero_nodes zero_literals node_room literal_room w = 
 
     no_byte_before : 0 + length (literals_of ts) ≡ length (literals_of ts)
     no_byte_before = omega arith
-
--- Room for a part of what is left, and for the node behind its members.
-
-pub rest_room : (ts xs ys left : List Tree) (from at : Place) (ns ms : List Node) (a b : Text)
-    → left ≡ xs ++ ys → Rest ts left from at ns ms a b → HasRoom xs at ms b
-rest_room ts xs ys left from at ns ms a b e rest = room (subst (λ l. HasRoom l at ms b) e rest.room)
-  where
-    room : HasRoom (xs ++ ys) at ms b → HasRoom xs at ms b
-    room h = (omega (arith, h.0, length-append xs ys), omega (arith, h.1, literals-length xs ys))
-
-pub room_inside : (xs ys : List Tree) (t : Tree) (at : Place) (ns : List Node) (a : Text)
-    → ys ≡ xs ++ t ∷ [] → HasRoom ys at ns a → HasRoom xs at ns a
-room_inside xs ys t at ns a e h = room (subst (λ l. HasRoom l at ns a) e h)
-  where
-    room : HasRoom (xs ++ t ∷ []) at ns a → HasRoom xs at ns a
-    room r = (
-      omega (arith, r.0, length-append xs (t ∷ [])),
-      omega (arith, r.1, literals-length xs (t ∷ [])),
-    )
-
-pub room_behind : (xs ys : List Tree) (t : Tree) (from mid : Place) (ns ms : List Node) (a b : Text)
-    → ys ≡ xs ++ t ∷ [] → HasRoom ys from ns a → Writes xs from mid ns ms a b
-    → (mid.nodes < length ms) × (mid.literals ≤ length b)
-room_behind xs ys t from mid ns ms a b e h w = room (subst (λ l. HasRoom l from ns a) e h)
-  where
-    room : HasRoom (xs ++ t ∷ []) from ns a → (mid.nodes < length ms) × (mid.literals ≤ length b)
-    room r = (
-      omega (
-        arith,
-        r.0,
-        length-append xs (t ∷ []),
-        w.node_at,
-        ap length w.nodes,
-        nodes_written-length xs from.nodes from.literals ns,
-      ),
-      omega (
-        arith,
-        r.1,
-        literals-length xs (t ∷ []),
-        w.literal_at,
-        ap length w.literals,
-        literals_written-length xs from.literals a
-            (omega (arith, r.1, literals-length xs (t ∷ []))),
-      ),
-    )
-
--- a node that was put behind what was written
-pub writes_node : (xs ys : List Tree) (t : Tree) (from mid to : Place) (ns ms ks : List Node)
-    (a b c text : Text) (n : Node) → ys ≡ xs ++ t ∷ []
-    → Writes xs from mid ns ms a b → n ≡ node_for mid.nodes mid.literals t → text ≡ own_text t
-    → ks ≡ set ms mid.nodes n → c ≡ overwritten mid.literals text b → to.nodes ≡ mid.nodes + 1
-    → to.literals ≡ mid.literals + length text
-    → Writes ys from to ns ks a c
-writes_node xs ys t from mid to ns ms ks a b c text n e w is own nodes literals node_at literal_at =
-    subst (λ l. Writes l from to ns ks a c) (sym e)
-    (writes_both xs (t ∷ []) from mid to ns ms ks a b c w
-    (writes_one t mid to ms ks b c (nodes ∙ ap (λ x. set ms mid.nodes x) is)
-    (literals ∙ ap (λ x. overwritten mid.literals x b) own) node_at
-    (literal_at ∙ ap (λ x. mid.literals + length x) own)))
-
--- one more part of a walk
-pub rest_more : (ts left ys : List Tree) (t : Tree) (from at to : Place) (ns ms ks : List Node)
-    (a b c text : Text) (n : Node) → left ≡ t ∷ ys
-    → Rest ts left from at ns ms a b → n ≡ node_for at.nodes at.literals t → text ≡ own_text t
-    → ks ≡ set ms at.nodes n → c ≡ overwritten at.literals text b → to.nodes ≡ at.nodes + 1
-    → to.literals ≡ at.literals + length text
-    → Rest ts ys from to ns ks a c
-rest_more ts left ys t from at to ns ms ks a b c text n e rest is own nodes literals node_at
-    literal_at =
-    rest_step ts (t ∷ []) ys left from at to ns ms ks a b c e rest
-    (writes_one t at to ms ks b c (nodes ∙ ap (λ x. set ms at.nodes x) is)
-    (literals ∙ ap (λ x. overwritten at.literals x b) own) node_at
-    (literal_at ∙ ap (λ x. at.literals + length x) own))

@@ -1,107 +1,134 @@
 //! The nodes of the items of versions 1 and 2 and of strftime.
 
-ghost use Rattle.std.specs.Prelude.{◌≡◌, ◌+◌, ◌≤◌, ◌++◌, drop, length};
+ghost use Rattle.std.specs.Prelude.{◌≡◌, ◌+◌, None, IfSome, true};
 ghost use Rattle.timefd_format_item.specs.Meaning.{item_tree, item_trees};
 ghost use Rattle.timefd_node_list.specs.Nodes.{kept_bytes};
 ghost use Rattle.timefd_component.specs.Reserved.{reserve, reserve_all};
-ghost use Rattle.timefd_component.specs.Tree.{trees};
+ghost use Rattle.timefd_component.specs.Tree.{compound, first, optional, trees};
 ghost use Rattle.timefd_node_list.specs.Views.{walked, walked_all};
-ghost use Rattle.timefd_c_nodes.specs.Encoding.{literals_of, nodes_from};
-ghost use Rattle.timefd_c_nodes.specs.Writing.{HasRoom, Writes};
+ghost use Rattle.timefd_c_nodes.specs.Writing.{IsPast, IsWritten};
 
 use crate::component::component_node;
 use crate::node::Node;
-use crate::place::{Place, START, put};
+use crate::place::{Place, START, Written, put, put_literal};
 use timefd_items::BorrowedFormatItem;
 
-/// Writes the nodes and literals of items in turn to the fronts of the buffers.
-pub fn write_items(items: &[BorrowedFormatItem<'_>], nodes: &mut [Node], literals: &mut [u8])
-    requires node_room { length (walked_all (trees (item_trees items.now))) ≤ length nodes.old }
-    requires literal_room { length (literals_of (walked_all (trees (item_trees items.now))))
-        ≤ length literals.old }
-    ensures nodes { nodes.new ≡ nodes_from 0 0 (walked_all (trees (item_trees items.now))) ++ drop
-        (length (walked_all (trees (item_trees items.now)))) nodes.old }
-    ensures literals { literals.new ≡ literals_of (walked_all (trees (item_trees items.now)))
-        ++ drop (length (literals_of (walked_all (trees (item_trees items.now))))) literals.old }
+/// Writes the nodes and literals of items in turn to the fronts of the buffers, as far as there is
+/// room. There is no answer where a `usize` doesn't count them.
+pub fn write_items(
+    items: &[BorrowedFormatItem<'_>],
+    nodes: &mut [Node],
+    literals: &mut [u8],
+) -> Option<Written>
+    ensures some { IfSome result (IsWritten (walked_all (trees (item_trees items.now)))
+        (reserve_all (trees (item_trees items.now))) START nodes.old nodes.new literals.old literals.new) }
+    ensures none { result ≡ None → IsPast (walked_all (trees (item_trees items.now))) START }
 {
-    write_all(items, START, nodes, literals);
+    write_all(items, START, nodes, literals)
 }
 
-/// Writes the nodes and literals of items in turn behind a place. The answer is the place behind
-/// them.
+/// Writes items in turn from a place on.
 #[cycle(write)]
 fn write_all(
     items: &[BorrowedFormatItem<'_>],
     from: Place,
     nodes: &mut [Node],
     literals: &mut [u8],
-) -> Place
-    requires { HasRoom (walked_all (trees (item_trees items.now))) from nodes.old literals.old }
-    ensures { Writes (walked_all (trees (item_trees items.now))) from result nodes.old nodes.new
-        literals.old literals.new }
+) -> Option<Written>
+    ensures some { IfSome result (IsWritten (walked_all (trees (item_trees items.now)))
+        (reserve_all (trees (item_trees items.now))) from nodes.old nodes.new literals.old literals.new) }
+    ensures none { result ≡ None → IsPast (walked_all (trees (item_trees items.now))) from }
 {
-    let mut place = from;
+    let mut end = from;
+    let mut bytes: usize = 0;
     'items: for at in 0..items.len() {
-        place = write_item(&items[at], place, nodes, literals);
+        let written = write_item(&items[at], end, nodes, literals)?;
+        end = written.end;
+        bytes = capped_sum(bytes, written.bytes);
     }
-    place
+    Some(Written { end, bytes })
 }
 
-/// Writes the nodes of an item, its own behind those of its members.
+/// Writes an item, its own node behind those of its members.
 #[cycle(write)]
+#[inline(always)]
 fn write_item(
     item: &BorrowedFormatItem<'_>,
     from: Place,
     nodes: &mut [Node],
     literals: &mut [u8],
-) -> Place
-    requires { HasRoom (walked (item_tree item.now)) from nodes.old literals.old }
-    ensures { Writes (walked (item_tree item.now)) from result nodes.old nodes.new literals.old
-        literals.new }
+) -> Option<Written>
+    ensures some { IfSome result (IsWritten (walked (item_tree item.now)) (reserve (item_tree item.now))
+        from nodes.old nodes.new literals.old literals.new) }
+    ensures none { result ≡ None → IsPast (walked (item_tree item.now)) from }
 {
-    let bytes = item_bytes(item);
     match *item {
-        BorrowedFormatItem::Literal(text) => {
-            put(
-                Node::literal(from.literals, text.len()),
-                text,
-                from,
-                nodes,
-                literals,
-            )
+        BorrowedFormatItem::Literal(text) => put_literal(text, from, nodes, literals),
+        BorrowedFormatItem::StringLiteral(text) => {
+            put_literal(text.as_bytes(), from, nodes, literals)
         }
-        BorrowedFormatItem::StringLiteral(text) => put(
-            Node::literal(from.literals, text.len()),
-            text.as_bytes(),
-            from,
-            nodes,
-            literals,
-        ),
         BorrowedFormatItem::Component(component) => {
-            put(
-                component_node(component, from.nodes),
-                &[],
-                from,
-                nodes,
-                literals,
-            )
+            put(component_node(component, from.nodes), from, nodes)
         }
-        BorrowedFormatItem::Compound(members) => {
-            let behind = write_all(members, from, nodes, literals);
-            let node = Node::compound(from.nodes, members.len(), bytes);
-            put(node, &[], behind, nodes, literals)
-        }
-        BorrowedFormatItem::Optional(member) => {
-            let behind = write_item(member, from, nodes, literals);
-            let node = Node::optional(from.nodes, true, bytes);
-            put(node, &[], behind, nodes, literals)
-        }
-        BorrowedFormatItem::First(members) => {
-            let behind = write_all(members, from, nodes, literals);
-            let node = Node::first(from.nodes, members.len(), bytes);
-            put(node, &[], behind, nodes, literals)
-        }
+        BorrowedFormatItem::Compound(members) => write_compound(members, from, nodes, literals),
+        BorrowedFormatItem::Optional(member) => write_optional(member, from, nodes, literals),
+        BorrowedFormatItem::First(members) => write_first(members, from, nodes, literals),
     }
+}
+
+/// Writes items in turn, and the node of all of them.
+#[cycle(write)]
+#[inline(never)]
+fn write_compound(
+    members: &[BorrowedFormatItem<'_>],
+    from: Place,
+    nodes: &mut [Node],
+    literals: &mut [u8],
+) -> Option<Written>
+    ensures some { IfSome result (IsWritten (walked (compound (trees (item_trees members.now))))
+        (reserve (compound (trees (item_trees members.now)))) from nodes.old nodes.new literals.old literals.new) }
+    ensures none { result ≡ None → IsPast (walked (compound (trees (item_trees members.now)))) from }
+{
+    let inner = write_all(members, from, nodes, literals)?;
+    let node = Node::compound(from.nodes, members.len(), inner.bytes);
+    put(node, inner.end, nodes)
+}
+
+/// Writes an item, and the node that says that a parser may skip it.
+#[cycle(write)]
+#[inline(never)]
+fn write_optional(
+    member: &BorrowedFormatItem<'_>,
+    from: Place,
+    nodes: &mut [Node],
+    literals: &mut [u8],
+) -> Option<Written>
+    ensures some { IfSome result (IsWritten (walked (optional true (item_tree member.now)))
+        (reserve (optional true (item_tree member.now))) from nodes.old nodes.new literals.old literals.new) }
+    ensures none { result ≡ None → IsPast (walked (optional true (item_tree member.now))) from }
+{
+    let inner = write_item(member, from, nodes, literals)?;
+    let node = Node::optional(from.nodes, true, inner.bytes);
+    put(node, inner.end, nodes)
+}
+
+/// Writes items in turn, and the node that says that they are alternatives.
+#[cycle(write)]
+#[inline(never)]
+fn write_first(
+    members: &[BorrowedFormatItem<'_>],
+    from: Place,
+    nodes: &mut [Node],
+    literals: &mut [u8],
+) -> Option<Written>
+    ensures some { IfSome result (IsWritten (walked (first (trees (item_trees members.now))))
+        (reserve (first (trees (item_trees members.now)))) from nodes.old nodes.new literals.old literals.new) }
+    ensures none { result ≡ None → IsPast (walked (first (trees (item_trees members.now)))) from }
+{
+    let bytes = first_bytes(members);
+    let inner = write_all(members, from, nodes, literals)?;
+    let node = Node::first(from.nodes, members.len(), bytes);
+    put(node, inner.end, nodes)
 }
 
 /// The bytes that an item reserves, at most `usize::MAX`.
@@ -115,10 +142,18 @@ fn item_bytes(item: &BorrowedFormatItem<'_>) -> usize
         BorrowedFormatItem::Component(component) => component_node(component, 0).bytes,
         BorrowedFormatItem::Compound(members) => items_bytes(members),
         BorrowedFormatItem::Optional(member) => item_bytes(member),
-        BorrowedFormatItem::First(members) => match members {
-            [] => 0,
-            [first, ..] => item_bytes(first),
-        },
+        BorrowedFormatItem::First(members) => first_bytes(members),
+    }
+}
+
+/// The bytes that the first of alternatives reserves, at most `usize::MAX`.
+#[cycle(bytes)]
+fn first_bytes(members: &[BorrowedFormatItem<'_>]) -> usize
+    ensures { result ≡ kept_bytes (reserve (first (trees (item_trees members.now)))) }
+{
+    match members {
+        [] => 0,
+        [first, ..] => item_bytes(first),
     }
 }
 

@@ -8,12 +8,10 @@ pub mod laws;
 mod node;
 mod part;
 mod place;
-mod size;
 mod view;
 
 pub use component::component_node;
 pub use items::write_items;
 pub use node::Node;
-pub use place::{Place, START, put_within};
-pub use size::{Size, items_size};
-pub use view::{view_size, write_view, write_view_within};
+pub use place::{Place, START, Written};
+pub use view::write_view;

@@ -1,27 +1,49 @@
 //! What is written of one part of a description of version 3.
 
-ghost use Rattle.std.specs.Prelude.{◌≡◌, ◌-◌};
+ghost use Rattle.std.specs.Prelude.{◌≡◌, ◌-◌, ◌∷◌, [], None, IfSome};
 ghost use Rattle.timefd_component.specs.Reserved.{tree_count};
 ghost use Rattle.timefd_node_list.specs.Views.{view_tree};
-ghost use Rattle.timefd_c_nodes.specs.Encoding.{node_for, own_text};
+ghost use Rattle.timefd_c_nodes.specs.Writing.{IsPast, WritesWithin};
 
 use crate::component::component_node;
 use crate::node::Node;
-use crate::place::Place;
+use crate::place::{Place, Written, put, put_literal};
 use timefd_items::{Shape, View};
 
-/// Its node, where its members stand right before that.
-pub fn node_of(part: View<'_, '_>, at: Place) -> Node
-    ensures { result ≡ node_for at.nodes at.literals (view_tree part.entry) }
+/// Writes its node and its bytes at a place, as far as there is room, where its members stand right
+/// before that. There is no answer where a `usize` doesn't count them.
+#[inline(always)]
+pub fn put_part(
+    part: View<'_, '_>,
+    at: Place,
+    nodes: &mut [Node],
+    literals: &mut [u8],
+) -> Option<Written>
+    ensures some { IfSome result (λ w. WritesWithin (view_tree part.entry ∷ []) at w.end nodes.old
+        nodes.new literals.old literals.new) }
+    ensures none { result ≡ None → IsPast (view_tree part.entry ∷ []) at }
 {
-    let start = first_inner(part, at);
-    let bytes = part.max_bytes_needed();
     match part.shape() {
-        Shape::Literal(text) => Node::literal(at.literals, text.len()),
-        Shape::Component(component) => component_node(component, at.nodes),
-        Shape::Compound(members) => Node::compound(start, members.len(), bytes),
-        Shape::Optional { format, .. } => Node::optional(start, format, bytes),
-        Shape::First(members) => Node::first(start, members.len(), bytes),
+        Shape::Literal(text) => put_literal(text.as_bytes(), at, nodes, literals),
+        Shape::Component(component) => put(component_node(component, at.nodes), at, nodes),
+        Shape::Compound(members) => {
+            let bytes = part.max_bytes_needed();
+            let node = Node::compound(first_inner(part, at), members.len(), bytes);
+            put(node, at, nodes)
+        }
+        Shape::Optional { format, .. } => {
+            let bytes = part.max_bytes_needed();
+            put(
+                Node::optional(first_inner(part, at), format, bytes),
+                at,
+                nodes,
+            )
+        }
+        Shape::First(members) => {
+            let bytes = part.max_bytes_needed();
+            let node = Node::first(first_inner(part, at), members.len(), bytes);
+            put(node, at, nodes)
+        }
     }
 }
 
@@ -30,14 +52,4 @@ fn first_inner(part: View<'_, '_>, at: Place) -> usize
     ensures { result ≡ at.nodes - (tree_count (view_tree part.entry) - 1) }
 {
     at.nodes.saturating_sub(part.part_count().saturating_sub(1))
-}
-
-/// The bytes that it adds to the literals.
-pub fn text_of<'v>(part: View<'v, '_>) -> &'v [u8]
-    ensures { result.now ≡ own_text (view_tree part.entry) }
-{
-    match part.shape() {
-        Shape::Literal(text) => text.as_bytes(),
-        Shape::Component(_) | Shape::Compound(_) | Shape::Optional { .. } | Shape::First(_) => &[],
-    }
 }

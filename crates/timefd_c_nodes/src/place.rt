@@ -1,11 +1,14 @@
 //! Where nodes and the bytes of literals are written.
 
-ghost use Rattle.std.specs.Prelude.{◌≡◌, ◌+◌, ◌<◌, ◌≤◌, length, set};
-ghost use Rattle.timefd_c_nodes.specs.Writing.{overwritten};
+ghost use Rattle.std.specs.Prelude.{◌≡◌, ◌+◌, ◌≤◌, ◌^◌, None, IfSome, length};
+ghost use Rattle.timefd_component.specs.Reserved.{reserve};
+ghost use Rattle.timefd_component.specs.Tree.{literal};
+ghost use Rattle.timefd_node_list.specs.Views.{walked};
+ghost use Rattle.timefd_c_nodes.specs.Writing.{IsPast, IsWritten, Puts};
 
 use crate::node::Node;
 
-/// The index of the next node, and that of the next byte of a literal.
+/// The index of the next node, and that of the next byte of a literal: so many stand before it.
 #[derive(Clone, Copy)]
 pub struct Place {
     pub nodes: usize,
@@ -18,53 +21,59 @@ pub const START: Place = Place {
     literals: 0,
 };
 
-/// Writes a node, and the bytes that it adds to the literals. The answer is the next place.
-pub fn put(node: Node, text: &[u8], at: Place, nodes: &mut [Node], literals: &mut [u8]) -> Place
-    requires node_room { at.nodes < length nodes.old }
-    requires literal_room { at.literals + length text.now ≤ length literals.old }
-    ensures nodes { nodes.new ≡ set nodes.old at.nodes node }
-    ensures literals { literals.new ≡ overwritten at.literals text.now literals.old }
-    ensures node_at { result.nodes ≡ at.nodes + 1 }
-    ensures literal_at { result.literals ≡ at.literals + length text.now }
-{
-    let behind = at.literals + text.len();
-    nodes[at.nodes] = node;
-    literals[at.literals..behind].copy_from_slice(text);
-    Place {
-        nodes: at.nodes + 1,
-        literals: behind,
-    }
+/// What was written.
+#[derive(Clone, Copy)]
+pub struct Written {
+    /// The place behind it, also where it had no room.
+    pub end: Place,
+    /// The bytes that are reserved for it, at most `usize::MAX`.
+    pub bytes: usize,
 }
 
-/// Writes a node, and the bytes that it adds to the literals, each where its buffer has room for it.
-/// The answer is the next place, wherever that is.
+/// Writes a node that adds nothing to the literals, if there is room for it. There is no answer where
+/// a `usize` doesn't count the nodes.
 #[inline(always)]
-pub fn put_within(
-    node: Node,
-    text: &[u8],
-    at: Place,
-    nodes: &mut [Node],
-    literals: &mut [u8],
-) -> Place
-    requires node_counted { at.nodes < usize.MAX }
-    requires literal_counted { at.literals + length text.now ≤ usize.MAX }
-    ensures nodes { at.nodes < length nodes.old → nodes.new ≡ set nodes.old at.nodes node }
-    ensures literals { at.literals + length text.now ≤ length literals.old
-        → literals.new ≡ overwritten at.literals text.now literals.old }
-    ensures node_room { length nodes.new ≡ length nodes.old }
-    ensures literal_room { length literals.new ≡ length literals.old }
-    ensures node_at { result.nodes ≡ at.nodes + 1 }
-    ensures literal_at { result.literals ≡ at.literals + length text.now }
+pub fn put(node: Node, at: Place, nodes: &mut [Node]) -> Option<Written>
+    ensures some { IfSome result (Puts node at nodes.old nodes.new) }
+    ensures none { result ≡ None → 2 ^ 64 ≤ at.nodes + 1 }
 {
     if at.nodes < nodes.len() {
         nodes[at.nodes] = node;
     }
-    let end = at.literals + text.len();
-    if end <= literals.len() {
-        literals[at.literals..end].copy_from_slice(text);
+    let end = Place {
+        nodes: at.nodes.checked_add(1)?,
+        literals: at.literals,
+    };
+    Some(Written {
+        end,
+        bytes: node.bytes,
+    })
+}
+
+/// Writes the node of a literal, and its bytes, each where its buffer has room for it. There is no
+/// answer where a `usize` doesn't count the nodes or the bytes.
+#[inline(always)]
+pub fn put_literal(
+    text: &[u8],
+    at: Place,
+    nodes: &mut [Node],
+    literals: &mut [u8],
+) -> Option<Written>
+    ensures some { IfSome result (IsWritten (walked (literal text.now)) (reserve (literal text.now))
+        at nodes.old nodes.new literals.old literals.new) }
+    ensures none { result ≡ None → IsPast (walked (literal text.now)) at }
+{
+    let written = put(Node::literal(at.literals, text.len()), at, nodes)?;
+    let behind = at.literals.checked_add(text.len())?;
+    if behind <= literals.len() {
+        literals[at.literals..behind].copy_from_slice(text);
     }
-    Place {
-        nodes: at.nodes + 1,
-        literals: end,
-    }
+    let end = Place {
+        nodes: written.end.nodes,
+        literals: behind,
+    };
+    Some(Written {
+        end,
+        bytes: text.len(),
+    })
 }

@@ -1,10 +1,12 @@
-//! Dates written by a description that was read.
+//! Dates written and read by a description that was read.
 
 use std::fmt;
 use std::io;
 
 use crate::rows::{Language, ONE, STRFTIME, THREE};
-use timefd::{Date, FormatError, Lack, Moment, Number, Time, WriteError};
+use timefd::{
+    Date, FormatError, Lack, Moment, MomentPart, Number, ReadError, Time, Unread, WriteError,
+};
 
 const MOMENT: Moment = Moment {
     date: Some(Date { year: 2026, month: 11, day: 23 }),
@@ -92,4 +94,52 @@ fn nothing_is_written_with_an_error() {
 
     let day = THREE.parse("[day]").expect("a description");
     assert_eq!(day.write_to(&MOMENT, &mut Full), Err(WriteError::Output(fmt::Error)));
+}
+
+/// Languages, descriptions and dates that show a day, a time of day or an offset.
+const READ: &[(Language, &str, &str, Moment)] = &[
+    (THREE, "", "", NOTHING),
+    (THREE, "[year]-[month]-[day]", "2026-11-23", Moment { date: MOMENT.date, ..NOTHING }),
+    (ONE, "[[[ordinal] [year]", "[327 2026", Moment { date: MOMENT.date, ..NOTHING }),
+    (STRFTIME, "%H:%M:%S%%", "05:36:07%", Moment { time: MOMENT.time, ..NOTHING }),
+    (
+        THREE,
+        "[offset_hour][offset_minute]",
+        "-0030",
+        Moment { offset_seconds: Some(-1800), ..NOTHING },
+    ),
+];
+
+const NOTHING: Moment = Moment { date: None, time: None, offset_seconds: None };
+
+#[test]
+fn dates_are_read() {
+    for &(language, text, date, expected) in READ {
+        let description = language.parse(text).expect(text);
+        assert_eq!(description.read(date), Ok(expected), "{text:?}");
+    }
+}
+
+/// Descriptions, dates, and the sentence of why they are not read.
+const UNREAD: &[(&str, &str, &str)] = &[
+    ("[month]", "1x", "the component `month` reads nothing at byte index 0"),
+    ("[day] [day]", "23 24", "the component `day` reads another value at byte index 3"),
+    ("é[day]/", "é23-", "the description has another text at byte index 4"),
+    ("[day]", "231", "the description ends at byte index 2"),
+    ("[month]-[day]", "11-23", "the year was not read"),
+    ("[year]-[month]-[day]", "2026-02-29", "the day disagrees with what else was read"),
+];
+
+#[test]
+fn dates_are_not_read() {
+    for &(text, date, sentence) in UNREAD {
+        let error = THREE.parse(text).expect(text).read(date).expect_err(date);
+        assert_eq!(error.to_string(), sentence, "{text:?}");
+    }
+    let text = THREE.parse("[day]:[month]").expect("a description");
+    let why = Unread::ReadsNothing { component: 4 };
+    assert_eq!(text.read("01:x"), Err(ReadError::Unread { index: 3, why }));
+    assert_eq!(text.read("01:02"), Err(ReadError::Missing(MomentPart::Year)));
+    let error = timefd::read(timefd::Version::Three, "[mnth]", "11").expect_err("no description");
+    assert!(matches!(error, ReadError::Parse(_)), "{error}");
 }

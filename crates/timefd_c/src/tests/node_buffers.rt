@@ -1,4 +1,4 @@
-//! Buffers that are too short, which are kept.
+//! Buffers that are too short, of which nothing is told, and those of a refused text, which are kept.
 
 use crate::read::{Report, read};
 use timefd_c_nodes::Node;
@@ -7,7 +7,7 @@ use timefd_parse::{DescriptionVersion, Language};
 // A text with three nodes, of whose literals there are four bytes.
 const TEXT: &str = "due [day]";
 
-// Whether both buffers are written, if they have this room, or else both kept.
+// Whether both buffers had room, if they have this one. Where they had, both are written.
 fn written(rt: &HostRuntime, node_room: usize, literal_room: usize) -> Option<bool> {
     let mut nodes = [Node::blank(9); 4];
     let mut literals = [b'.'; 5];
@@ -28,7 +28,7 @@ fn written(rt: &HostRuntime, node_room: usize, literal_room: usize) -> Option<bo
                 literals: 4,
                 written,
             },
-        ) if written != kept => Some(written),
+        ) if !(written && kept) => Some(written),
         _ => None,
     }
 }

@@ -6,7 +6,7 @@ use Rattle.timefd_c_format.proofs.len.len_in.Goals as goal
 
 pub unreachable-requires : goal.unreachable-requires
 unreachable-requires c =
-    room_alone c.args.moment c.args.component c.args.buffer.now c.write_leaf.new.buffer c.requires
+    room_alone c.args.moment c.args.component c.args.buffer.now c.write_component.new.buffer c.requires
     (subst
-    (λ r. IsOutcome (shown c.args.moment c.args.component) c.args.buffer.now c.write_leaf.new.buffer r)
-    (c.in-Err-Room.is ∙ ap Err c.in-Err-Room.field-0-is) c.write_leaf.ensures)
+    (λ r. IsOutcome (shown c.args.moment c.args.component) c.args.buffer.now c.write_component.new.buffer r)
+    (c.in-Err-Room.is ∙ ap Err c.in-Err-Room.field-0-is) c.write_component.ensures.outcome)

@@ -1,24 +1,17 @@
-use Rattle.std.proofs.Common.{◌∙◌, sym, ap, arith}
+use Rattle.std.proofs.Common.{◌∙◌, arith}
 use Rattle.timefd_format_item.specs.Meaning.{item_tree}
-use Rattle.timefd_node_list.specs.Nodes.{kept_bytes}
-use Rattle.timefd_component.specs.Reserved.{reserve}
-use Rattle.timefd_c_nodes.proofs.ItemLemmas.{first_tree}
 use Rattle.timefd_c_nodes.proofs.TreeLemmas.{bytes_step, bytes_end, first_none, first_some}
 use Rattle.timefd_c_nodes.proofs.items.+bytes.Goals as goal
 
-pub item_bytes-returns-in-empty : goal.item_bytes-returns-in-empty
-item_bytes-returns-in-empty t c =
-    first_none item_tree c.in-First.members.now (omega (arith, c.in-empty.len_below)) ∙
-    sym (ap (λ i. kept_bytes (reserve (item_tree i))) c.in-First.is ∙
-    ap (λ x. kept_bytes (reserve x)) (first_tree c.in-First.members))
+pub first_bytes-returns-in-empty : goal.first_bytes-returns-in-empty
+first_bytes-returns-in-empty t c =
+    first_none item_tree c.args.members.now (omega (arith, c.in-empty.len_below))
 
-pub item_bytes-returns-in-len1-up : goal.item_bytes-returns-in-len1-up
-item_bytes-returns-in-len1-up t c =
-    c.item_bytes-in-len1-up.ensures
-    ∙ first_some item_tree c.in-First.members.now c.first-item.result
+pub first_bytes-returns-in-len1-up : goal.first_bytes-returns-in-len1-up
+first_bytes-returns-in-len1-up t c =
+    c.item_bytes.ensures ∙
+    first_some item_tree c.args.members.now c.first-item.result
     (omega (arith, c.in-len1-up.len_at_least)) c.first-item.is
-    ∙ sym (ap (λ i. kept_bytes (reserve (item_tree i))) c.in-First.is ∙
-    ap (λ x. kept_bytes (reserve x)) (first_tree c.in-First.members))
 
 pub items_bytes-items-init : goal.items_bytes-items-init
 items_bytes-items-init t c = record { capped = omega arith; all = omega arith }

@@ -1,0 +1,136 @@
+-- What is answered to C of a text that is to be read as a date.
+use Rattle.std.specs.Prelude.{ℕ, ◌≡◌, IsSome, IsUtf8, List, Option, None, Result, Ok, Err}
+use Rattle.timefd_c.specs.declared.answer.TheConstants.{ACCEPTED, REFUSED, NOT_UTF8, NO_MEMORY, UNKNOWN_KIND}
+use Rattle.timefd_c.specs.declared.date_answer.DateAnswer.{DateAnswer}
+use Rattle.timefd_c.specs.declared.date_answer.TheConstants.{UNREAD, CONTRADICTION, MISSING, DATE_NOT_UTF8}
+use Rattle.timefd_c.specs.Answers.{Describes, HasFault}
+use Rattle.timefd_c.specs.Moments.{AreNumbers, IsMoment, range_fault, unknown}
+use Rattle.timefd_c_nodes.specs.Encoding.{component_node}
+use Rattle.timefd_component.specs.Tree.{Text, Tree}
+use Rattle.timefd_fault.specs.Faults.{Fault}
+use Rattle.timefd_moment.specs.declared.moment.Moment.{Moment}
+use Rattle.timefd_parse.specs.declared.language.Language.{Language}
+use Rattle.timefd_read_dates.specs.declared.fault.ReadError.{ReadError}
+use Rattle.timefd_read_dates.specs.declared.fault.Reason.{Reason}
+use Rattle.timefd_read_dates.specs.declared.fault.Reason.TheVariants as for
+use Rattle.timefd_read_moment.specs.declared.error.ValueError.{ValueError}
+use Rattle.timefd_read_moment.specs.declared.error.ValueError.TheVariants as error
+use Rattle.timefd_read_moment.specs.declared.part.DatePart.{DatePart}
+use Rattle.timefd_read_moment.specs.declared.part.TimePart.{TimePart}
+use Rattle.timefd_read_moment.specs.declared.part.OffsetPart.{OffsetPart}
+use Rattle.timefd_read_moment.specs.declared.part.InstantPart.{InstantPart}
+use Rattle.timefd_read_moment.specs.declared.part.Part.{Part}
+use Rattle.timefd_read_moment.specs.declared.part.Part.TheVariants as part
+use Rattle.timefd_read_text.specs.Answers.{IsReadAs, fields_in}
+use Rattle.timefd_read_text.specs.declared.error.ReadTextError.{ReadTextError}
+use Rattle.timefd_read_text.specs.declared.error.ReadTextError.TheVariants as fails
+
+-- the numbers of why a part does not read
+abbrev pub reason_number : Reason → ℕ
+reason_number (for.Unread c) = 1
+reason_number (for.Contradiction c) = 2
+reason_number for.Literal = 3
+reason_number for.Trailing = 4
+
+-- the number of the component that does not read, or 0 where it is none
+abbrev pub component_in : Reason → ℕ
+component_in (for.Unread c) = (component_node c 0).component
+component_in (for.Contradiction c) = (component_node c 0).component
+component_in for.Literal = 0
+component_in for.Trailing = 0
+
+-- the numbers of what can be read of a date, a time of day, an offset and an instant
+
+abbrev pub date_part_number : DatePart → ℕ
+date_part_number DatePart.Day = 1
+date_part_number DatePart.Month = 2
+date_part_number DatePart.Ordinal = 3
+date_part_number DatePart.Weekday = 4
+date_part_number DatePart.IsoWeek = 5
+date_part_number DatePart.SundayWeek = 6
+date_part_number DatePart.MondayWeek = 7
+date_part_number DatePart.YearLastTwo = 8
+date_part_number DatePart.Century = 9
+date_part_number DatePart.Year = 10
+date_part_number DatePart.IsoYearLastTwo = 11
+date_part_number DatePart.IsoCentury = 12
+date_part_number DatePart.IsoYear = 13
+
+abbrev pub time_part_number : TimePart → ℕ
+time_part_number TimePart.Hour = 14
+time_part_number TimePart.Hour12 = 15
+time_part_number TimePart.Period = 16
+time_part_number TimePart.Minute = 17
+time_part_number TimePart.Second = 18
+time_part_number TimePart.Subsecond = 19
+
+abbrev pub offset_part_number : OffsetPart → ℕ
+offset_part_number OffsetPart.Hour = 20
+offset_part_number OffsetPart.Minute = 21
+offset_part_number OffsetPart.Second = 22
+
+abbrev pub instant_part_number : InstantPart → ℕ
+instant_part_number InstantPart.Second = 23
+instant_part_number InstantPart.Millisecond = 24
+instant_part_number InstantPart.Microsecond = 25
+instant_part_number InstantPart.Nanosecond = 26
+
+abbrev pub part_number : Part → ℕ
+part_number (part.Date p) = date_part_number p
+part_number (part.Time p) = time_part_number p
+part_number (part.Offset p) = offset_part_number p
+part_number (part.Instant p) = instant_part_number p
+
+-- the answer with this status and value, where nothing was read
+abbrev pub silent : ℕ → ℕ → DateAnswer
+silent status value = record {
+  status = status;
+  reason = 0;
+  component = 0;
+  part = 0;
+  value = value;
+  moment = unknown;
+}
+
+-- The answer has the numbers of the moment, and timefd_format takes them for it.
+pub record IsRead (m : Moment) (answer : DateAnswer) : Type 0 where
+  pub told : answer ≡ record (silent ACCEPTED 0) { moment = answer.moment }
+  pub numbers : AreNumbers m answer.moment
+  pub same : IsMoment answer.moment m
+  pub in_range : range_fault answer.moment ≡ None
+
+abbrev pub unread_answer : ReadError → DateAnswer
+unread_answer u = record (silent UNREAD u.index) {
+  reason = reason_number u.reason;
+  component = component_in u.reason;
+}
+
+abbrev pub value_answer : ValueError → DateAnswer
+value_answer (error.Missing p) = record (silent MISSING 0) { part = part_number p }
+value_answer (error.Contradiction p) = record (silent CONTRADICTION 0) { part = part_number p }
+
+-- The answer tells the moment that was read, or why none was.
+abbrev pub Answers : Result Moment ReadTextError → DateAnswer → Type 0
+Answers (Ok m) answer = IsRead m answer
+Answers (Err (fails.Fault f)) answer = answer ≡ silent REFUSED f.index
+Answers (Err (fails.Unread u)) answer = answer ≡ unread_answer u
+Answers (Err (fails.Value v)) answer = answer ≡ value_answer v
+Answers (Err (fails.Memory e)) answer = answer ≡ silent NO_MEMORY 0
+
+-- By a description of these items the date is read as `IsReadAs` says, and that is answered.
+abbrev pub ReadsBy : List Tree → Text → DateAnswer → Type 0
+ReadsBy list date answer =
+    (read : Result Moment ReadTextError) × IsReadAs (fields_in list date) read
+    × Answers read answer
+
+-- The answer says what the bytes of the date show by the bytes of a description in the language, or why
+-- they show nothing.
+pub record ReadsDate (language : Option Language) (bytes date : Text) (answer : DateAnswer) : Type 0 where
+  pub unknown_kind : language ≡ None → answer ≡ silent UNKNOWN_KIND 0
+  pub not_utf8 : IsSome language → ¬ (IsUtf8 bytes) → answer ≡ silent NOT_UTF8 0
+  pub date_not_utf8 : IsSome language → IsUtf8 bytes → ¬ (IsUtf8 date)
+      → answer ≡ silent DATE_NOT_UTF8 0
+  pub faulty : IsUtf8 date → (f : Fault) → HasFault language bytes f
+      → answer ≡ silent REFUSED f.index
+  pub spelled : IsUtf8 date → (list : List Tree) → Describes language bytes list
+      → ReadsBy list date answer

@@ -1,0 +1,37 @@
+//! What a walk from the last node to the first counts.
+
+ghost use Rattle.std.specs.Prelude.{◌≡◌, ◌+◌, ◌<◌, ◌≤◌, MatchOption};
+ghost use Rattle.timefd_c_format.specs.Parts.{role};
+ghost use Rattle.timefd_c_format.specs.Walk as spec;
+
+use crate::part::{Part, members, unwritten_members};
+
+/// How many trees have to stand in front of a part: its members, and those of the `need` trees that are
+/// members of what is behind, but for its own. `None` where there are fewer nodes in front of it.
+#[inline(always)]
+pub(crate) fn needed(part: Part<'_>, need: usize, front: usize) -> Option<usize>
+    requires { need ≤ front + 1 }
+    ensures { MatchOption result (front < spec.needed need (role part.entry))
+        (λ n. (n ≡ spec.needed need (role part.entry)) × (n ≤ front)) }
+{
+    let others = need.saturating_sub(1);
+    let members = members(part);
+    if members > front - others {
+        return None;
+    }
+    Some(others + members)
+}
+
+/// How many of the last trees in front of a part aren't written, where so many of those that end with
+/// its own aren't.
+#[inline(always)]
+pub(crate) fn skipped(part: Part<'_>, skip: usize, need: usize) -> usize
+    requires { spec.skipped skip (role part) ≤ need }
+    ensures { result ≡ spec.skipped skip (role part.entry) }
+{
+    if skip > 0 {
+        skip - 1 + members(part)
+    } else {
+        unwritten_members(part)
+    }
+}
