@@ -48,6 +48,34 @@ function showOutput(said, at, writes, names) {
     }
 }
 
+// What the text in the field below shows by the description.
+function showReading(kind, description) {
+    const text = by("shown").value;
+    const { status, said } = text === "" ? {} : timefd.read(kind, description, text);
+    by("shown").setAttribute("aria-invalid", String(text !== "" && !said?.read));
+    if (text === "") {
+        by("reading").replaceChildren(made("p", "Type what it might write, and see the moment that it reads.", "none"));
+    } else if (said === null) {
+        by("reading").replaceChildren(made("p", `Nothing: ${status}.`, "none"));
+    } else if (said.read) {
+        by("reading").replaceChildren(made("output", said.moment === "" ? "It reads, and shows no moment." : said.moment));
+    } else {
+        by("reading").replaceChildren(...unread(text, said));
+    }
+}
+
+// The text with the byte at which it doesn't read, and why. Where all was read there is no such byte.
+function unread(text, said) {
+    const words = made("p", `${said.message}${said.start === undefined ? "" : `, at byte ${said.start}`}`, "why");
+    if (said.start === undefined) return [words];
+    const { cut, length } = cutter(text);
+    const behind = cut(said.start, length);
+    const first = String.fromCodePoint(...[behind.codePointAt(0)].filter((it) => it !== undefined));
+    const excerpt = made("div", undefined, "text");
+    excerpt.append(cut(0, said.start).slice(-60), made("mark", first === "" ? "\u00a0" : first), behind.slice(first.length, first.length + 60));
+    return [excerpt, words];
+}
+
 function inked(text, name, place) {
     const it = made("b", text, name);
     it.dataset.place = place;
@@ -141,7 +169,7 @@ function answer() {
     const names = accepted ? colours(said.nodes) : [];
     ink(text, said, names);
     showReference(kind, at ?? ANY);
-    ["written", "parts", "later", "code"].forEach((id) => (by(id).hidden = !accepted));
+    ["written", "back", "parts", "later", "code"].forEach((id) => (by(id).hidden = !accepted));
     by("fault").hidden = said === null || accepted;
     by("took").textContent = `${new TextEncoder().encode(text).length} bytes read in ${took.toFixed(1)} ms, with ${Math.round(timefd.memory() / 1024)} KiB of memory.`;
     if (said === null) {
@@ -153,6 +181,7 @@ function answer() {
         verdict("accepted", "Accepted", `in ${LANGUAGES[kind]}; writes at most ${said.bytes} byte${said.bytes === 1 ? "" : "s"}`);
         const writes = writer(timefd.report, kind, text, at ?? ANY);
         showOutput(said, at, writes, names);
+        showReading(kind, text);
         showRows(text, said, writes, names);
         showLater(kind, text, said);
         by("lines").replaceChildren(...codeLines(kind, text, at ?? ANY).map(([title, lines]) => copied(title, lines)));
@@ -218,6 +247,7 @@ function listen() {
     document.querySelectorAll("#kinds input").forEach((it) => it.addEventListener("input", answer));
     by("text").addEventListener("input", answerSoon);
     by("text").addEventListener("scroll", () => (by("ink").scrollTop = by("text").scrollTop));
+    by("shown").addEventListener("input", () => showReading(language(), by("text").value));
     by("moment").addEventListener("input", answer);
     by("moment").addEventListener("submit", (event) => event.preventDefault());
     by("now").onclick = () => (setMoment(new Date()), answer());

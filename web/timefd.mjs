@@ -7,7 +7,7 @@ const MOMENT = 20;
 const ANSWER = 16;
 const ROOM = 16384;
 
-// Gives the one call of a module, from its bytes. It wants nothing of its host.
+// Gives the two calls of a module, from its bytes. It wants nothing of its host.
 export async function load(bytes) {
     const { instance } = await WebAssembly.instantiate(bytes, {});
     const calls = instance.exports;
@@ -33,27 +33,46 @@ export async function load(bytes) {
         [moment.month, moment.day, moment.hour, moment.minute, moment.second].forEach((value, place) => fields.setUint8(12 + place, value));
     };
 
-    const tried = (language, moment, bytes, room) =>
+    // What a call left in `out`, whose room is this.
+    const told = (answer, out, room) => {
+        const numbers = numbersAt(answer, ANSWER);
+        const [status, len] = [STATUSES[numbers.getUint32(0, true)], Number(numbers.getBigUint64(8, true))];
+        const json = status === "reported" && len <= room ? new TextDecoder().decode(bytesAt(out, len)) : null;
+        return { status, len, json };
+    };
+
+    const reported = (language, moment, bytes, room) =>
         withBlocks([bytes.length, MOMENT, room, ANSWER], (text, fields, out, answer) => {
             bytesAt(text, bytes.length).set(bytes);
             writeMoment(fields, moment);
             calls.timefd_web_report(language, text, BigInt(bytes.length), fields, out, BigInt(room), answer);
-            const told = numbersAt(answer, ANSWER);
-            const [status, len] = [STATUSES[told.getUint32(0, true)], Number(told.getBigUint64(8, true))];
-            const json = status === "reported" && len <= room ? new TextDecoder().decode(bytesAt(out, len)) : null;
-            return { status, len, json };
+            return told(answer, out, room);
         });
+
+    const read = (language, description, bytes, room) =>
+        withBlocks([description.length, bytes.length, room, ANSWER], (by, text, out, answer) => {
+            bytesAt(by, description.length).set(description);
+            bytesAt(text, bytes.length).set(bytes);
+            calls.timefd_web_read(language, by, BigInt(description.length), text, BigInt(bytes.length), out, BigInt(room), answer);
+            return told(answer, out, room);
+        });
+
+    // Runs a call with some room, and again where its object wants more: the status, and the object as it was written, `json`,
+    // and read, `said`.
+    const answered = (run) => {
+        let it = run(ROOM);
+        if (it !== null && it.status === "reported" && it.len > ROOM) it = run(it.len);
+        if (it === null) return { status: "out of memory", json: null, said: null };
+        return { status: it.status, json: it.json, said: it.json === null ? null : JSON.parse(it.json) };
+    };
+
+    const bytesOf = (text) => (typeof text === "string" ? new TextEncoder().encode(text) : text);
 
     return {
         memory: () => calls.memory.buffer.byteLength,
-        // What a text is as one of the language with this number, and what it writes of the moment: the status, and the object
-        // as it was written, `json`, and read, `said`.
-        report: (language, moment, text) => {
-            const bytes = typeof text === "string" ? new TextEncoder().encode(text) : text;
-            let told = tried(language, moment, bytes, ROOM);
-            if (told !== null && told.status === "reported" && told.len > ROOM) told = tried(language, moment, bytes, told.len);
-            if (told === null) return { status: "out of memory", json: null, said: null };
-            return { status: told.status, json: told.json, said: told.json === null ? null : JSON.parse(told.json) };
-        },
+        // What a text is as one of the language with this number, and what it writes of the moment.
+        report: (language, moment, text) => answered((room) => reported(language, moment, bytesOf(text), room)),
+        // What a text shows by a description of the language with this number.
+        read: (language, description, text) => answered((room) => read(language, bytesOf(description), bytesOf(text), room)),
     };
 }

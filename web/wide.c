@@ -34,3 +34,8 @@ u128 __udivti3(u128 a, u128 b) {
     }
     return a;
 }
+
+/* What the quotient leaves. */
+u128 __umodti3(u128 a, u128 b) {
+    return a - __udivti3(a, b) * b;
+}

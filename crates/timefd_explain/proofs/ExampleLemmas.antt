@@ -26,7 +26,6 @@ examples_more before after n e has all = subst Examples (sym e) (one_more before
 told : (w : What) (words x : Text) → AreWordsOf w words → IsExampleOf w x
     → IsExampleFor (kind_in w) words x
 told (what.Literal text) words x named is = tt
-told what.Bytes words x named is = tt
 told (what.Component c) words x named is = (c, named, is)
 told (what.Optional format) words x named is = is
 told what.First words x named is = is
@@ -50,7 +49,6 @@ pub no_words : (w : What) (r : Result (String Global) AllocError)
 no_words (what.Component c) r absent = absurd (absent c refl)
 no_words w (Err e) absent = tt
 no_words (what.Literal text) (Ok words) absent = tt
-no_words what.Bytes (Ok words) absent = tt
 no_words (what.Optional format) (Ok words) absent = tt
 no_words what.First (Ok words) absent = tt
 no_words what.Several (Ok words) absent = tt

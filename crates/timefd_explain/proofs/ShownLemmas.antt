@@ -1,5 +1,6 @@
 -- Pieces that are shown one after another.
-use Rattle.std.proofs.Common.{rules, true, ◌≡◌, ◌∙◌, ℕ, ◌+◌, ◌-◌, ◌<◌, ◌≤◌, List, [], ◌∷◌, ◌++◌, length, map, drop, get_or, min, refl, sym, ap, subst, arith, add-one, drop-cons, append_assoc, append-nil}
+use Rattle.std.proofs.Common.{rules, true, false, IsTrue, ◌≡◌, ◌∙◌, ℕ, zero, suc, ◌+◌, ◌-◌, ◌<◌, ◌≤◌, List, [], ◌∷◌, ◌++◌, length, map, drop, get_or, min, refl, sym, ap, subst, arith, add-one, drop-cons, append_assoc, append-nil, length-append}
+use Rattle.std.proofs.lemmas.Bool.{and_parts, false≢true}
 use Rattle.std.proofs.lemmas.List.{drop_all}
 use Rattle.std.specs.Borrow.{Bor}
 use Rattle.std.specs.declared.vec.Vec.{Vec}
@@ -18,12 +19,13 @@ use Rattle.timefd_parse.specs.declared.parsing.BorrowedOutput.TheVariants as out
 use Rattle.timefd_component.specs.Reserved.{reserve, reserve_all}
 use Rattle.timefd_component.specs.Tree.{Text, Tree, compound, first, literal, optional, pack, trees}
 use Rattle.timefd_language.specs.Grammar.{nesting_limit}
+use Rattle.timefd_language.specs.Strings.{are_of_strings, is_of_strings}
 use Rattle.timefd_node_list.specs.Nodes.{kept_bytes}
 use Rattle.timefd_parse.specs.FirstPiece.{BeginsList}
 use Rattle.timefd_parse.specs.Language.{SpellsIn}
 use Rattle.timefd_parse.specs.declared.language.Language.{Language}
 use Rattle.timefd_explain.specs.declared.piece.Shown.{Shown}
-use Rattle.timefd_explain.specs.Shown.{AreShown, IsShown, Shows, ShowsOne, texts}
+use Rattle.timefd_explain.specs.Shown.{AreShown, AreSpelled, IsShown, Shows, ShowsOne, texts}
 
 texts_more : (ss : List Shown) (s : Shown) → texts (ss ++ s ∷ []) ≡ texts ss ++ s.text.now
 texts_more [] s = append-nil s.text.now
@@ -38,6 +40,14 @@ shown_more [] (u ∷ ts) s t are is = absurd are
 shown_more (r ∷ ss) [] s t are is = absurd are
 shown_more (r ∷ ss) (u ∷ ts) s t are is = (are.0, shown_more ss ts s t are.1 is)
 
+spelled_more : (l : Language) (ss : List Shown) (ts : List Tree) (s : Shown) (t : Tree)
+    → AreSpelled l ss ts → SpellsIn l nesting_limit s.text.now (t ∷ [])
+    → AreSpelled l (ss ++ s ∷ []) (ts ++ t ∷ [])
+spelled_more l [] [] s t are is = (is, tt)
+spelled_more l [] (u ∷ ts) s t are is = absurd are
+spelled_more l (r ∷ ss) [] s t are is = absurd are
+spelled_more l (r ∷ ss) (u ∷ ts) s t are is = (are.0, spelled_more l ss ts s t are.1 is)
+
 -- the pieces so far, and the list that the rest spells
 pub record Continues (language : Language) (text : Text) (list : List Tree) (shown : List Shown)
     (rest : Text) : Type 0 where
@@ -46,6 +56,7 @@ pub record Continues (language : Language) (text : Text) (list : List Tree) (sho
   pub list_is : list ≡ done ++ others
   pub whole : texts shown ++ rest ≡ text
   pub each : AreShown shown done
+  pub spelled : AreSpelled language shown done
   pub behind : SpellsIn language nesting_limit rest others
 
 pub continues_first : (language : Language) (text : Text) (list : List Tree)
@@ -56,6 +67,7 @@ continues_first language text list s = record {
   list_is = refl;
   whole = refl;
   each = tt;
+  spelled = tt;
   behind = s;
 }
 
@@ -77,6 +89,8 @@ continues_more language text list shown rest piece after s before joined begins 
           ∙ append_assoc (texts shown) piece after ∙ ap (λ t. texts shown ++ t) joined
           ∙ before.whole;
       each = shown_more shown before.done s b.tree before.each one.1;
+      spelled = spelled_more language shown before.done s b.tree before.spelled
+          (subst (λ t. SpellsIn language nesting_limit t (b.tree ∷ [])) (sym one.0) b.first);
       behind = b.behind;
     }
 
@@ -84,14 +98,48 @@ pub continues_end : (language : Language) (text : Text) (list : List Tree) (show
     (rest : Text) → Continues language text list shown rest
     → ((others : List Tree) → SpellsIn language nesting_limit rest others
     → (others ≡ []) × (rest ≡ []))
-    → Shows text list shown
+    → Shows language text list shown
 continues_end language text list shown rest before ends =
-    let e = ends before.others before.behind in record {
+    let e = ends before.others before.behind in
+    let list_is : list ≡ before.done =
+    before.list_is ∙ ap (λ ts. before.done ++ ts) e.0 ∙ append-nil before.done in record {
       whole = sym (append-nil (texts shown)) ∙ ap (λ t. texts shown ++ t) (sym e.1)
           ∙ before.whole;
-      each = subst (AreShown shown) (sym (before.list_is ∙ ap (λ ts. before.done ++ ts) e.0
-          ∙ append-nil before.done)) before.each;
+      each = subst (AreShown shown) (sym list_is) before.each;
+      spelled = subst (AreSpelled language shown) (sym list_is) before.spelled;
     }
+
+one_longer : (ss : List Shown) (s : Shown) → length (texts (ss ++ s ∷ []))
+    ≡ length (texts ss) + length s.text.now
+one_longer ss s = ap length (texts_more ss s) ∙ length-append (texts ss) s.text.now
+
+pub within_more : (ss items : List Shown) (s : Shown) (rest piece after text : Text)
+    → items ≡ ss ++ s ∷ [] → s.text.now ≡ piece → piece ++ after ≡ rest
+    → length (texts ss) + length rest ≤ length text
+    → length (texts items) + length after ≤ length text
+within_more ss items s rest piece after text e is joined within =
+    omega (
+      arith,
+      within,
+      ap (λ x. length (texts x)) e,
+      one_longer ss s,
+      ap length is,
+      ap length joined,
+      length-append piece after,
+    )
+
+-- a piece is as long as all of them at most
+pub piece_within : (ss : List Shown) (at : ℕ) (s : Shown) → at < length ss → s ≡ get_or ss at s
+    → length s.text.now ≤ length (texts ss)
+piece_within [] at s below is = absurd (omega (arith, below))
+piece_within (r ∷ ss) zero s below is =
+    omega (arith, ap (λ x. length x.text.now) is, length-append r.text.now (texts ss))
+piece_within (r ∷ ss) (suc at) s below is =
+    omega (
+      arith,
+      piece_within ss at s (omega (arith, below)) is,
+      length-append r.text.now (texts ss),
+    )
 
 -- Bytes.
 
@@ -128,8 +176,30 @@ sum_is (s ∷ ss) (t ∷ ts) are = omega (arith, are.0.bytes, sum_is ss ts are.1
 
 -- Items, and what is read of one piece.
 
-pub bytes_tree : (bytes : Bor (List ℕ)) → item_tree (items.Literal bytes) ≡ literal bytes.now
-bytes_tree bytes = search (rules, the_lemmas)
+-- a literal of bytes is no string
+pub no_bytes : (item : BorrowedFormatItem) (bytes : Bor (List ℕ)) → item ≡ items.Literal bytes
+    → IsTrue (is_of_strings item) → ⊥
+no_bytes item bytes e is =
+    let none : is_of_strings (items.Literal bytes) ≡ false = search (rules, the_lemmas) in
+    false≢true (sym none ∙ ap is_of_strings (sym e) ∙ is)
+
+pub compound_strings : (item : BorrowedFormatItem) (members : Bor (List BorrowedFormatItem))
+    → item ≡ items.Compound members → IsTrue (is_of_strings item)
+    → IsTrue (are_of_strings members.now)
+compound_strings item members e is =
+    let all : is_of_strings (items.Compound members) ≡ are_of_strings members.now =
+    search (rules, the_lemmas) in
+    sym all ∙ ap is_of_strings (sym e) ∙ is
+
+pub each_string : (xs : List BorrowedFormatItem) (at : ℕ) (x : BorrowedFormatItem)
+    → at < length xs → x ≡ get_or xs at x → IsTrue (are_of_strings xs) → IsTrue (is_of_strings x)
+each_string [] at x below is are = absurd (omega (arith, below))
+each_string (y ∷ xs) zero x below is are =
+    subst (λ z. IsTrue (is_of_strings z)) (sym is)
+    (and_parts (is_of_strings y) (are_of_strings xs) are).0
+each_string (y ∷ xs) (suc at) x below is are =
+    each_string xs at x (omega (arith, below)) is
+    (and_parts (is_of_strings y) (are_of_strings xs) are).1
 
 pub compound_tree : (members : Bor (List BorrowedFormatItem))
     → item_tree (items.Compound members) ≡ compound (trees (map item_tree members.now))
@@ -164,3 +234,7 @@ items_of v list output read e is = told v (subst (IsOutput v list) e is)
     told One is = is
     told Two is = is
     told Three is = absurd is
+
+pub some_item : (xs : List BorrowedFormatItem) → (length xs ≡ 0 → ⊥) → 0 < length xs
+some_item [] some = absurd (some refl)
+some_item (x ∷ xs) some = omega arith

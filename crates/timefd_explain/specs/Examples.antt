@@ -14,7 +14,6 @@ use Rattle.timefd_explain.specs.declared.piece.What.TheVariants as what
 
 abbrev pub kind_in : What → NodeKind
 kind_in (what.Literal text) = kinds.Literal
-kind_in what.Bytes = kinds.Literal
 kind_in (what.Component c) = kinds.Component
 kind_in (what.Optional format) = kinds.Optional
 kind_in what.First = kinds.First
@@ -26,7 +25,6 @@ Names c words = (rest : Text) × (words ≡ names.words Defaults.Written (modern
 
 abbrev pub AreWordsOf : What → Text → Type 0
 AreWordsOf (what.Literal text) words = ⊤
-AreWordsOf what.Bytes words = ⊤
 AreWordsOf (what.Component c) words = Names c words
 AreWordsOf (what.Optional format) words = ⊤
 AreWordsOf what.First words = ⊤

@@ -1,2 +1,4 @@
 pub mod Shown
 pub mod Examples
+pub mod Parts
+pub mod Inside

@@ -14,7 +14,6 @@ use Rattle.timefd_explain.specs.declared.piece.What.TheVariants as what
 -- what is told of a tree
 abbrev pub IsWhat : What → Tree → Type 0
 IsWhat (what.Literal text) tree = tree ≡ literal (string_bytes text)
-IsWhat what.Bytes tree = (bytes : Text) × (tree ≡ literal bytes)
 IsWhat (what.Component c) tree = tree ≡ component c
 IsWhat (what.Optional format) tree = (member : Tree) × (tree ≡ optional format member)
 IsWhat what.First tree = (members : Trees) × (tree ≡ first members)
@@ -24,7 +23,6 @@ IsWhat what.Several tree = (members : Trees) × (tree ≡ compound members)
 -- component at the moment of the examples
 abbrev pub IsExampleOf : What → Text → Type 0
 IsExampleOf (what.Literal text) example = example ≡ string_bytes text
-IsExampleOf what.Bytes example = example ≡ []
 IsExampleOf (what.Component c) example = IsExample c example
 IsExampleOf (what.Optional format) example = example ≡ []
 IsExampleOf what.First example = example ≡ []
@@ -47,10 +45,20 @@ abbrev pub texts : List Shown → Text
 texts [] = []
 texts (s ∷ ss) = s.text.now ++ texts ss
 
+-- each spells its tree
+abbrev pub AreSpelled : Language → List Shown → List Tree → Type 0
+AreSpelled language [] [] = ⊤
+AreSpelled language [] (t ∷ ts) = ⊥
+AreSpelled language (s ∷ ss) [] = ⊥
+AreSpelled language (s ∷ ss) (t ∷ ts) =
+    SpellsIn language nesting_limit s.text.now (t ∷ []) × AreSpelled language ss ts
+
 -- The pieces are those of the text, in turn, and each is shown as the tree that it spells.
-pub record Shows (text : Text) (list : List Tree) (shown : List Shown) : Type 0 where
+pub record Shows (language : Language) (text : Text) (list : List Tree) (shown : List Shown)
+    : Type 0 where
   pub whole : texts shown ≡ text
   pub each : AreShown shown list
+  pub spelled : AreSpelled language shown list
 
 -- the text spells one tree
 abbrev pub SpellsOne : Language → Text → Type 0

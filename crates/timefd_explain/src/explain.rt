@@ -7,6 +7,7 @@ ghost use Rattle.timefd_language.specs.Grammar.{nesting_limit};
 ghost use Rattle.timefd_node_list.specs.Nodes.{kept_bytes};
 ghost use Rattle.timefd_parse.specs.Language.{SpellsIn};
 ghost use Rattle.timefd_explain.specs.Examples.{Examples};
+ghost use Rattle.timefd_explain.specs.Parts.{AreParts, all_parts};
 
 use crate::node::{Node, push_line};
 use crate::tree::push_pieces;
@@ -33,6 +34,10 @@ pub fn explanation_of(
     // The bytes are those of the items that the text spells.
     ensures sum { (list : List Tree) → SpellsIn language nesting_limit text.now list
         → IfOk result (λ found. found.bytes ≡ kept_bytes (reserve_all (trees list))) }
+
+    // Its nodes stand one for one for the parts of what the text spells.
+    ensures parts { (list : List Tree) → SpellsIn language nesting_limit text.now list
+        → IfOk result (λ found. AreParts (all_parts 0 (trees list)) found.nodes.items) }
 
     // Each node, however deep, has its example.
     ensures examples { IfOk result (λ found. Examples found.nodes.items) }

@@ -2,6 +2,7 @@
 #![tactic(auto)]
 
 mod explain;
+mod members;
 mod node;
 mod piece;
 mod pieces;

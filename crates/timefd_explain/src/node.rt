@@ -1,8 +1,12 @@
 //! A node of a description, as it is shown.
 
-ghost use Rattle.std.specs.Prelude.{◌≡◌, IfOk, string_bytes};
+ghost use Rattle.std.specs.Prelude.{ℕ, ◌≡◌, IfOk, string_bytes};
+ghost use Rattle.timefd_component.specs.Reserved.{reserve};
+ghost use Rattle.timefd_component.specs.Tree.{Tree};
+ghost use Rattle.timefd_node_list.specs.Nodes.{kept_bytes};
 ghost use Rattle.timefd_explain.specs.Examples.{AreWordsOf, HasExample, Names, kind_in};
-ghost use Rattle.timefd_explain.specs.Shown.{IsExampleOf};
+ghost use Rattle.timefd_explain.specs.Parts.{IsPiece, capped};
+ghost use Rattle.timefd_explain.specs.Shown.{IsExampleOf, IsWhat};
 
 use crate::piece::What;
 use std::alloc::{AllocError, Global};
@@ -71,6 +75,8 @@ pub fn node_of(
     ensures words { IfOk result (λ node. AreWordsOf what.now (string_bytes node.words)) }
     ensures example { IfOk result (λ node. IsExampleOf what.now (string_bytes node.example)) }
     ensures node { IfOk result HasExample }
+    ensures piece { (d : ℕ) (tree : Tree) → place.entry.depth ≡ capped d → IsWhat what.now tree
+        → bytes ≡ kept_bytes (reserve tree) → IfOk result (IsPiece d tree) }
 {
     let words = words_in(alloc, language, place.text, what)?;
     let example = example_of(alloc, what)?;
@@ -105,7 +111,6 @@ fn kind_of(what: &What) -> NodeKind
 {
     match what {
         What::Literal(_) => NodeKind::Literal,
-        What::Bytes => NodeKind::Literal,
         What::Component(_) => NodeKind::Component,
         What::Optional(_) => NodeKind::Optional,
         What::First => NodeKind::First,
@@ -115,7 +120,7 @@ fn kind_of(what: &What) -> NodeKind
 
 fn plain_words(what: &What) -> &'static str {
     match what {
-        What::Literal(_) | What::Bytes => "literal",
+        What::Literal(_) => "literal",
         What::Component(_) => "component",
         What::Optional(true) => "optional, and formatted",
         What::Optional(false) => "optional, and not formatted",
@@ -130,7 +135,7 @@ fn example_of(alloc: Global, what: &What) -> Result<String, AllocError>
     match what {
         What::Literal(literal) => String::from_str(alloc, literal),
         What::Component(component) => sample(alloc, *component),
-        What::Bytes | What::Optional(_) | What::First | What::Several => Ok(String::new(alloc)),
+        What::Optional(_) | What::First | What::Several => Ok(String::new(alloc)),
     }
 }
 

@@ -1,9 +1,10 @@
 //! A piece of an accepted text, and what it is.
 
-ghost use Rattle.std.specs.Prelude.{◌≡◌, ◌∷◌, [], List, IfOk};
+ghost use Rattle.std.specs.Prelude.{◌≡◌, ◌∷◌, [], List, IfOk, IsTrue};
 ghost use Rattle.timefd_component.specs.Tree.{Tree};
 ghost use Rattle.timefd_format_item.specs.Meaning.{item_tree, item_trees};
 ghost use Rattle.timefd_language.specs.Grammar.{nesting_limit};
+ghost use Rattle.timefd_language.specs.Strings.{are_of_strings, is_of_strings};
 ghost use Rattle.timefd_node_list.specs.Views.{shape_tree, view_tree};
 ghost use Rattle.timefd_parse.specs.Language.{SpellsIn};
 ghost use Rattle.timefd_parse.specs.declared.language.Language as spec_language;
@@ -22,8 +23,6 @@ use timefd_parse::{
 pub enum What {
     /// A literal, which stands for this text.
     Literal(String),
-    /// A literal of bytes, which no text has.
-    Bytes,
     /// A component.
     Component(Component),
     /// What a parser may skip, and whether a formatter writes it.
@@ -118,7 +117,8 @@ fn item_piece<'a>(
     text: &'a str,
     items: &[BorrowedFormatItem<'_>],
 ) -> Result<Shown<'a>, AllocError>
-    requires { (tree : Tree) × (item_trees items.now ≡ tree ∷ []) }
+    requires one { (tree : Tree) × (item_trees items.now ≡ tree ∷ []) }
+    requires strings { IsTrue (are_of_strings items.now) }
     ensures { (tree : Tree) → item_trees items.now ≡ tree ∷ []
         → IfOk result (λ shown. ShowsOne text.now shown tree) }
 {
@@ -131,12 +131,13 @@ fn item_piece<'a>(
     })
 }
 
-/// What an item is.
+/// What an item is, which has no literal of bytes.
 pub fn item_what(alloc: Global, item: &BorrowedFormatItem<'_>) -> Result<What, AllocError>
+    requires { IsTrue (is_of_strings item.now) }
     ensures { IfOk result (λ what. IsWhat what (item_tree item.now)) }
 {
     match *item {
-        BorrowedFormatItem::Literal(_) => Ok(What::Bytes),
+        BorrowedFormatItem::Literal(_) => unreachable!(),
         BorrowedFormatItem::StringLiteral(text) => Ok(What::Literal(String::from_str(
             alloc, text,
         )?)),

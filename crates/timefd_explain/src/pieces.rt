@@ -1,13 +1,13 @@
 //! The pieces of an accepted text, each with what it is.
 
-ghost use Rattle.std.specs.Prelude.{◌≡◌, ◌<◌, ◌++◌, [], List, length, IfOk, IfSome, MatchOption};
+ghost use Rattle.std.specs.Prelude.{◌≡◌, ◌<◌, ◌≤◌, ◌++◌, [], List, length, IfOk, IfSome, MatchOption};
 ghost use Rattle.timefd_component.specs.Reserved.{reserve_all};
 ghost use Rattle.timefd_component.specs.Tree.{Tree, trees};
 ghost use Rattle.timefd_language.specs.Grammar.{nesting_limit};
 ghost use Rattle.timefd_node_list.specs.Nodes.{kept_bytes};
 ghost use Rattle.timefd_parse.specs.FirstPiece.{BeginsList};
 ghost use Rattle.timefd_parse.specs.Language.{SpellsIn};
-ghost use Rattle.timefd_explain.specs.Shown.{AreShown, Shows, SpellsOne};
+ghost use Rattle.timefd_explain.specs.Shown.{AreShown, Shows, SpellsOne, texts};
 
 use crate::piece::{Shown, piece_of};
 use std::alloc::{AllocError, Global};
@@ -20,8 +20,11 @@ pub fn pieces_of<'a>(
     text: &'a str,
 ) -> Result<Vec<Shown<'a>>, AllocError>
     // They are those of the items that the text spells: each stands for one, and shows it.
-    ensures { (list : List Tree) → SpellsIn language nesting_limit text.now list
-        → IfOk result (λ shown. Shows text.now list shown.items) }
+    ensures shows { (list : List Tree) → SpellsIn language nesting_limit text.now list
+        → IfOk result (λ shown. Shows language text.now list shown.items) }
+
+    // What they have of the text is no more than the text.
+    ensures within { IfOk result (λ shown. length (texts shown.items) ≤ length text.now) }
 {
     let mut shown = Vec::new(alloc);
     let mut rest = text;

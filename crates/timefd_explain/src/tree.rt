@@ -1,31 +1,37 @@
 //! The tree of an accepted text, a line a node.
 
-ghost use Rattle.std.specs.Prelude.{◌≡◌, List, IfOk, OnOk};
-ghost use Rattle.timefd_component.specs.Reserved.{reserve_all};
-ghost use Rattle.timefd_component.specs.Tree.{Tree, trees};
-ghost use Rattle.timefd_language.specs.Grammar.{nesting_limit};
+ghost use Rattle.std.specs.Prelude.{ℕ, ◌≡◌, ◌≤◌, List, [], ◌∷◌, ◌++◌, length, IfOk, OnOk};
+ghost use Rattle.timefd_component.specs.Reserved.{reserve, reserve_all};
+ghost use Rattle.timefd_component.specs.Tree.{Text, Tree, pack, trees};
+ghost use Rattle.timefd_language.specs.Grammar.{Spells, nesting_limit};
+ghost use Rattle.timefd_language.specs.Head.{Head, IsHead, head_text};
+ghost use Rattle.timefd_language.specs.declared.description_version.DescriptionVersion.TheVariants.{Three};
 ghost use Rattle.timefd_node_list.specs.Nodes.{kept_bytes};
 ghost use Rattle.timefd_parse.specs.Language.{SpellsIn};
 ghost use Rattle.timefd_explain.specs.Examples.{Examples};
+ghost use Rattle.timefd_explain.specs.Inside.{EndsHead, Nests, held_parts};
+ghost use Rattle.timefd_explain.specs.Parts.{Adds, all_parts, capped, described, description};
+ghost use Rattle.timefd_explain.specs.Parts as spec;
+ghost use Rattle.timefd_explain.specs.Shown.{IsShown};
 
+use crate::members::push_members;
 use crate::node::{Node, NodeKind, Place, node_of};
-use crate::piece::{Shown, What, item_what};
+use crate::piece::{Shown, What};
 use crate::pieces::{bytes_of, pieces_of};
 use std::alloc::{AllocError, Global};
-use timefd_items::item_bytes;
 use timefd_parse::{
-    BorrowedFormatItem, DescriptionVersion, Language, NESTING_LIMIT, ParseError, StrftimeTables,
-    amount_within, bracket_name, first_modifier, first_nested, parse_strftime_borrowed,
+    DescriptionVersion, Language, NESTING_LIMIT, ParseError, amount_within, bracket_name,
+    first_modifier, first_nested,
 };
 
-/// Appends the nodes of a text that begins at this byte index, with so many descriptions around it,
-/// and answers how many bytes it reserves.
+/// Appends the nodes of a text that begins at this byte index, in so many brackets, and answers how
+/// many bytes it reserves.
 #[cycle(tree)]
 pub fn push_pieces(
     alloc: Global,
     nodes: &mut Vec<Node>,
     language: Language,
-    around: u8,
+    depth: usize,
     begins: usize,
     text: &str,
 ) -> Result<usize, AllocError>
@@ -35,14 +41,20 @@ pub fn push_pieces(
 
     // All nodes have their examples, if those that were there have.
     ensures examples { OnOk result (Examples nodes.old.items → Examples nodes.new.items) }
+
+    // The nodes are those of what the text spells.
+    ensures parts { (d : ℕ) (list : List Tree) → depth ≡ capped d
+        → SpellsIn language nesting_limit text.now list
+        → OnOk result (Adds (all_parts d (trees list)) nodes.old.items nodes.new.items) }
 {
     let pieces = pieces_of(alloc, language, text)?;
+    let shown = pieces.as_slice();
     let mut start = begins;
-    'pieces: for at in 0..pieces.len() {
-        push_piece(alloc, nodes, language, around, start, &pieces[at])?;
-        start = start.saturating_add(pieces[at].text.len());
+    'pieces: for at in 0..shown.len() {
+        push_piece(alloc, nodes, language, depth, start, &shown[at])?;
+        start = start.saturating_add(shown[at].text.len());
     }
-    Ok(bytes_of(&pieces))
+    Ok(bytes_of(shown))
 }
 
 // Appends the node of a piece, and those of what it holds.
@@ -52,23 +64,25 @@ fn push_piece(
     alloc: Global,
     nodes: &mut Vec<Node>,
     language: Language,
-    around: u8,
+    depth: usize,
     start: usize,
     piece: &Shown<'_>,
 ) -> Result<(), AllocError>
-    ensures { OnOk result (Examples nodes.old.items → Examples nodes.new.items) }
+    ensures examples { OnOk result (Examples nodes.old.items → Examples nodes.new.items) }
+    ensures parts { (d : ℕ) (tree : Tree) → depth ≡ capped d
+        → SpellsIn language nesting_limit piece.now.text.now (tree ∷ []) → IsShown piece.now tree
+        → OnOk result (Adds (spec.parts d tree) nodes.old.items nodes.new.items) }
 {
     let Shown { text, bytes, what } = piece;
-    let place = Place {
-        depth: 2 * usize::from(around),
-        start,
-        text,
-    };
+    let place = Place { depth, start, text };
     nodes.push(node_of(alloc, language, place, *bytes, what)?)?;
+    let inside = depth.saturating_add(1);
     match what {
-        What::Optional(_) | What::First => push_nested(alloc, nodes, around, start, text),
-        What::Several => push_members(alloc, nodes, start, text),
-        What::Literal(_) | What::Bytes | What::Component(_) => Ok(()),
+        What::Optional(_) => push_nested(alloc, nodes, inside, start, text),
+        What::First => push_nested(alloc, nodes, inside, start, text),
+        What::Several => push_members(alloc, nodes, inside, start, text),
+        What::Literal(_) => Ok(()),
+        What::Component(_) => Ok(()),
     }
 }
 
@@ -77,37 +91,35 @@ fn push_piece(
 fn push_nested(
     alloc: Global,
     nodes: &mut Vec<Node>,
-    around: u8,
+    depth: usize,
     start: usize,
     text: &str,
 ) -> Result<(), AllocError>
-    ensures { OnOk result (Examples nodes.old.items → Examples nodes.new.items) }
+    ensures examples { OnOk result (Examples nodes.old.items → Examples nodes.new.items) }
+    ensures parts { (d : ℕ) (tree : Tree) → depth ≡ capped d
+        → Spells Three nesting_limit 0 text.now (tree ∷ []) → Nests tree
+        → OnOk result (Adds (held_parts d tree) nodes.old.items nodes.new.items) }
 {
-    if around >= NESTING_LIMIT {
-        return Ok(());
-    }
-    let version = DescriptionVersion::Three;
     let mut rest = behind_head(text);
-    'nested: while let Some((inner, behind)) = first_nested(alloc, version, rest) {
+    'nested: while let Some((inner, behind)) = first_nested(
+        alloc,
+        DescriptionVersion::Three,
+        rest,
+    ) {
         // A bracket stands on each side of what is nested.
         let before = text.len().saturating_sub(behind.len() + inner.len() + 1);
-        let begins = start.saturating_add(before);
-        push_description(alloc, nodes, around, begins, inner)?;
-        push_pieces(
-            alloc,
-            nodes,
-            Language::Version(version),
-            around + 1,
-            begins,
-            inner,
-        )?;
+        push_described(alloc, nodes, depth, start.saturating_add(before), inner)?;
         rest = behind;
     }
     Ok(())
 }
 
 // What follows the name and the modifiers of a bracket.
-fn behind_head(text: &str) -> &str {
+fn behind_head(text: &str) -> &str
+    ensures within { length result.now ≤ length text.now }
+    ensures behind { (h : Head) (behind : Text) → IsHead h → EndsHead behind
+        → text.now ≡ head_text h ++ behind → result.now ≡ behind }
+{
     let Some((_, modifiers)) = bracket_name(text) else {
         return text;
     };
@@ -118,19 +130,43 @@ fn behind_head(text: &str) -> &str {
     rest
 }
 
-// Appends the node of a description in brackets, which begins behind the first of them.
+// Appends the nodes of a description in brackets, which begins behind the first of them.
+#[cycle(tree)]
+fn push_described(
+    alloc: Global,
+    nodes: &mut Vec<Node>,
+    depth: usize,
+    begins: usize,
+    inner: &str,
+) -> Result<(), AllocError>
+    ensures examples { OnOk result (Examples nodes.old.items → Examples nodes.new.items) }
+    ensures parts { (d : ℕ) (list : List Tree) → depth ≡ capped d
+        → Spells Three nesting_limit 0 inner.now list
+        → OnOk result (Adds (described d (pack list)) nodes.old.items nodes.new.items) }
+{
+    push_description(alloc, nodes, depth, begins, inner)?;
+    let language = Language::Version(DescriptionVersion::Three);
+    let inside = depth.saturating_add(1);
+    push_pieces(alloc, nodes, language, inside, begins, inner)?;
+    Ok(())
+}
+
+// Appends the node of a description in brackets.
 #[tactic(auto, using(crate::proofs::ExampleLemmas::examples_more))]
 fn push_description(
     alloc: Global,
     nodes: &mut Vec<Node>,
-    around: u8,
+    depth: usize,
     begins: usize,
     inner: &str,
 ) -> Result<(), AllocError>
-    ensures { OnOk result (Examples nodes.old.items → Examples nodes.new.items) }
+    ensures examples { OnOk result (Examples nodes.old.items → Examples nodes.new.items) }
+    ensures parts { (d : ℕ) (list : List Tree) → depth ≡ capped d
+        → Spells Three nesting_limit 0 inner.now list
+        → OnOk result (Adds (description d (pack list) ∷ []) nodes.old.items nodes.new.items) }
 {
     let node = Node {
-        depth: 2 * usize::from(around) + 1,
+        depth,
         start: begins.saturating_sub(1),
         end: begins.saturating_add(inner.len()).saturating_add(1),
         bytes: reserved(alloc, inner)?,
@@ -142,54 +178,14 @@ fn push_description(
 }
 
 // How many bytes a description of version 3 reserves: 0 where the text is none.
-fn reserved(alloc: Global, text: &str) -> Result<usize, AllocError> {
+fn reserved(alloc: Global, text: &str) -> Result<usize, AllocError>
+    ensures { (list : List Tree) → Spells Three nesting_limit 0 text.now list
+        → IfOk result (λ bytes. bytes ≡ reserve (pack list)) }
+{
     let language = Language::Version(DescriptionVersion::Three);
     match amount_within(alloc, language, NESTING_LIMIT, text) {
         Ok(bytes) => Ok(bytes),
         Err(ParseError::Invalid(_)) => Ok(0),
         Err(ParseError::Memory(error)) => Err(error),
     }
-}
-
-// Appends the nodes of what a composite letter stands for.
-fn push_members(
-    alloc: Global,
-    nodes: &mut Vec<Node>,
-    start: usize,
-    text: &str,
-) -> Result<(), AllocError>
-    ensures { OnOk result (Examples nodes.old.items → Examples nodes.new.items) }
-{
-    let tables = StrftimeTables::new();
-    let items = match parse_strftime_borrowed(alloc, &tables, text) {
-        Ok(items) => items,
-        Err(ParseError::Invalid(_)) => return Ok(()),
-        Err(ParseError::Memory(error)) => return Err(error),
-    };
-    match items.as_slice() {
-        &[BorrowedFormatItem::Compound(members)] => push_items(alloc, nodes, start, members),
-        _ => Ok(()),
-    }
-}
-
-#[tactic(auto, using(crate::proofs::ExampleLemmas::examples_more))]
-fn push_items(
-    alloc: Global,
-    nodes: &mut Vec<Node>,
-    start: usize,
-    members: &[BorrowedFormatItem<'_>],
-) -> Result<(), AllocError>
-    ensures { OnOk result (Examples nodes.old.items → Examples nodes.new.items) }
-{
-    let place = Place {
-        depth: 1,
-        start,
-        text: "",
-    };
-    for member in members {
-        let what = item_what(alloc, member)?;
-        let bytes = item_bytes(member);
-        nodes.push(node_of(alloc, Language::Strftime, place, bytes, &what)?)?;
-    }
-    Ok(())
 }

@@ -13,6 +13,7 @@ use Rattle.timefd_web.specs.declared.fields.MomentFields.{MomentFields}
 use Rattle.timefd_web.specs.declared.silence.Silence.{Silence}
 use Rattle.timefd_web.specs.declared.silence.Silence.TheVariants.{NotUtf8, NoMemory, NoLanguage, OutOfRange}
 use Rattle.timefd_web.specs.Moments.{IsMoment, range_fault}
+use Rattle.timefd_web.specs.Readings.{Reads}
 use Rattle.timefd_web.specs.Reports.{Reports}
 
 -- the language of a number, if it has one
@@ -65,9 +66,39 @@ pub record IsSilent (silence : Silence) (before after : Text) (answer : ReportAn
   pub len : answer.len ≡ 0
   pub kept : after ≡ before
 
+-- What is said stands in the buffer, or the status tells why there is nothing.
+abbrev pub IsAnswer : Result (Vec ℕ Global) Silence → Text → Text → ReportAnswer → Type 0
+IsAnswer (Ok object) before after answer = IsGiven object.items before after answer
+IsAnswer (Err silence) before after answer = IsSilent silence before after answer
+
 -- What is answered of the bytes: the report, or why there is none.
 abbrev pub Answers : ℕ → Text → MomentFields → Text → Text → ReportAnswer → Type 0
 Answers number bytes fields before after answer =
-    ((object : Text) × ReportsOf number bytes fields object × IsGiven object before after answer)
-    ⊎ ((silence : Silence) × IsSilence number bytes fields silence
-    × IsSilent silence before after answer)
+    (said : Result (Vec ℕ Global) Silence) × IsSaid number bytes fields said
+    × IsAnswer said before after answer
+
+-- Texts that are read.
+
+-- The object says what the bytes show by the bytes of a description in the language with this number.
+pub record ReadsOf (number : ℕ) (description text object : Text) : Type 0 where
+  pub language : Language
+  pub is_language : language_of number ≡ Some language
+  pub reads : Reads language description text object
+
+-- why nothing is said
+abbrev pub IsReadSilence : ℕ → Text → Text → Silence → Type 0
+IsReadSilence number description text NotUtf8 = ¬ (IsUtf8 description) ⊎ ¬ (IsUtf8 text)
+IsReadSilence number description text NoMemory = ⊤
+IsReadSilence number description text NoLanguage = language_of number ≡ None
+IsReadSilence number description text OutOfRange = ⊥
+
+-- what is read, or why nothing is said
+abbrev pub IsReadSaid : ℕ → Text → Text → Result (Vec ℕ Global) Silence → Type 0
+IsReadSaid number description text (Ok object) = ReadsOf number description text object.items
+IsReadSaid number description text (Err silence) = IsReadSilence number description text silence
+
+-- What is answered of the bytes by those of a description: what is read, or why nothing is said.
+abbrev pub ReadAnswers : ℕ → Text → Text → Text → Text → ReportAnswer → Type 0
+ReadAnswers number description text before after answer =
+    (said : Result (Vec ℕ Global) Silence) × IsReadSaid number description text said
+    × IsAnswer said before after answer

@@ -1,10 +1,11 @@
-//! The function that the page calls.
+//! The functions that the page calls.
 
 ghost use Rattle.std.specs.Prelude.{◌≡◌, ◌⊎◌, ◌<◌, ◌≤◌, ◌++◌, drop, length};
-ghost use Rattle.timefd_web.specs.Answers.{Answers, IsSaid, language_of};
+ghost use Rattle.timefd_web.specs.Answers.{Answers, IsAnswer, IsReadSaid, IsSaid, ReadAnswers, language_of};
 
 use crate::answer::{REPORTED, ReportAnswer};
 use crate::fields::MomentFields;
+use crate::reading::reading_of;
 use crate::report::report_of;
 use crate::silence::Silence;
 use std::alloc::Global;
@@ -24,9 +25,34 @@ pub extern "C" fn timefd_web_report(
 )
     ensures answers { Answers number text.now fields.now buffer.old buffer.new answer.new }
 {
-    *answer = match said(alloc, number, text, fields) {
+    let said = said(alloc, number, text, fields);
+    *answer = given(&said, buffer);
+}
+
+/// Writes what the bytes of a text show by those of a description of the language with this number,
+/// over the front of the buffer, if that has room for all of it.
+#[unsafe(no_mangle)]
+pub extern "C" fn timefd_web_read(
+    alloc: Global,
+    number: u32,
+    description: &[u8],
+    text: &[u8],
+    buffer: &mut [u8],
+    answer: &mut ReportAnswer,
+)
+    ensures answers { ReadAnswers number description.now text.now buffer.old buffer.new answer.new }
+{
+    let said = read_said(alloc, number, description, text);
+    *answer = given(&said, buffer);
+}
+
+// Writes what is said into the buffer, and answers its length, or why nothing is said.
+fn given(said: &Result<Vec<u8>, Silence>, buffer: &mut [u8]) -> ReportAnswer
+    ensures { IsAnswer said.now buffer.old buffer.new result }
+{
+    match said {
         Ok(object) => {
-            write_bytes(&object, buffer);
+            write_bytes(object, buffer);
             ReportAnswer {
                 status: REPORTED,
                 len: object.len(),
@@ -36,7 +62,7 @@ pub extern "C" fn timefd_web_report(
             status: silence.status(),
             len: 0,
         },
-    };
+    }
 }
 
 #[tactic(auto, using(crate::proofs::AnswerLemmas::reported))]
@@ -53,6 +79,30 @@ fn said(alloc: Global, number: u32, bytes: &[u8], fields: &MomentFields) -> Resu
         return Err(Silence::OutOfRange);
     };
     match report_of(alloc, language, moment, text) {
+        Ok(object) => Ok(object),
+        Err(_) => Err(Silence::NoMemory),
+    }
+}
+
+#[tactic(auto, using(crate::proofs::AnswerLemmas::read))]
+fn read_said(
+    alloc: Global,
+    number: u32,
+    description: &[u8],
+    text: &[u8],
+) -> Result<Vec<u8>, Silence>
+    ensures { IsReadSaid number description.now text.now result }
+{
+    let Some(language) = from_number(number) else {
+        return Err(Silence::NoLanguage);
+    };
+    let Ok(description) = str::from_utf8(description) else {
+        return Err(Silence::NotUtf8);
+    };
+    let Ok(text) = str::from_utf8(text) else {
+        return Err(Silence::NotUtf8);
+    };
+    match reading_of(alloc, language, description, text) {
         Ok(object) => Ok(object),
         Err(_) => Err(Silence::NoMemory),
     }

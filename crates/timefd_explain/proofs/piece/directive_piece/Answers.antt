@@ -1,14 +1,19 @@
-use Rattle.std.proofs.Common.{◌∙◌, ◌∷◌, [], ap, subst}
+use Rattle.std.proofs.Common.{◌∙◌, ◌∷◌, [], IsTrue, ap, subst, sym}
 use Rattle.timefd_format_item.specs.Meaning.{item_trees}
+use Rattle.timefd_language.specs.Strings.{are_of_strings}
 use Rattle.timefd_language.specs.Told.{MemoryAlone}
 use Rattle.timefd_explain.proofs.piece.directive_piece.Goals as goal
 
 pub item_piece-requires : goal.item_piece-requires
-item_piece-requires c = (
-  c.requires.0,
-  ap item_trees c.deref.ensures.value ∙
-      c.in-Ok.ensures.spelled (c.requires.0 ∷ []) c.requires.1,
-)
+item_piece-requires c = record {
+  one = (
+    c.requires.0,
+    ap item_trees c.deref.ensures.value ∙
+        c.in-Ok.ensures.spelled (c.requires.0 ∷ []) c.requires.1,
+  );
+  strings = subst (λ items. IsTrue (are_of_strings items)) (sym c.deref.ensures.value)
+      c.in-Ok.ensures.strings;
+}
 
 pub returns-in-Ok : goal.returns-in-Ok
 returns-in-Ok c = λ tree s.

@@ -1,10 +1,10 @@
 use Rattle.std.proofs.Common.{◌∙◌, ap}
 use Rattle.timefd_format_item.specs.Meaning.{item_tree}
-use Rattle.timefd_explain.proofs.ShownLemmas.{bytes_tree, compound_tree, first_tree, optional_tree}
+use Rattle.timefd_explain.proofs.ShownLemmas.{compound_tree, first_tree, no_bytes, optional_tree}
 use Rattle.timefd_explain.proofs.piece.item_what.Goals as goal
 
-pub returns-in-Literal : goal.returns-in-Literal
-returns-in-Literal c = (_, ap item_tree c.in-Literal.is ∙ bytes_tree c.in-Literal.field-0)
+pub unreachable-requires : goal.unreachable-requires
+unreachable-requires c = no_bytes _ c.in-Literal.field-0 c.in-Literal.is c.requires
 
 pub returns-in-Compound : goal.returns-in-Compound
 returns-in-Compound c = (_, ap item_tree c.in-Compound.is ∙ compound_tree c.in-Compound.field-0)

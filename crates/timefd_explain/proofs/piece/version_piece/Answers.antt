@@ -1,6 +1,8 @@
-use Rattle.std.proofs.Common.{◌∙◌, ◌∷◌, [], IfOk, ap, subst}
+use Rattle.std.proofs.Common.{◌∙◌, ◌∷◌, [], IfOk, IsTrue, ap, subst, sym}
 use Rattle.timefd_format_item.specs.Meaning.{item_trees}
+use Rattle.timefd_language.specs.Strings.{are_of_strings}
 use Rattle.timefd_language.specs.Told.{MemoryAlone}
+use Rattle.timefd_parse.specs.Answers.{HasStrings}
 use Rattle.timefd_explain.specs.Shown.{ShowsOne}
 use Rattle.timefd_explain.proofs.ShownLemmas.{description_of, items_of}
 use Rattle.timefd_explain.proofs.piece.version_piece.Goals as goal
@@ -13,12 +15,16 @@ returns-in-Ok-Description c = λ tree s.
     c.view_piece.ensures
 
 pub item_piece-requires : goal.item_piece-requires
-item_piece-requires c = (
-  c.requires.0,
-  ap item_trees c.deref.ensures.value ∙
-      items_of c.args.version (c.requires.0 ∷ []) _ _ c.in-Ok-Items.field-0-is
-      (c.in-Ok-Items.ensures.spelled (c.requires.0 ∷ []) c.requires.1),
-)
+item_piece-requires c = record {
+  one = (
+    c.requires.0,
+    ap item_trees c.deref.ensures.value ∙
+        items_of c.args.version (c.requires.0 ∷ []) _ _ c.in-Ok-Items.field-0-is
+        (c.in-Ok-Items.ensures.spelled (c.requires.0 ∷ []) c.requires.1),
+  );
+  strings = subst (λ items. IsTrue (are_of_strings items)) (sym c.deref.ensures.value)
+      (subst HasStrings c.in-Ok-Items.field-0-is c.in-Ok-Items.ensures.strings);
+}
 
 pub returns-in-Ok-Items : goal.returns-in-Ok-Items
 returns-in-Ok-Items c = λ tree s.

@@ -1,10 +1,18 @@
-use Rattle.std.proofs.Common.{length}
+use Rattle.std.proofs.Common.{◌≡◌, ◌≤◌, ◌++◌, length}
 use denote.Text.{Utf8}
 use denote.Shadow.{shadow}
+use Rattle.timefd_component.specs.Tree.{Text}
+use Rattle.timefd_language.specs.Head.{Head, IsHead, head_text}
+use Rattle.timefd_explain.specs.Inside.{EndsHead}
+use Rattle.timefd_explain.proofs.HeadLemmas.{Modified}
 use Rattle.timefd_explain.proofs.tree.behind_head.Given as goal
 
+-- the modifiers that are left
 abbrev pub invariant-modifiers : goal.invariant-modifiers
-invariant-modifiers l = shadow (Utf8 l.rest)
+invariant-modifiers l =
+    shadow (Utf8 l.rest) × (length l.rest ≤ length l.text)
+    × ((h : Head) (behind : Text) → IsHead h → EndsHead behind → l.text ≡ head_text h ++ behind
+    → Modified behind l.rest)
 
 abbrev pub decreases-modifiers : goal.decreases-modifiers
 decreases-modifiers l = length l.rest

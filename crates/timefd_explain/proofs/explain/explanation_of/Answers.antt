@@ -1,0 +1,10 @@
+use Rattle.std.proofs.Common.{refl, rules}
+use Rattle.timefd_component.specs.Tree.{trees}
+use Rattle.timefd_explain.specs.Parts.{all_parts}
+use Rattle.timefd_explain.proofs.PartLemmas.{adds_all}
+use Rattle.timefd_explain.proofs.explain.explanation_of.Goals as goal
+
+pub returns-clause-parts : goal.returns-clause-parts
+returns-clause-parts c = λ list s.
+    adds_all (all_parts 0 (trees list)) _ _ (c.in_ok-bytes.ensures.parts 0 list refl s)
+    (search rules)

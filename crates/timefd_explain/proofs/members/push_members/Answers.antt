@@ -1,0 +1,22 @@
+use Rattle.std.proofs.Common.{◌∙◌, [], ◌∷◌, IsTrue, ap, subst, sym}
+use Rattle.timefd_component.specs.Tree.{compound}
+use Rattle.timefd_format_item.specs.Meaning.{item_trees}
+use Rattle.timefd_language.specs.Strings.{are_of_strings}
+use Rattle.timefd_language.specs.Told.{MemoryAlone}
+use Rattle.timefd_explain.proofs.members.push_members.Goals as goal
+
+pub push_composite-requires : goal.push_composite-requires
+push_composite-requires c =
+    subst (λ items. IsTrue (are_of_strings items)) (sym c.deref.ensures.value)
+    c.in-Ok.ensures.strings
+
+pub returns-in-Ok-clause-parts : goal.returns-in-Ok-clause-parts
+returns-in-Ok-clause-parts c = λ d ts is s.
+    c.push_composite.ensures.parts d ts is
+    (ap item_trees c.deref.ensures.value ∙ c.in-Ok.ensures.spelled (compound ts ∷ []) s)
+
+-- a text that is spelled has no fault
+pub returns-in-Err-Invalid-clause-parts : goal.returns-in-Err-Invalid-clause-parts
+returns-in-Err-Invalid-clause-parts c = λ d ts is s.
+    absurd (subst MemoryAlone c.in-Err-Invalid.field-0-is
+    (c.in-Err-Invalid.ensures.spelled (compound ts ∷ []) s))

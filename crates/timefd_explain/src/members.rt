@@ -1,0 +1,90 @@
+//! The nodes of what a composite letter of strftime stands for.
+
+ghost use Rattle.std.specs.Prelude.{ℕ, ◌≡◌, [], ◌∷◌, IsTrue, OnOk};
+ghost use Rattle.timefd_component.specs.Tree.{Trees, compound, trees};
+ghost use Rattle.timefd_format_item.specs.Meaning.{item_trees};
+ghost use Rattle.timefd_language.specs.Strings.{are_of_strings};
+ghost use Rattle.timefd_language.specs.Strftime.{SpellsStrftime};
+ghost use Rattle.timefd_explain.specs.Examples.{Examples};
+ghost use Rattle.timefd_explain.specs.Parts.{Adds, capped};
+ghost use Rattle.timefd_explain.specs.Parts as spec;
+
+use crate::node::{Node, Place, node_of};
+use crate::piece::item_what;
+use std::alloc::{AllocError, Global};
+use timefd_items::item_bytes;
+use timefd_parse::{
+    BorrowedFormatItem, Language, ParseError, StrftimeTables, parse_strftime_borrowed,
+};
+
+/// Appends the nodes of what a composite letter stands for, each so deep; they have no text of their own.
+pub fn push_members(
+    alloc: Global,
+    nodes: &mut Vec<Node>,
+    depth: usize,
+    start: usize,
+    text: &str,
+) -> Result<(), AllocError>
+    ensures examples { OnOk result (Examples nodes.old.items → Examples nodes.new.items) }
+    ensures parts { (d : ℕ) (ts : Trees) → depth ≡ capped d
+        → SpellsStrftime text.now (compound ts ∷ [])
+        → OnOk result (Adds (spec.members d ts) nodes.old.items nodes.new.items) }
+{
+    let tables = StrftimeTables::new();
+    match parse_strftime_borrowed(alloc, &tables, text) {
+        Ok(items) => push_composite(alloc, nodes, depth, start, &items),
+        Err(ParseError::Invalid(_)) => Ok(()),
+        Err(ParseError::Memory(error)) => Err(error),
+    }
+}
+
+// Appends the nodes of what the first item stands for, if it stands for several.
+fn push_composite(
+    alloc: Global,
+    nodes: &mut Vec<Node>,
+    depth: usize,
+    start: usize,
+    items: &[BorrowedFormatItem<'_>],
+) -> Result<(), AllocError>
+    requires { IsTrue (are_of_strings items.now) }
+    ensures examples { OnOk result (Examples nodes.old.items → Examples nodes.new.items) }
+    ensures parts { (d : ℕ) (ts : Trees) → depth ≡ capped d
+        → item_trees items.now ≡ compound ts ∷ []
+        → OnOk result (Adds (spec.members d ts) nodes.old.items nodes.new.items) }
+{
+    if items.is_empty() {
+        return Ok(());
+    }
+    let item = &items[0];
+    if let BorrowedFormatItem::Compound(members) = *item {
+        return push_items(alloc, nodes, depth, start, members);
+    }
+    Ok(())
+}
+
+#[tactic(auto, using(crate::proofs::ExampleLemmas::examples_more))]
+fn push_items(
+    alloc: Global,
+    nodes: &mut Vec<Node>,
+    depth: usize,
+    start: usize,
+    members: &[BorrowedFormatItem<'_>],
+) -> Result<(), AllocError>
+    requires { IsTrue (are_of_strings members.now) }
+    ensures examples { OnOk result (Examples nodes.old.items → Examples nodes.new.items) }
+    ensures parts { (d : ℕ) → depth ≡ capped d
+        → OnOk result (Adds (spec.members d (trees (item_trees members.now)))
+        nodes.old.items nodes.new.items) }
+{
+    let place = Place {
+        depth,
+        start,
+        text: "",
+    };
+    for member in members {
+        let what = item_what(alloc, member)?;
+        let bytes = item_bytes(member);
+        nodes.push(node_of(alloc, Language::Strftime, place, bytes, &what)?)?;
+    }
+    Ok(())
+}

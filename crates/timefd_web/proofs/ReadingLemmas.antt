@@ -1,0 +1,28 @@
+-- From what is read to what is said of it.
+use Rattle.std.proofs.Common.{ℕ, List, Result, IfOk}
+use Rattle.std.proofs.lemmas.Result.{IfOk-weaker}
+use Rattle.std.specs.declared.alloc.AllocError.{AllocError}
+use Rattle.std.specs.declared.alloc.Global.{Global}
+use Rattle.std.specs.declared.vec.Vec.{Vec}
+use Rattle.timefd_component.specs.Tree.{Text, Tree}
+use Rattle.timefd_fault.specs.Faults.{Fault}
+use Rattle.timefd_language.specs.Grammar.{nesting_limit}
+use Rattle.timefd_moment.specs.declared.moment.Moment.{Moment}
+use Rattle.timefd_parse.specs.declared.language.Language.{Language}
+use Rattle.timefd_parse.specs.Language.{SpellsIn, FaultIn}
+use Rattle.timefd_read_text.specs.Answers.{IsReadAs, IsRefusedFor, fields_in}
+use Rattle.timefd_read_text.specs.declared.error.ReadTextError.{ReadTextError}
+use Rattle.timefd_web.specs.Readings.{Reads, Tells}
+
+pub reading : (language : Language) (description text : Text)
+    (answer : Result Moment ReadTextError) (r : Result (Vec ℕ Global) AllocError)
+    → ((list : List Tree) → SpellsIn language nesting_limit description list
+    → IsReadAs (fields_in list text) answer)
+    → ((f : Fault) → FaultIn language nesting_limit description f → IsRefusedFor f answer)
+    → IfOk r (λ object. Tells answer object.items)
+    → IfOk r (λ object. Reads language description text object.items)
+reading language description text answer r spelled refused tells =
+    IfOk-weaker r _ _ (λ object told. record {
+      spelled = λ list s. (answer, spelled list s, told);
+      refused = λ f is. (answer, refused f is, told);
+    }) tells
