@@ -2,6 +2,7 @@
 
 ghost use Rattle.std.specs.Prelude.{◌≡◌, ◌≤◌, ◌*◌, [], List, IfOk, IsOk, MatchResult, length, string_bytes};
 ghost use Rattle.std.specs.Result.{IfErr};
+ghost use Rattle.std.specs.String.{string_capacity};
 ghost use Rattle.timefd_borrowed_fault.specs.BorrowedFaults.{HasShortFault, IsLent, IsLentOf, IsMemory};
 ghost use Rattle.timefd_borrowed_fault.specs.Placed.{HasPlacedFault, IsPlaced};
 ghost use Rattle.timefd_component.specs.Tree.{Tree, trees};
@@ -91,7 +92,7 @@ pub fn strftime_to_v3_borrowed(alloc: Global, s: &str) -> Result<String, Borrowe
     flattening();
     let tables = StrftimeTables::new();
     match parse_strftime_all_borrowed(alloc, &tables, s) {
-        Ok(items) => match printed(alloc, s.len(), &items) {
+        Ok(items) => match printed(alloc, s, &items) {
             Ok(answer) => Ok(answer),
             Err(error) => Err(BorrowedParseError::Memory(error)),
         },
@@ -113,18 +114,27 @@ fn strftime_error(text: &str) -> BorrowedParseError<'_>
     }
 }
 
-/// What is printed of the items in turn, with room for so many bytes at first.
+/// The empty text with room for at most as many bytes as this one has.
+fn first_room(alloc: Global, text: &str) -> Result<String, AllocError>
+    ensures bytes { IfOk result (λ answer. string_bytes answer ≡ []) }
+    ensures most { IfOk result (λ answer. string_capacity answer ≤ length text.now) }
+    ensures empty { text.now ≡ [] → IsOk result }
+{
+    String::with_capacity(alloc, text.len())
+}
+
+/// What is printed of the items in turn, with room at first for as many bytes as the text has.
 fn printed(
     alloc: Global,
-    room: usize,
+    text: &str,
     items: &[BorrowedFormatItem<'_>],
 ) -> Result<String, AllocError>
     requires { AreShallowItems items.now }
     ensures printed { IfOk result (λ answer. string_bytes answer ≡ printed_all
         (trees (item_trees items.now))) }
-    ensures empty { items.now ≡ [] → room ≡ 0 → IsOk result }
+    ensures empty { items.now ≡ [] → text.now ≡ [] → IsOk result }
 {
-    let mut answer = String::with_capacity(alloc, room)?;
+    let mut answer = first_room(alloc, text)?;
     'items: for at in 0..items.len() {
         push_item(alloc, &mut answer, &items[at])?;
     }

@@ -1,3 +1,4 @@
 pub mod PlaceLemmas
 pub mod UpgradeLemmas
 pub mod ReadLemmas
+pub mod LineLemmas

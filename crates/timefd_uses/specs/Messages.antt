@@ -1,6 +1,7 @@
 -- The message of a linter.
-use Rattle.std.specs.Prelude.{ℕ, ◌≡◌, ◌+◌, ◌-◌, ◌++◌, take, replicate, codes}
+use Rattle.std.specs.Prelude.{ℕ, ◌≡◌, ◌+◌, ◌-◌, ◌++◌, [], get_or, take, replicate, codes}
 use Rattle.std.specs.Fmt.{decimal, char_count}
+use Rattle.std.specs.Str.Lines.{lines}
 use Rattle.timefd_fault.specs.Faults.{Fault}
 use Rattle.timefd_fault.specs.Sentences.{sentence}
 use Rattle.timefd_component.specs.Tree.{Text}
@@ -21,8 +22,17 @@ message name line column sentence shown =
     "\n" ++ (shown ++ (codes "\n" ++ ((replicate (column - 1) 32 ++ codes "^") ++ codes
     "\n"))))))))))
 
--- The message names the fault's line and column, and has its sentence and a caret under its column.
+-- the line with this number, from 1, without its end; empty where there is none
+abbrev pub line_at : Text → ℕ → Text
+line_at text line = get_or (lines text) (line - 1) []
+
+-- the message on a fault in front of which this part of the text stands
+abbrev pub message_behind : Text → Text → Text → Text → Text
+message_behind name text front sentence =
+    message name (line_behind front) (column_behind front) sentence
+    (line_at text (line_behind front))
+
+-- The message names the fault's line and column, and has its sentence, that line, and a caret under its
+-- column.
 abbrev pub IsMessage : Text → Text → Fault → Text → Type 0
-IsMessage name text f result =
-    (shown : Text) × (result ≡ message name (line_behind (take f.index text))
-    (column_behind (take f.index text)) (sentence f) shown)
+IsMessage name text f result = result ≡ message_behind name text (take f.index text) (sentence f)

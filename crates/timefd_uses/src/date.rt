@@ -1,6 +1,6 @@
 //! A date, as these callers hold one.
 
-ghost use Rattle.std.specs.Prelude.{◌≡◌, ◌≤◌, IfSome};
+ghost use Rattle.std.specs.Prelude.{◌≡◌, ◌≤◌, IfSome, IsSome};
 
 /// A day of a month of the years 0 to 9999. How many days the month has is not looked at.
 #[derive(Clone, Copy)]
@@ -16,8 +16,9 @@ pub struct Date {
 impl Date {
     /// The date of these numbers, where they are ones of a date.
     pub fn new(year: u16, month: u8, day: u8) -> Option<Date>
-        ensures { IfSome result (λ date. (date.year ≡ year) × (date.month ≡ month)
+        ensures date { IfSome result (λ date. (date.year ≡ year) × (date.month ≡ month)
             × (date.day ≡ day)) }
+        ensures any { year ≤ 9999 → 1 ≤ month → month ≤ 12 → 1 ≤ day → day ≤ 31 → IsSome result }
     {
         if year <= 9999 && 1 <= month && month <= 12 && 1 <= day && day <= 31 {
             Some(Date { year, month, day })

@@ -7,7 +7,7 @@ ghost use Rattle.timefd_language.specs.Broken.{FaultOf};
 ghost use Rattle.timefd_language.specs.Grammar.{Spells, nesting_limit};
 ghost use Rattle.timefd_uses.specs.Messages.{IsMessage};
 
-use crate::place::{Place, caret_line, place_of};
+use crate::place::{Place, caret_line, line_of, place_of};
 use std::alloc::{AllocError, Global};
 use timefd_parse::{DescriptionVersion, InvalidFormatDescription, ParseError, parse_borrowed};
 
@@ -42,7 +42,7 @@ fn message(
         (string_bytes message)) }
 {
     let Place { line, column } = place_of(text, fault.index());
-    let shown = text.lines().nth(line - 1).unwrap_or("");
+    let shown = line_of(text, line - 1);
     let caret = caret_line(alloc, column - 1)?;
     format!(in alloc; "{name}:{line}:{column}: {fault}\n{shown}\n{caret}\n")
 }

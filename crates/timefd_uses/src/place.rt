@@ -1,7 +1,8 @@
 //! The line and the column of a byte index.
 
-ghost use Rattle.std.specs.Prelude.{◌≡◌, ◌+◌, ◌<◌, ◌^◌, ◌++◌, ◌==◌, if◌then◌else◌, take, replicate, codes, IfOk, string_bytes};
+ghost use Rattle.std.specs.Prelude.{◌≡◌, ◌+◌, ◌<◌, ◌^◌, ◌++◌, ◌==◌, if◌then◌else◌, [], get_or, take, replicate, codes, IfOk, string_bytes};
 ghost use Rattle.std.specs.Fmt.{char_count, is_char_start};
+ghost use Rattle.std.specs.Str.Lines.{lines};
 ghost use Rattle.timefd_uses.specs.Places.{newlines, begun_line};
 
 use std::alloc::{AllocError, Global};
@@ -53,6 +54,13 @@ pub fn place_of(text: &str, index: usize) -> Place
         place = place.behind(*byte);
     }
     place
+}
+
+/// The line with this number, counted from 0, without its end. It is empty where there is none.
+pub fn line_of(text: &str, number: usize) -> &str
+    ensures { result.now ≡ get_or (lines text.now) number [] }
+{
+    text.lines().nth(number).unwrap_or("")
 }
 
 /// A caret behind so many spaces.

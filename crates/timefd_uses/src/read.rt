@@ -1,7 +1,8 @@
 //! Reads a date by the items of a description of version 1.
 
-ghost use Rattle.std.specs.Prelude.{◌≡◌, ◌++◌, IfOk, IfSome};
+ghost use Rattle.std.specs.Prelude.{◌≡◌, ◌++◌, IfOk, IfSome, MatchResult};
 ghost use Rattle.std.specs.Str.{IsUtf8};
+ghost use Rattle.timefd_component.specs.Tree.{Text};
 ghost use Rattle.timefd_uses.specs.Read.{IsNumberAhead};
 
 use crate::date::Date;
@@ -55,7 +56,8 @@ pub fn read_date(items: &[BorrowedFormatItem<'_>], text: &str) -> Result<Date, R
 
 /// What stands behind the literal, with which the text has to begin.
 fn behind_literal<'a>(text: &'a str, literal: &str) -> Result<&'a str, ReadError>
-    ensures rest { IfOk result (λ rest. text.now ≡ literal.now ++ rest.now) }
+    ensures rest { MatchResult result (λ rest. text.now ≡ literal.now ++ rest.now)
+        (λ _. (rest : Text) → ¬ (text.now ≡ literal.now ++ rest)) }
     ensures utf8 { IfOk result (λ rest. IsUtf8 rest.now) }
 {
     match text.strip_prefix(literal) {

@@ -1,7 +1,15 @@
 //! Rewrites a stored description of version 1 as one of version 2.
 
-ghost use Rattle.std.specs.Prelude.{IfOk, string_bytes};
+ghost use Rattle.std.specs.Prelude.{◌≡◌, List, IfOk, MatchResult, length, string_bytes};
+ghost use Rattle.std.specs.Result.{IfErr};
+ghost use Rattle.timefd_component.specs.Tree.{Tree};
+ghost use Rattle.timefd_fault.specs.Faults.{Fault};
+ghost use Rattle.timefd_language.specs.Broken.{FaultOf};
+ghost use Rattle.timefd_language.specs.Grammar.{Spells, nesting_limit};
+ghost use Rattle.timefd_language.specs.Told.{IsFaultOrMemory};
+ghost use Rattle.timefd_language.specs.declared.description_version.DescriptionVersion.TheVariants.{One, Two};
 ghost use Rattle.timefd_lift.specs.Answers.{HasItemsOf};
+ghost use Rattle.timefd_parse.specs.Answers.{IsAssigned};
 
 use std::alloc::Global;
 use timefd_lift::v1_to_v2;
@@ -19,6 +27,14 @@ pub struct Upgraded {
 pub fn upgrade(alloc: Global, stored: &str) -> Result<Upgraded, ParseError>
     ensures same_items { IfOk result
         (λ upgraded. HasItemsOf stored.now (string_bytes upgraded.text)) }
+    ensures count { IfOk result (λ upgraded. (list : List Tree)
+        × Spells Two nesting_limit 0 (string_bytes upgraded.text) list
+        × (upgraded.count ≡ length list)) }
+
+    // A fault that is answered is the stored text's, and a text that has one is refused.
+    ensures fault { IfErr result (IsAssigned One nesting_limit stored.now) }
+    ensures refused { (f : Fault) → FaultOf One nesting_limit stored.now f
+        → MatchResult result (λ _. ⊥) (IsFaultOrMemory f) }
 {
     let text = match v1_to_v2(alloc, stored) {
         Ok(text) => text,

@@ -9,8 +9,8 @@ use std::io::Write;
 use timefd_diagnosis::Diagnostic;
 use timefd_drawing::shown::safe;
 use timefd_drawing::{Format, Origin, Style, drawn};
-use timefd_format::{Unshown, component_name};
-use timefd_read_dates::{ReadError, Reason};
+use timefd_format::Unshown;
+use timefd_read_text::unread_sentence;
 
 /// What is told of a line that is no text.
 pub const NOT_TEXT: &str = "timefd_format: a line is no UTF-8\n";
@@ -48,7 +48,10 @@ pub fn unread_message(
     line: Option<u64>,
     word: &str,
     error: MomentError,
-) -> Result<String, AllocError> {
+) -> Result<String, AllocError>
+    ensures { IfOk result (λ message. spec.IsUnreadMessage line word.now error
+        (string_bytes message)) }
+{
     match error {
         MomentError::Clock => String::from_str(alloc, "timefd_format: the clock can't be read\n"),
         MomentError::Text(error) => {
@@ -56,7 +59,7 @@ pub fn unread_message(
             format!(in alloc; "timefd_format: `{word}` is no moment: {error}\n")
         }
         MomentError::Unread(error) => {
-            let sentence = fault_sentence(alloc, error)?;
+            let sentence = unread_sentence(alloc, error)?;
             not_read(alloc, line, word, &sentence)
         }
         MomentError::Value(error) => {
@@ -71,32 +74,16 @@ fn not_read(
     line: Option<u64>,
     word: &str,
     sentence: &str,
-) -> Result<String, AllocError> {
+) -> Result<String, AllocError>
+    ensures { IfOk result (λ message. string_bytes message
+        ≡ spec.not_read line word.now sentence.now) }
+{
     let word = safe(alloc, word)?;
     match line {
         Some(line) => {
             format!(in alloc; "timefd_format: line {line}: `{word}` is not read: {sentence}\n")
         }
         None => format!(in alloc; "timefd_format: `{word}` is not read: {sentence}\n"),
-    }
-}
-
-// Which part of a text does not read, and where.
-fn fault_sentence(alloc: Global, error: ReadError) -> Result<String, AllocError> {
-    let index = error.index;
-    match error.reason {
-        Reason::Unread(component) => {
-            let name = component_name(component);
-            format!(in alloc; "the component `{name}` reads nothing at byte index {index}")
-        }
-        Reason::Contradiction(component) => {
-            let name = component_name(component);
-            format!(in alloc; "the component `{name}` reads another value at byte index {index}")
-        }
-        Reason::Literal => {
-            format!(in alloc; "the description has another text at byte index {index}")
-        }
-        Reason::Trailing => format!(in alloc; "the description ends at byte index {index}"),
     }
 }
 

@@ -1,5 +1,8 @@
 //! What the program says of itself, and of arguments that are none of its.
 
+ghost use Rattle.std.specs.Prelude.{◌≡◌, IfOk, string_bytes};
+ghost use Rattle.timefd_write.specs.Messages as spec;
+
 use crate::asked::OptionError;
 use std::alloc::{AllocError, Global};
 use timefd_drawing::shown::safe;
@@ -26,7 +29,9 @@ UTF-8.
 ";
 
 /// What is wrong with the arguments, in a sentence.
-pub fn sentence(alloc: Global, error: OptionError<'_>) -> Result<String, AllocError> {
+pub fn sentence(alloc: Global, error: OptionError<'_>) -> Result<String, AllocError>
+    ensures { IfOk result (λ text. string_bytes text ≡ spec.option_sentence error.entry) }
+{
     match error {
         OptionError::Unknown(word) => {
             let word = safe(alloc, word)?;
