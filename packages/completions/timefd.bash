@@ -19,11 +19,17 @@ _timefd_lint() {
     --format) mapfile -t COMPREPLY < <(compgen -W 'human json short' -- "$2") ;;
     --color) mapfile -t COMPREPLY < <(compgen -W 'always never auto' -- "$2") ;;
     --to) mapfile -t COMPREPLY < <(compgen -W '2 3' -- "$2") ;;
+    --deny | --allow)
+        word='no-component other-language month-for-minute minute-for-month hour-without-period period-with-24-hours'
+        word+=' subsecond-without-second week-with-calendar-year date-with-iso-year shown-twice undetermined-date'
+        word+=' unsettled-width unsettled-year deprecated-component'
+        mapfile -t COMPREPLY < <(compgen -W "$word" -- "$2")
+        ;;
     --comment) COMPREPLY=() ;;
     *)
         case $2 in
         -*)
-            word='--language --format --color --comment --whole --explain --to --normal --write --partial --quiet --help --version --'
+            word='--language --format --color --comment --whole --source --explain --warn --deny --allow --to --normal --write --partial --quiet --help --version --'
             mapfile -t COMPREPLY < <(compgen -W "$word" -- "$2")
             ;;
         *) mapfile -t COMPREPLY < <(compgen -f -- "$2") ;;

@@ -1,2 +1,4 @@
 pub mod FilesLemmas
+pub mod SourcesLemmas
 pub mod ToldLemmas
+pub mod AcceptedLemmas

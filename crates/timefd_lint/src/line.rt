@@ -1,10 +1,13 @@
 //! One text of a file.
 
-ghost use Rattle.std.specs.Prelude.{◌≡◌, IfOk, OnOk};
+ghost use Rattle.std.specs.Prelude.{◌≡◌, List, IfOk, OnOk};
 ghost use Rattle.std.specs.Io.KnownBytes.{Appends};
+ghost use Rattle.timefd_component.specs.Tree.{Tree};
+ghost use Rattle.timefd_language.specs.Grammar.{nesting_limit};
+ghost use Rattle.timefd_parse.specs.Language.{SpellsIn};
+ghost use Rattle.timefd_lint_sources.specs.Judged.{found_by};
 ghost use Rattle.timefd_lint.specs.Lines.{IsEndOf, IsLineEnd};
-ghost use Rattle.timefd_lint.specs.Told.{Says};
-ghost use Rattle.timefd_lint.specs.declared.line.TextEnd.TheVariants as ends;
+ghost use Rattle.timefd_lint.specs.Told.{Says, WritesTree};
 
 use crate::options::Options;
 use std::alloc::{AllocError, Global};
@@ -13,7 +16,10 @@ use std::str;
 use timefd_diagnosis::diagnose;
 use timefd_drawing::{Origin, drawn, note};
 use timefd_explain::explained;
+use timefd_lint_warnings::{found_in, messages};
+use timefd_parse::Language;
 use timefd_rewrite::is_passed_over;
+use timefd_warnings::{Level, Levels};
 
 /// Why a run ends before its last text.
 #[derive(Clone, Copy)]
@@ -35,8 +41,8 @@ impl From<AllocError> for RunError {
 pub enum TextEnd {
     /// A line that is passed over: it is empty, or begins with the mark of comments.
     PassedOver,
-    /// A description.
-    Accepted,
+    /// A description, with the warnings that are told of it; any other is allowed.
+    Accepted(Levels),
     /// None, and a diagnostic is written.
     Refused,
     /// No UTF-8, and a note is written.
@@ -54,9 +60,10 @@ pub fn lint_line<W: Write>(
     line: &[u8],
     writer: &mut W,
 ) -> Result<TextEnd, RunError>
-    ensures end { IfOk result (IsLineEnd options.entry.language options.entry.comment line.now) }
+    ensures end { IfOk result (IsLineEnd options.entry.language options.entry.comment
+        options.entry.telling line.now) }
     ensures said { IfOk result (λ end.
-        Says options.entry.explains end (W.contents writer.old) (W.contents writer.new)) }
+        Says options.entry.telling origin.entry end (W.contents writer.old) (W.contents writer.new)) }
 {
     if is_passed_over(options.comment, line) {
         return Ok(TextEnd::PassedOver);
@@ -65,6 +72,7 @@ pub fn lint_line<W: Write>(
 }
 
 /// Looks at a text, and writes what is wrong with it. An `Err` says why that wasn't done.
+#[tactic(auto, using(crate::proofs::AcceptedLemmas::end_of_bytes))]
 pub fn lint_text<W: Write>(
     alloc: Global,
     options: Options<'_>,
@@ -72,14 +80,14 @@ pub fn lint_text<W: Write>(
     bytes: &[u8],
     writer: &mut W,
 ) -> Result<TextEnd, RunError>
-    ensures end { IfOk result (IsEndOf options.entry.language bytes.now) }
+    ensures end { IfOk result (IsEndOf options.entry.language options.entry.telling bytes.now) }
     ensures said { IfOk result (λ end.
-        Says options.entry.explains end (W.contents writer.old) (W.contents writer.new)) }
+        Says options.entry.telling origin.entry end (W.contents writer.old) (W.contents writer.new)) }
 {
     let Ok(text) = str::from_utf8(bytes) else {
         let message = note(
             alloc,
-            options.style,
+            options.telling.style,
             origin,
             "not-text",
             "the bytes are no UTF-8",
@@ -90,14 +98,14 @@ pub fn lint_text<W: Write>(
     match diagnose(alloc, options.language, text)? {
         None => accepted(alloc, options, origin, text, writer),
         Some(diagnostic) => {
-            let message = drawn(alloc, options.style, origin, text, &diagnostic)?;
+            let message = drawn(alloc, options.telling.style, origin, text, &diagnostic)?;
             write(writer, &message)?;
             Ok(TextEnd::Refused)
         }
     }
 }
 
-// Writes the tree of a text that is accepted, if it is asked for.
+// Writes of a text that is accepted its tree, if it is asked for, and the warnings that are told.
 fn accepted<W: Write>(
     alloc: Global,
     options: Options<'_>,
@@ -105,15 +113,51 @@ fn accepted<W: Write>(
     text: &str,
     writer: &mut W,
 ) -> Result<TextEnd, RunError>
-    ensures end { IfOk result (λ end. end ≡ ends.Accepted) }
+    ensures end { (list : List Tree) → SpellsIn options.entry.language nesting_limit text.now list
+        → IfOk result (IsEndOf options.entry.language options.entry.telling text.now) }
     ensures said { IfOk result (λ end.
-        Says options.entry.explains end (W.contents writer.old) (W.contents writer.new)) }
+        Says options.entry.telling origin.entry end (W.contents writer.old) (W.contents writer.new)) }
 {
-    if options.explains {
+    write_tree(alloc, options, origin, text, writer)?;
+    let found = warnings_of(alloc, options.telling.levels, options.language, text)?;
+    let told = messages(alloc, options.telling.style, origin, found)?;
+    write(writer, &told)?;
+    Ok(TextEnd::Accepted(found))
+}
+
+// Writes the tree of a text that is accepted, if it is asked for.
+#[tactic(auto, using(crate::proofs::AcceptedLemmas::tree_written, crate::proofs::AcceptedLemmas::no_tree))]
+fn write_tree<W: Write>(
+    alloc: Global,
+    options: Options<'_>,
+    origin: Origin<'_>,
+    text: &str,
+    writer: &mut W,
+) -> Result<(), RunError>
+    ensures { OnOk result
+        (WritesTree options.entry.telling (W.contents writer.old) (W.contents writer.new)) }
+{
+    if options.telling.explains {
         let tree = explained(alloc, options.language, origin, text)?;
         write(writer, tree.as_bytes())?;
     }
-    Ok(TextEnd::Accepted)
+    Ok(())
+}
+
+// The warnings of a text that is accepted, if they are looked for.
+fn warnings_of(
+    alloc: Global,
+    levels: Option<Levels>,
+    language: Language,
+    text: &str,
+) -> Result<Levels, AllocError>
+    ensures { (list : List Tree) → SpellsIn language nesting_limit text.now list
+        → IfOk result (λ found. found ≡ found_by levels language list) }
+{
+    match levels {
+        Some(levels) => found_in(alloc, language, text, levels),
+        None => Ok(Levels::all_at(Level::Allowed)),
+    }
 }
 
 /// Writes all of the bytes.

@@ -3,7 +3,7 @@
 ghost use Rattle.std.specs.Prelude.{◌≡◌, IfOk, OnOk};
 ghost use Rattle.std.specs.Io.KnownBytes.{Appends};
 ghost use Rattle.timefd_lint.specs.Failures.{note_of};
-ghost use Rattle.timefd_lint.specs.Told.{IsNext, IsRunOfAll, IsRunOver, Says};
+ghost use Rattle.timefd_lint.specs.Told.{IsNext, IsRunOfAll, IsRunOver, Says, place};
 ghost use Rattle.timefd_lint.specs.declared.line.TextEnd.TheVariants as ends;
 
 use crate::failure::{Failure, unread};
@@ -26,7 +26,7 @@ pub fn lint_lines<R: BufRead, W: Write>(
     writer: &mut W,
 ) -> Result<Tally, RunError>
     ensures { IfOk result (IsRunOver options.entry.language options.entry.comment
-        options.entry.explains (R.remaining reader.old)
+        options.entry.telling name.now (R.remaining reader.old)
         (R.remaining reader.new)
         (W.contents writer.old) (W.contents writer.new)) }
 {
@@ -49,7 +49,7 @@ pub fn lint_lines<R: BufRead, W: Write>(
 }
 
 // Looks at one more line, for which there is this room: `None` at the end.
-#[tactic(auto, using(crate::proofs::ToldLemmas::read_none, crate::proofs::ToldLemmas::read_fails))]
+#[tactic(auto, using(crate::proofs::ToldLemmas::read_none))]
 fn lint_next<R: BufRead, W: Write>(
     alloc: Global,
     options: Options<'_>,
@@ -60,7 +60,7 @@ fn lint_next<R: BufRead, W: Write>(
     writer: &mut W,
 ) -> Result<Option<TextEnd>, RunError>
     ensures { IfOk result (IsNext is_first options.entry.language options.entry.comment
-        options.entry.explains (R.remaining reader.old) (R.remaining reader.new)
+        options.entry.telling origin.entry (R.remaining reader.old) (R.remaining reader.new)
         (W.contents writer.old) (W.contents writer.new)) }
 {
     bytes.clear();
@@ -78,7 +78,6 @@ fn lint_next<R: BufRead, W: Write>(
 }
 
 /// Looks at all bytes of a reader as one text, and writes what is wrong.
-#[tactic(auto, using(crate::proofs::ToldLemmas::text_of_all, crate::proofs::ToldLemmas::none_of_all))]
 pub fn lint_whole<R: Read, W: Write>(
     alloc: Global,
     options: Options<'_>,
@@ -87,7 +86,7 @@ pub fn lint_whole<R: Read, W: Write>(
     writer: &mut W,
 ) -> Result<Tally, RunError>
     ensures { IfOk result (IsRunOfAll options.entry.language options.entry.comment
-        options.entry.explains (R.remaining reader.old)
+        options.entry.telling name.now (R.remaining reader.old)
         (R.remaining reader.new)
         (W.contents writer.old) (W.contents writer.new)) }
 {
@@ -109,8 +108,8 @@ pub fn lint_whole<R: Read, W: Write>(
     }
 }
 
-// Memory that runs out in a read ends the run; any other error is noted.
-fn read_error<W: Write>(
+/// Memory that runs out in a read ends the run; any other error is noted.
+pub fn read_error<W: Write>(
     alloc: Global,
     options: Options<'_>,
     name: &str,
@@ -119,7 +118,7 @@ fn read_error<W: Write>(
 ) -> Result<TextEnd, RunError>
     ensures end { IfOk result (λ end. end ≡ ends.Failed) }
     ensures said { IfOk result (λ end.
-        Says options.entry.explains end (W.contents writer.old) (W.contents writer.new)) }
+        Says options.entry.telling (place name.entry 1) end (W.contents writer.old) (W.contents writer.new)) }
 {
     if error.kind() == ErrorKind::OutOfMemory {
         return Err(RunError::Memory);
@@ -137,9 +136,9 @@ pub fn failed<W: Write>(
 ) -> Result<TextEnd, RunError>
     ensures end { IfOk result (λ end. end ≡ ends.Failed) }
     ensures said { IfOk result (λ end.
-        Says options.entry.explains end (W.contents writer.old) (W.contents writer.new)) }
+        Says options.entry.telling (place name.entry 1) end (W.contents writer.old) (W.contents writer.new)) }
     ensures noted { OnOk result (Appends (W.contents writer.old) (W.contents writer.new)
-        (note_of options.entry.style name.entry failure)) }
+        (note_of options.entry.telling.style name.entry failure)) }
 {
     let origin = Origin {
         file: name,
@@ -147,7 +146,7 @@ pub fn failed<W: Write>(
     };
     let message = note(
         alloc,
-        options.style,
+        options.telling.style,
         origin,
         failure.code(),
         failure.sentence(),

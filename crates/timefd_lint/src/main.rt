@@ -11,6 +11,7 @@ mod mark;
 mod options;
 mod rewriting;
 mod run;
+mod rust;
 mod source;
 mod stamp;
 mod summary;
@@ -184,7 +185,7 @@ fn end_of(rt: &HostRuntime, settings: Settings<'_>, options: Options<'_>, tally:
     if settings.is_quiet {
         return status;
     }
-    match summary(rt.alloc(), tally, options.file_count()) {
+    match summary(rt.alloc(), settings.warns, tally, options.file_count()) {
         Ok(line) => {
             let _ = eprintln!(rt; "{line}");
             status

@@ -35,7 +35,7 @@ pub fn note_mark<W: Write>(
         (Notes (is_first && has_mark text.now) (W.contents writer.old) (W.contents writer.new)) }
 {
     if is_first && begins_with_mark(text) {
-        let message = warning(alloc, options.style, origin)?;
+        let message = warning(alloc, options.telling.style, origin)?;
         write(writer, &message)?;
     }
     Ok(())

@@ -1,24 +1,26 @@
 //! What a run does.
 
-ghost use Rattle.std.specs.Prelude.{◌≡◌, length, max};
+ghost use Rattle.std.specs.Prelude.{◌≡◌, length, max, if◌then◌else◌, Some, None};
 
 use timefd_drawing::Style;
 use timefd_lint_options::Settings;
+use timefd_lint_sources::Telling;
 use timefd_parse::Language;
+use timefd_warnings::Levels;
 
 /// What a run does.
 #[derive(Clone, Copy)]
 pub struct Options<'a> {
     /// The language of the texts.
     pub language: Language,
-    /// How diagnostics look.
-    pub style: Style,
+    /// What is told of each, and how.
+    pub telling: Telling,
     /// What lines begin with that are passed over.
     pub comment: Option<&'a str>,
     /// Whether a file is one text.
     pub is_whole: bool,
-    /// Whether what is accepted is shown as its tree.
-    pub explains: bool,
+    /// Whether a file is a source of Rust, whatever its name.
+    pub is_source: bool,
     /// The names of the files: none, where the standard input is read.
     pub files: &'a [&'a str],
 }
@@ -39,22 +41,40 @@ pub fn run_options<'a>(
     files: &'a [&'a str],
 ) -> Options<'a>
     ensures language { result.language ≡ settings.entry.language }
-    ensures format { result.style.format ≡ settings.entry.format }
-    ensures color { result.style.is_colored ≡ is_colored }
+    ensures format { result.telling.style.format ≡ settings.entry.format }
+    ensures color { result.telling.style.is_colored ≡ is_colored }
     ensures comment { result.comment ≡ settings.entry.comment }
     ensures whole { result.is_whole ≡ settings.entry.is_whole }
-    ensures explains { result.explains ≡ settings.entry.explains }
+    ensures source { result.is_source ≡ settings.entry.is_source }
+    ensures explains { result.telling.explains ≡ settings.entry.explains }
+    ensures levels { result.telling.levels ≡ (if settings.entry.warns then Some settings.entry.levels
+        else None) }
     ensures files { result.files.now ≡ files.now }
 {
     Options {
         language: settings.language,
-        style: Style {
-            format: settings.format,
-            is_colored,
+        telling: Telling {
+            style: Style {
+                format: settings.format,
+                is_colored,
+            },
+            explains: settings.explains,
+            levels: told_levels(settings),
         },
         comment: settings.comment,
         is_whole: settings.is_whole,
-        explains: settings.explains,
+        is_source: settings.is_source,
         files,
+    }
+}
+
+// What is made of each warning, if they are told.
+fn told_levels(settings: Settings<'_>) -> Option<Levels>
+    ensures { result ≡ (if settings.entry.warns then Some settings.entry.levels else None) }
+{
+    if settings.warns {
+        Some(settings.levels)
+    } else {
+        None
     }
 }

@@ -6,10 +6,12 @@ ghost use Rattle.timefd_component.specs.Tree.{Text};
 ghost use Rattle.timefd_lint.specs.Told.{IsRunOver};
 ghost use Rattle.timefd_rewrite.specs.Rewriting.{AreRewritten};
 
+use crate::failure::Failure;
 use crate::fix::{FixError, Original};
 use crate::line::RunError;
 use crate::lines::{failed, lint_lines};
 use crate::options::Options;
+use crate::rust::is_source;
 use crate::tally::Tally;
 use std::alloc::Global;
 use std::fs;
@@ -98,6 +100,15 @@ fn rewrite_file<R: Files + Eprint, W: Write>(
     name: &str,
     writer: &mut W,
 ) -> Result<Tally, RunError> {
+    if is_source(options, name) {
+        return noted(
+            alloc,
+            options,
+            name,
+            FixError::Failed(Failure::Rust),
+            writer,
+        );
+    }
     let old = match Original::read(rt, alloc, name) {
         Ok(old) => old,
         Err(error) => return noted(alloc, options, name, error, writer),
@@ -145,7 +156,7 @@ fn looked_at<W: Write>(
     writer: &mut W,
 ) -> Result<Found, RunError>
     ensures told { IfOk result (λ found. (rest : Option Text) × IsRunOver options.entry.language
-        options.entry.comment options.entry.explains (Some old.now) rest
+        options.entry.comment options.entry.telling name.now (Some old.now) rest
         (W.contents writer.old) (W.contents writer.new) found.tally) }
     ensures rewritten { IfOk result (λ found. AreRewritten layout options.entry.comment
         (Some old.now) (Some []) (Some found.bytes.items) found.counts) }

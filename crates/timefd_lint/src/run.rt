@@ -1,13 +1,16 @@
 //! A run over files.
 
 ghost use Rattle.std.specs.Prelude.{◌≡◌, ◌≢◌, [], IfOk};
-ghost use Rattle.timefd_lint.specs.Files.{IsNoted, IsRunIn, IsRunOfFile, IsRunOfName, IsRunOfNames};
+ghost use Rattle.timefd_lint.specs.Files.{IsNoted, IsRunIn, IsRunOfFile, IsRunOfName, IsRunOfNames, input_name};
+ghost use Rattle.timefd_lint.specs.Sources.{IsRunWith, any_source};
+ghost use Rattle.timefd_lint.specs.Sources as sources;
 ghost use Rattle.timefd_lint.specs.Told.{IsRun, tally_of};
 
 use crate::failure::OpenError;
 use crate::line::RunError;
 use crate::lines::{failed, lint_lines, lint_whole};
 use crate::options::Options;
+use crate::rust::{is_source, lint_source};
 use crate::source::Source;
 use crate::tally::Tally;
 use std::alloc::Global;
@@ -20,6 +23,7 @@ const INPUT: &str = "<stdin>";
 /// Looks at each file, or at the input where there is none, in order, and writes what is wrong. A
 /// file that can't be read is noted, and the others are still looked at. The name `-` is that of the
 /// input, of which a second one finds what the first one left: nothing.
+#[tactic(auto, using(crate::proofs::FilesLemmas::input_alone))]
 pub fn run<S: Source, I: BufRead, W: Write>(
     source: &S,
     alloc: Global,
@@ -27,12 +31,12 @@ pub fn run<S: Source, I: BufRead, W: Write>(
     input: &mut I,
     writer: &mut W,
 ) -> Result<Tally, RunError>
-    ensures told { IfOk result (IsRun options.entry.is_whole options.entry.language
-        options.entry.comment options.entry.explains (W.contents writer.old)
-        (W.contents writer.new)) }
+    ensures told { IfOk result (IsRunWith (any_source options.entry options.entry.files.now)
+        options.entry.is_whole options.entry.language options.entry.comment
+        options.entry.telling (W.contents writer.old) (W.contents writer.new)) }
 
     // Where no file is named, what is told is all that the input has.
-    ensures input { options.entry.files.now ≡ [] → IfOk result (IsRunIn options.entry
+    ensures input { options.entry.files.now ≡ [] → IfOk result (IsRunIn options.entry input_name
         (I.remaining input.old) (I.remaining input.new)
         (W.contents writer.old) (W.contents writer.new)) }
 
@@ -50,7 +54,7 @@ pub fn run<S: Source, I: BufRead, W: Write>(
 }
 
 // Looks at each file that is named, in order.
-#[tactic(auto, using(crate::proofs::FilesLemmas::no_name, crate::proofs::FilesLemmas::one_name, crate::proofs::FilesLemmas::all_names))]
+#[tactic(auto, using(crate::proofs::FilesLemmas::no_name, crate::proofs::FilesLemmas::one_name, crate::proofs::FilesLemmas::all_names, crate::proofs::FilesLemmas::run_of_all))]
 fn lint_files<S: Source, I: BufRead, W: Write>(
     source: &S,
     alloc: Global,
@@ -58,9 +62,9 @@ fn lint_files<S: Source, I: BufRead, W: Write>(
     input: &mut I,
     writer: &mut W,
 ) -> Result<Tally, RunError>
-    ensures told { IfOk result (IsRun options.entry.is_whole options.entry.language
-        options.entry.comment options.entry.explains (W.contents writer.old)
-        (W.contents writer.new)) }
+    ensures told { IfOk result (IsRunWith (any_source options.entry options.entry.files.now)
+        options.entry.is_whole options.entry.language options.entry.comment
+        options.entry.telling (W.contents writer.old) (W.contents writer.new)) }
     ensures files { IfOk result (IsRunOfNames (S.opens source.now) (S.fails source.now)
         options.entry options.entry.files.now (tally_of [])
         (I.remaining input.old) (I.remaining input.new)
@@ -76,6 +80,7 @@ fn lint_files<S: Source, I: BufRead, W: Write>(
 }
 
 /// Looks at all texts of a file, or of the input: all that is left of it.
+#[tactic(auto, using(crate::proofs::FilesLemmas::input_named))]
 pub fn lint_named<S: Source, I: BufRead, W: Write>(
     source: &S,
     alloc: Global,
@@ -84,9 +89,9 @@ pub fn lint_named<S: Source, I: BufRead, W: Write>(
     input: &mut I,
     writer: &mut W,
 ) -> Result<Tally, RunError>
-    ensures told { IfOk result (IsRun options.entry.is_whole options.entry.language
-        options.entry.comment options.entry.explains (W.contents writer.old)
-        (W.contents writer.new)) }
+    ensures told { IfOk result (IsRunWith (sources.is_source options.entry name.now)
+        options.entry.is_whole options.entry.language options.entry.comment
+        options.entry.telling (W.contents writer.old) (W.contents writer.new)) }
     ensures named { IfOk result (IsRunOfName (S.opens source.now) (S.fails source.now)
         options.entry name.entry (I.remaining input.old) (I.remaining input.new)
         (W.contents writer.old) (W.contents writer.new)) }
@@ -99,7 +104,7 @@ pub fn lint_named<S: Source, I: BufRead, W: Write>(
 }
 
 // Looks at all texts of a file.
-#[tactic(auto, using(crate::proofs::FilesLemmas::opened, crate::proofs::FilesLemmas::unopened))]
+#[tactic(auto, using(crate::proofs::FilesLemmas::opened, crate::proofs::FilesLemmas::unopened, crate::proofs::SourcesLemmas::with_texts))]
 fn lint_file<S: Source, W: Write>(
     source: &S,
     alloc: Global,
@@ -107,9 +112,9 @@ fn lint_file<S: Source, W: Write>(
     name: &str,
     writer: &mut W,
 ) -> Result<Tally, RunError>
-    ensures told { IfOk result (IsRun options.entry.is_whole options.entry.language
-        options.entry.comment options.entry.explains (W.contents writer.old)
-        (W.contents writer.new)) }
+    ensures told { IfOk result (IsRunWith (sources.is_source options.entry name.now)
+        options.entry.is_whole options.entry.language options.entry.comment
+        options.entry.telling (W.contents writer.old) (W.contents writer.new)) }
     ensures file { IfOk result (IsRunOfFile (S.opens source.now name.now)
         (S.fails source.now name.now) options.entry name.entry
         (W.contents writer.old) (W.contents writer.new)) }
@@ -121,7 +126,6 @@ fn lint_file<S: Source, W: Write>(
 }
 
 // Notes why a file isn't opened.
-#[tactic(auto, using(crate::proofs::ToldLemmas::failed_run))]
 fn note_unopened<W: Write>(
     alloc: Global,
     options: Options<'_>,
@@ -130,7 +134,7 @@ fn note_unopened<W: Write>(
     writer: &mut W,
 ) -> Result<Tally, RunError>
     ensures told { IfOk result (IsRun options.entry.is_whole options.entry.language
-        options.entry.comment options.entry.explains (W.contents writer.old)
+        options.entry.comment options.entry.telling (W.contents writer.old)
         (W.contents writer.new)) }
     ensures noted { IfOk result (IsNoted options.entry name.entry error
         (W.contents writer.old) (W.contents writer.new)) }
@@ -145,7 +149,7 @@ fn note_unopened<W: Write>(
 }
 
 // Looks at all texts of a reader.
-#[tactic(auto, using(crate::proofs::ToldLemmas::whole_on, crate::proofs::ToldLemmas::lines_on, crate::proofs::ToldLemmas::whole_run, crate::proofs::ToldLemmas::lines_run))]
+#[tactic(auto, using(crate::proofs::FilesLemmas::in_source, crate::proofs::FilesLemmas::in_whole, crate::proofs::FilesLemmas::in_lines, crate::proofs::SourcesLemmas::with_source, crate::proofs::SourcesLemmas::with_whole, crate::proofs::SourcesLemmas::with_lines))]
 fn lint_reader<R: BufRead, W: Write>(
     alloc: Global,
     options: Options<'_>,
@@ -153,13 +157,15 @@ fn lint_reader<R: BufRead, W: Write>(
     reader: &mut R,
     writer: &mut W,
 ) -> Result<Tally, RunError>
-    ensures told { IfOk result (IsRun options.entry.is_whole options.entry.language
-        options.entry.comment options.entry.explains (W.contents writer.old)
-        (W.contents writer.new)) }
-    ensures all { IfOk result (IsRunIn options.entry (R.remaining reader.old)
+    ensures told { IfOk result (IsRunWith (sources.is_source options.entry name.now)
+        options.entry.is_whole options.entry.language options.entry.comment
+        options.entry.telling (W.contents writer.old) (W.contents writer.new)) }
+    ensures all { IfOk result (IsRunIn options.entry name.now (R.remaining reader.old)
         (R.remaining reader.new) (W.contents writer.old) (W.contents writer.new)) }
 {
-    if options.is_whole {
+    if is_source(options, name) {
+        lint_source(alloc, options, name, reader, writer)
+    } else if options.is_whole {
         lint_whole(alloc, options, name, reader, writer)
     } else {
         lint_lines(alloc, options, name, reader, writer)

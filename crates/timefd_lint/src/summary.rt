@@ -6,10 +6,44 @@ ghost use Rattle.timefd_lint.specs.Summaries as spec;
 use crate::tally::Tally;
 use std::alloc::{AllocError, Global};
 
-/// How many descriptions were looked at, how many of them were refused, and how many files there
-/// were, as `8 descriptions, 6 refused, 2 files`.
-pub fn summary(alloc: Global, tally: Tally, file_count: usize) -> Result<String, AllocError>
-    ensures { IfOk result (λ line. string_bytes line ≡ spec.summary tally file_count) }
+/// How many descriptions were looked at, how many of them were refused, how many warnings were told
+/// if they are, and how many files there were, as `8 descriptions, 6 refused, 1 warning, 2 files`.
+pub fn summary(
+    alloc: Global,
+    warns: bool,
+    tally: Tally,
+    file_count: usize,
+) -> Result<String, AllocError>
+    ensures { IfOk result (λ line. string_bytes line ≡ spec.summary warns tally file_count) }
+{
+    if warns {
+        with_warnings(alloc, tally, file_count)
+    } else {
+        without_warnings(alloc, tally, file_count)
+    }
+}
+
+fn with_warnings(alloc: Global, tally: Tally, file_count: usize) -> Result<String, AllocError>
+    ensures { IfOk result (λ line. string_bytes line ≡ spec.with_warnings tally file_count) }
+{
+    let refusals = refusals(alloc, tally)?;
+    let warnings = tally.warnings;
+    let warning_noun = warning_noun(warnings);
+    let file_noun = file_noun(file_count);
+    format!(in alloc; "{refusals}, {warnings} {warning_noun}, {file_count} {file_noun}")
+}
+
+fn without_warnings(alloc: Global, tally: Tally, file_count: usize) -> Result<String, AllocError>
+    ensures { IfOk result (λ line. string_bytes line ≡ spec.without_warnings tally file_count) }
+{
+    let refusals = refusals(alloc, tally)?;
+    let file_noun = file_noun(file_count);
+    format!(in alloc; "{refusals}, {file_count} {file_noun}")
+}
+
+// How many descriptions were refused, as `8 descriptions, 6 refused`.
+fn refusals(alloc: Global, tally: Tally) -> Result<String, AllocError>
+    ensures { IfOk result (λ front. string_bytes front ≡ spec.refusals tally) }
 {
     let Tally {
         descriptions,
@@ -17,8 +51,7 @@ pub fn summary(alloc: Global, tally: Tally, file_count: usize) -> Result<String,
         ..
     } = tally;
     let noun = description_noun(descriptions);
-    let file_noun = file_noun(file_count);
-    format!(in alloc; "{descriptions} {noun}, {refused} refused, {file_count} {file_noun}")
+    format!(in alloc; "{descriptions} {noun}, {refused} refused")
 }
 
 fn description_noun(count: u64) -> &'static str
@@ -27,6 +60,15 @@ fn description_noun(count: u64) -> &'static str
     match count {
         1 => "description",
         _ => "descriptions",
+    }
+}
+
+fn warning_noun(count: u64) -> &'static str
+    ensures { result.now ≡ spec.warnings count }
+{
+    match count {
+        1 => "warning",
+        _ => "warnings",
     }
 }
 

@@ -4,14 +4,17 @@ ghost use Rattle.std.specs.Prelude.{◌≡◌, ◌||◌, nat_lt, if◌then◌els
 ghost use Rattle.timefd_lint.specs.Told as spec;
 
 use crate::line::TextEnd;
+use timefd_warnings::Level;
 
 /// What was found in the texts so far.
 #[derive(Clone, Copy)]
 pub struct Tally {
     /// How many texts were looked at; those that are passed over are not.
     pub descriptions: u64,
-    /// How many of them were refused.
+    /// How many of them were refused, or have a denied warning.
     pub refused: u64,
+    /// How many other warnings were told.
+    pub warnings: u64,
     /// A line was no UTF-8.
     pub not_text: bool,
     /// A file was not read to its end, or not written back.
@@ -26,6 +29,7 @@ impl Tally {
         Tally {
             descriptions: 0,
             refused: 0,
+            warnings: 0,
             not_text: false,
             failed: false,
         }
@@ -37,7 +41,8 @@ impl Tally {
     {
         Tally {
             descriptions: u64::from(is_description(end)),
-            refused: u64::from(matches!(end, TextEnd::Refused)),
+            refused: u64::from(is_refused(end)),
+            warnings: warnings_in(end),
             not_text: matches!(end, TextEnd::NotText),
             failed: matches!(end, TextEnd::Failed),
         }
@@ -50,6 +55,7 @@ impl Tally {
         Tally {
             descriptions: self.descriptions.saturating_add(other.descriptions),
             refused: self.refused.saturating_add(other.refused),
+            warnings: self.warnings.saturating_add(other.warnings),
             not_text: self.not_text || other.not_text,
             failed: self.failed || other.failed,
         }
@@ -77,7 +83,28 @@ fn is_description(end: TextEnd) -> bool
     ensures { result ≡ spec.is_description end }
 {
     match end {
-        TextEnd::Accepted | TextEnd::Refused | TextEnd::NotText => true,
+        TextEnd::Accepted(_) | TextEnd::Refused | TextEnd::NotText => true,
         TextEnd::PassedOver | TextEnd::Failed => false,
+    }
+}
+
+// Whether it was refused, or has a denied warning.
+fn is_refused(end: TextEnd) -> bool
+    ensures { result ≡ spec.is_refused end }
+{
+    match end {
+        TextEnd::Accepted(found) => found.count(Level::Denied) > 0,
+        TextEnd::Refused => true,
+        TextEnd::PassedOver | TextEnd::NotText | TextEnd::Failed => false,
+    }
+}
+
+// How many warnings of it were told, but those that are denied.
+fn warnings_in(end: TextEnd) -> u64
+    ensures { result ≡ spec.warnings_in end }
+{
+    match end {
+        TextEnd::Accepted(found) => found.count(Level::Warned),
+        TextEnd::PassedOver | TextEnd::Refused | TextEnd::NotText | TextEnd::Failed => 0,
     }
 }

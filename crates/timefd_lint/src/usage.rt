@@ -3,6 +3,7 @@
 use std::alloc::{AllocError, Global};
 use timefd_drawing::shown::safe;
 use timefd_lint_options::{Conflict, OptionError, Valued, nearest_option};
+use timefd_warnings::Warning;
 
 /// What `--version` writes.
 pub const VERSION: &str = "timefd_lint 0.1.0\n";
@@ -11,14 +12,19 @@ pub const VERSION: &str = "timefd_lint 0.1.0\n";
 pub const USAGE: &str = "usage: timefd_lint [OPTION].. [--] [FILE]..
 
 Reads format descriptions, one a line, from the files or from the standard input, and shows which
-are none, where, why, and what to write in their place. The file - is the standard input.
+are none, where, why, and what to write in their place. The file - is the standard input. In a file
+whose name ends in .rs, a source of Rust, they are the string literals in calls of time and chrono.
 
   --language 1|2|3|strftime    the language of all lines; version 3 if it isn't given
   --format human|json|short    drawn, an object of JSON on a line, or FILE:LINE:COLUMN: MESSAGE
   --color always|never|auto    whether the drawing is coloured; auto asks the terminal
   --comment MARK               passes over the lines that begin with the mark
   --whole                      takes a file as one text, each newline in it counted
+  --source                     takes a file as a source of Rust, whatever its name
   --explain                    shows each accepted text as its tree
+  --warn                       tells what is suspect in an accepted text
+  --deny CODE                  the same, and a text with this warning counts as refused
+  --allow CODE                 the same, but for this warning
   --to 2|3                     shows what has to change in a later version; writes no file
   --normal                     shows what would change in the normal form of version 3
   --write                      with --to or --normal: writes the named files back so
@@ -41,11 +47,13 @@ pub fn sentence(alloc: Global, error: OptionError<'_>) -> Result<String, AllocEr
             "there is no option `--fix`: `--to 3` shows a diff, `--to 3 --write` writes the files",
         ),
         OptionError::MissingValue(option) => {
-            let (name, values) = names(option);
+            let name = name(option);
+            let values = values(alloc, option)?;
             format!(in alloc; "`{name}` wants a value: {values}")
         }
         OptionError::NotAValue(option, word) => {
-            let (name, values) = names(option);
+            let name = name(option);
+            let values = values(alloc, option)?;
             let word = safe(alloc, word)?;
             format!(in alloc; "`{word}` is no value of `{name}`: {values}")
         }
@@ -70,15 +78,40 @@ fn unknown_sentence(alloc: Global, word: &str) -> Result<String, AllocError> {
     }
 }
 
-// An option, and the values that it takes.
-fn names(option: Valued) -> (&'static str, &'static str) {
+fn name(option: Valued) -> &'static str {
     match option {
-        Valued::Language => ("--language", "one of 1, 2, 3, strftime"),
-        Valued::Format => ("--format", "one of human, json, short"),
-        Valued::Color => ("--color", "one of always, never, auto"),
-        Valued::Comment => ("--comment", "a mark that is not empty"),
-        Valued::To => ("--to", "one of 2, 3"),
+        Valued::Language => "--language",
+        Valued::Format => "--format",
+        Valued::Color => "--color",
+        Valued::Comment => "--comment",
+        Valued::To => "--to",
+        Valued::Deny => "--deny",
+        Valued::Allow => "--allow",
     }
+}
+
+// The values that an option takes.
+fn values(alloc: Global, option: Valued) -> Result<String, AllocError> {
+    match option {
+        Valued::Language => String::from_str(alloc, "one of 1, 2, 3, strftime"),
+        Valued::Format => String::from_str(alloc, "one of human, json, short"),
+        Valued::Color => String::from_str(alloc, "one of always, never, auto"),
+        Valued::Comment => String::from_str(alloc, "a mark that is not empty"),
+        Valued::To => String::from_str(alloc, "one of 2, 3"),
+        Valued::Deny | Valued::Allow => warning_names(alloc),
+    }
+}
+
+// The names of all warnings.
+fn warning_names(alloc: Global) -> Result<String, AllocError> {
+    let mut names = String::from_str(alloc, "one of ")?;
+    let mut separator = "";
+    for warning in Warning::all() {
+        names.push_str(separator)?;
+        names.push_str(warning.name())?;
+        separator = ", ";
+    }
+    Ok(names)
 }
 
 fn conflict_sentence(conflict: Conflict) -> &'static str {
@@ -93,8 +126,13 @@ fn conflict_sentence(conflict: Conflict) -> &'static str {
         Conflict::NoConversion => {
             "no rewriting leads there: `--language 1` goes `--to 2` or `3`, `2` and `strftime` go `--to 3`; `--normal` lays out version 3"
         }
+        Conflict::RewritesWarned => {
+            "`--warn`, `--deny` and `--allow` look at files, and don't go with `--to` and `--normal`"
+        }
         Conflict::RewritesWhole =>
             "`--to` and `--normal` rewrite line by line, and don't go with `--whole`",
+        Conflict::RewritesSource =>
+            "`--to` and `--normal` rewrite lines, and don't go with `--source`",
         Conflict::RewritesNoFile => "`--to` and `--normal` want the name of a file",
         Conflict::RewritesInput =>
             "`--to` and `--normal` rewrite files, and `-` is the standard input",

@@ -1,5 +1,7 @@
 pub mod Values
 pub mod Words
 pub mod Settings
+pub mod Names
+pub mod Conflicts
 pub mod Asked
 pub mod Suggestions

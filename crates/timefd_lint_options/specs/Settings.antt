@@ -12,10 +12,14 @@ use Rattle.timefd_lint_options.specs.declared.error.OptionError.TheVariants.{Not
 use Rattle.timefd_lint_options.specs.declared.settings.Color.TheVariants as colors
 use Rattle.timefd_lint_options.specs.declared.settings.Settings.{Settings}
 use Rattle.timefd_lint_options.specs.declared.word.Flag.{Flag}
-use Rattle.timefd_lint_options.specs.declared.word.Flag.TheVariants.{Whole, Explain, Normal, Write, Partial, Quiet}
+use Rattle.timefd_lint_options.specs.declared.word.Flag.TheVariants.{Whole, Source, Explain, Normal, Write, Partial, Warn, Quiet}
 use Rattle.timefd_lint_options.specs.declared.word.Valued.{Valued}
-use Rattle.timefd_lint_options.specs.declared.word.Valued.TheVariants.{Language, Format, Color, Comment, To}
+use Rattle.timefd_lint_options.specs.declared.word.Valued.TheVariants.{Language, Format, Color, Comment, To, Deny, Allow}
 use Rattle.timefd_lint_options.specs.Values.{language_named, format_named, color_named, version_named}
+use Rattle.timefd_warnings.specs.declared.levels.Level.{Level}
+use Rattle.timefd_warnings.specs.declared.levels.Level.TheVariants.{Allowed, Warned, Denied}
+use Rattle.timefd_warnings.specs.Codes as warnings
+use Rattle.timefd_warnings.specs.Levels.{all_at, with_level}
 
 abbrev pub initial : Settings
 initial = record {
@@ -24,11 +28,14 @@ initial = record {
   color = colors.Auto;
   comment = None;
   is_whole = false;
+  is_source = false;
   explains = false;
   to = None;
   is_normal = false;
   writes = false;
   is_partial = false;
+  warns = false;
+  levels = all_at Warned;
   is_quiet = false;
 }
 
@@ -42,10 +49,12 @@ target s = target_by s.to s.is_normal
 
 abbrev pub with_flag : Settings → Flag → Settings
 with_flag s Whole = record s { is_whole = true }
+with_flag s Source = record s { is_source = true }
 with_flag s Explain = record s { explains = true }
 with_flag s Normal = record s { is_normal = true }
 with_flag s Write = record s { writes = true }
 with_flag s Partial = record s { is_partial = true }
+with_flag s Warn = record s { warns = true }
 with_flag s Quiet = record s { is_quiet = true }
 
 abbrev pub with_language : Settings → Text → Option Settings
@@ -64,12 +73,20 @@ with_comment s word = if is_empty word.now then None else Some (record s { comme
 abbrev pub with_version : Settings → Text → Option Settings
 with_version s word = option_map (λ v. record s { to = Some v }) (version_named word)
 
+-- Whoever sets what is made of one warning has the others told.
+abbrev pub with_warning : Settings → Text → Level → Option Settings
+with_warning s word level =
+    option_map (λ w. record s { warns = true; levels = with_level s.levels w level })
+    (warnings.named word)
+
 abbrev pub set : Settings → Valued → Bor Text → Option Settings
 set s Language word = with_language s word.now
 set s Format word = with_format s word.now
 set s Color word = with_color s word.now
 set s Comment word = with_comment s word
 set s To word = with_version s word.now
+set s Deny word = with_warning s word.now Denied
+set s Allow word = with_warning s word.now Allowed
 
 abbrev pub or_error : OptionError → Option Settings → Result Settings OptionError
 or_error e (Some s) = Ok s

@@ -2,8 +2,8 @@
 use Rattle.std.specs.Prelude.{Bool, true, false, codes, bytes_eq, nat_eq, if◌then◌else◌}
 use Rattle.std.specs.List.{starts_with}
 use Rattle.timefd_component.specs.Tree.{Text}
-use Rattle.timefd_lint_options.specs.declared.word.Flag.TheVariants.{Whole, Explain, Normal, Write, Partial, Quiet}
-use Rattle.timefd_lint_options.specs.declared.word.Valued.TheVariants.{Language, Format, Color, Comment, To}
+use Rattle.timefd_lint_options.specs.declared.word.Flag.TheVariants.{Whole, Source, Explain, Normal, Write, Partial, Warn, Quiet}
+use Rattle.timefd_lint_options.specs.declared.word.Valued.TheVariants.{Language, Format, Color, Comment, To, Deny, Allow}
 use Rattle.timefd_lint_options.specs.declared.word.Word.{Word}
 use Rattle.timefd_lint_options.specs.declared.word.Word.TheVariants.{Flag, Valued, Help, Version, Fix, End, Unknown, File}
 
@@ -14,10 +14,12 @@ other_word word = if starts_with nat_eq word (codes "-") then Unknown else File
 abbrev pub word_of : Text → Word
 word_of word =
     if bytes_eq word (codes "--whole") then Flag Whole
+    else if bytes_eq word (codes "--source") then Flag Source
     else if bytes_eq word (codes "--explain") then Flag Explain
     else if bytes_eq word (codes "--normal") then Flag Normal
     else if bytes_eq word (codes "--write") then Flag Write
     else if bytes_eq word (codes "--partial") then Flag Partial
+    else if bytes_eq word (codes "--warn") then Flag Warn
     else if bytes_eq word (codes "--quiet") then Flag Quiet
     else if bytes_eq word (codes "-q") then Flag Quiet
     else if bytes_eq word (codes "--language") then Valued Language
@@ -25,6 +27,8 @@ word_of word =
     else if bytes_eq word (codes "--color") then Valued Color
     else if bytes_eq word (codes "--comment") then Valued Comment
     else if bytes_eq word (codes "--to") then Valued To
+    else if bytes_eq word (codes "--deny") then Valued Deny
+    else if bytes_eq word (codes "--allow") then Valued Allow
     else if bytes_eq word (codes "--help") then Help
     else if bytes_eq word (codes "-h") then Help
     else if bytes_eq word (codes "--version") then Version

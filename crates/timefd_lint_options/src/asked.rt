@@ -3,11 +3,11 @@
 ghost use Rattle.std.specs.Prelude.{◌≡◌, length};
 ghost use Rattle.timefd_lint_options.specs.Asked as spec;
 
-use crate::error::{Conflict, OptionError};
-use crate::settings::{Settings, target, with_flag, with_value};
-use crate::word::{Valued, Word, is_input, is_option, word_of};
-use timefd_drawing::Format;
-use timefd_parse::{DescriptionVersion, Language};
+use crate::conflict::conflict;
+use crate::error::OptionError;
+use crate::names::{Names, names_from, names_of};
+use crate::settings::{Settings, with_flag, with_value};
+use crate::word::{Valued, Word, is_option, word_of};
 
 /// The options of a run, and the names of its files.
 #[derive(Clone, Copy)]
@@ -33,14 +33,6 @@ pub enum Asked<'a> {
 struct State<'a> {
     settings: Settings<'a>,
     pending: Option<Valued>,
-}
-
-// The words that name files.
-#[derive(Clone, Copy)]
-struct Names {
-    count: usize,
-    // Whether one of them is that of the standard input.
-    has_input: bool,
 }
 
 // What a word makes of that.
@@ -153,39 +145,6 @@ fn first_option<'a>(words: &'a [&'a str]) -> Option<&'a str>
     None
 }
 
-fn names_of(words: &[&str]) -> Names
-    ensures { result ≡ spec.names_of words.now }
-{
-    Names {
-        count: words.len(),
-        has_input: has_input(words),
-    }
-}
-
-// A name, and those behind it.
-fn names_from(name: &str, behind: &[&str]) -> Names
-    ensures { result ≡ spec.names_from name.now behind.now }
-{
-    Names {
-        count: behind.len().saturating_add(1),
-        has_input: is_input(name) || has_input(behind),
-    }
-}
-
-// Whether one of the names is that of the standard input.
-fn has_input(words: &[&str]) -> bool
-    ensures { result ≡ spec.has_input words.now }
-{
-    let mut rest = words;
-    'names: while let [name, behind @ ..] = rest {
-        if is_input(name) {
-            return true;
-        }
-        rest = behind;
-    }
-    false
-}
-
 // A run with these settings, unless they don't go together.
 fn run<'a>(settings: Settings<'a>, names: Names) -> Result<Asked<'a>, OptionError<'a>>
     ensures { result ≡ spec.run settings.entry names }
@@ -196,81 +155,5 @@ fn run<'a>(settings: Settings<'a>, names: Names) -> Result<Asked<'a>, OptionErro
             settings,
             file_count: names.count,
         })),
-    }
-}
-
-// What doesn't go together in the settings.
-fn conflict(settings: Settings<'_>, names: Names) -> Option<Conflict>
-    ensures { result ≡ spec.conflict settings.entry names }
-{
-    if settings.explains && !is_drawn(settings.format) {
-        return Some(Conflict::ExplainUndrawn);
-    }
-    if settings.is_partial && !settings.writes {
-        return Some(Conflict::PartialWithoutWrite);
-    }
-    match target(settings) {
-        Some(version) => rewriting_conflict(settings, version, names),
-        None if settings.writes => Some(Conflict::WriteWithoutVersion),
-        None => None,
-    }
-}
-
-// What is in the way of rewriting files in a version.
-fn rewriting_conflict(
-    settings: Settings<'_>,
-    version: DescriptionVersion,
-    names: Names,
-) -> Option<Conflict>
-    ensures { result ≡ spec.rewriting_conflict settings.entry version names }
-{
-    if settings.is_normal && !is_three(version) {
-        return Some(Conflict::NormalOfAnother);
-    }
-    if !settings.is_normal && !is_rewritten(settings.language, version) {
-        return Some(Conflict::NoConversion);
-    }
-    if settings.is_whole {
-        return Some(Conflict::RewritesWhole);
-    }
-    if names.count == 0 {
-        return Some(Conflict::RewritesNoFile);
-    }
-    if names.has_input {
-        return Some(Conflict::RewritesInput);
-    }
-    None
-}
-
-fn is_drawn(format: Format) -> bool
-    ensures { result ≡ spec.is_drawn format }
-{
-    match format {
-        Format::Human => true,
-        Format::Json | Format::Short => false,
-    }
-}
-
-fn is_three(version: DescriptionVersion) -> bool
-    ensures { result ≡ spec.is_three version }
-{
-    match version {
-        DescriptionVersion::One | DescriptionVersion::Two => false,
-        DescriptionVersion::Three => true,
-    }
-}
-
-// Whether descriptions of a language are rewritten in a version, with something to change.
-fn is_rewritten(language: Language, version: DescriptionVersion) -> bool
-    ensures { result ≡ spec.is_rewritten language version }
-{
-    match version {
-        DescriptionVersion::One => false,
-        DescriptionVersion::Two => matches!(language, Language::Version(DescriptionVersion::One)),
-        DescriptionVersion::Three => matches!(
-            language,
-            Language::Version(DescriptionVersion::One | DescriptionVersion::Two)
-                | Language::Strftime
-        ),
     }
 }

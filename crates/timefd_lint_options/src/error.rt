@@ -32,8 +32,12 @@ pub enum Conflict {
     NormalOfAnother,
     /// No rewriting leads from the language to the version.
     NoConversion,
+    /// Warnings are told of descriptions that stay as they are.
+    RewritesWarned,
     /// A file is rewritten line by line.
     RewritesWhole,
+    /// A source stays as it is.
+    RewritesSource,
     /// No file is named that could be rewritten.
     RewritesNoFile,
     /// The standard input is no file that could be rewritten.

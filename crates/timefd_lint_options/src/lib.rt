@@ -2,7 +2,9 @@
 #![tactic(auto)]
 
 mod asked;
+mod conflict;
 mod error;
+mod names;
 mod settings;
 mod suggestion;
 mod values;

@@ -8,6 +8,7 @@ use crate::values::{color_named, format_named, language_named, version_named};
 use crate::word::{Flag, Valued};
 use timefd_drawing::Format;
 use timefd_parse::{DescriptionVersion, Language};
+use timefd_warnings::{Level, Levels, Warning};
 
 /// Whether what is drawn is coloured.
 #[derive(Clone, Copy)]
@@ -31,6 +32,8 @@ pub struct Settings<'a> {
     pub comment: Option<&'a str>,
     /// Whether a file is one text.
     pub is_whole: bool,
+    /// Whether a file is a source of Rust, whatever its name.
+    pub is_source: bool,
     /// Whether what is accepted is shown as its tree.
     pub explains: bool,
     /// The version that descriptions are rewritten in.
@@ -41,6 +44,10 @@ pub struct Settings<'a> {
     pub writes: bool,
     /// Whether a file is also written back where some of its lines are refused.
     pub is_partial: bool,
+    /// Whether warnings are told.
+    pub warns: bool,
+    /// What is made of each warning, where they are.
+    pub levels: Levels,
     /// Whether the line is left out that tells how much was looked at.
     pub is_quiet: bool,
 }
@@ -56,11 +63,14 @@ impl Settings<'_> {
             color: Color::Auto,
             comment: None,
             is_whole: false,
+            is_source: false,
             explains: false,
             to: None,
             is_normal: false,
             writes: false,
             is_partial: false,
+            warns: false,
+            levels: Levels::all_at(Level::Warned),
             is_quiet: false,
         }
     }
@@ -87,6 +97,10 @@ pub fn with_flag<'a>(settings: Settings<'a>, flag: Flag) -> Settings<'a>
             is_whole: true,
             ..settings
         },
+        Flag::Source => Settings {
+            is_source: true,
+            ..settings
+        },
         Flag::Explain => Settings {
             explains: true,
             ..settings
@@ -101,6 +115,10 @@ pub fn with_flag<'a>(settings: Settings<'a>, flag: Flag) -> Settings<'a>
         },
         Flag::Partial => Settings {
             is_partial: true,
+            ..settings
+        },
+        Flag::Warn => Settings {
+            warns: true,
             ..settings
         },
         Flag::Quiet => Settings {
@@ -124,6 +142,8 @@ pub fn with_value<'a>(
         Valued::Color => with_color(settings, value),
         Valued::Comment => with_comment(settings, value),
         Valued::To => with_version(settings, value),
+        Valued::Deny => with_warning(settings, value, Level::Denied),
+        Valued::Allow => with_warning(settings, value, Level::Allowed),
     };
     match set {
         Some(settings) => Ok(settings),
@@ -180,6 +200,20 @@ fn with_version<'a>(settings: Settings<'a>, value: &str) -> Option<Settings<'a>>
     match version_named(value) {
         Some(version) => Some(Settings {
             to: Some(version),
+            ..settings
+        }),
+        None => None,
+    }
+}
+
+// Whoever sets what is made of one warning has the others told.
+fn with_warning<'a>(settings: Settings<'a>, value: &str, level: Level) -> Option<Settings<'a>>
+    ensures { result ≡ spec.with_warning settings.entry value.now level }
+{
+    match Warning::named(value) {
+        Some(warning) => Some(Settings {
+            warns: true,
+            levels: settings.levels.with(warning, level),
             ..settings
         }),
         None => None,

@@ -7,10 +7,12 @@ ghost use Rattle.timefd_lint_options.specs.Words as spec;
 #[derive(Clone, Copy)]
 pub enum Flag {
     Whole,
+    Source,
     Explain,
     Normal,
     Write,
     Partial,
+    Warn,
     Quiet,
 }
 
@@ -22,6 +24,8 @@ pub enum Valued {
     Color,
     Comment,
     To,
+    Deny,
+    Allow,
 }
 
 /// What a word is where an option may stand.
@@ -49,16 +53,20 @@ pub fn word_of(word: &str) -> Word
 {
     match word {
         "--whole" => Word::Flag(Flag::Whole),
+        "--source" => Word::Flag(Flag::Source),
         "--explain" => Word::Flag(Flag::Explain),
         "--normal" => Word::Flag(Flag::Normal),
         "--write" => Word::Flag(Flag::Write),
         "--partial" => Word::Flag(Flag::Partial),
+        "--warn" => Word::Flag(Flag::Warn),
         "--quiet" | "-q" => Word::Flag(Flag::Quiet),
         "--language" => Word::Valued(Valued::Language),
         "--format" => Word::Valued(Valued::Format),
         "--color" => Word::Valued(Valued::Color),
         "--comment" => Word::Valued(Valued::Comment),
         "--to" => Word::Valued(Valued::To),
+        "--deny" => Word::Valued(Valued::Deny),
+        "--allow" => Word::Valued(Valued::Allow),
         "--help" | "-h" => Word::Help,
         "--version" | "-V" => Word::Version,
         "--fix" => Word::Fix,

@@ -3,7 +3,8 @@ use Rattle.timefd_lint.proofs.lines.lint_lines.Goals as goal
 
 pub returns-in-None : goal.returns-in-None
 returns-in-None g c =
-    ends_here c.lines.is_first c.args.options.language c.args.options.comment c.args.options.explains
+    ends_here c.lines.is_first c.args.options.language c.args.options.comment c.args.options.telling
+    c.args.name c.lines.line
     (g.R.Read.remaining c.args.reader.now)
     (g.R.Read.remaining c.lines.reader) (g.R.Read.remaining c.lint_next.new.reader)
     (g.W.Write.contents c.args.writer.now)
@@ -12,7 +13,8 @@ returns-in-None g c =
 
 pub returns-then-tally : goal.returns-then-tally
 returns-then-tally g c =
-    fails_here c.lines.is_first c.args.options.language c.args.options.comment c.args.options.explains
+    fails_here c.lines.is_first c.args.options.language c.args.options.comment c.args.options.telling
+    c.args.name c.lines.line
     (g.R.Read.remaining c.args.reader.now)
     (g.R.Read.remaining c.lines.reader) (g.R.Read.remaining c.lint_next.new.reader)
     (g.W.Write.contents c.args.writer.now)
@@ -23,7 +25,8 @@ returns-then-tally g c =
 
 pub lines-preserved : goal.lines-preserved
 lines-preserved g c =
-    goes_on c.lines.is_first c.args.options.language c.args.options.comment c.args.options.explains
+    goes_on c.lines.is_first c.args.options.language c.args.options.comment c.args.options.telling
+    c.args.name c.lines.line
     (g.R.Read.remaining c.args.reader.now)
     (g.R.Read.remaining c.lines.reader) (g.R.Read.remaining c.lint_next.new.reader)
     (g.W.Write.contents c.args.writer.now)
@@ -34,7 +37,8 @@ lines-preserved g c =
 
 pub returns : goal.returns
 returns g c =
-    fails_last c.lines.is_first c.args.options.language c.args.options.comment c.args.options.explains
+    fails_last c.lines.is_first c.args.options.language c.args.options.comment c.args.options.telling
+    c.args.name c.lines.line
     (g.R.Read.remaining c.args.reader.now)
     (g.R.Read.remaining c.lines.reader) (g.R.Read.remaining c.lines.reader)
     (g.W.Write.contents c.args.writer.now)

@@ -1,0 +1,56 @@
+-- What is told of a text that is accepted.
+use Rattle.std.proofs.Common.{◌≡◌, true, List, [], ◌++◌, Option, Result, ap, refl, sym, subst, ◌∙◌}
+use Rattle.std.specs.Prelude.{IfOk, IsUtf8}
+use Rattle.std.specs.Io.KnownBytes.{Appends}
+use Rattle.std.proofs.KnownBytes.{Appends-nil, Appends-trans}
+use Rattle.std.proofs.lemmas.Bool.{true≢false}
+use Rattle.timefd_component.specs.Tree.{Text, Tree}
+use Rattle.timefd_drawing.specs.declared.position.Origin.{Origin}
+use Rattle.timefd_language.specs.Grammar.{nesting_limit}
+use Rattle.timefd_parse.specs.declared.language.Language.{Language}
+use Rattle.timefd_parse.specs.Language.{SpellsIn}
+use Rattle.timefd_warnings.specs.declared.levels.Levels.{Levels}
+use Rattle.timefd_lint_warnings.specs.Messages.{messages as warning_messages}
+use Rattle.timefd_lint.specs.declared.line.RunError.{RunError}
+use Rattle.timefd_lint.specs.declared.line.TextEnd.{TextEnd}
+use Rattle.timefd_lint.specs.declared.line.TextEnd.TheVariants.{Accepted}
+use Rattle.timefd_lint_sources.specs.declared.told.Telling.{Telling}
+use Rattle.timefd_lint_sources.specs.Judged.{found_by}
+use Rattle.timefd_lint.specs.Lines.{IsEndOf}
+use Rattle.timefd_lint.specs.Told.{Says, WritesTree}
+
+pub tree_written : (telling : Telling) (before behind : Option Text) (tree : Text)
+    → telling.explains ≡ true → Appends before behind tree → WritesTree telling before behind
+tree_written telling before behind tree is written =
+    (tree, λ differs. absurd (true≢false (sym is ∙ differs)), written)
+
+pub no_tree : (telling : Telling) (known : Option Text) → WritesTree telling known known
+no_tree telling known = ([], λ _. refl, Appends-nil known)
+
+-- Behind the tree stand the warnings.
+pub tree_and_warnings : (telling : Telling) (origin : Origin) (found : Levels)
+    (before between behind : Option Text) (told : Text) → WritesTree telling before between
+    → told ≡ warning_messages telling.style origin found → Appends between behind told
+    → Says telling origin (Accepted found) before behind
+tree_and_warnings telling origin found before between behind told tree are written = (
+  tree.0 ++ told,
+  (tree.0, ap (λ t. tree.0 ++ t) are, tree.1),
+  Appends-trans before between behind tree.0 told tree.2 written,
+)
+
+-- A text that spells a list is accepted with the warnings of that list.
+pub accepted_is : (language : Language) (telling : Telling) (text : Text) (list : List Tree)
+    (found : Levels) → IsUtf8 text → SpellsIn language nesting_limit text list
+    → found ≡ found_by telling.levels language list
+    → IsEndOf language telling text (Accepted found)
+accepted_is language telling text list found utf8 spelled is = (utf8, (list, spelled, is))
+
+-- What comes of a text that spells a list comes of its bytes.
+pub end_of_bytes : (language : Language) (telling : Telling) (bytes text : Text)
+    (end : Result TextEnd RunError) → text ≡ bytes
+    → ((list : List Tree) × SpellsIn language nesting_limit text list)
+    → ((list : List Tree) → SpellsIn language nesting_limit text list
+    → IfOk end (IsEndOf language telling text))
+    → IfOk end (IsEndOf language telling bytes)
+end_of_bytes language telling bytes text end same spelled ended =
+    subst (λ t. IfOk end (IsEndOf language telling t)) same (ended spelled.0 spelled.1)

@@ -1,0 +1,15 @@
+use Rattle.std.proofs.Common.{◌∙◌}
+use Rattle.timefd_lint.proofs.AcceptedLemmas.{accepted_is, tree_and_warnings}
+use Rattle.timefd_lint.proofs.line.accepted.Goals as goal
+
+pub returns-clause-end : goal.returns-clause-end
+returns-clause-end g c = λ list spelled.
+    accepted_is c.args.options.language c.args.options.telling c.args.text.now list
+    c.in_ok-found.found c.utf8.text spelled (c.in_ok-found.ensures list spelled)
+
+pub returns-clause-said : goal.returns-clause-said
+returns-clause-said g c =
+    tree_and_warnings c.args.options.telling c.args.origin c.in_ok-found.found
+    (g.W.Write.contents c.args.writer.now) (g.W.Write.contents c.write_tree.new.writer)
+    (g.W.Write.contents c.write.new.writer) c.deref.result.now c.in_ok-write_tree.ensures
+    (c.deref.ensures.value ∙ c.in_ok-told.ensures) c.in_ok-write.ensures

@@ -1,0 +1,123 @@
+-- What a run says of a source of Rust.
+use Rattle.std.specs.Prelude.{◌≡◌, ◌⊎◌, Bool, true, false, ◌||◌, List, [], ◌∷◌, codes, nat_eq, Option, All, IfSome, IsFalse, IsUtf8}
+use Rattle.std.specs.List.{ends_with}
+use Rattle.std.specs.Io.KnownBytes.{Appends}
+use denote.Ref.{Bor}
+use Rattle.timefd_component.specs.Tree.{Text}
+use Rattle.timefd_drawing.specs.declared.draw.Style.{Style}
+use Rattle.timefd_drawing.specs.declared.position.Origin.{Origin}
+use Rattle.timefd_drawing.specs.Drawing.{note}
+use Rattle.timefd_parse.specs.declared.language.Language.{Language}
+use Rattle.timefd_sources.specs.declared.description.Description.{Description}
+use Rattle.timefd_sources.specs.Found.{StandsIn}
+use Rattle.timefd_lint_sources.specs.declared.source.Report.{Report}
+use Rattle.timefd_lint_sources.specs.declared.told.End.{End}
+use Rattle.timefd_lint_sources.specs.declared.told.End.TheVariants as sources
+use Rattle.timefd_lint_sources.specs.declared.told.Source.{Source}
+use Rattle.timefd_lint_sources.specs.declared.told.Telling.{Telling}
+use Rattle.timefd_lint_sources.specs.Judged.{text_of}
+use Rattle.timefd_lint_sources.specs.Told.{IsSourceTold, origin_of}
+use Rattle.timefd_lint_sources.specs.Told as literal
+use Rattle.timefd_lint.specs.declared.line.TextEnd.{TextEnd}
+use Rattle.timefd_lint.specs.declared.line.TextEnd.TheVariants.{PassedOver, Accepted, Refused, NotText, Failed}
+use Rattle.timefd_lint.specs.declared.options.Options.{Options}
+use Rattle.timefd_lint.specs.declared.tally.Tally.{Tally}
+use Rattle.timefd_lint.specs.Told.{IsReadUp, IsRun, IsTold, Says, Told, both, messages, place, tally_of, tally_of_one}
+
+-- whether the file of a name is read as a source
+abbrev pub is_source : Options → Text → Bool
+is_source options name = options.is_source || ends_with nat_eq name (codes ".rs")
+
+-- whether one of these files is, or the input where there is none
+abbrev pub any_source : Options → List (Bor Text) → Bool
+any_source options [] = options.is_source
+any_source options (name ∷ names) = is_source options name.now || any_source options names
+
+-- what came of a description of a source, as of one in a line
+abbrev pub text_end : End → TextEnd
+text_end sources.PassedOver = PassedOver
+text_end (sources.Accepted found) = Accepted found
+text_end sources.Refused = Refused
+text_end sources.NotText = NotText
+
+-- what is found in these besides what was found before
+abbrev pub tally_from : Tally → List End → Tally
+tally_from found [] = found
+tally_from found (e ∷ ends) = tally_from (both found (tally_of_one (text_end e))) ends
+
+abbrev pub tally_of_ends : List End → Tally
+tally_of_ends ends = tally_from (tally_of []) ends
+
+-- What is told of the descriptions of a source, which are literals of it, is written, and nothing else.
+abbrev pub IsReported : Telling → Text → Text → Option Text → Option Text → Tally → Type 0
+IsReported telling name bytes before behind tally =
+    (s : Source) × (s.file.now ≡ name) × (s.text.now ≡ bytes)
+    × ((r : Report) × IsSourceTold telling s r
+    × Appends before behind r.message.items × (tally ≡ tally_of_ends r.ends.items))
+
+-- the note in the line of an origin that a source is no UTF-8
+abbrev pub no_text_note : Style → Origin → Text
+no_text_note style origin = note style origin (codes "not-text") (codes "the bytes are no UTF-8")
+
+-- It is written, and nothing else.
+abbrev pub IsNotText : Telling → Text → Option Text → Option Text → Tally → Type 0
+IsNotText telling name before behind tally = (file : Bor Text) × (file.now ≡ name)
+    × Appends before behind (no_text_note telling.style (place file 1)) × (tally ≡ tally_of_one NotText)
+
+abbrev pub IsSaid : Telling → Text → Text → Option Text → Option Text → Tally → Type 0
+IsSaid telling name bytes before behind tally =
+    (IsUtf8 bytes × IsReported telling name bytes before behind tally)
+    ⊎ ((¬ IsUtf8 bytes) × IsNotText telling name before behind tally)
+
+-- A message is written of a source that can't be read.
+abbrev pub IsUnread : Telling → Text → Option Text → Option Text → Tally → Type 0
+IsUnread telling name before behind tally = (file : Bor Text) × (file.now ≡ name)
+    × Says telling (place file 1) Failed before behind × (tally ≡ tally_of_one Failed)
+
+-- All bytes of a reader are the source, unless they can't be read.
+abbrev pub IsRunOfSource : Telling → Text → Option Text → Option Text → Option Text → Option Text
+    → Tally → Type 0
+IsRunOfSource telling name bytes rest before behind tally =
+    ((source : Text) × IfSome bytes (λ all. source ≡ all) × IsReadUp bytes rest
+    × IsSaid telling name source before behind tally)
+    ⊎ IsUnread telling name before behind tally
+
+-- What is told is told of a literal of a source, in the line where that begins.
+pub record IsOfLiteral (telling : Telling) (t : Told) : Type 0 where
+  pub source : Source
+  pub description : Description
+  pub came : End
+  pub stands : StandsIn source.text.now description
+  pub told : literal.IsTold telling source description came t.message
+  pub line : t.line ≡ text_of description
+  pub origin : t.origin ≡ origin_of source description
+  pub unmarked : IsFalse t.is_marked
+  pub end : t.end ≡ text_end came
+
+-- It is told of a source that is no UTF-8.
+pub record IsOfNoText (telling : Telling) (t : Told) : Type 0 where
+  pub no_text : ¬ IsUtf8 t.line
+  pub unmarked : IsFalse t.is_marked
+  pub end : t.end ≡ NotText
+  pub message : t.message ≡ no_text_note telling.style t.origin
+
+-- What is told is told of a text, of a literal of a source, or of a source that is no UTF-8.
+abbrev pub IsToldOfAny : Bool → Language → Option (Bor Text) → Telling → Told → Type 0
+IsToldOfAny is_whole language comment telling t =
+    IsTold is_whole language comment telling t ⊎ (IsOfLiteral telling t ⊎ IsOfNoText telling t)
+
+-- The same as `IsRun` of a run that also reads sources.
+pub record IsRunOfAny (is_whole : Bool) (language : Language) (comment : Option (Bor Text))
+    (telling : Telling) (before behind : Option Text) (tally : Tally) : Type 0 where
+  pub told : List Told
+  pub each : All (IsToldOfAny is_whole language comment telling) told
+  pub found : tally ≡ tally_of told
+  pub written : Appends before behind (messages told)
+
+-- What a run has come to that reads sources, or none.
+abbrev pub IsRunWith : Bool → Bool → Language → Option (Bor Text) → Telling → Option Text → Option Text
+    → Tally → Type 0
+IsRunWith true is_whole language comment telling before behind tally =
+    IsRunOfAny is_whole language comment telling before behind tally
+IsRunWith false is_whole language comment telling before behind tally =
+    IsRun is_whole language comment telling before behind tally

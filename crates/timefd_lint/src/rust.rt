@@ -1,0 +1,129 @@
+//! A source of Rust.
+
+ghost use Rattle.std.specs.Prelude.{◌≡◌, IfOk};
+ghost use Rattle.timefd_lint.specs.Sources.{IsNotText, IsReported, IsRunOfSource, IsSaid};
+ghost use Rattle.timefd_lint.specs.Sources as spec;
+
+use crate::line::{RunError, TextEnd, write};
+use crate::lines::read_error;
+use crate::options::Options;
+use crate::tally::Tally;
+use std::alloc::Global;
+use std::io::{Read, Write};
+use std::str;
+use timefd_drawing::{Origin, note};
+use timefd_lint_sources::{End, Source};
+
+/// Whether the file of a name is read as a source of Rust.
+pub fn is_source(options: Options<'_>, name: &str) -> bool
+    ensures { result ≡ spec.is_source options.entry name.now }
+{
+    options.is_source || name.as_bytes().ends_with(b".rs")
+}
+
+/// Looks at all bytes of a reader as a source of Rust, and writes what is wrong in it.
+#[tactic(auto, using(crate::proofs::SourcesLemmas::source_read, crate::proofs::SourcesLemmas::source_unread))]
+pub fn lint_source<R: Read, W: Write>(
+    alloc: Global,
+    options: Options<'_>,
+    name: &str,
+    reader: &mut R,
+    writer: &mut W,
+) -> Result<Tally, RunError>
+    ensures { IfOk result (IsRunOfSource options.entry.telling name.now
+        (R.remaining reader.old) (R.remaining reader.new)
+        (W.contents writer.old) (W.contents writer.new)) }
+{
+    let mut bytes = Vec::new(alloc);
+    match reader.read_to_end(&mut bytes) {
+        Ok(_) => lint_bytes(alloc, options, name, &bytes, writer),
+        Err(error) => {
+            let end = read_error(alloc, options, name, error, writer)?;
+            Ok(Tally::of(end))
+        }
+    }
+}
+
+// Looks at a source, and writes what is wrong in it.
+#[tactic(auto, using(crate::proofs::SourcesLemmas::said_of_text, crate::proofs::SourcesLemmas::said_of_no_text))]
+fn lint_bytes<W: Write>(
+    alloc: Global,
+    options: Options<'_>,
+    name: &str,
+    bytes: &[u8],
+    writer: &mut W,
+) -> Result<Tally, RunError>
+    ensures { IfOk result (IsSaid options.entry.telling name.now bytes.now
+        (W.contents writer.old) (W.contents writer.new)) }
+{
+    match str::from_utf8(bytes) {
+        Ok(text) => lint_text(alloc, options, Source { file: name, text }, writer),
+        Err(_) => not_text(alloc, options, name, writer),
+    }
+}
+
+// Looks at a source that is UTF-8.
+#[tactic(auto, using(crate::proofs::SourcesLemmas::reported))]
+fn lint_text<W: Write>(
+    alloc: Global,
+    options: Options<'_>,
+    source: Source<'_>,
+    writer: &mut W,
+) -> Result<Tally, RunError>
+    ensures { IfOk result (IsReported options.entry.telling source.entry.file.now
+        source.entry.text.now (W.contents writer.old) (W.contents writer.new)) }
+{
+    let report = timefd_lint_sources::lint_source(alloc, options.telling, source)?;
+    write(writer, &report.message)?;
+    Ok(tally_of(&report.ends))
+}
+
+// Notes that a source is no UTF-8.
+#[tactic(auto, using(crate::proofs::SourcesLemmas::noted_no_text))]
+fn not_text<W: Write>(
+    alloc: Global,
+    options: Options<'_>,
+    name: &str,
+    writer: &mut W,
+) -> Result<Tally, RunError>
+    ensures { IfOk result (IsNotText options.entry.telling name.now
+        (W.contents writer.old) (W.contents writer.new)) }
+{
+    let origin = Origin {
+        file: name,
+        line: 1,
+    };
+    let message = note(
+        alloc,
+        options.telling.style,
+        origin,
+        "not-text",
+        "the bytes are no UTF-8",
+    )?;
+    write(writer, &message)?;
+    Ok(Tally::of(TextEnd::NotText))
+}
+
+// What was found in the descriptions of a source.
+#[tactic(auto, using(crate::proofs::SourcesLemmas::none_found, crate::proofs::SourcesLemmas::one_found, crate::proofs::SourcesLemmas::all_found))]
+fn tally_of(ends: &[End]) -> Tally
+    ensures { result ≡ spec.tally_of_ends ends.now }
+{
+    let mut tally = Tally::new();
+    for end in ends {
+        tally = tally.and(Tally::of(text_end(*end)));
+    }
+    tally
+}
+
+// What came of a description of a source, as of one in a line.
+fn text_end(end: End) -> TextEnd
+    ensures { result ≡ spec.text_end end }
+{
+    match end {
+        End::PassedOver => TextEnd::PassedOver,
+        End::Accepted(found) => TextEnd::Accepted(found),
+        End::Refused => TextEnd::Refused,
+        End::NotText => TextEnd::NotText,
+    }
+}

@@ -1,0 +1,59 @@
+-- What doesn't go together in settings, and with the names of files.
+use Rattle.std.specs.Prelude.{Bool, true, false, ◌&&◌, ◌==◌, not, Option, Some, None, if◌then◌else◌}
+use Rattle.timefd_drawing.specs.declared.draw.Format.{Format}
+use Rattle.timefd_drawing.specs.declared.draw.Format.TheVariants.{Human, Json, Short}
+use Rattle.timefd_language.specs.declared.description_version.DescriptionVersion.{DescriptionVersion}
+use Rattle.timefd_language.specs.declared.description_version.DescriptionVersion.TheVariants.{One, Two, Three}
+use Rattle.timefd_parse.specs.declared.language.Language.{Language}
+use Rattle.timefd_parse.specs.declared.language.Language.TheVariants as languages
+use Rattle.timefd_lint_options.specs.declared.error.Conflict.{Conflict}
+use Rattle.timefd_lint_options.specs.declared.error.Conflict.TheVariants.{ExplainUndrawn, WriteWithoutVersion, PartialWithoutWrite, NormalOfAnother, NoConversion, RewritesWarned, RewritesWhole, RewritesSource, RewritesNoFile, RewritesInput}
+use Rattle.timefd_lint_options.specs.declared.names.Names.{Names}
+use Rattle.timefd_lint_options.specs.declared.settings.Settings.{Settings}
+use Rattle.timefd_lint_options.specs.Settings.{target}
+
+abbrev pub is_drawn : Format → Bool
+is_drawn Human = true
+is_drawn Json = false
+is_drawn Short = false
+
+-- from version 1 to 2, and from each other language to 3
+abbrev pub is_rewritten : Language → DescriptionVersion → Bool
+is_rewritten (languages.Version One) One = false
+is_rewritten (languages.Version One) Two = true
+is_rewritten (languages.Version One) Three = true
+is_rewritten (languages.Version Two) One = false
+is_rewritten (languages.Version Two) Two = false
+is_rewritten (languages.Version Two) Three = true
+is_rewritten (languages.Version Three) One = false
+is_rewritten (languages.Version Three) Two = false
+is_rewritten (languages.Version Three) Three = false
+is_rewritten languages.Strftime One = false
+is_rewritten languages.Strftime Two = false
+is_rewritten languages.Strftime Three = true
+
+abbrev pub is_three : DescriptionVersion → Bool
+is_three One = false
+is_three Two = false
+is_three Three = true
+
+abbrev pub rewriting_conflict : Settings → DescriptionVersion → Names → Option Conflict
+rewriting_conflict s version names =
+    if s.is_normal && not (is_three version) then Some NormalOfAnother
+    else if not s.is_normal && not (is_rewritten s.language version) then Some NoConversion
+    else if s.warns then Some RewritesWarned
+    else if s.is_whole then Some RewritesWhole
+    else if s.is_source then Some RewritesSource
+    else if names.count == 0 then Some RewritesNoFile
+    else if names.has_input then Some RewritesInput
+    else None
+
+abbrev pub version_conflict : Settings → Names → Option DescriptionVersion → Option Conflict
+version_conflict s names (Some version) = rewriting_conflict s version names
+version_conflict s names None = if s.writes then Some WriteWithoutVersion else None
+
+abbrev pub conflict : Settings → Names → Option Conflict
+conflict s names =
+    if s.explains && not (is_drawn s.format) then Some ExplainUndrawn
+    else if s.is_partial && not s.writes then Some PartialWithoutWrite
+    else version_conflict s names (target s)

@@ -1,0 +1,20 @@
+-- The words that name files.
+use Rattle.std.specs.Prelude.{Bool, true, false, ◌||◌, ◌+◌, List, [], ◌∷◌, length, if◌then◌else◌}
+use denote.Ref.{Bor}
+use Rattle.timefd_component.specs.Tree.{Text}
+use Rattle.timefd_lint_options.specs.declared.names.Names.{Names}
+use Rattle.timefd_lint_options.specs.Words.{is_input}
+
+-- whether one of the names is that of the standard input
+abbrev pub has_input : List (Bor Text) → Bool
+has_input [] = false
+has_input (name ∷ behind) = if is_input name.now then true else has_input behind
+
+abbrev pub names_of : List (Bor Text) → Names
+names_of words = record { count = length words; has_input = has_input words }
+
+abbrev pub names_from : Text → List (Bor Text) → Names
+names_from name behind = record {
+  count = length behind + 1;
+  has_input = is_input name || has_input behind;
+}

@@ -1,0 +1,92 @@
+//! What doesn't go together.
+
+ghost use Rattle.std.specs.Prelude.{◌≡◌};
+ghost use Rattle.timefd_lint_options.specs.Conflicts as spec;
+
+use crate::error::Conflict;
+use crate::names::Names;
+use crate::settings::{Settings, target};
+use timefd_drawing::Format;
+use timefd_parse::{DescriptionVersion, Language};
+
+/// What doesn't go together in the settings of a run over these files.
+pub fn conflict(settings: Settings<'_>, names: Names) -> Option<Conflict>
+    ensures { result ≡ spec.conflict settings.entry names }
+{
+    if settings.explains && !is_drawn(settings.format) {
+        return Some(Conflict::ExplainUndrawn);
+    }
+    if settings.is_partial && !settings.writes {
+        return Some(Conflict::PartialWithoutWrite);
+    }
+    match target(settings) {
+        Some(version) => rewriting_conflict(settings, version, names),
+        None if settings.writes => Some(Conflict::WriteWithoutVersion),
+        None => None,
+    }
+}
+
+// What is in the way of rewriting files in a version.
+fn rewriting_conflict(
+    settings: Settings<'_>,
+    version: DescriptionVersion,
+    names: Names,
+) -> Option<Conflict>
+    ensures { result ≡ spec.rewriting_conflict settings.entry version names }
+{
+    if settings.is_normal && !is_three(version) {
+        return Some(Conflict::NormalOfAnother);
+    }
+    if !settings.is_normal && !is_rewritten(settings.language, version) {
+        return Some(Conflict::NoConversion);
+    }
+    if settings.warns {
+        return Some(Conflict::RewritesWarned);
+    }
+    if settings.is_whole {
+        return Some(Conflict::RewritesWhole);
+    }
+    if settings.is_source {
+        return Some(Conflict::RewritesSource);
+    }
+    if names.count == 0 {
+        return Some(Conflict::RewritesNoFile);
+    }
+    if names.has_input {
+        return Some(Conflict::RewritesInput);
+    }
+    None
+}
+
+fn is_drawn(format: Format) -> bool
+    ensures { result ≡ spec.is_drawn format }
+{
+    match format {
+        Format::Human => true,
+        Format::Json | Format::Short => false,
+    }
+}
+
+fn is_three(version: DescriptionVersion) -> bool
+    ensures { result ≡ spec.is_three version }
+{
+    match version {
+        DescriptionVersion::One | DescriptionVersion::Two => false,
+        DescriptionVersion::Three => true,
+    }
+}
+
+// Whether descriptions of a language are rewritten in a version, with something to change.
+fn is_rewritten(language: Language, version: DescriptionVersion) -> bool
+    ensures { result ≡ spec.is_rewritten language version }
+{
+    match version {
+        DescriptionVersion::One => false,
+        DescriptionVersion::Two => matches!(language, Language::Version(DescriptionVersion::One)),
+        DescriptionVersion::Three => matches!(
+            language,
+            Language::Version(DescriptionVersion::One | DescriptionVersion::Two)
+                | Language::Strftime
+        ),
+    }
+}

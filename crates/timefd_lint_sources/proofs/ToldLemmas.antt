@@ -1,0 +1,99 @@
+-- What is told of one description.
+use Rattle.std.proofs.Common.{ℕ, ◌≡◌, true, false, List, [], ◌++◌, refl, sym, subst, ap, ◌∙◌}
+use Rattle.std.specs.Prelude.{IsUtf8}
+use Rattle.timefd_component.specs.Tree.{Text, Tree}
+use Rattle.timefd_fault.specs.Faults.{fault_of}
+use Rattle.timefd_language.specs.Grammar.{nesting_limit}
+use Rattle.timefd_parse.specs.Language.{SpellsIn, FaultIn}
+use Rattle.timefd_diagnosis.specs.declared.diagnostic.Diagnostic.{Diagnostic}
+use Rattle.timefd_diagnosis.specs.Diagnoses.{IsDiagnosis}
+use Rattle.timefd_drawing.specs.Positions.{column, line_number}
+use Rattle.timefd_sources.specs.declared.description.Description.{Description}
+use Rattle.timefd_warnings.specs.declared.levels.Level.TheVariants.{Allowed}
+use Rattle.timefd_warnings.specs.declared.levels.Levels.{Levels}
+use Rattle.timefd_warnings.specs.Levels.{all_at}
+use Rattle.timefd_lint_warnings.specs.Messages.{messages_at}
+use Rattle.timefd_lint_sources.specs.declared.told.End.{End}
+use Rattle.timefd_lint_sources.specs.declared.told.End.TheVariants.{PassedOver, Accepted, Refused, NotText}
+use Rattle.timefd_lint_sources.specs.declared.told.Source.{Source}
+use Rattle.timefd_lint_sources.specs.declared.told.Telling.{Telling}
+use Rattle.timefd_lint_sources.specs.Judged.{found_by, is_passed_over, language_in, text_of}
+use Rattle.timefd_lint_sources.specs.Told.{IsMessageOn, IsTold, IsTree, drawing_of, note_of, origin_of}
+
+pub passed_over : (telling : Telling) (s : Source) (d : Description)
+    → is_passed_over d.dialect (text_of d) ≡ true → IsTold telling s d PassedOver []
+passed_over telling s d is = record { end = is; message = refl }
+
+pub no_text : (telling : Telling) (s : Source) (d : Description) (end : End) (message : Text)
+    → is_passed_over d.dialect (text_of d) ≡ false → ¬ IsUtf8 (text_of d) → end ≡ NotText
+    → message ≡ note_of telling.style s d → IsTold telling s d end message
+no_text telling s d end message judges not is told =
+    subst (λ e. IsTold telling s d e message) (sym is)
+    (record { end = (judges, not); message = told })
+
+-- The text is that of the description.
+pub with_fault : (telling : Telling) (s : Source) (d : Description) (text : Text) (g : Diagnostic)
+    (end : End) (message : Text) → is_passed_over d.dialect text ≡ false → IsUtf8 text
+    → text ≡ text_of d → FaultIn (language_in d) nesting_limit text (fault_of g.fault)
+    → IsDiagnosis (language_in d) text g → end ≡ Refused
+    → message ≡ drawing_of telling.style s d g → IsTold telling s d end message
+with_fault telling s d text g end message judges utf8 same faulty diagnosed is told =
+    subst (λ e. IsTold telling s d e message) (sym is)
+    (record {
+      end = (
+        subst (λ t. is_passed_over d.dialect t ≡ false) same judges,
+        (
+          subst IsUtf8 same utf8,
+          (
+            fault_of g.fault,
+            subst (λ t. FaultIn (language_in d) nesting_limit t (fault_of g.fault)) same faulty,
+          ),
+        ),
+      );
+      message = (
+        g,
+        record {
+          fault = subst (λ t. FaultIn (language_in d) nesting_limit t (fault_of g.fault)) same faulty;
+          diagnosis = subst (λ t. IsDiagnosis (language_in d) t g) same diagnosed;
+        },
+        told,
+      );
+    })
+
+pub with_list : (telling : Telling) (s : Source) (d : Description) (text : Text) (list : List Tree)
+    (end : End) (message : Text) → is_passed_over d.dialect text ≡ false → IsUtf8 text
+    → text ≡ text_of d → SpellsIn (language_in d) nesting_limit text list
+    → end ≡ Accepted (found_by telling.levels (language_in d) list)
+    → IsMessageOn telling s d end message → IsTold telling s d end message
+with_list telling s d text list end message judges utf8 same spelled is told =
+    subst (λ e. IsTold telling s d e message) (sym is)
+    (record {
+      end = (
+        subst (λ t. is_passed_over d.dialect t ≡ false) same judges,
+        (
+          subst IsUtf8 same utf8,
+          (list, subst (λ t. SpellsIn (language_in d) nesting_limit t list) same spelled, refl),
+        ),
+      );
+      message = subst (λ e. IsMessageOn telling s d e message) is told;
+    })
+
+-- The warnings stand behind the tree, at the literal.
+pub tree_and_warnings : (telling : Telling) (s : Source) (d : Description) (found : Levels)
+    (tree told message : Text) (line col : ℕ) → IsTree telling.explains tree
+    → line ≡ line_number 1 s.text.now d.piece.start → col ≡ column s.text.now d.piece.start
+    → told ≡ messages_at telling.style (record { file = s.file; line = line }) col found
+    → message ≡ tree ++ told → IsMessageOn telling s d (Accepted found) message
+tree_and_warnings telling s d found tree told message line col asked at_line at_column are is = (
+  tree,
+  asked,
+  is ∙ ap (λ t. tree ++ t)
+      (are
+      ∙ ap (λ l. messages_at telling.style (record { file = s.file; line = l }) col found) at_line
+      ∙ ap (λ k. messages_at telling.style (origin_of s d) k found) at_column),
+)
+
+-- Where neither trees nor warnings are asked for, nothing is told.
+pub nothing_told : (telling : Telling) (s : Source) (d : Description) → telling.explains ≡ false
+    → IsMessageOn telling s d (Accepted (all_at Allowed)) []
+nothing_told telling s d quiet = ([], (λ _. refl), refl)

@@ -1,0 +1,9 @@
+use Rattle.std.proofs.Common.{drop}
+use Rattle.timefd_lint_sources.proofs.ReportLemmas.{IsToldTo}
+use Rattle.timefd_lint_sources.proofs.source.tell_all.Given as goal
+
+-- What is left decides.
+abbrev pub invariant-loop-description : goal.invariant-loop-description
+invariant-loop-description l =
+    IsToldTo l.telling l.source l.descriptions (drop l.description-index l.descriptions)
+    l.ends.items l.message.items

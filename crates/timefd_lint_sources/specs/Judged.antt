@@ -1,0 +1,67 @@
+-- What a description of a source is.
+use Rattle.std.specs.Prelude.{◌≡◌, Bool, false, List, Option, None, Some, IsUtf8, IsTrue, IsFalse}
+use Rattle.timefd_component.specs.Tree.{Text, Tree}
+use Rattle.timefd_fault.specs.Faults.{Fault}
+use Rattle.timefd_language.specs.Grammar.{nesting_limit}
+use Rattle.timefd_language.specs.declared.description_version.DescriptionVersion.TheVariants as versions
+use Rattle.timefd_parse.specs.declared.language.Language.{Language}
+use Rattle.timefd_parse.specs.declared.language.Language.TheVariants as languages
+use Rattle.timefd_parse.specs.Language.{SpellsIn, FaultIn}
+use Rattle.timefd_sources.specs.declared.description.Description.{Description}
+use Rattle.timefd_sources.specs.declared.dialect.Dialect.{Dialect}
+use Rattle.timefd_sources.specs.declared.dialect.Dialect.TheVariants.{One, Two, Three, Strftime, Chrono}
+use Rattle.timefd_sources.specs.Chrono.{is_of_chrono}
+use Rattle.timefd_warnings.specs.declared.levels.Level.TheVariants.{Allowed}
+use Rattle.timefd_warnings.specs.declared.levels.Levels.{Levels}
+use Rattle.timefd_warnings.specs.Levels.{all_at}
+use Rattle.timefd_lint_warnings.specs.Found.{found_in}
+use Rattle.timefd_lint_sources.specs.declared.told.End.{End}
+use Rattle.timefd_lint_sources.specs.declared.told.End.TheVariants.{PassedOver, Accepted, Refused, NotText}
+
+abbrev pub language_of : Dialect → Language
+language_of One = languages.Version versions.One
+language_of Two = languages.Version versions.Two
+language_of Three = languages.Version versions.Three
+language_of Strftime = languages.Strftime
+language_of Chrono = languages.Strftime
+
+-- whether a text has directives that chrono alone knows
+abbrev pub is_passed_over : Dialect → Text → Bool
+is_passed_over One text = false
+is_passed_over Two text = false
+is_passed_over Three text = false
+is_passed_over Strftime text = false
+is_passed_over Chrono text = is_of_chrono text
+
+-- what the literal of a description stands for
+abbrev pub text_of : Description → Text
+text_of d = d.unescaped.text.items
+
+abbrev pub language_in : Description → Language
+language_in d = language_of d.dialect
+
+-- the levels of the warnings that a text which spells the list has; none is told where none are asked for
+abbrev pub found_by : Option Levels → Language → List Tree → Levels
+found_by None language list = all_at Allowed
+found_by (Some levels) language list = found_in language levels list
+
+-- Accepted where it spells a list, with the warnings of that, refused where it has a fault, and else
+-- no UTF-8.
+abbrev pub IsJudged : Option Levels → Language → Text → End → Type 0
+IsJudged levels language text PassedOver = ⊥
+IsJudged levels language text (Accepted found) = IsUtf8 text
+    × ((list : List Tree) × SpellsIn language nesting_limit text list
+    × (found ≡ found_by levels language list))
+IsJudged levels language text Refused = IsUtf8 text
+    × ((f : Fault) × FaultIn language nesting_limit text f)
+IsJudged levels language text NotText = ¬ IsUtf8 text
+
+-- The same of a description that isn't passed over.
+abbrev pub IsEndOf : Option Levels → Description → End → Type 0
+IsEndOf levels d PassedOver = IsTrue (is_passed_over d.dialect (text_of d))
+IsEndOf levels d (Accepted found) = IsFalse (is_passed_over d.dialect (text_of d))
+    × IsJudged levels (language_in d) (text_of d) (Accepted found)
+IsEndOf levels d Refused = IsFalse (is_passed_over d.dialect (text_of d))
+    × IsJudged levels (language_in d) (text_of d) Refused
+IsEndOf levels d NotText = IsFalse (is_passed_over d.dialect (text_of d))
+    × IsJudged levels (language_in d) (text_of d) NotText

@@ -1,0 +1,97 @@
+-- What is told of the descriptions of a source.
+use Rattle.std.specs.Prelude.{ℕ, ◌≡◌, Bool, List, [], ◌∷◌, ◌++◌, codes, IsFalse}
+use Rattle.timefd_component.specs.Tree.{Text}
+use Rattle.timefd_fault.specs.Faults.{fault_of}
+use Rattle.timefd_language.specs.Grammar.{nesting_limit}
+use Rattle.timefd_parse.specs.Language.{FaultIn}
+use Rattle.timefd_diagnosis.specs.declared.diagnostic.Diagnostic.{Diagnostic}
+use Rattle.timefd_diagnosis.specs.Diagnoses.{IsDiagnosis}
+use Rattle.timefd_drawing.specs.declared.draw.Style.{Style}
+use Rattle.timefd_drawing.specs.declared.position.Origin.{Origin}
+use Rattle.timefd_drawing.specs.Drawing.{drawn, note}
+use Rattle.timefd_drawing.specs.Positions.{column, line_number}
+use Rattle.timefd_sources.specs.declared.description.Description.{Description}
+use Rattle.timefd_sources.specs.Found.{AllStandIn, place_of}
+use Rattle.timefd_warnings.specs.declared.levels.Levels.{Levels}
+use Rattle.timefd_lint_warnings.specs.Messages.{messages_at}
+use Rattle.timefd_lint_sources.specs.declared.source.Report.{Report}
+use Rattle.timefd_lint_sources.specs.declared.told.End.{End}
+use Rattle.timefd_lint_sources.specs.declared.told.End.TheVariants.{PassedOver, Accepted, Refused, NotText}
+use Rattle.timefd_lint_sources.specs.declared.told.Source.{Source}
+use Rattle.timefd_lint_sources.specs.declared.told.Telling.{Telling}
+use Rattle.timefd_lint_sources.specs.Judged.{IsEndOf, language_in, text_of}
+
+-- Where a source begins, and the line in which the literal of a description does.
+abbrev pub whole_origin : Source → Origin
+whole_origin s = record { file = s.file; line = 1 }
+
+abbrev pub origin_of : Source → Description → Origin
+origin_of s d = record { file = s.file; line = line_number 1 s.text.now d.piece.start }
+
+-- the column of the literal
+abbrev pub column_of : Source → Description → ℕ
+column_of s d = column s.text.now d.piece.start
+
+-- A diagnostic of a description with its bytes as those of the source.
+abbrev pub placed_in : Description → Diagnostic → Diagnostic
+placed_in d g = record {
+  fault = g.fault;
+  span = record { start = place_of d g.span.start; end = place_of d g.span.end };
+  help = g.help;
+}
+
+-- of the description's one fault
+pub record IsDiagnosed (d : Description) (g : Diagnostic) : Type 0 where
+  pub fault : FaultIn (language_in d) nesting_limit (text_of d) (fault_of g.fault)
+  pub diagnosis : IsDiagnosis (language_in d) (text_of d) g
+
+-- A tree where it is asked for, and else nothing.
+abbrev pub IsTree : Bool → Text → Type 0
+IsTree explains tree = IsFalse explains → tree ≡ []
+
+-- What is told of an accepted description is its tree, if that is asked for, and then each warning
+-- that it has and that is told, at its literal, in the order of their codes.
+abbrev pub IsTreeAndWarnings : Telling → Source → Description → Levels → Text → Type 0
+IsTreeAndWarnings telling s d found message = (tree : Text) × IsTree telling.explains tree
+    × (message ≡ tree ++ messages_at telling.style (origin_of s d) (column_of s d) found)
+
+-- What is told of a refused one is the drawing of what is wrong with it, at its place in the source.
+abbrev pub drawing_of : Style → Source → Description → Diagnostic → Text
+drawing_of style s d g = drawn style (whole_origin s) s.text.now (placed_in d g)
+
+abbrev pub IsDrawing : Style → Source → Description → Text → Type 0
+IsDrawing style s d message = (g : Diagnostic) × IsDiagnosed d g × (message ≡ drawing_of style s d g)
+
+-- and of one that is no UTF-8 a note in the line of its literal
+abbrev pub note_of : Style → Source → Description → Text
+note_of style s d = note style (origin_of s d) (codes "not-text") (codes "the bytes are no UTF-8")
+
+abbrev pub IsMessageOn : Telling → Source → Description → End → Text → Type 0
+IsMessageOn telling s d PassedOver message = message ≡ []
+IsMessageOn telling s d (Accepted found) message = IsTreeAndWarnings telling s d found message
+IsMessageOn telling s d Refused message = IsDrawing telling.style s d message
+IsMessageOn telling s d NotText message = message ≡ note_of telling.style s d
+
+pub record IsTold (telling : Telling) (s : Source) (d : Description) (came : End) (said : Text)
+    : Type 0 where
+  pub end : IsEndOf telling.levels d came
+  pub message : IsMessageOn telling s d came said
+
+-- What came of one more description, and the messages on it, stand behind those of others.
+abbrev pub AddsTold : Telling → Source → Description → List End → Text → List End → Text → Type 0
+AddsTold telling s d ends message ends' message' = (end : End) × (one : Text)
+    × IsTold telling s d end one × (ends' ≡ ends ++ (end ∷ [])) × (message' ≡ message ++ one)
+
+-- What came of each of these descriptions in turn, and the messages on each in turn, and nothing else.
+abbrev pub AreTold : Telling → Source → List Description → List End → Text → Type 0
+AreTold telling s [] [] message = message ≡ []
+AreTold telling s [] (e ∷ ends) message = ⊥
+AreTold telling s (d ∷ ds) [] message = ⊥
+AreTold telling s (d ∷ ds) (e ∷ ends) message = (one : Text) × (rest : Text)
+    × IsTold telling s d e one × AreTold telling s ds ends rest × (message ≡ one ++ rest)
+
+-- The descriptions are literals of the source.
+pub record IsSourceTold (telling : Telling) (s : Source) (r : Report) : Type 0 where
+  pub descriptions : List Description
+  pub stand : AllStandIn s.text.now descriptions
+  pub told : AreTold telling s descriptions r.ends.items r.message.items

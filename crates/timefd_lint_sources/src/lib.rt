@@ -1,0 +1,11 @@
+//! What the linter tells of a source of Rust: of each description in it, at its place.
+#![tactic(auto)]
+
+mod accepted;
+mod language;
+mod position;
+mod source;
+mod told;
+
+pub use source::{Report, lint_source, tell_all};
+pub use told::{End, Source, Telling, Told, tell};

@@ -1,0 +1,67 @@
+//! What is told of all descriptions of a source.
+
+ghost use Rattle.std.specs.Prelude.{IfOk, OnOk};
+ghost use Rattle.timefd_lint_sources.specs.Told.{AddsTold, AreTold, IsSourceTold};
+
+use crate::told::{End, Source, Telling, Told, tell};
+use std::alloc::{AllocError, Global};
+use timefd_sources::{Description, descriptions_of};
+
+/// What is told of the descriptions of a source.
+#[derive(Drop)]
+pub struct Report {
+    /// What came of each, in turn.
+    pub ends: Vec<End>,
+    /// The messages on each, in turn.
+    pub message: Vec<u8>,
+}
+
+/// Looks at the descriptions in a source of Rust, and tells what is wrong with each where that stands.
+/// An `Err` says that memory ran out.
+pub fn lint_source(
+    alloc: Global,
+    telling: Telling,
+    source: Source<'_>,
+) -> Result<Report, AllocError>
+    ensures { IfOk result (IsSourceTold telling source.entry) }
+{
+    let descriptions = descriptions_of(alloc, source.text)?;
+    tell_all(alloc, telling, source, &descriptions)
+}
+
+/// Looks at these descriptions of a source, one after another.
+#[tactic(auto, using(crate::proofs::ReportLemmas::at_first, crate::proofs::ReportLemmas::one_more, crate::proofs::ReportLemmas::at_last))]
+pub fn tell_all(
+    alloc: Global,
+    telling: Telling,
+    source: Source<'_>,
+    descriptions: &[Description],
+) -> Result<Report, AllocError>
+    ensures { IfOk result (λ report. AreTold telling source.entry descriptions.now
+        report.ends.items report.message.items) }
+{
+    let mut ends = Vec::new(alloc);
+    let mut message = Vec::new(alloc);
+    for description in descriptions {
+        push_told(alloc, telling, source, description, &mut ends, &mut message)?;
+    }
+    Ok(Report { ends, message })
+}
+
+// Looks at one more description.
+#[tactic(auto, using(crate::proofs::ReportLemmas::adds))]
+fn push_told(
+    alloc: Global,
+    telling: Telling,
+    source: Source<'_>,
+    description: &Description,
+    ends: &mut Vec<End>,
+    message: &mut Vec<u8>,
+) -> Result<(), AllocError>
+    ensures { OnOk result (AddsTold telling source.entry description.now ends.old.items
+        message.old.items ends.new.items message.new.items) }
+{
+    let told = tell(alloc, telling, source, description)?;
+    ends.push(told.end)?;
+    message.extend_from_slice(&told.message)
+}

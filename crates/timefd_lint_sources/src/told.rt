@@ -1,0 +1,168 @@
+//! What is told of one description.
+
+ghost use Rattle.std.specs.Prelude.{◌≡◌, IfOk, false};
+ghost use Rattle.timefd_lint_sources.specs.declared.told.End.TheVariants as ends;
+ghost use Rattle.timefd_lint_sources.specs.Judged.{text_of};
+ghost use Rattle.timefd_lint_sources.specs.Judged as judging;
+ghost use Rattle.timefd_lint_sources.specs.Told.{IsTold, drawing_of, note_of};
+ghost use Rattle.timefd_lint_sources.specs.Told as spec;
+
+use crate::accepted::accepted;
+use crate::language::{is_passed_over, language_of};
+use crate::position::{Position, position_of};
+use std::alloc::{AllocError, Global};
+use std::str;
+use timefd_diagnosis::{Diagnostic, Span, diagnose};
+use timefd_drawing::{Origin, Style, drawn, note};
+use timefd_sources::{Description, place_of};
+use timefd_warnings::Levels;
+
+/// How descriptions are told of.
+#[derive(Clone, Copy)]
+pub struct Telling {
+    /// How messages look.
+    pub style: Style,
+    /// Whether an accepted description is shown as its tree.
+    pub explains: bool,
+    /// What is made of each warning; `None` where none is looked for.
+    pub levels: Option<Levels>,
+}
+
+/// A source of Rust that is looked at.
+#[derive(Clone, Copy)]
+pub struct Source<'a> {
+    /// The name of its file.
+    pub file: &'a str,
+    /// All of it.
+    pub text: &'a str,
+}
+
+/// What came of a description.
+#[derive(Clone, Copy)]
+pub enum End {
+    /// It has directives that chrono alone knows, and isn't judged.
+    PassedOver,
+    /// It is one, with the warnings that are told of it; any other is allowed.
+    Accepted(Levels),
+    /// It has a fault.
+    Refused,
+    /// It is no UTF-8.
+    NotText,
+}
+
+/// What is told of a description.
+#[derive(Drop)]
+pub struct Told {
+    /// What came of it.
+    pub end: End,
+    /// The messages on it: none, where there is nothing to tell.
+    pub message: Vec<u8>,
+}
+
+/// Looks at a description of a source, and tells what is wrong with it where that stands in the
+/// source. An `Err` says that memory ran out.
+#[tactic(auto, using(crate::proofs::ToldLemmas::passed_over, crate::proofs::ToldLemmas::no_text))]
+pub fn tell(
+    alloc: Global,
+    telling: Telling,
+    source: Source<'_>,
+    description: &Description,
+) -> Result<Told, AllocError>
+    ensures { IfOk result (λ told. IsTold telling source.entry description.now
+        told.end told.message.items) }
+{
+    let bytes = description.unescaped.text.as_slice();
+    if is_passed_over(description.dialect, bytes) {
+        return Ok(Told {
+            end: End::PassedOver,
+            message: Vec::new(alloc),
+        });
+    }
+    match str::from_utf8(bytes) {
+        Ok(text) => judged(alloc, telling, source, description, text),
+        Err(_) => not_text(alloc, telling.style, source, description),
+    }
+}
+
+// A note where a description is no UTF-8.
+fn not_text(
+    alloc: Global,
+    style: Style,
+    source: Source<'_>,
+    description: &Description,
+) -> Result<Told, AllocError>
+    ensures end { IfOk result (λ told. told.end ≡ ends.NotText) }
+    ensures message { IfOk result (λ told. told.message.items
+        ≡ note_of style source.entry description.now) }
+{
+    let Position { line, .. } = position_of(alloc, source.text, description.piece.start)?;
+    let origin = Origin {
+        file: source.file,
+        line,
+    };
+    let message = note(alloc, style, origin, "not-text", "the bytes are no UTF-8")?;
+    Ok(Told {
+        end: End::NotText,
+        message,
+    })
+}
+
+// Looks at a description that is this text.
+#[tactic(auto, using(crate::proofs::ToldLemmas::with_list, crate::proofs::ToldLemmas::with_fault))]
+fn judged(
+    alloc: Global,
+    telling: Telling,
+    source: Source<'_>,
+    description: &Description,
+    text: &str,
+) -> Result<Told, AllocError>
+    requires judges { judging.is_passed_over description.now.dialect text.now ≡ false }
+    requires text { text.now ≡ text_of description.now }
+    ensures { IfOk result (λ told. IsTold telling source.entry description.now
+        told.end told.message.items) }
+{
+    let language = language_of(description.dialect);
+    match diagnose(alloc, language, text)? {
+        None => accepted(alloc, telling, source, description, language, text),
+        Some(diagnostic) => refused(alloc, telling.style, source, description, diagnostic),
+    }
+}
+
+// The drawing of what is wrong with a description, at its place in the source.
+fn refused(
+    alloc: Global,
+    style: Style,
+    source: Source<'_>,
+    description: &Description,
+    diagnostic: Diagnostic,
+) -> Result<Told, AllocError>
+    ensures end { IfOk result (λ told. told.end ≡ ends.Refused) }
+    ensures message { IfOk result (λ told. told.message.items
+        ≡ drawing_of style source.entry description.now diagnostic) }
+{
+    let origin = Origin {
+        file: source.file,
+        line: 1,
+    };
+    let diagnostic = placed_in(description, diagnostic);
+    let message = drawn(alloc, style, origin, source.text, &diagnostic)?;
+    Ok(Told {
+        end: End::Refused,
+        message,
+    })
+}
+
+// A diagnostic of a description, with its bytes as those of the source.
+fn placed_in(description: &Description, diagnostic: Diagnostic) -> Diagnostic
+    ensures { result ≡ spec.placed_in description.now diagnostic }
+{
+    let Diagnostic { fault, span, help } = diagnostic;
+    Diagnostic {
+        fault,
+        span: Span {
+            start: place_of(description, span.start),
+            end: place_of(description, span.end),
+        },
+        help,
+    }
+}
