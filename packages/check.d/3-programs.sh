@@ -12,6 +12,28 @@ for name in timefd timefd_lint timefd_format; do
 done
 same 'timefd, linked anew' "$(printf 'due [day]' | "$room/timefd.linked" 3)" 'ok bytes 6'
 
+# The steps of a CI and the hook for commits, over a project whose source has bad formats, and then none.
+project=$room/project
+mkdir -p "$project/tools" "$project/src"
+cp "$releases/timefd-$version-$triple.tar.xz" "$project/tools"
+cp "$top/examples/lint/source.rs" "$project/src"
+git -C "$project" init -q
+git -C "$project" add src
+sed -n 's/^ *- run: //p' "$top/examples/ci/github.yml" > "$room/steps"
+hook=$(sed -n 's/^ *entry: //p' "$top/.pre-commit-hooks.yaml")
+# A step and a hook: how many errors they show, and whether they fail.
+steps() {
+    (cd "$project" && RUNNER_TEMP=$room/project sh -e "$room/steps" 2> /dev/null && echo passed) | grep -c -e '^error' -e '^passed'
+}
+hooked() {
+    (cd "$project" && clean "$prefix/bin/$hook" src/source.rs 2> /dev/null && echo passed) | grep -c -e '^error' -e '^passed'
+}
+same 'errors that the steps of a CI show' "$(steps)" 4
+same 'errors that the hook shows' "$(hooked)" 4
+printf 'fn main() {}\n' > "$project/src/source.rs"
+same 'the steps of a CI where there are none' "$(steps)" 1
+same 'the hook where there are none' "$(hooked)" 1
+
 if has man 'reading the manual pages'; then
     for page in timefd.1 timefd_lint.1 timefd_format.1 timefd.3 timefd_judge.3; do
         MANPATH="$prefix/share/man" man "${page##*.}" "${page%.*}" > "$room/said" || fail "man does not show $page"

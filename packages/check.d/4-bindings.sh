@@ -35,7 +35,7 @@ project() {
         fail "a project in Rust, $way"
     }
     same "a project in Rust, $way" "$(grep '^at most' "$room/said")" "$expected"
-    same "a date written by a project in Rust, $way" "$(tail -n 1 "$room/said")" '23.11.2026'
+    same "a date written and one read by a project in Rust, $way" "$(tail -n 2 "$room/said" | xargs)" '23.11.2026 Monday'
 }
 project 'with an empty environment' CARGO_TERM_COLOR=never
 mv "$crate/native" "$room/native"
