@@ -27,10 +27,13 @@ mod words;
 
 pub use borrowing::parse_all_borrowed;
 pub use bracket::{bracket_name, first_modifier, first_nested};
+pub use counting::error_of;
 pub use language::{Language, amount_all_borrowed, amount_within};
 pub use leading::first_piece;
 pub use modifier::Modifier;
 pub use parsing::{BorrowedOutput, NESTING_LIMIT, parse, parse_borrowed, parse_borrowed_within};
+pub use piece::Piece;
+pub use read::next_piece;
 pub use timefd_borrowed_fault::{BorrowedFault, BorrowedParseError, Excerpt};
 pub use timefd_items::{BorrowedFormatItem, FormatDescriptionV3, InvalidFormatDescription};
 pub use timefd_language::fault::FaultKind;

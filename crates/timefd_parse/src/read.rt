@@ -123,8 +123,13 @@ fn too_deep<'a>(remaining: usize) -> ReadError<'a>
     })
 }
 
-/// The next piece of a list of items, or none at the list's end. A reader that doesn't build takes no
-/// memory.
+/// The piece that a text of a version begins with, and what follows it; `None` at the end of a
+/// description. So many nested descriptions stand around it, of at most `limit`. Where the reader
+/// builds, which only version 3 needs, a bracket with nested descriptions is added to the builder, and
+/// the piece is `Compound`. A reader that doesn't build takes no memory. It is this port's own.
+///
+/// The error is `Invalid` with the fault of what the text begins with, or `Memory` where memory ran
+/// out.
 #[inline(always)]
 #[cycle(read)]
 pub fn next_piece<'a, const BUILDS: bool>(

@@ -1,5 +1,5 @@
 -- Directives, read one at a time.
-use Rattle.std.proofs.Common.{◌≡◌, ℕ, ◌+◌, ◌<◌, true, append-nil, append_assoc, List, [], ◌∷◌, ◌++◌, Option, Some, None, length, map, get_or, drop, refl, sym, ap, ◌∙◌, subst, arith, length-append, IsTrue, IsUtf8}
+use Rattle.std.proofs.Common.{◌≡◌, ℕ, ◌+◌, ◌<◌, true, append-nil, append_assoc, List, [], ◌∷◌, ◌++◌, Option, Some, None, MatchOption, length, map, get_or, drop, refl, sym, ap, ◌∙◌, subst, arith, length-append, IsTrue, IsUtf8}
 use Rattle.std.proofs.lemmas.Bool.{both_ways}
 use Rattle.std.proofs.lemmas.List.{map-append}
 use Rattle.std.proofs.lemmas.Bool.Decides.{nat_tests}
@@ -13,9 +13,10 @@ use Rattle.timefd_component.specs.Tree.{Text, Tree, literal}
 use Rattle.timefd_language.specs.Bytes.{OneOrMore, StopsBefore}
 use Rattle.timefd_language.specs.Letters.{Flag, unflagged, flagged, item_of}
 use Rattle.timefd_strftime.specs.declared.letter.Letter.{Letter}
+use Rattle.timefd_strftime.specs.declared.piece.StrftimePiece.{StrftimePiece}
 use Rattle.timefd_strftime.specs.LetterMeaning.{IsLetter, flag_padding, letter_tree}
+use Rattle.timefd_strftime.specs.PieceMeaning.{piece_tree}
 use Rattle.timefd_language.specs.Strftime.{percent, is_flag, is_plain, flag_text, Directives, no_directives, plain, directive, directives_text, directive_items, IsBehind, AreDirectives, SpellsStrftime, cut_short, unknown, cut_index, ill_text, unknown_kind, ill_fault, StrftimeFaultOf}
-use Rattle.timefd_language.specs.Strings.{is_of_strings}
 use Rattle.timefd_language.specs.Laws.{HasOneStrftimeAnswer}
 use Rattle.timefd_language.specs.declared.fault.Fault as code_fault
 use Rattle.timefd_language.specs.declared.fault.ReadError.{ReadError}
@@ -30,7 +31,7 @@ use Rattle.timefd_language.specs.Invalid.{IsInvalid}
 use Rattle.timefd_borrowed_fault.proofs.OwnedLemmas.{owned_of}
 use Rattle.timefd_language.specs.Fault.{raised, expected_escape}
 use Rattle.timefd_language.specs.Cut.{IsCut}
-use Rattle.timefd_strftime.specs.StrftimeReading.{MayFollow, BeginsWithFlag, Leads, LeadsTo, HasItems, IsStrftimeFaultAt, IsStrftimeFaultIn, IsRestOf}
+use Rattle.timefd_strftime.specs.StrftimeReading.{MayFollow, BeginsWithFlag, BeginsWithPiece, Leads, LeadsTo, HasItems, IsStrftimeFaultAt, IsStrftimeFaultIn, IsRestOf}
 use Rattle.timefd_language.specs.FaultMeaning.{kind_of, IsFault, MemoryOr}
 use Rattle.timefd_strftime.specs.StrftimeAnswers.{IsStrftimeFault}
 use Rattle.timefd_language.proofs.StrftimeReader.{directive_regrouped, begins_no_plain, strftime_one_answer_law}
@@ -65,13 +66,24 @@ letter_leads behind rest after padding b tree h e of = λ front tail are i. (
   refl,
 )
 
-pub directive_leads : (behind rest after : Text) (padding : Option Padding) (b : ℕ) (tree : Tree)
-    (item : Flag → Tree) → BeginsWithFlag behind padding rest
+flag_shorter : (behind rest after : Text) (padding : Option Padding) (b : ℕ)
+    → BeginsWithFlag behind padding rest → rest ≡ b ∷ after → IsUtf8 after
+    → IsRestOf (percent ∷ behind) after
+flag_shorter behind rest after padding b h e utf8 = record {
+  shorter = omega (arith, ap length h.3, length-append (flag_text h.0) rest, ap length e);
+  utf8 = utf8;
+}
+
+pub directive_leads : (behind rest after : Text) (padding : Option Padding) (b : ℕ)
+    (piece : StrftimePiece) (item : Flag → Tree) → BeginsWithFlag behind padding rest
     → rest ≡ b ∷ after → ((f : Flag) → item_of f b ≡ Some (item f))
-    → ((f : Flag) → flag_padding f ≡ padding → tree ≡ item f)
-    → Leads (percent ∷ behind) tree after
-directive_leads behind rest after padding b tree item h e of is =
-    letter_leads behind rest after padding b tree h e (of h.0 ∙ ap Some (sym (is h.0 h.2)))
+    → ((f : Flag) → flag_padding f ≡ padding → piece_tree piece ≡ item f) → IsUtf8 after
+    → BeginsWithPiece (percent ∷ behind) piece after
+directive_leads behind rest after padding b piece item h e of is utf8 = record {
+  leads = letter_leads behind rest after padding b (piece_tree piece) h e
+      (of h.0 ∙ ap Some (sym (is h.0 h.2)));
+  left = flag_shorter behind rest after padding b h e utf8;
+}
 
 pub directive_leads_to : (behind rest after : Text) (padding : Option Padding) (b : ℕ)
     (letter : Letter) → BeginsWithFlag behind padding rest
@@ -79,15 +91,7 @@ pub directive_leads_to : (behind rest after : Text) (padding : Option Padding) (
 directive_leads_to behind rest after padding b letter h e of utf8 = record {
   tree = letter_tree letter h.0;
   leads = letter_leads behind rest after padding b (letter_tree letter h.0) h e (of h.0);
-  left = record {
-    shorter = omega (
-      arith,
-      ap length h.3,
-      length-append (flag_text h.0) rest,
-      ap length e,
-    );
-    utf8 = utf8;
-  };
+  left = flag_shorter behind rest after padding b h e utf8;
 }
 
 pub directive_unknown : (behind rest : Text) (padding : Option Padding) (bad : code_fault.Fault)
@@ -188,20 +192,27 @@ Continues text done rest =
 pub continues_first : (text : Text) → Continues text [] text
 continues_first text = λ front tail are e. (front, are, e, refl)
 
-pub continues_more : (text rest after : Text) (done : List BorrowedFormatItem)
-    (item : BorrowedFormatItem) → Continues text (map item_tree done) rest
-    → Leads rest (item_tree item) after → Continues text (map item_tree (done ++ item ∷ [])) after
-continues_more text rest after done item before leads =
-    subst (λ (trees : List Tree). Continues text trees after)
-    (sym (map-append item_tree done (item ∷ []))) (λ front tail are e.
+pub continues_more : (text rest after : Text) (done : List Tree) (tree : Tree)
+    → Continues text done rest → Leads rest tree after → Continues text (done ++ tree ∷ []) after
+continues_more text rest after done tree before leads = λ front tail are e.
     let a = leads front tail are e in
     let w = before a.0 tail a.1 a.2 in (
       w.0,
       w.1,
       w.2,
-      w.3 ∙ ap (λ ts. map item_tree done ++ ts) a.3 ∙
-          sym (append_assoc (map item_tree done) (item_tree item ∷ []) (directive_items front)),
-    ))
+      w.3 ∙ ap (λ ts. done ++ ts) a.3 ∙
+          sym (append_assoc done (tree ∷ []) (directive_items front)),
+    )
+
+-- the same of items
+pub items_more : (text rest after : Text) (done : List BorrowedFormatItem)
+    (item : BorrowedFormatItem) (tree : Tree) → item_tree item ≡ tree
+    → Continues text (map item_tree done) rest → Leads rest tree after
+    → Continues text (map item_tree (done ++ item ∷ [])) after
+items_more text rest after done item tree is before leads =
+    subst (λ (trees : List Tree). Continues text trees after)
+    (ap (λ t. map item_tree done ++ t ∷ []) (sym is) ∙ sym (map-append item_tree done (item ∷ [])))
+    (continues_more text rest after (map item_tree done) tree before leads)
 
 pub all_read : (text rest : Text) (done : List Tree) → Continues text done rest → rest ≡ []
     → SpellsStrftime text done
@@ -224,15 +235,7 @@ pub counts_more : (text rest after : Text) (n : ℕ) → CountsTo text n rest �
     → CountsTo text (n + 1) after
 counts_more text rest after n before to = (
   before.0 ++ to.tree ∷ [],
-  λ front tail are e. (
-      let a = to.leads front tail are e in
-      let w = before.1 a.0 tail a.1 a.2 in (
-        w.0,
-        w.1,
-        w.2,
-        w.3 ∙ ap (λ ts. before.0 ++ ts) a.3 ∙
-            sym (append_assoc before.0 (to.tree ∷ []) (directive_items front)),
-      )),
+  continues_more text rest after before.0 to.tree before.1 to.leads,
   omega (arith, before.2, length-append before.0 (to.tree ∷ [])),
 )
 
@@ -325,12 +328,6 @@ pub owned_strftime : (text : Text) (e : BorrowedParseError) (r : ParseError)
 owned_strftime text e (told.Memory m) is owned = tt
 owned_strftime text e (told.Invalid x) is owned = owned_of (StrftimeFaultOf text) e x is owned
 
--- an item and what follows it
-pub record IsPiece (text : Text) (piece : BorrowedFormatItem × Bor (List ℕ)) : Type 0 where
-  pub leads : Leads text (item_tree piece.0) piece.1.now
-  pub rest : IsRestOf text piece.1.now
-  pub strings : IsTrue (is_of_strings piece.0)
-
-pub piece_at : (text same : Text) (piece : BorrowedFormatItem × Bor (List ℕ)) → text ≡ same
-    → IsPiece same piece → IsPiece text piece
-piece_at text same piece e is = subst (λ (t : Text). IsPiece t piece) (sym e) is
+-- the next piece, if there is one
+abbrev pub IsNext : Text → Option (StrftimePiece × Bor (List ℕ)) → Type 0
+IsNext text found = MatchOption found (text ≡ []) (λ x. BeginsWithPiece text x.0 x.1.now)

@@ -3,15 +3,15 @@ use Rattle.std.specs.Prelude.{ℕ, ◌≡◌, ◌<◌, List, [], ◌∷◌, ◌+
 use Rattle.std.specs.Borrow.{Bor}
 use Rattle.std.specs.Str.{IsUtf8}
 use Rattle.timefd_modifier.specs.declared.enums.Padding.{Padding}
-use Rattle.timefd_format_item.specs.declared.borrowed_format_item.BorrowedFormatItem.{BorrowedFormatItem}
-use Rattle.timefd_format_item.specs.Meaning.{item_tree}
 use Rattle.timefd_component.specs.Tree.{Text, Tree}
+use Rattle.timefd_strftime.specs.declared.piece.StrftimePiece.{StrftimePiece}
 use Rattle.timefd_strftime.specs.declared.text.PieceStart.{PieceStart}
 use Rattle.timefd_strftime.specs.declared.text.PieceStart.TheVariants.{End, Directive, Literal}
 use Rattle.timefd_language.specs.declared.fault.Fault.{Fault}
 use Rattle.timefd_language.specs.Bytes.{StopsBefore}
 use Rattle.timefd_language.specs.Letters.{Flag, unflagged, flagged}
 use Rattle.timefd_strftime.specs.LetterMeaning.{flag_padding}
+use Rattle.timefd_strftime.specs.PieceMeaning.{piece_tree}
 use Rattle.timefd_language.specs.FaultMeaning.{IsFault}
 use Rattle.timefd_language.specs.Strftime.{percent, is_flag, is_plain, flag_text, IsFlag, Directives, AreDirectives, directives_text, directive_items, SpellsStrftime, IllDirective, ill_text, ill_fault, IsIll}
 
@@ -65,9 +65,14 @@ abbrev pub IsStrftimeFaultAt : Text → Fault → Type 0
 IsStrftimeFaultAt text f = (ill : IllDirective) × IsIll ill × (text ≡ ill_text ill)
     × IsFault (length text) f (ill_fault ill)
 
+-- the text begins with the piece, behind which is the rest
+pub record BeginsWithPiece (text : Text) (piece : StrftimePiece) (rest : Text) : Type 0 where
+  pub leads : Leads text (piece_tree piece) rest
+  pub left : IsRestOf text rest
+
 -- a directive and the rest, or a fault
-abbrev pub ReadsDirective : Text → Result (BorrowedFormatItem × Bor (List ℕ)) Fault → Type 0
-ReadsDirective text r = MatchResult r (λ x. Leads text (item_tree x.0) x.1.now)
+abbrev pub ReadsDirective : Text → Result (StrftimePiece × Bor (List ℕ)) Fault → Type 0
+ReadsDirective text r = MatchResult r (λ x. BeginsWithPiece text x.0 x.1.now)
     (IsStrftimeFaultAt text)
 
 -- directives, and what is none behind them, with its fault

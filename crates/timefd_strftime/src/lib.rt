@@ -7,12 +7,15 @@ mod first;
 mod item;
 mod letter;
 mod parsing;
+mod piece;
 mod tables;
 mod text;
 
 pub use count::count_strftime;
 pub use first::behind_first_directive;
-pub use parsing::{parse_strftime_all_borrowed, parse_strftime_borrowed};
+pub use letter::Composite;
+pub use parsing::{parse_strftime_all_borrowed, parse_strftime_borrowed, strftime_error};
+pub use piece::{StrftimePiece, next_strftime_piece};
 pub use tables::StrftimeTables;
 pub use timefd_format_item::BorrowedFormatItem;
 pub use timefd_language::ParseError;

@@ -3,29 +3,25 @@
 ghost use Rattle.std.specs.Prelude.{◌≡◌, ◌<◌, ◌≤◌, [], List, IfOk, IsOk, IsTrue, MatchResult, length};
 ghost use Rattle.std.specs.Result.{IfErr};
 ghost use Rattle.timefd_fault.specs.Faults as spec;
-ghost use Rattle.timefd_format_item.specs.Meaning.{item_tree, item_trees};
+ghost use Rattle.timefd_format_item.specs.Meaning.{item_trees};
 ghost use Rattle.timefd_component.specs.Tree.{Tree};
-ghost use Rattle.timefd_strftime.specs.declared.text.PieceStart.TheVariants.{Literal};
 ghost use Rattle.timefd_borrowed_fault.specs.BorrowedFaults.{HasShortFault, IsLent, IsLentOf, IsMemory};
 ghost use Rattle.timefd_borrowed_fault.specs.Placed.{HasPlacedFault, IsPlaced};
 ghost use Rattle.timefd_language.specs.Told.{IsFaultOrMemory, MemoryAlone};
 ghost use Rattle.timefd_language.specs.Strftime.{SpellsStrftime, StrftimeFaultOf};
 ghost use Rattle.timefd_strftime.specs.StrftimeAnswers.{IsStrftimeFault};
 ghost use Rattle.timefd_language.specs.FaultMeaning.{MemoryOr};
-ghost use Rattle.timefd_strftime.specs.StrftimeReading.{BeginsPiece, IsStrftimeFaultIn, IsRestOf, Leads};
-ghost use Rattle.timefd_language.specs.Strings.{are_of_strings, is_of_strings};
+ghost use Rattle.timefd_strftime.specs.StrftimeReading.{IsStrftimeFaultIn};
+ghost use Rattle.timefd_language.specs.Strings.{are_of_strings};
 
 use crate::count::count_strftime;
-use crate::directive::directive;
-use crate::item::literal_item;
+use crate::piece::next_strftime_piece;
 use crate::tables::StrftimeTables;
-use crate::text::{PieceStart, piece_start_of};
 use std::alloc::{AllocError, Global};
 use timefd_borrowed_fault::borrowed_parse_error::{BorrowedParseError, lent};
 use timefd_format_item::BorrowedFormatItem;
 use timefd_language::fault::ReadError;
 use timefd_language::parse_error::ParseError;
-use timefd_language::text::{Class, cut};
 
 /// Reads a text of strftime: `time`'s `parse_strftime_borrowed`. The items of composite letters borrow
 /// the tables' lists.
@@ -96,12 +92,13 @@ pub fn parse_strftime_all_borrowed<'a>(
 {
     match items(alloc, tables, s) {
         Ok(items) => Ok(items),
-        Err(error) => Err(error_of(error, s)),
+        Err(error) => Err(strftime_error(error, s)),
     }
 }
 
-/// The error of a text that was not read. A fault is found without memory, even where that ran out.
-fn error_of<'a>(error: ReadError<'a>, text: &'a str) -> BorrowedParseError<'a>
+/// The error of a text of strftime that was not read. A fault is found without memory, even where that
+/// ran out.
+pub fn strftime_error<'a>(error: ReadError<'a>, text: &'a str) -> BorrowedParseError<'a>
     requires { MemoryOr (IsStrftimeFaultIn text.now) error }
     ensures fault { IsLentOf (StrftimeFaultOf text.now) result }
     ensures spelled { (list : List Tree) → SpellsStrftime text.now list → IsMemory result }
@@ -129,14 +126,12 @@ fn items<'a>(
 {
     let mut items = Vec::with_capacity(alloc, first_room(text))?;
     let mut rest = text;
-    'items: loop {
-        let piece = match piece_start_of(rest) {
-            PieceStart::End => return Ok(items),
-            PieceStart::Directive(behind) => directive(tables, behind)?,
-            PieceStart::Literal => run(rest),
+    'pieces: loop {
+        let Some((piece, after)) = next_strftime_piece(rest)? else {
+            return Ok(items);
         };
-        items.push(piece.0)?;
-        rest = piece.1;
+        items.push(piece.into_item(tables))?;
+        rest = after;
     }
 }
 
@@ -147,16 +142,4 @@ fn first_room(text: &str) -> usize
     ensures most { (result ≤ 16) × (result ≤ length text.now) }
 {
     text.len().min(16)
-}
-
-/// The literal before the first `%`, and the rest.
-#[inline(always)]
-fn run<'a>(text: &'a str) -> (BorrowedFormatItem<'a>, &'a str)
-    requires { BeginsPiece Literal text.now }
-    ensures leads { Leads text.now (item_tree result.0) result.1.now }
-    ensures rest { IsRestOf text.now result.1.now }
-    ensures strings { IsTrue (is_of_strings result.0) }
-{
-    let (front, rest) = cut(text, Class::Plain);
-    (literal_item(front), rest)
 }

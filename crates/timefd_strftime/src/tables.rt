@@ -52,7 +52,7 @@ impl<'a> StrftimeTables<'a> {
     }
 
     /// The list of a composite letter.
-    pub(crate) fn list(&self, composite: Composite) -> &[BorrowedFormatItem<'a>]
+    pub fn list(&self, composite: Composite) -> &[BorrowedFormatItem<'a>]
         ensures { AreItems result.now (composite_list composite) }
     {
         match composite {

@@ -4,22 +4,22 @@ use Rattle.timefd_strftime.specs.LetterMeaning.{IsLetter, letter_tree}
 use Rattle.timefd_strftime.proofs.DirectiveLemmas.{none_left, directive_leads, directive_unknown, directive_cut_short}
 use Rattle.timefd_strftime.proofs.directive.directive.Goals as goal
 
-pub returns-in_default-clause-item : goal.returns-in_default-clause-item
-returns-in_default-clause-item c =
+pub returns-in_default : goal.returns-in_default
+returns-in_default c =
     directive_cut_short _ _ _ _ c.cut_flag-padding.ensures.parts
     (none_left _ (omega (arith, c.in_default.len_below, c.as_bytes.ensures.len)))
     c.cut_short.ensures.kind c.cut_short.ensures.place
 
-pub returns-in-Some-clause-item : goal.returns-in-Some-clause-item
-returns-in-Some-clause-item c =
+pub returns-in-Some : goal.returns-in-Some
+returns-in-Some c =
     let letter : IsLetter (get_or c.cut_flag-padding.result.1.now 0 0) (Some c.in-Some.letter) =
     subst (λ (t : Text). IsLetter (get_or t 0 0) (Some c.in-Some.letter)) c.as_bytes.ensures.value
     c.in-Some.ensures.letter in
     directive_leads _ _ _ _ _ _ (letter_tree c.in-Some.letter) c.cut_flag-padding.ensures.parts
-    c.tail.ensures.rest letter c.item.ensures.tree
+    c.tail.ensures.rest letter c.piece.ensures c.tail.ensures.utf8
 
-pub returns-in-None-clause-item : goal.returns-in-None-clause-item
-returns-in-None-clause-item c =
+pub returns-in-None : goal.returns-in-None
+returns-in-None c =
     let none : IsLetter (get_or c.cut_flag-padding.result.1.now 0 0) None =
     subst (λ (t : Text). IsLetter (get_or t 0 0) None) c.as_bytes.ensures.value
     c.in-None.ensures.letter in

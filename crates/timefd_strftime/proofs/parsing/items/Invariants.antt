@@ -7,11 +7,11 @@ use Rattle.timefd_strftime.proofs.DirectiveLemmas.{Continues}
 use Rattle.timefd_strftime.proofs.parsing.items.Given as goal
 
 -- says that each `&str` the loop changes is text: keep it, and add clauses with ×
-abbrev pub invariant-items : goal.invariant-items
-invariant-items l =
+abbrev pub invariant-pieces : goal.invariant-pieces
+invariant-pieces l =
     shadow (Utf8 l.rest) × (length l.rest ≤ length l.text)
     × Continues l.text (map item_tree l.items.items) l.rest
     × IsTrue (are_of_strings l.items.items)
 
-abbrev pub decreases-items : goal.decreases-items
-decreases-items l = length l.rest
+abbrev pub decreases-pieces : goal.decreases-pieces
+decreases-pieces l = length l.rest

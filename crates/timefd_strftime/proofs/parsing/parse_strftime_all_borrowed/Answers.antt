@@ -15,9 +15,9 @@ returns-in-Ok-clause-refused c = λ f h. (one c.args.s.now).not_both _ f c.in-Ok
 pub returns-in-Err-clause-place : goal.returns-in-Err-clause-place
 returns-in-Err-clause-place c =
     lent_more (StrftimeFaultOf c.args.s.now) (IsPlaced c.args.s.now)
-    (is_strftime_placed c.args.s.now c.utf8.s) _ c.error_of.ensures.fault
+    (is_strftime_placed c.args.s.now c.utf8.s) _ c.strftime_error.ensures.fault
 
 pub returns-in-Err-clause-words : goal.returns-in-Err-clause-words
 returns-in-Err-clause-words c =
     short_lent (StrftimeFaultOf c.args.s.now) (short_strftime_fault c.args.s.now) _
-    c.error_of.ensures.fault
+    c.strftime_error.ensures.fault

@@ -1,5 +1,5 @@
 use Rattle.timefd_strftime.proofs.DirectiveLemmas.{is_invalid, lent_strftime, lent_strftime_refused, lent_strftime_spelled, one}
-use Rattle.timefd_strftime.proofs.parsing.error_of.Goals as goal
+use Rattle.timefd_strftime.proofs.parsing.strftime_error.Goals as goal
 
 pub returns-in-Ok-clause-refused : goal.returns-in-Ok-clause-refused
 returns-in-Ok-clause-refused c = λ f has.

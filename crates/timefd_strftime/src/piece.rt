@@ -1,0 +1,73 @@
+//! The pieces of a text of strftime, one after another: runs and directives.
+
+ghost use Rattle.std.specs.Prelude.{◌≡◌, [], IsTrue, MatchOption, MatchResult};
+ghost use Rattle.timefd_strftime.specs.declared.text.PieceStart.TheVariants.{Literal};
+ghost use Rattle.timefd_strftime.specs.PieceMeaning.{piece_tree};
+ghost use Rattle.timefd_strftime.specs.StrftimeReading.{BeginsPiece, BeginsWithPiece, IsStrftimeFaultAt};
+
+use crate::directive::directive;
+use crate::item::{component_item, compound_item, literal_item};
+use crate::letter::Composite;
+use crate::tables::StrftimeTables;
+use crate::text::{PieceStart, piece_start_of};
+use timefd_component::Component;
+use timefd_format_item::BorrowedFormatItem;
+use timefd_language::fault::Fault;
+use timefd_language::text::{Class, cut};
+
+/// A run, or what a directive stands for.
+#[derive(Clone, Copy)]
+pub enum StrftimePiece<'a> {
+    /// A run, or the literal of `%%`, `%n` or `%t`.
+    Literal(&'a str),
+    /// The component of a letter.
+    Component(Component),
+    /// The list of items of a composite letter.
+    Composite(Composite),
+}
+
+impl<'a> StrftimePiece<'a> {
+    ghost use Rattle.timefd_format_item.specs.Meaning.{item_tree};
+    ghost use Rattle.timefd_language.specs.Strings.{is_of_strings};
+
+    /// The piece as an item. That of a composite letter borrows the tables' list.
+    #[inline(always)]
+    pub fn into_item(self, tables: &'a StrftimeTables<'a>) -> BorrowedFormatItem<'a>
+        ensures tree { item_tree result ≡ piece_tree self.entry }
+        ensures strings { IsTrue (is_of_strings result) }
+    {
+        match self {
+            StrftimePiece::Literal(text) => literal_item(text),
+            StrftimePiece::Component(component) => component_item(component),
+            StrftimePiece::Composite(composite) => compound_item(tables.list(composite)),
+        }
+    }
+}
+
+/// The piece that a text of strftime begins with, and what follows it; `None` of the empty text. It
+/// takes no memory.
+///
+/// The error is the fault of what the text begins with, which is no directive.
+#[inline(always)]
+pub fn next_strftime_piece<'a>(
+    text: &'a str,
+) -> Result<Option<(StrftimePiece<'a>, &'a str)>, Fault<'a>>
+    ensures { MatchResult result (λ found. MatchOption found (text.now ≡ [])
+        (λ x. BeginsWithPiece text.now x.0 x.1.now)) (IsStrftimeFaultAt text.now) }
+{
+    match piece_start_of(text) {
+        PieceStart::End => Ok(None),
+        PieceStart::Directive(behind) => Ok(Some(directive(behind)?)),
+        PieceStart::Literal => Ok(Some(run(text))),
+    }
+}
+
+/// The literal before the first `%`, and the rest.
+#[inline(always)]
+fn run<'a>(text: &'a str) -> (StrftimePiece<'a>, &'a str)
+    requires { BeginsPiece Literal text.now }
+    ensures { BeginsWithPiece text.now result.0 result.1.now }
+{
+    let (front, rest) = cut(text, Class::Plain);
+    (StrftimePiece::Literal(front), rest)
+}
