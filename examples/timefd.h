@@ -265,10 +265,10 @@ typedef struct timefd_read_answer {
 
 /* Says what timefd_judge says, and writes the nodes of a description to the front of the `node_room` nodes at `nodes`, and
    the bytes of its literals in turn to the front of the `literal_room` bytes at `literals`, with no 0 between or behind them.
-   If either has no room for all, what both hold then means nothing. The answer tells how much room is needed, so a program
-   may come again with more. These are always enough: for version 3 len + 1 nodes, for versions 1 and 2 len nodes, and for
-   each len bytes of literals; for strftime 7 * len nodes and 3 * len bytes. What is behind the fronts is as it was. If the
-   text is not accepted, and memory doesn't run out, both are as they were.
+   If either has no room for all, or the text is refused, what both hold then means nothing. The answer tells how much room is
+   needed, so a program may come again with more. These are always enough: for version 3 len + 1 nodes, for versions 1 and 2
+   len nodes, and for each len bytes of literals; for strftime 7 * len nodes and 3 * len bytes. What is behind the fronts of
+   an accepted text is as it was. Memory is taken for nested descriptions of version 3 alone.
 
    Each node stands behind those of its members. In version 3 the last node is the whole description: of one part that part,
    else a compound, and that of the empty text has no members. The members of the node with the index i are found from the

@@ -172,10 +172,10 @@ timefd_read_answer read_nodes(uint32_t kind, const struct text *text, struct nod
     timefd_read_answer answer = timefd_read(kind, bytes, text->len, buffers->nodes + 1, node_room,
                                             buffers->literals + GUARD, literal_room);
     take_back(kind, text, bytes);
-    /* What buffers hold that are too short for an accepted text is not told. */
-    bool is_short = answer.status == TIMEFD_ACCEPTED && !answer.written;
-    size_t nodes = is_short ? node_room : answer.written ? answer.nodes : 0;
-    size_t literals = is_short ? literal_room : answer.written ? answer.literals : 0;
+    /* What buffers hold that are too short, or of a text that is refused, is not told. */
+    bool is_told = answer.written || answer.status == TIMEFD_NOT_UTF8;
+    size_t nodes = is_told ? answer.nodes : node_room;
+    size_t literals = is_told ? answer.literals : literal_room;
     const uint8_t *filled = (const uint8_t *)buffers->nodes;
     size_t end = (1 + nodes) * sizeof(timefd_node);
     bool is_kept = nodes <= node_room && literals <= literal_room &&

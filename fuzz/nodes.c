@@ -107,7 +107,7 @@ static bool is_answer(timefd_read_answer a, timefd_read_answer b) {
            a.literals == b.literals && a.written == b.written && a.bytes == b.bytes;
 }
 
-/* With less room in one buffer than is needed nothing is written, and the same is told. */
+/* With less room in one buffer than is needed the same is told, but that all is written. */
 static void check_less_room(uint32_t kind, const struct text *text, timefd_read_answer answer) {
     static struct node_buffers less;
     timefd_read_answer full = answer;

@@ -152,6 +152,11 @@ static struct outcome outcome_of(enum call call, const struct sample *sample, si
     if (call == READ) {
         outcome.read = timefd_read(sample->kind, text, len, outcome.nodes, ROOM, outcome.buffer, ROOM);
         refused = 0;
+        if (!outcome.read.written) {
+            /* Parts may stand in the buffers. */
+            memset(outcome.buffer, '.', ROOM);
+            memset(outcome.nodes, '.', sizeof outcome.nodes);
+        }
         return outcome;
     }
     if (call == FORMAT) {

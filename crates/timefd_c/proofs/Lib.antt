@@ -4,5 +4,4 @@ pub mod ConversionLemmas
 pub mod RoomLemmas
 pub mod LongestLemmas
 pub mod ReadingLemmas
-pub mod ReportLemmas
 pub mod MomentLemmas

@@ -13,7 +13,7 @@ use Rattle.timefd_parse.specs.Language.{SpellsIn, FaultIn}
 use Rattle.timefd_c_nodes.specs.declared.node.Node.{Node}
 use Rattle.timefd_c.specs.declared.answer.TheConstants.{ACCEPTED, REFUSED}
 use Rattle.timefd_c.specs.declared.answer.ReadAnswer.{ReadAnswer}
-use Rattle.timefd_c.specs.declared.read.Report.{Report}
+use Rattle.timefd_c_read.specs.declared.report.Report.{Report}
 use Rattle.timefd_language.specs.declared.description_version.DescriptionVersion.TheVariants.{One, Two, Three}
 use Rattle.timefd_parse.specs.declared.language.Language.TheVariants.{Version, Strftime}
 use Rattle.timefd_language.proofs.Reserved.{reserves_within_law}
@@ -21,7 +21,7 @@ use Rattle.timefd_c_nodes.proofs.TreeLemmas.{walked_length}
 use Rattle.timefd_c.proofs.LongestLemmas.{is_longest, three_reserved}
 use Rattle.timefd_c.proofs.RoomLemmas.{nodes_within, literals_within}
 use Rattle.timefd_c.specs.Answers.{Describes, IsAnswer}
-use Rattle.timefd_c.specs.Reports.{IsReport, parts, tops}
+use Rattle.timefd_c_read.specs.Reports.{IsReport, parts, tops}
 use Rattle.timefd_c.specs.Reading.{Reads, Tells}
 use Rattle.timefd_c.proofs.AnswerLemmas as answers
 
@@ -124,38 +124,32 @@ reported language bytes ns ms a b r utf8 found spelled no_fault = record {
   longest = λ e list d. is_longest language list r.bytes (spelled list d.1).bytes;
   reserved = λ e three. three_reserved language found.0 r.bytes r.value three found.2.bytes
       found.2.value;
-  nodes_kept = λ accepted memory. absurd (accepted refl);
-  literals_kept = λ accepted memory. absurd (accepted refl);
+  nodes_kept = λ accepted refused memory. absurd (accepted refl);
+  literals_kept = λ accepted refused memory. absurd (accepted refl);
   none_counted = λ accepted. absurd (accepted refl);
 }
 
--- where nothing was written, the status and the value are all that is answered
-silent_reads : (language : Option Language) (bytes : Text) (ns : List Node) (a : Text)
-    (status value : ℕ) → (status ≡ ACCEPTED → ⊥)
-    → IsAnswer language bytes (List Tree) (Describes language bytes)
-    (λ list. Tells language list ns ns a a (silent status value)) status value
-    → Reads language bytes ns ns a a (silent status value)
-silent_reads language bytes ns a status value not_accepted is = record {
-  answers = is;
+-- a text with a fault, of which the status and its index are answered
+pub faulted : (language : Language) (bytes : Text) (ns ms : List Node) (a b : Text) (f : Fault)
+    → IsUtf8 bytes → FaultIn language nesting_limit bytes f
+    → ((list : List Tree) → SpellsIn language nesting_limit bytes list → ⊥)
+    → ((g : Fault) → FaultIn language nesting_limit bytes g → f ≡ g) → (bytes ≡ [] → ⊥)
+    → Reads (Some language) bytes ns ms a b (silent REFUSED f.index)
+faulted language bytes ns ms a b f utf8 has not_spelled one not_empty = record {
+  answers = answers.refusing (Some language) bytes (List Tree) (Describes (Some language) bytes)
+      (λ list. Tells (Some language) list ns ms a b (silent REFUSED f.index))
+      (answers.some_not_none language) f (utf8, has) (λ list d. not_spelled list d.1)
+      (λ g h. one g h.1) (λ some nil. not_empty nil);
   read = λ e. absurd (not_accepted e);
   within = λ e. absurd (not_accepted e);
   nodes_within = omega arith;
   literals_within = omega arith;
   longest = λ e. absurd (not_accepted e);
   reserved = λ e. absurd (not_accepted e);
-  nodes_kept = λ accepted memory. refl;
-  literals_kept = λ accepted memory. refl;
+  nodes_kept = λ accepted refused. absurd (refused refl);
+  literals_kept = λ accepted refused. absurd (refused refl);
   none_counted = λ accepted. (refl, refl, refl, refl);
 }
-
-pub faulted : (language : Language) (bytes : Text) (ns : List Node) (a : Text) (f : Fault)
-    → IsUtf8 bytes → FaultIn language nesting_limit bytes f
-    → ((list : List Tree) → SpellsIn language nesting_limit bytes list → ⊥)
-    → ((g : Fault) → FaultIn language nesting_limit bytes g → f ≡ g) → (bytes ≡ [] → ⊥)
-    → Reads (Some language) bytes ns ns a a (silent REFUSED f.index)
-faulted language bytes ns a f utf8 has not_spelled one not_empty =
-    silent_reads (Some language) bytes ns a REFUSED f.index (λ e. omega (arith, e))
-    (answers.refusing (Some language) bytes (List Tree) (Describes (Some language) bytes)
-    (λ list. Tells (Some language) list ns ns a a (silent REFUSED f.index))
-    (answers.some_not_none language) f (utf8, has) (λ list d. not_spelled list d.1)
-    (λ g h. one g h.1) (λ some nil. not_empty nil))
+  where
+    not_accepted : REFUSED ≡ ACCEPTED → ⊥
+    not_accepted e = omega (arith, e)

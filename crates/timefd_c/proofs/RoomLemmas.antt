@@ -22,7 +22,7 @@ use Rattle.timefd_parse.specs.Language.{SpellsIn}
 use Rattle.timefd_c_nodes.specs.Encoding.{literals_of}
 use Rattle.timefd_c_nodes.proofs.WriteLemmas.{literals-length}
 use Rattle.timefd_c_nodes.proofs.TreeLemmas.{walked_length, walked_all_length}
-use Rattle.timefd_c.specs.Reports.{parts}
+use Rattle.timefd_c_read.specs.Reports.{parts}
 use Rattle.timefd_c.specs.Reading.{most_nodes, most_literals}
 
 -- how many bytes the literals of a tree have

@@ -6,12 +6,12 @@ use Rattle.timefd_language.specs.declared.description_version.DescriptionVersion
 use Rattle.timefd_parse.specs.declared.language.Language.{Language}
 use Rattle.timefd_parse.specs.declared.language.Language.TheVariants.{Version, Strftime}
 use Rattle.timefd_c_nodes.specs.declared.node.Node.{Node}
-use Rattle.timefd_c.specs.declared.answer.TheConstants.{ACCEPTED, NO_MEMORY}
+use Rattle.timefd_c.specs.declared.answer.TheConstants.{ACCEPTED, NO_MEMORY, REFUSED}
 use Rattle.timefd_c.specs.declared.answer.ReadAnswer.{ReadAnswer}
-use Rattle.timefd_c.specs.declared.read.Report.{Report}
+use Rattle.timefd_c_read.specs.declared.report.Report.{Report}
 use Rattle.timefd_c.specs.Answers.{Describes, IsAnswer}
 use Rattle.timefd_c_nodes.specs.Decoding.{read_nodes}
-use Rattle.timefd_c.specs.Reports.{IsReport, tops}
+use Rattle.timefd_c_read.specs.Reports.{IsReport, tops}
 
 -- what the answer reports
 abbrev pub report_in : ReadAnswer → Report
@@ -82,9 +82,10 @@ pub record Reads (language : Option Language) (bytes : Text) (nodes_before nodes
       → IsLongest list answer.bytes
   pub reserved : answer.status ≡ ACCEPTED → language ≡ Some (Version Three)
       → answer.bytes ≡ answer.value
-  -- Where the text isn't accepted, and memory doesn't run out, nothing is written.
-  pub nodes_kept : answer.status ≢ ACCEPTED → answer.status ≢ NO_MEMORY
+  -- Where no text is read, as the language is unknown or the bytes are no text, nothing is written.
+  pub nodes_kept : answer.status ≢ ACCEPTED → answer.status ≢ REFUSED → answer.status ≢ NO_MEMORY
       → nodes_after ≡ nodes_before
-  pub literals_kept : answer.status ≢ ACCEPTED → answer.status ≢ NO_MEMORY → after ≡ before
+  pub literals_kept : answer.status ≢ ACCEPTED → answer.status ≢ REFUSED
+      → answer.status ≢ NO_MEMORY → after ≡ before
   pub none_counted : answer.status ≢ ACCEPTED → (answer.nodes ≡ 0) × (answer.literals ≡ 0)
       × IsFalse answer.written × (answer.bytes ≡ 0)

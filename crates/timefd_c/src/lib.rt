@@ -19,7 +19,6 @@ pub mod laws;
 mod moment;
 mod nodes;
 mod numbers;
-mod read;
 mod read_date;
 #[cfg(test)]
 mod tests;

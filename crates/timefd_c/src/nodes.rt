@@ -6,9 +6,9 @@ ghost use Rattle.timefd_c.specs.Reading.{Reads};
 
 use crate::answer::{ACCEPTED, NO_MEMORY, NOT_UTF8, REFUSED, ReadAnswer, UNKNOWN_KIND};
 use crate::numbers::from_number;
-use crate::read::read;
 use std::alloc::Global;
 use timefd_c_nodes::Node;
+use timefd_c_read::read;
 use timefd_parse::BorrowedParseError;
 
 /// The number of this version, 0.1.0: a million for each major one, a thousand for each minor one.
@@ -23,8 +23,8 @@ pub extern "C" fn timefd_version() -> u32
 }
 
 /// Says what `timefd_judge` says, and writes the nodes of a description and the bytes of its
-/// literals over the fronts of the buffers, as far as there is room. If either has no room for all,
-/// both may hold parts of them.
+/// literals over the fronts of the buffers, as far as there is room. If either has no room for all, or
+/// the text is refused, both may hold parts of them.
 #[unsafe(no_mangle)]
 pub extern "C" fn timefd_read(
     alloc: Global,

@@ -1,4 +1,4 @@
-//! The nodes of the items of versions 1 and 2 and of strftime.
+//! The nodes of items.
 
 ghost use Rattle.std.specs.Prelude.{◌≡◌, ◌+◌, None, IfSome, true};
 ghost use Rattle.timefd_format_item.specs.Meaning.{item_tree, item_trees};
@@ -10,22 +10,8 @@ ghost use Rattle.timefd_c_nodes.specs.Writing.{IsPast, IsWritten};
 
 use crate::component::component_node;
 use crate::node::Node;
-use crate::place::{Place, START, Written, put, put_literal};
+use crate::place::{Place, Written, put, put_literal};
 use timefd_items::BorrowedFormatItem;
-
-/// Writes the nodes and literals of items in turn to the fronts of the buffers, as far as there is
-/// room. There is no answer where a `usize` doesn't count them.
-pub fn write_items(
-    items: &[BorrowedFormatItem<'_>],
-    nodes: &mut [Node],
-    literals: &mut [u8],
-) -> Option<Written>
-    ensures some { IfSome result (IsWritten (walked_all (trees (item_trees items.now)))
-        (reserve_all (trees (item_trees items.now))) START nodes.old nodes.new literals.old literals.new) }
-    ensures none { result ≡ None → IsPast (walked_all (trees (item_trees items.now))) START }
-{
-    write_all(items, START, nodes, literals)
-}
 
 /// Writes items in turn from a place on.
 #[cycle(write)]
@@ -76,10 +62,11 @@ fn write_item(
     }
 }
 
-/// Writes items in turn, and the node of all of them.
+/// Writes items in turn from a place on, and the node of all of them, as far as there is room. There is
+/// no answer where a `usize` doesn't count them.
 #[cycle(write)]
 #[inline(never)]
-fn write_compound(
+pub fn write_compound(
     members: &[BorrowedFormatItem<'_>],
     from: Place,
     nodes: &mut [Node],

@@ -11,7 +11,7 @@ mod place;
 mod view;
 
 pub use component::component_node;
-pub use items::write_items;
+pub use items::write_compound;
 pub use node::Node;
-pub use place::{Place, START, Written};
+pub use place::{Place, START, Written, put, put_literal};
 pub use view::write_view;

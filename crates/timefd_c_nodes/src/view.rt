@@ -6,17 +6,22 @@ ghost use Rattle.timefd_c_nodes.specs.Writing.{IsPast, WritesWithin};
 
 use crate::node::Node;
 use crate::part::put_part;
-use crate::place::{Place, START};
+use crate::place::Place;
 use timefd_items::View;
 
-/// Writes its nodes and literals to the fronts of the buffers, as far as there is room. The answer is
-/// the place behind them, where a `usize` counts them.
-pub fn write_view(view: View<'_, '_>, nodes: &mut [Node], literals: &mut [u8]) -> Option<Place>
-    ensures some { IfSome result (λ end. WritesWithin (walked (view_tree view.entry)) START end
+/// Writes its nodes and literals from a place on, as far as there is room. The answer is the place
+/// behind them, where a `usize` counts them.
+pub fn write_view(
+    view: View<'_, '_>,
+    from: Place,
+    nodes: &mut [Node],
+    literals: &mut [u8],
+) -> Option<Place>
+    ensures some { IfSome result (λ end. WritesWithin (walked (view_tree view.entry)) from end
         nodes.old nodes.new literals.old literals.new) }
-    ensures none { result ≡ None → IsPast (walked (view_tree view.entry)) START }
+    ensures none { result ≡ None → IsPast (walked (view_tree view.entry)) from }
 {
-    let mut at = START;
+    let mut at = from;
     'parts: for part in view.walk() {
         at = put_part(part, at, nodes, literals)?.end;
     }

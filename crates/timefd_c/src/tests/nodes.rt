@@ -1,7 +1,7 @@
 //! Texts of each language with their nodes and literals, by hand.
 
-use crate::read::{Report, read};
 use timefd_c_nodes::Node;
+use timefd_c_read::{Report, read};
 use timefd_parse::{DescriptionVersion, Language};
 
 // Room for the nodes and the literals of each text here, and more.

@@ -1,7 +1,7 @@
 use Rattle.std.proofs.Common.{◌≡◌, ◌∙◌, Some, IsUtf8, false, true, subst, sym}
 use Rattle.timefd_c.specs.Reading.{Reads}
 use Rattle.timefd_c.proofs.ReadingLemmas.{reported, faulted, told}
-use Rattle.timefd_borrowed_fault.specs.BorrowedFaults.{lent_fault, IsLent, IsLentOf, IsMemory, IsRefusal}
+use Rattle.timefd_borrowed_fault.specs.BorrowedFaults.{lent_fault, IsLent, IsLentOf, IsMemory}
 use Rattle.timefd_language.specs.Grammar.{nesting_limit}
 use Rattle.timefd_parse.specs.Language.{FaultIn}
 use Rattle.timefd_c.proofs.nodes.timefd_read.Goals as goal
@@ -32,18 +32,15 @@ returns-in-Err-Invalid c =
     let a = c.args.literals.now in
     let ms = c.read.new.nodes in
     let b = c.read.new.literals in
-    let answer = c.plain-in-Err-Invalid.result in
     record {
-      reads = subst (λ l. Reads l c.args.text.now ns ms a b answer)
+      reads = subst (λ l. Reads l c.args.text.now ns ms a b c.plain-in-Err-Invalid.result)
           (sym c.in-Some.is ∙ c.from_number.ensures)
-          (subst (λ t. Reads (Some language) t ns ms a b answer) text.0
-          (subst (λ x. Reads (Some language) bytes ns x a b answer) (sym (subst (λ e. IsRefusal e → ms ≡ ns) is r.nodes_kept tt))
-          (subst (λ x. Reads (Some language) bytes ns ns a x answer) (sym (subst (λ e. IsRefusal e → b ≡ a) is r.literals_kept tt))
-          (subst (Reads (Some language) bytes ns ns a a) (sym c.plain-in-Err-Invalid.ensures)
-          (faulted language bytes ns a (lent_fault c.in-Err-Invalid.fault)
+          (subst (λ t. Reads (Some language) t ns ms a b c.plain-in-Err-Invalid.result) text.0
+          (subst (Reads (Some language) bytes ns ms a b) (sym c.plain-in-Err-Invalid.ensures)
+          (faulted language bytes ns ms a b (lent_fault c.in-Err-Invalid.fault)
           (subst IsUtf8 (sym text.0) text.1)
           (subst (IsLentOf (FaultIn language nesting_limit bytes)) is r.fault)
           (λ list s. subst IsMemory is (r.spelled list s))
           (λ g h. subst (IsLent g) is (r.refused g h))
-          (λ nil. let no : false ≡ true = r.empty nil in absurd cc))))));
+          (λ nil. let no : false ≡ true = r.empty nil in absurd cc))));
     }

@@ -1,0 +1,3 @@
+pub mod ProgressLemmas
+pub mod ReportLemmas
+pub mod WholeLemmas

@@ -1,0 +1,28 @@
+-- What was read and written of a text so far.
+use Rattle.std.specs.Prelude.{◌≡◌, ◌+◌, List, length}
+use Rattle.timefd_component.specs.Reserved.{reserve_all}
+use Rattle.timefd_component.specs.Tree.{Text, Tree, trees}
+use Rattle.timefd_node_list.specs.Nodes.{kept_bytes}
+use Rattle.timefd_node_list.specs.Views.{walked_all}
+use Rattle.timefd_c_nodes.specs.declared.node.Node.{Node}
+use Rattle.timefd_c_nodes.specs.declared.place.TheConstants.{START}
+use Rattle.timefd_c_nodes.specs.declared.place.Written.{Written}
+use Rattle.timefd_c_nodes.specs.Writing.{WritesWithin}
+use Rattle.timefd_c_read.specs.declared.progress.Progress.{Progress}
+
+-- These trees were read, and their parts are written in turn, as far as there is room.
+pub record HasWritten (list : List Tree) (nodes_before nodes_after : List Node)
+    (before after : Text) (p : Progress) : Type 0 where
+  pub within : WritesWithin (walked_all (trees list)) START p.end nodes_before nodes_after before
+      after
+  pub count : p.count ≡ length list
+  pub bytes : p.bytes ≡ kept_bytes (reserve_all (trees list))
+
+-- one more item was written
+abbrev pub one_more : Progress → Written → Progress
+one_more p w = record {
+  count = p.count + 1;
+  bytes = kept_bytes (p.bytes + w.bytes);
+  end =
+      w.end;
+}

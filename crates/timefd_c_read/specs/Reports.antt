@@ -1,0 +1,77 @@
+-- What is said and written of a description that is read as nodes.
+use Rattle.std.specs.Prelude.{ℕ, ◌≡◌, ◌≤◌, ◌++◌, ◌↔◌, IsTrue, IfOk, IsOk, List, MatchResult, Result, [], ◌∷◌, length, drop}
+use Rattle.std.specs.Result.{IfErr}
+use Rattle.timefd_borrowed_fault.specs.declared.borrowed_parse_error.BorrowedParseError.{BorrowedParseError}
+use Rattle.timefd_borrowed_fault.specs.BorrowedFaults.{IsLent, IsLentOf, IsMemory}
+use Rattle.timefd_component.specs.Reserved.{reserve, reserve_all}
+use Rattle.timefd_component.specs.Tree.{Text, Tree, trees, pack}
+use Rattle.timefd_node_list.specs.Nodes.{kept_bytes}
+use Rattle.timefd_node_list.specs.Views.{walked, walked_all}
+use Rattle.timefd_language.specs.declared.description_version.DescriptionVersion.TheVariants.{One, Two, Three}
+use Rattle.timefd_parse.specs.declared.language.Language.{Language}
+use Rattle.timefd_parse.specs.declared.language.Language.TheVariants.{Version, Strftime}
+use Rattle.timefd_fault.specs.Faults.{Fault}
+use Rattle.timefd_language.specs.Grammar.{nesting_limit}
+use Rattle.timefd_parse.specs.Language.{FaultIn, SpellsIn, amount}
+use Rattle.timefd_c_nodes.specs.declared.node.Node.{Node}
+use Rattle.timefd_c_nodes.specs.Encoding.{nodes_from, literals_of}
+use Rattle.timefd_c_read.specs.declared.report.Report.{Report}
+
+-- All parts of a description, each behind its members: those of the items in turn, and in version 3
+-- of the one tree that they are packed to.
+abbrev pub parts : Language → List Tree → List Tree
+parts (Version One) list = walked_all (trees list)
+parts (Version Two) list = walked_all (trees list)
+parts (Version Three) list = walked (pack list)
+parts Strftime list = walked_all (trees list)
+
+-- the trees that stand side by side: the items, and in version 3 the one tree that they are packed
+-- to
+abbrev pub tops : Language → List Tree → List Tree
+tops (Version One) list = list
+tops (Version Two) list = list
+tops (Version Three) list = pack list ∷ []
+tops Strftime list = list
+
+-- the length of the longest rendering: what all that stands side by side reserves together, where a
+-- `usize` counts it
+abbrev pub longest : Language → List Tree → ℕ
+longest (Version One) list = kept_bytes (reserve_all (trees list))
+longest (Version Two) list = kept_bytes (reserve_all (trees list))
+longest (Version Three) list = reserve (pack list)
+longest Strftime list = kept_bytes (reserve_all (trees list))
+
+-- These parts are reported, and where both buffers have room their nodes and literals stand at the
+-- fronts.
+pub record Reports (ts : List Tree) (counted greatest : ℕ) (nodes_before nodes_after : List Node)
+    (before after : Text) (r : Report) : Type 0 where
+  pub value : r.value ≡ counted
+  pub bytes : r.bytes ≡ greatest
+  pub nodes : r.nodes ≡ length ts
+  pub literals : r.literals ≡ length (literals_of ts)
+  pub room : IsTrue r.written ↔ ((length ts ≤ length nodes_before)
+      × (length (literals_of ts) ≤ length before))
+  pub nodes_written : IsTrue r.written
+      → nodes_after ≡ nodes_from 0 0 ts ++ drop (length ts) nodes_before
+  pub literals_written : IsTrue r.written
+      → after ≡ literals_of ts ++ drop (length (literals_of ts)) before
+
+-- the report on a text that spells the list in the language
+abbrev pub IsReport : Language → List Tree → List Node → List Node → Text → Text → Report → Type 0
+IsReport language list nodes_before nodes_after before after r =
+    Reports (parts language list) (amount language list) (longest language list) nodes_before
+    nodes_after before after r
+
+-- What is read of a text of the language: what is accepted is spelled so, and reported; what is
+-- refused is refused for the fault that the rules assign. What is spelled is accepted, unless memory
+-- runs out, and what has a fault is refused for it. The empty text takes no memory.
+pub record IsRead (language : Language) (text : Text) (nodes_before nodes_after : List Node)
+    (before after : Text) (r : Result Report BorrowedParseError) : Type 0 where
+  pub found : IfOk r (λ x. (list : List Tree) × SpellsIn language nesting_limit text list
+      × IsReport language list nodes_before nodes_after before after x)
+  pub fault : IfErr r (IsLentOf (FaultIn language nesting_limit text))
+  pub spelled : (list : List Tree) → SpellsIn language nesting_limit text list
+      → MatchResult r (IsReport language list nodes_before nodes_after before after) IsMemory
+  pub refused : (f : Fault) → FaultIn language nesting_limit text f
+      → MatchResult r (λ _. ⊥) (IsLent f)
+  pub empty : text ≡ [] → IsOk r

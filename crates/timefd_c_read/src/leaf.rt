@@ -1,0 +1,43 @@
+//! Literals and components, each of one node.
+
+ghost use Rattle.std.specs.Prelude.{IfSome};
+ghost use Rattle.timefd_component.specs.Reserved.{reserve};
+ghost use Rattle.timefd_component.specs.Tree as spec;
+ghost use Rattle.timefd_component.specs.Tree.{Text, Tree};
+ghost use Rattle.timefd_node_list.specs.Views.{walked};
+ghost use Rattle.timefd_c_nodes.specs.Writing.{IsWritten};
+ghost use Rattle.timefd_parse.specs.Pieces.{IsLeaf, IsLeafTree};
+
+use timefd_c_nodes::{Node, Place, Written, component_node, put, put_literal};
+use timefd_items::Component;
+use timefd_parse::Piece;
+
+/// Writes the node of a component at a place, if there is room for it. There is no answer where a
+/// `usize` doesn't count the nodes.
+#[inline(always)]
+pub fn write_component(component: Component, at: Place, nodes: &mut [Node]) -> Option<Written>
+    ensures { (literals : Text) → IfSome result (IsWritten (walked (spec.component component))
+        (reserve (spec.component component)) at nodes.old nodes.new literals literals) }
+{
+    put(component_node(component, at.nodes), at, nodes)
+}
+
+/// Writes the node of a piece that has no nested descriptions at a place, and the bytes of a literal,
+/// as far as there is room. There is no answer where a `usize` doesn't count them.
+#[inline(always)]
+pub fn write_leaf(
+    piece: Piece<'_>,
+    at: Place,
+    nodes: &mut [Node],
+    literals: &mut [u8],
+) -> Option<Written>
+    requires { IsLeaf piece }
+    ensures { (tree : Tree) → IsLeafTree piece.entry tree → IfSome result (IsWritten (walked tree)
+        (reserve tree) at nodes.old nodes.new literals.old literals.new) }
+{
+    match piece {
+        Piece::Literal(text) => put_literal(text.as_bytes(), at, nodes, literals),
+        Piece::Component(component, _) => write_component(component, at, nodes),
+        Piece::Compound => unreachable!(),
+    }
+}

@@ -1,0 +1,16 @@
+//! Texts read as nodes, for programs in C. The nodes are written while the text is read, with nothing
+//! else made of it, but where a text of version 3 nests descriptions. This is this port's own: the crate
+//! `timefd_c` hands it on.
+#![tactic(auto)]
+
+mod leaf;
+mod nested;
+mod progress;
+mod reading;
+mod report;
+mod strftime;
+mod version;
+mod version_three;
+
+pub use reading::read;
+pub use report::Report;

@@ -1,0 +1,99 @@
+//! Texts of version 3, and long ones that nest descriptions: these are built first, and then written.
+
+ghost use Rattle.std.specs.Prelude.{◌≡◌, ◌<◌, IfSome, length};
+ghost use Rattle.timefd_component.specs.Reserved.{reserve};
+ghost use Rattle.timefd_items.specs.Description.{description_tree};
+ghost use Rattle.timefd_language.specs.declared.description_version.DescriptionVersion.TheVariants.{Three};
+ghost use Rattle.timefd_node_list.specs.Views.{walked};
+ghost use Rattle.timefd_c_read.specs.Reports.{IsRead, Reports};
+
+use crate::report::{Report, has_room, report_of};
+use crate::version_three::read_in_turn;
+use std::alloc::{AllocError, Global};
+use timefd_c_nodes::{Node, START, write_view};
+use timefd_items::FormatDescriptionV3;
+use timefd_parse::{
+    BorrowedOutput, BorrowedParseError, DescriptionVersion, Language, NESTING_LIMIT,
+    parse_all_borrowed,
+};
+
+// A text that has so many bytes may nest many descriptions. They tell whether it does.
+const FRONT: usize = 256;
+
+/// Reads a text of version 3. Where a long one nests descriptions, all is built together, which takes a
+/// few blocks of memory and not one for each.
+pub fn read_version_three<'a>(
+    alloc: Global,
+    text: &'a str,
+    nodes: &mut [Node],
+    literals: &mut [u8],
+) -> Result<Report, BorrowedParseError<'a>>
+    ensures { IsRead (Language.Version Three) text.now nodes.old nodes.new literals.old literals.new
+        result }
+{
+    if !text.is_empty() && seems_nested(text) {
+        return read_built(alloc, text, nodes, literals);
+    }
+    read_in_turn(alloc, text, nodes, literals)
+}
+
+// Whether a text is long, and a bracket opens in another one, as a nested description's does. The answer of
+// the reader is the same where that is wrong.
+fn seems_nested(text: &str) -> bool {
+    let Some(front) = text.as_bytes().get(..FRONT) else {
+        return false;
+    };
+    let mut is_open = false;
+    let mut before = b' ';
+    for byte in front {
+        match *byte {
+            b'[' if before == b'\\' => {}
+            b'[' if is_open => return true,
+            b'[' => is_open = true,
+            b']' => is_open = false,
+            _ => {}
+        }
+        before = *byte;
+    }
+    false
+}
+
+// Builds all before it is written.
+#[inline(never)]
+fn read_built<'a>(
+    alloc: Global,
+    text: &'a str,
+    nodes: &mut [Node],
+    literals: &mut [u8],
+) -> Result<Report, BorrowedParseError<'a>>
+    requires { 0 < length text.now }
+    ensures { IsRead (Language.Version Three) text.now nodes.old nodes.new literals.old literals.new
+        result }
+{
+    match parse_all_borrowed(alloc, DescriptionVersion::Three, NESTING_LIMIT, text) {
+        Ok(BorrowedOutput::Description(description)) => {
+            match report_description(&description, nodes, literals) {
+                Some(report) => Ok(report),
+                None => Err(BorrowedParseError::Memory(AllocError)),
+            }
+        }
+        Ok(BorrowedOutput::Items(_)) => unreachable!(),
+        Err(error) => Err(error),
+    }
+}
+
+// Writes what a description is, as far as there is room. There is no answer where a `usize` doesn't
+// count it.
+fn report_description(
+    description: &FormatDescriptionV3<'_>,
+    nodes: &mut [Node],
+    literals: &mut [u8],
+) -> Option<Report>
+    ensures { IfSome result (Reports (walked (description_tree description.now))
+        (reserve (description_tree description.now)) (reserve (description_tree description.now))
+        nodes.old nodes.new literals.old literals.new) }
+{
+    let bytes = description.max_bytes_needed();
+    let end = write_view(description.view(), START, nodes, literals)?;
+    Some(report_of(bytes, bytes, end, has_room(end, nodes, literals)))
+}

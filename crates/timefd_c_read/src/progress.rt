@@ -1,0 +1,37 @@
+//! How far a text was read and written.
+
+ghost use Rattle.std.specs.Prelude.{◌≡◌, ◌<◌};
+ghost use Rattle.timefd_c_read.specs.Progress as spec;
+
+use timefd_c_nodes::{Place, START, Written};
+
+/// What was read and written so far.
+#[derive(Clone, Copy)]
+pub struct Progress {
+    /// How many items were read.
+    pub count: usize,
+    /// The bytes that they reserve together, at most `usize::MAX`.
+    pub bytes: usize,
+    /// The place behind what was written, also where it had no room.
+    pub end: Place,
+}
+
+/// Nothing was read.
+pub const NOTHING: Progress = Progress {
+    count: 0,
+    bytes: 0,
+    end: START,
+};
+
+/// One more item was read and written, so that each item has a node.
+#[inline(always)]
+pub fn one_more(before: Progress, item: Written) -> Progress
+    requires { before.count < item.end.nodes }
+    ensures { result ≡ spec.one_more before item }
+{
+    Progress {
+        count: before.count + 1,
+        bytes: before.bytes.saturating_add(item.bytes),
+        end: item.end,
+    }
+}

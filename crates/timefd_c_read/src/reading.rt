@@ -1,0 +1,58 @@
+//! Texts of each language, read as nodes.
+
+ghost use Rattle.std.specs.Prelude.{◌≡◌, [], List, IfOk, IsOk, MatchResult};
+ghost use Rattle.std.specs.Result.{IfErr};
+ghost use Rattle.timefd_borrowed_fault.specs.BorrowedFaults.{IsLent, IsLentOf, IsMemory};
+ghost use Rattle.timefd_component.specs.Tree.{Tree};
+ghost use Rattle.timefd_fault.specs.Faults as spec;
+ghost use Rattle.timefd_language.specs.Grammar.{nesting_limit};
+ghost use Rattle.timefd_parse.specs.Language.{FaultIn, SpellsIn};
+ghost use Rattle.timefd_c_read.specs.Reports.{IsReport};
+
+use crate::nested::read_version_three;
+use crate::report::Report;
+use crate::strftime::read_strftime;
+use crate::version::read_version;
+use std::alloc::Global;
+use timefd_c_nodes::Node;
+use timefd_parse::{BorrowedParseError, DescriptionVersion, Language};
+
+/// Reads a text of a language, and writes its nodes and the bytes of its literals to the fronts of
+/// the buffers, as far as there is room. Of buffers that are too short, and of a text that is refused,
+/// nothing is said: parts may be written. Only what version 3 nests takes memory.
+///
+/// The error is `Invalid` with the fault of the text, or `Memory` where memory ran out. A text that
+/// has a fault is refused for it even then.
+pub fn read<'a>(
+    alloc: Global,
+    language: Language,
+    text: &'a str,
+    nodes: &mut [Node],
+    literals: &mut [u8],
+) -> Result<Report, BorrowedParseError<'a>>
+    // What is accepted is spelled so, and what is refused is refused for the fault that the rules
+    // assign.
+    ensures found { IfOk result (λ r. (list : List Tree)
+        × SpellsIn language nesting_limit text.now list
+        × IsReport language list nodes.old nodes.new literals.old literals.new r) }
+    ensures fault { IfErr result (IsLentOf (FaultIn language nesting_limit text.now)) }
+
+    // What is spelled is accepted, unless memory runs out, and what has a fault is refused for it.
+    ensures spelled { (list : List Tree) → SpellsIn language nesting_limit text.now list
+        → MatchResult result (IsReport language list nodes.old nodes.new literals.old literals.new) IsMemory }
+    ensures refused { (f : spec.Fault) → FaultIn language nesting_limit text.now f
+        → MatchResult result (λ _. ⊥) (IsLent f) }
+
+    // The empty text takes no memory.
+    ensures empty { text.now ≡ [] → IsOk result }
+{
+    match language {
+        Language::Strftime => read_strftime(text, nodes, literals),
+        Language::Version(version) => {
+            if let DescriptionVersion::Three = version {
+                return read_version_three(alloc, text, nodes, literals);
+            }
+            read_version(alloc, version, text, nodes, literals)
+        }
+    }
+}

@@ -1,0 +1,106 @@
+//! Texts of strftime.
+
+ghost use Rattle.std.specs.Prelude.{◌≡◌, ◌<◌, List, IfSome, MatchResult, length};
+ghost use Rattle.std.specs.Result.{IfErr};
+ghost use Rattle.timefd_component.specs.Reserved.{reserve};
+ghost use Rattle.timefd_component.specs.Tree.{Tree, compound, trees};
+ghost use Rattle.timefd_language.specs.FaultMeaning.{MemoryOr};
+ghost use Rattle.timefd_language.specs.Strftime.{SpellsStrftime};
+ghost use Rattle.timefd_node_list.specs.Views.{walked};
+ghost use Rattle.timefd_c_nodes.specs.Writing.{IsWritten};
+ghost use Rattle.timefd_strftime.specs.LetterMeaning.{composite_list};
+ghost use Rattle.timefd_strftime.specs.PieceMeaning.{piece_tree};
+ghost use Rattle.timefd_strftime.specs.StrftimeReading.{IsStrftimeFaultIn};
+ghost use Rattle.timefd_c_read.specs.Progress.{HasWritten};
+ghost use Rattle.timefd_c_read.specs.Reports.{IsRead};
+
+use crate::leaf::write_component;
+use crate::progress::{NOTHING, Progress, one_more};
+use crate::report::{Report, has_room, report_of};
+use timefd_c_nodes::{Node, Place, Written, put_literal, write_compound};
+use timefd_language::fault::ReadError;
+use timefd_parse::{BorrowedParseError, Language};
+use timefd_strftime::{
+    Composite, StrftimePiece, StrftimeTables, next_strftime_piece, strftime_error,
+};
+
+/// Reads a text of strftime. It takes no memory.
+#[inline(never)]
+pub fn read_strftime<'a>(
+    text: &'a str,
+    nodes: &mut [Node],
+    literals: &mut [u8],
+) -> Result<Report, BorrowedParseError<'a>>
+    ensures { IsRead Language.Strftime text.now nodes.old nodes.new literals.old literals.new result }
+{
+    match write_pieces(text, nodes, literals) {
+        Ok(all) => Ok(report_of(
+            all.count,
+            all.bytes,
+            all.end,
+            has_room(all.end, nodes, literals),
+        )),
+        Err(error) => Err(strftime_error(error, text)),
+    }
+}
+
+/// Writes the pieces of a text, as far as there is room. The error is its fault, or `Memory` where a
+/// `usize` doesn't count what is written.
+#[inline(always)]
+fn write_pieces<'a>(
+    text: &'a str,
+    nodes: &mut [Node],
+    literals: &mut [u8],
+) -> Result<Progress, ReadError<'a>>
+    ensures pieces { MatchResult result (λ p. (list : List Tree) × SpellsStrftime text.now list
+        × HasWritten list nodes.old nodes.new literals.old literals.new p)
+        (MemoryOr (IsStrftimeFaultIn text.now)) }
+    ensures some { IfErr result (λ _. 0 < length text.now) }
+{
+    let mut progress = NOTHING;
+    let mut rest = text;
+    'pieces: loop {
+        let Some((piece, after)) = next_strftime_piece(rest)? else {
+            return Ok(progress);
+        };
+        let Some(written) = write_piece(piece, progress.end, nodes, literals) else {
+            return Err(ReadError::Memory);
+        };
+        progress = one_more(progress, written);
+        rest = after;
+    }
+}
+
+/// Writes a piece at a place, as far as there is room. There is no answer where a `usize` doesn't count
+/// what is written.
+#[inline(always)]
+fn write_piece(
+    piece: StrftimePiece<'_>,
+    at: Place,
+    nodes: &mut [Node],
+    literals: &mut [u8],
+) -> Option<Written>
+    ensures { IfSome result (IsWritten (walked (piece_tree piece.entry)) (reserve
+        (piece_tree piece.entry)) at nodes.old nodes.new literals.old literals.new) }
+{
+    match piece {
+        StrftimePiece::Literal(text) => put_literal(text.as_bytes(), at, nodes, literals),
+        StrftimePiece::Component(component) => write_component(component, at, nodes),
+        StrftimePiece::Composite(composite) => write_composite(composite, at, nodes, literals),
+    }
+}
+
+/// Writes the list of a composite letter as one item.
+#[inline(never)]
+fn write_composite(
+    composite: Composite,
+    at: Place,
+    nodes: &mut [Node],
+    literals: &mut [u8],
+) -> Option<Written>
+    ensures { IfSome result (IsWritten (walked (compound (trees (composite_list composite)))) (reserve
+        (compound (trees (composite_list composite)))) at nodes.old nodes.new literals.old literals.new) }
+{
+    let tables = StrftimeTables::new();
+    write_compound(tables.list(composite), at, nodes, literals)
+}
