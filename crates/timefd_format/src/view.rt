@@ -27,8 +27,9 @@ pub(crate) fn write_view(moment: Moment, view: View<'_, '_>, buffer: &mut [u8]) 
     at
 }
 
+/// Writes what a component or literal shows of the moment in front of a place.
 #[tactic(auto, using(crate::proofs::Utf8Lemmas::shown_utf8))]
-fn write_leaf(moment: Moment, leaf: Leaf<'_>, buffer: &mut [u8], place: Place) -> Place
+pub(crate) fn write_leaf(moment: Moment, leaf: Leaf<'_>, buffer: &mut [u8], place: Place) -> Place
     requires { IsIn (length buffer.old) place }
     ensures writes { Writes (written moment (leaf_tree leaf.entry)) buffer.old place buffer.new
         result }

@@ -109,3 +109,8 @@ fields_of t text = whole (length text) (read t (start text))
 abbrev pub Gives : Result Point Fault → Fields → Result (Bor Text) Fault → Type 0
 Gives read fields (Ok rest) = read ≡ Ok (at rest.now fields)
 Gives read fields (Err f) = read ≡ Err f
+
+-- What is filled in and answered is what was to be read. Of the fields behind an error it says nothing.
+abbrev pub Fills : Result Fields ReadError → Fields → Result (Unit {0}) ReadError → Type 0
+Fills read fields (Ok done) = read ≡ Ok fields
+Fills read fields (Err e) = read ≡ Err e

@@ -97,7 +97,7 @@ pub(crate) enum Amount {
 }
 
 /// Nothing was read.
-pub(crate) const NO_FIELDS: Fields = Fields {
+pub const NO_FIELDS: Fields = Fields {
     year: None,
     century: None,
     year_last_two: None,

@@ -25,7 +25,7 @@ pub(crate) fn input(rule: Rule, text: &[u8]) -> Option<(Reading, usize)>
             width,
             lowest,
             highest,
-        } => number(text, field, padding, width, lowest, highest),
+        } => count(field, number(text, field, padding, width, lowest, highest)),
         Rule::Weekday {
             is_sunday_first,
             is_one_indexed,
@@ -52,22 +52,33 @@ pub(crate) fn input(rule: Rule, text: &[u8]) -> Option<(Reading, usize)>
     }
 }
 
-fn number(
+/// A number in a range, and how many bytes it takes.
+pub(crate) fn number(
     text: &[u8],
     field: Count,
     padding: Padding,
     width: usize,
     lowest: u16,
     highest: u16,
-) -> Option<(Reading, usize)>
+) -> Option<(u16, usize)>
     requires some { 1 ≤ width }
     requires few { width ≤ 23 }
-    ensures value { result ≡ spec.number field padding width lowest highest text.now }
+    ensures value { spec.as_count field result
+        ≡ spec.number field padding width lowest highest text.now }
     ensures within { IfSome result (λ r. r.1 ≤ length text.now) }
 {
     let found = padded(text, padding, width, width);
     match within(found, lowest as u128, highest as u128) {
-        Some((number, len)) => Some((Reading::Count(field, number as u16), len)),
+        Some((number, len)) => Some((number as u16, len)),
+        None => None,
+    }
+}
+
+fn count(field: Count, found: Option<(u16, usize)>) -> Option<(Reading, usize)>
+    ensures { result ≡ spec.as_count field found }
+{
+    match found {
+        Some((number, len)) => Some((Reading::Count(field, number), len)),
         None => None,
     }
 }

@@ -7,6 +7,7 @@ mod fields;
 mod input;
 mod items;
 pub mod laws;
+mod leaves;
 mod names;
 mod numbers;
 mod part;
@@ -16,5 +17,6 @@ mod rule;
 mod view;
 
 pub use fault::{ReadError, Reason};
-pub use fields::{Fields, Fraction, Signed};
-pub use read::{read_fields, read_item_fields};
+pub use fields::{Fields, Fraction, NO_FIELDS, Signed};
+pub use leaves::leaves_in_turn;
+pub use read::{fill_fields, fill_item_fields, fill_leaf_fields, read_fields, read_item_fields};

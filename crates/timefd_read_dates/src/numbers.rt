@@ -79,6 +79,7 @@ fn sign_in(text: &[u8]) -> Option<bool>
 }
 
 /// A number with its sign, which has to stand where it is mandatory.
+#[inline(always)]
 pub(crate) fn signed(text: &[u8], is_mandatory: bool, form: Form) -> Option<(Signed, usize)>
     requires { IsForm form }
     ensures value { result ≡ spec.signed is_mandatory form text.now }

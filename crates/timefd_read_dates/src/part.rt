@@ -1,15 +1,18 @@
 //! One part of a description at the front of what is left of a text.
 
-ghost use Rattle.std.specs.Prelude.{◌≡◌, length};
+ghost use Rattle.std.specs.Prelude.{◌≡◌, ◌≤◌, IfSome, length};
 ghost use Rattle.timefd_component.specs.Modern.{modern};
+ghost use Rattle.timefd_read_dates.specs.Inputs.{as_amount, as_count, input};
 ghost use Rattle.timefd_read_dates.specs.Reads as spec;
 ghost use Rattle.timefd_read_dates.specs.Reads.{Gives, at};
+ghost use Rattle.timefd_read_dates.specs.Rules.{IsRule};
 
 use crate::fault::{Fault, Reason};
-use crate::fields::Fields;
-use crate::input::input;
-use crate::reading::take;
-use crate::rule::rule_of;
+use crate::fields::{Amount, Count, Fields, Signed};
+use crate::input::{input, number};
+use crate::numbers::signed;
+use crate::reading::{take, take_amount, take_count};
+use crate::rule::{Rule, rule_of};
 use timefd_component::Component;
 
 fn fault(rest: &[u8], reason: Reason) -> Fault
@@ -21,7 +24,9 @@ fn fault(rest: &[u8], reason: Reason) -> Fault
     }
 }
 
-/// Reads a component, of a deprecated one the component that it stands for. What is left is answered.
+/// Reads a component, of a deprecated one the component that it stands for. What is left is answered. It is
+/// a call of its own, so that what calls itself for nested parts takes little stack.
+#[inline(never)]
 pub(crate) fn read_component<'t>(
     component: Component,
     rest: &'t [u8],
@@ -33,15 +38,103 @@ pub(crate) fn read_component<'t>(
     read_modern(component.modern(), rest, fields)
 }
 
-#[tactic(auto, using(crate::proofs::TakeLemmas::component_read, crate::proofs::TakeLemmas::component_contradicts, crate::proofs::TakeLemmas::component_unread))]
-fn read_modern<'t>(
+/// Reads a modern component. Most are numbers, which are taken as they are found.
+#[inline(always)]
+#[tactic(auto, using(crate::proofs::TakeLemmas::by_rule))]
+pub(crate) fn read_modern<'t>(
     component: Component,
     rest: &'t [u8],
     fields: &mut Fields,
 ) -> Result<&'t [u8], Fault>
     ensures { Gives (spec.read_component component (at rest.now fields.old)) fields.new result }
 {
-    match input(rule_of(component), rest) {
+    match rule_of(component) {
+        Rule::Number {
+            field,
+            padding,
+            width,
+            lowest,
+            highest,
+        } => {
+            let found = number(rest, field, padding, width, lowest, highest);
+            read_count(component, field, found, rest, fields)
+        }
+        Rule::Signed {
+            field,
+            is_mandatory,
+            form,
+        } => {
+            let found = signed(rest, is_mandatory, form);
+            read_amount(component, field, found, rest, fields)
+        }
+        rule => read_other(component, rule, rest, fields),
+    }
+}
+
+/// Takes the number that was found at the front.
+#[tactic(auto, using(crate::proofs::TakeLemmas::count_read, crate::proofs::TakeLemmas::count_contradicts))]
+fn read_count<'t>(
+    component: Component,
+    field: Count,
+    found: Option<(u16, usize)>,
+    rest: &'t [u8],
+    fields: &mut Fields,
+) -> Result<&'t [u8], Fault>
+    requires { IfSome found (λ r. r.1 ≤ length rest.now) }
+    ensures { Gives (spec.taken component (at rest.now fields.old) (as_count field found)) fields.new
+        result }
+{
+    match found {
+        Some((number, len)) => {
+            if take_count(fields, field, number) {
+                Ok(&rest[len..])
+            } else {
+                Err(fault(rest, Reason::Contradiction(component)))
+            }
+        }
+        None => Err(fault(rest, Reason::Unread(component))),
+    }
+}
+
+/// Takes the number with its sign that was found at the front.
+#[tactic(auto, using(crate::proofs::TakeLemmas::amount_read, crate::proofs::TakeLemmas::amount_contradicts))]
+fn read_amount<'t>(
+    component: Component,
+    field: Amount,
+    found: Option<(Signed, usize)>,
+    rest: &'t [u8],
+    fields: &mut Fields,
+) -> Result<&'t [u8], Fault>
+    requires { IfSome found (λ r. r.1 ≤ length rest.now) }
+    ensures { Gives (spec.taken component (at rest.now fields.old) (as_amount field found)) fields.new
+        result }
+{
+    match found {
+        Some((number, len)) => {
+            if take_amount(fields, field, number) {
+                Ok(&rest[len..])
+            } else {
+                Err(fault(rest, Reason::Contradiction(component)))
+            }
+        }
+        None => Err(fault(rest, Reason::Unread(component))),
+    }
+}
+
+/// Reads by any rule.
+#[inline(never)]
+#[tactic(auto, using(crate::proofs::TakeLemmas::rule_read, crate::proofs::TakeLemmas::rule_contradicts, crate::proofs::TakeLemmas::rule_unread))]
+fn read_other<'t>(
+    component: Component,
+    rule: Rule,
+    rest: &'t [u8],
+    fields: &mut Fields,
+) -> Result<&'t [u8], Fault>
+    requires { IsRule rule }
+    ensures { Gives (spec.taken component (at rest.now fields.old) (input rule rest.now)) fields.new
+        result }
+{
+    match input(rule, rest) {
         Some((reading, len)) => {
             if take(fields, reading) {
                 Ok(&rest[len..])

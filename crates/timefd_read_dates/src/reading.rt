@@ -31,8 +31,10 @@ pub(crate) fn take(fields: &mut Fields, reading: Reading) -> bool
     }
 }
 
+/// Sets a field without a sign, where it agrees.
+#[inline(always)]
 #[tactic(auto, using(crate::proofs::TakeLemmas::count_kept, crate::proofs::TakeLemmas::count_set))]
-fn take_count(fields: &mut Fields, field: Count, number: u16) -> bool
+pub(crate) fn take_count(fields: &mut Fields, field: Count, number: u16) -> bool
     ensures { Takes (spec.count_with fields.old field number (count fields.old field)) fields.new
         result }
 {
@@ -45,8 +47,10 @@ fn take_count(fields: &mut Fields, field: Count, number: u16) -> bool
     }
 }
 
+/// Sets a field with a sign, where it agrees.
+#[inline(always)]
 #[tactic(auto, using(crate::proofs::TakeLemmas::amount_kept, crate::proofs::TakeLemmas::amount_set))]
-fn take_amount(fields: &mut Fields, field: Amount, number: Signed) -> bool
+pub(crate) fn take_amount(fields: &mut Fields, field: Amount, number: Signed) -> bool
     ensures { Takes (spec.amount_with fields.old field number (amount fields.old field)) fields.new
         result }
 {

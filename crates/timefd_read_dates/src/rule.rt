@@ -78,6 +78,7 @@ pub(crate) struct Form {
 }
 
 /// How a modern component is read.
+#[inline(always)]
 pub(crate) fn rule_of(component: Component) -> Rule
     ensures table { result ≡ spec.rule_of component }
     ensures bounds { IsRule result }

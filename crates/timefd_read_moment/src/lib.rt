@@ -6,6 +6,7 @@ mod agreed;
 mod date_times;
 mod dates;
 mod day;
+mod days;
 mod error;
 mod instants;
 mod known;

@@ -4,6 +4,7 @@ ghost use Rattle.std.specs.Prelude.{◌≡◌};
 ghost use Rattle.timefd_moment.specs.Moments.{magnitude};
 ghost use Rattle.timefd_read_moment.specs.Shown as spec;
 
+use crate::days;
 use crate::part::{DatePart, OffsetPart, TimePart};
 use timefd_moment::{Date, Time, UtcOffset};
 use timefd_read_dates::{Fields, Fraction, Signed};
@@ -76,17 +77,41 @@ pub(crate) fn date_has(fields: &Fields, date: Date, part: DatePart) -> bool
     match part {
         DatePart::Day => is_count(fields.day, date.day as u32),
         DatePart::Month => is_count(fields.month, date.month as u32),
-        DatePart::Ordinal => is_count(fields.ordinal, date.ordinal() as u32),
-        DatePart::Weekday => is_count(fields.weekday, date.number_days_from_monday() as u32),
-        DatePart::IsoWeek => is_count(fields.iso_week, date.iso_week() as u32),
-        DatePart::SundayWeek => is_count(fields.sunday_week, date.sunday_based_week() as u32),
-        DatePart::MondayWeek => is_count(fields.monday_week, date.monday_based_week() as u32),
+        DatePart::Ordinal => match fields.ordinal {
+            Some(read) => read as u32 == days::ordinal(date),
+            None => true,
+        },
+        DatePart::Weekday => match fields.weekday {
+            Some(read) => read as u32 == days::weekday(date),
+            None => true,
+        },
+        DatePart::IsoWeek => match fields.iso_week {
+            Some(read) => read as u32 == days::iso_week(date),
+            None => true,
+        },
+        DatePart::SundayWeek => match fields.sunday_week {
+            Some(read) => read as u32 == days::sunday_week(date),
+            None => true,
+        },
+        DatePart::MondayWeek => match fields.monday_week {
+            Some(read) => read as u32 == days::monday_week(date),
+            None => true,
+        },
         DatePart::YearLastTwo => is_last_two(fields.year_last_two, date.years),
         DatePart::Century => is_century(fields.century, date.years),
         DatePart::Year => is_year(fields.year, date.years),
-        DatePart::IsoYearLastTwo => is_last_two(fields.iso_year_last_two, date.iso_years()),
-        DatePart::IsoCentury => is_century(fields.iso_century, date.iso_years()),
-        DatePart::IsoYear => is_year(fields.iso_year, date.iso_years()),
+        DatePart::IsoYearLastTwo => match fields.iso_year_last_two {
+            Some(read) => is_last_two(Some(read), days::iso_years(date)),
+            None => true,
+        },
+        DatePart::IsoCentury => match fields.iso_century {
+            Some(read) => is_century(Some(read), days::iso_years(date)),
+            None => true,
+        },
+        DatePart::IsoYear => match fields.iso_year {
+            Some(read) => is_year(Some(read), days::iso_years(date)),
+            None => true,
+        },
     }
 }
 

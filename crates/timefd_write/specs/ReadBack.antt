@@ -1,9 +1,12 @@
 -- The moment that a text shows by a description.
-use Rattle.std.specs.Prelude.{◌≡◌, Result, Ok, Err}
+use Rattle.std.specs.Prelude.{◌≡◌, List, map, Option, Some, None, Result, Ok, Err, ⊤}
+use denote.Ref.{Bor}
 use Rattle.timefd_component.specs.Tree.{Text, Tree, compound, trees}
 use Rattle.timefd_format_item.specs.Meaning.{item_trees}
 use Rattle.timefd_items.specs.Description.{description_tree}
 use Rattle.timefd_moment.specs.declared.moment.Moment.{Moment}
+use Rattle.timefd_node_list.specs.declared.leaves.Leaf.{Leaf}
+use Rattle.timefd_node_list.specs.LeafMeaning.{leaf_tree}
 use Rattle.timefd_parse.specs.declared.parsing.BorrowedOutput.{BorrowedOutput}
 use Rattle.timefd_parse.specs.declared.parsing.BorrowedOutput.TheVariants.{Items, Description}
 use Rattle.timefd_read_dates.specs.declared.fault.ReadError.{ReadError}
@@ -17,6 +20,15 @@ use Rattle.timefd_write.specs.declared.moment.MomentError.TheVariants as fails
 abbrev pub tree_of : BorrowedOutput → Tree
 tree_of (Items items) = compound (trees (item_trees items.items))
 tree_of (Description d) = description_tree d
+
+-- The description is these components and literals in turn.
+abbrev pub IsMadeOf : BorrowedOutput → List Leaf → Type 0
+IsMadeOf o leaves = tree_of o ≡ compound (trees (map leaf_tree leaves))
+
+-- The leaves, where some are given, are those of the description.
+abbrev pub AreLeavesOf : BorrowedOutput → Option (Bor (List Leaf)) → Type 0
+AreLeavesOf o None = ⊤
+AreLeavesOf o (Some leaves) = IsMadeOf o leaves.now
 
 abbrev pub IsOfFields : Result Fields ReadError → Result Moment MomentError → Type 0
 IsOfFields (Ok f) (Ok m) = IsMomentOf f (Ok m)

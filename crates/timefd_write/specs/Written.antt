@@ -1,5 +1,5 @@
 -- What is written of words, one after another.
-use Rattle.std.specs.Prelude.{ℕ, ◌≡◌, Bool, List, [], ◌∷◌, ◌++◌, codes, map, Option, Result, Ok, Err, IsUtf8, ⊤}
+use Rattle.std.specs.Prelude.{ℕ, ◌≡◌, ◌≤◌, Bool, List, [], ◌∷◌, ◌++◌, codes, drop, length, map, Option, Result, Ok, Err, IsUtf8, ⊤}
 use Rattle.std.specs.Io.KnownBytes.{Appends, IsAtEnd}
 use Rattle.std.specs.declared.alloc.Global.{Global}
 use Rattle.std.specs.declared.vec.Vec.{Vec}
@@ -7,6 +7,8 @@ use Rattle.timefd_component.specs.Tree.{Text, trees}
 use Rattle.timefd_format.specs.declared.text.TextError.{TextError}
 use Rattle.timefd_format.specs.declared.text.TextError.TheVariants as fails
 use Rattle.timefd_format.specs.declared.unshown.Unshown.{Unshown}
+use Rattle.timefd_format.specs.declared.write.FormatError.{FormatError}
+use Rattle.timefd_format.specs.declared.write.FormatError.TheVariants as lacks
 use Rattle.timefd_format.specs.Written.{written, written_all}
 use Rattle.timefd_format_item.specs.Meaning.{item_trees}
 use Rattle.timefd_items.specs.Description.{description_tree}
@@ -27,6 +29,23 @@ use Rattle.timefd_write.specs.Tallies.{at_end, tally_of, both}
 abbrev pub written_of : Moment → BorrowedOutput → Result Text Unshown
 written_of m (Items items) = written_all m (trees (item_trees items.items))
 written_of m (Description d) = written m (description_tree d)
+
+-- A room ends with that text, from the place on that is answered.
+abbrev pub EndsWith : Result Text Unshown → Text → Result ℕ FormatError → Type 0
+EndsWith written room (Ok at) = (at ≤ length room) × (written ≡ Ok (drop at room))
+EndsWith written room (Err lacks.Room) = ⊤
+EndsWith written room (Err (lacks.Unshown u)) = written ≡ Err u
+
+-- A line is that text and a newline.
+abbrev pub IsLineOf : Result Text Unshown → Text → Type 0
+IsLineOf (Ok text) line = line ≡ text ++ codes "\n"
+IsLineOf (Err u) line = ⊥
+
+-- A room ends with that line, from the place on that is answered.
+abbrev pub EndsWithLine : Result Text Unshown → Text → Result ℕ FormatError → Type 0
+EndsWithLine written room (Ok at) = (at ≤ length room) × IsLineOf written (drop at room)
+EndsWithLine written room (Err lacks.Room) = ⊤
+EndsWithLine written room (Err (lacks.Unshown u)) = written ≡ Err u
 
 -- that text and a newline
 abbrev pub IsLine : Result Text Unshown → Result (Vec ℕ Global) TextError → Type 0

@@ -1,15 +1,24 @@
 //! The moments that the lines of a reader name, one after another.
 
 ghost use Rattle.std.specs.Prelude.{IfOk};
+ghost use Rattle.timefd_write.specs.ReadBack.{AreLeavesOf};
+ghost use Rattle.timefd_write.specs.Sources.{AreLeavesIn};
 ghost use Rattle.timefd_write.specs.Written.{IsRead, RunsOver};
 
 use crate::line::write_one;
 use crate::outcome::{RunError, Tally};
-use crate::source::Source;
-use std::alloc::Global;
+use crate::read_back::leaves_of;
+use crate::source::{Source, source_leaves};
+use std::alloc::{AllocError, Global};
 use std::io::{BufRead, ErrorKind, Write};
+use timefd_node_list::Leaf;
 use timefd_parse::BorrowedOutput;
 use timefd_rewrite::without_newline;
+
+// How many bytes are kept for a line of items, whose length isn't known, and at most for one of a description.
+const ITEM_ROOM: usize = 256;
+
+const MOST_ROOM: usize = 65_536;
 
 // What a read of a line comes to.
 #[derive(Clone, Copy)]
@@ -47,9 +56,20 @@ fn read_line<R: BufRead>(reader: &mut R, bytes: &mut Vec<u8>) -> Result<LineRead
     }
 }
 
+// Room for what the description shows, or for most texts.
+fn line_room(alloc: Global, description: &BorrowedOutput<'_>) -> Result<Vec<u8>, AllocError> {
+    let count = match description {
+        BorrowedOutput::Items(_) => ITEM_ROOM,
+        BorrowedOutput::Description(description) => {
+            description.view().max_bytes_needed().min(MOST_ROOM) + 1
+        }
+    };
+    vec![in alloc; 0u8; count]
+}
+
 /// Writes the line of the moment that each line of the reader names or shows, in turn. Those that have none
 /// are told, and the others are still written.
-#[tactic(auto, using(crate::proofs::RunLemmas::lines_start))]
+#[tactic(auto, using(crate::proofs::LineLemmas::lent_in, crate::proofs::LineLemmas::lent_of))]
 pub fn write_lines<R: BufRead, W: Write, E: Write>(
     alloc: Global,
     source: &Source<'_>,
@@ -61,8 +81,40 @@ pub fn write_lines<R: BufRead, W: Write, E: Write>(
     ensures { IfOk result (RunsOver source.now description.now (R.remaining reader.old)
         (W.contents output.old) (W.contents output.new)) }
 {
+    let read = source_leaves(alloc, source)?;
+    let written = leaves_of(alloc, description)?;
+    write_by(
+        alloc,
+        source,
+        read.as_deref(),
+        description,
+        written.as_deref(),
+        reader,
+        output,
+        errors,
+    )
+}
+
+// The same by the leaves of both descriptions, where some were found.
+#[tactic(auto, using(crate::proofs::RunLemmas::lines_start))]
+fn write_by<R: BufRead, W: Write, E: Write>(
+    alloc: Global,
+    source: &Source<'_>,
+    source_leaves: Option<&[Leaf<'_>]>,
+    description: &BorrowedOutput<'_>,
+    leaves: Option<&[Leaf<'_>]>,
+    reader: &mut R,
+    output: &mut W,
+    errors: &mut E,
+) -> Result<Tally, RunError>
+    requires source { AreLeavesIn source.now source_leaves }
+    requires written { AreLeavesOf description.now leaves }
+    ensures { IfOk result (RunsOver source.now description.now (R.remaining reader.old)
+        (W.contents output.old) (W.contents output.new)) }
+{
     let mut tally = Tally::at_end(false);
     let mut bytes = Vec::new(alloc);
+    let mut room = line_room(alloc, description)?;
     'lines: for line in 1..u64::MAX {
         match read_line(reader, &mut bytes)? {
             LineRead::Line => {
@@ -70,9 +122,12 @@ pub fn write_lines<R: BufRead, W: Write, E: Write>(
                 let outcome = write_one(
                     alloc,
                     source,
+                    source_leaves,
                     description,
+                    leaves,
                     Some(line),
                     word,
+                    &mut room,
                     output,
                     errors,
                 )?;

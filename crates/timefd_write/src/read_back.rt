@@ -1,23 +1,48 @@
 //! The moment that a text shows by a description.
 
-ghost use Rattle.std.specs.Prelude.{◌≡◌};
-ghost use Rattle.timefd_read_dates.specs.Reads.{fields_of};
+ghost use Rattle.std.specs.Prelude.{IfOk, IfSome};
+ghost use Rattle.timefd_read_dates.specs.Reads.{Fills, fields_of};
 ghost use Rattle.timefd_write.specs.ReadBack as spec;
-ghost use Rattle.timefd_write.specs.ReadBack.{IsReadBack};
+ghost use Rattle.timefd_write.specs.ReadBack.{AreLeavesOf, IsMadeOf, IsReadBack};
 
 use crate::moment::MomentError;
+use std::alloc::{AllocError, Global};
 use timefd_moment::Moment;
+use timefd_node_list::Leaf;
 use timefd_parse::BorrowedOutput;
-use timefd_read_dates::{Fields, ReadError, read_fields, read_item_fields};
+use timefd_read_dates::{
+    Fields, NO_FIELDS, ReadError, fill_fields, fill_item_fields, fill_leaf_fields, leaves_in_turn,
+};
 use timefd_read_moment::moment;
 
-/// The moment that a whole text shows by the description. An `Err` tells which part does not read,
-/// and the byte index where it begins; or why what was read is no moment.
-pub fn moment_read(description: &BorrowedOutput<'_>, text: &str) -> Result<Moment, MomentError>
+/// The components and literals that a description is, where it is no more than those in turn. They
+/// are found once, and many texts read by them.
+pub fn leaves_of<'d>(
+    alloc: Global,
+    description: &'d BorrowedOutput<'_>,
+) -> Result<Option<Vec<Leaf<'d>>>, AllocError>
+    ensures { IfOk result (λ found. IfSome found (λ leaves. IsMadeOf description.now leaves.items)) }
+{
+    match description {
+        BorrowedOutput::Items(_) => Ok(None),
+        BorrowedOutput::Description(description) => leaves_in_turn(alloc, description.view()),
+    }
+}
+
+/// The moment that a whole text shows by the description, or by the leaves that were found of it.
+/// An `Err` tells which part does not read, and the byte index where it begins; or why what was
+/// read is no moment.
+pub fn moment_read(
+    description: &BorrowedOutput<'_>,
+    leaves: Option<&[Leaf<'_>]>,
+    text: &str,
+) -> Result<Moment, MomentError>
+    requires { AreLeavesOf description.now leaves }
     ensures { IsReadBack description.now text.now result }
 {
-    match fields_read(description, text) {
-        Ok(fields) => match moment(&fields) {
+    let mut fields = NO_FIELDS;
+    match fill(description, leaves, text, &mut fields) {
+        Ok(()) => match moment(&fields) {
             Ok(moment) => Ok(moment),
             Err(error) => Err(MomentError::Value(error)),
         },
@@ -25,12 +50,21 @@ pub fn moment_read(description: &BorrowedOutput<'_>, text: &str) -> Result<Momen
     }
 }
 
-// The fields that the text shows.
-fn fields_read(description: &BorrowedOutput<'_>, text: &str) -> Result<Fields, ReadError>
-    ensures { result ≡ fields_of (spec.tree_of description.now) text.now }
+// Puts the fields that the text shows in place of these.
+fn fill(
+    description: &BorrowedOutput<'_>,
+    leaves: Option<&[Leaf<'_>]>,
+    text: &str,
+    fields: &mut Fields,
+) -> Result<(), ReadError>
+    requires { AreLeavesOf description.now leaves }
+    ensures { Fills (fields_of (spec.tree_of description.now) text.now) fields.new result }
 {
+    if let Some(leaves) = leaves {
+        return fill_leaf_fields(leaves, text, fields);
+    }
     match description {
-        BorrowedOutput::Items(items) => read_item_fields(items, text),
-        BorrowedOutput::Description(description) => read_fields(description.view(), text),
+        BorrowedOutput::Items(items) => fill_item_fields(items, text, fields),
+        BorrowedOutput::Description(description) => fill_fields(description.view(), text, fields),
     }
 }

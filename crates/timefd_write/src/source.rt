@@ -1,16 +1,17 @@
 //! What words are: names of moments, or texts of a description.
 
-ghost use Rattle.std.specs.Prelude.{IfOk};
-ghost use Rattle.timefd_write.specs.Sources.{IsMomentIn, IsSourceOf};
+ghost use Rattle.std.specs.Prelude.{IfOk, IfSome};
+ghost use Rattle.timefd_write.specs.Sources.{AreLeavesIn, IsMomentIn, IsSourceOf, IsTextOf};
 
 use crate::description::{Reading, read};
 use crate::message::tell_fault;
 use crate::moment::{MomentError, moment_named};
 use crate::outcome::RunError;
-use crate::read_back::moment_read;
-use std::alloc::Global;
+use crate::read_back::{leaves_of, moment_read};
+use std::alloc::{AllocError, Global};
 use std::io::Write;
 use timefd_moment::Moment;
+use timefd_node_list::Leaf;
 use timefd_parse::{BorrowedOutput, Language, StrftimeTables};
 
 /// What the description of `--read` is called where a fault in it is drawn.
@@ -50,12 +51,31 @@ pub fn source_of<'a, E: Write>(
     }
 }
 
-/// The moment that a word names, or that it shows.
-pub fn moment_in(source: &Source<'_>, word: &str) -> Result<Moment, MomentError>
+/// The components and literals of the description that words are texts of, where it is no more than
+/// those in turn.
+pub fn source_leaves<'s>(
+    alloc: Global,
+    source: &'s Source<'_>,
+) -> Result<Option<Vec<Leaf<'s>>>, AllocError>
+    ensures { IfOk result (λ found. IfSome found (λ leaves. IsTextOf source.now leaves.items)) }
+{
+    match source {
+        Source::Names(_) => Ok(None),
+        Source::Texts(description) => leaves_of(alloc, description),
+    }
+}
+
+/// The moment that a word names, or that it shows by the description or its leaves.
+pub fn moment_in(
+    source: &Source<'_>,
+    leaves: Option<&[Leaf<'_>]>,
+    word: &str,
+) -> Result<Moment, MomentError>
+    requires { AreLeavesIn source.now leaves }
     ensures { IsMomentIn source.now word.now result }
 {
     match source {
         Source::Names(now) => moment_named(*now, word),
-        Source::Texts(description) => moment_read(description, word),
+        Source::Texts(description) => moment_read(description, leaves, word),
     }
 }

@@ -31,9 +31,12 @@ pub fn write_words<W: Write, E: Write>(
         let outcome = write_one(
             alloc,
             source,
+            None,
             description,
             None,
+            None,
             word.as_bytes(),
+            &mut [],
             output,
             errors,
         )?;

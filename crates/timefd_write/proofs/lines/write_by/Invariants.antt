@@ -1,5 +1,5 @@
 use Rattle.timefd_write.proofs.RunLemmas.{CompletesLines}
-use Rattle.timefd_write.proofs.lines.write_lines.Given as goal
+use Rattle.timefd_write.proofs.lines.write_by.Given as goal
 
 -- The lines that are gone from the reader are written.
 abbrev pub invariant-lines : goal.invariant-lines

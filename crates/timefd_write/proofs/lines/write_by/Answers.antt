@@ -1,7 +1,7 @@
 use Rattle.std.proofs.Common.{ap, ◌∙◌}
 use Rattle.timefd_rewrite.specs.Lines.{without_newline}
 use Rattle.timefd_write.proofs.RunLemmas.{line_more, lines_end, lines_fail}
-use Rattle.timefd_write.proofs.lines.write_lines.Goals as goal
+use Rattle.timefd_write.proofs.lines.write_by.Goals as goal
 
 pub returns-in-End : goal.returns-in-End
 returns-in-End g c =

@@ -1,0 +1,54 @@
+//! What is found of a date by a calculation. Each stands by itself: most texts show none of it, and what looks
+//! at every part stays small.
+
+ghost use Rattle.std.specs.Prelude.{◌≡◌};
+ghost use Rattle.timefd_moment.specs.Moments as spec;
+
+use timefd_moment::Date;
+
+/// The day of the year, from 1.
+#[inline(never)]
+pub(crate) fn ordinal(date: Date) -> u32
+    ensures { result ≡ spec.date_ordinal date }
+{
+    date.ordinal() as u32
+}
+
+/// The days after Monday.
+#[inline(never)]
+pub(crate) fn weekday(date: Date) -> u32
+    ensures { result ≡ spec.days_from_monday date }
+{
+    date.number_days_from_monday() as u32
+}
+
+#[inline(never)]
+pub(crate) fn iso_week(date: Date) -> u32
+    ensures { result ≡ spec.iso_week date }
+{
+    date.iso_week() as u32
+}
+
+/// The week of the year, where weeks begin on Sunday.
+#[inline(never)]
+pub(crate) fn sunday_week(date: Date) -> u32
+    ensures { result ≡ spec.sunday_week date }
+{
+    date.sunday_based_week() as u32
+}
+
+/// The week of the year, where weeks begin on Monday.
+#[inline(never)]
+pub(crate) fn monday_week(date: Date) -> u32
+    ensures { result ≡ spec.monday_week date }
+{
+    date.monday_based_week() as u32
+}
+
+/// The ISO week-numbering year, from the year -1,000,000 on.
+#[inline(never)]
+pub(crate) fn iso_years(date: Date) -> u32
+    ensures { result ≡ spec.iso_years date }
+{
+    date.iso_years()
+}
