@@ -23,7 +23,8 @@ sed -n 's/^ *- run: //p' "$top/examples/ci/github.yml" > "$room/steps"
 hook=$(sed -n 's/^ *entry: //p' "$top/.pre-commit-hooks.yaml")
 # A step and a hook: how many errors they show, and whether they fail.
 steps() {
-    (cd "$project" && RUNNER_TEMP=$room/project sh -e "$room/steps" 2> /dev/null && echo passed) | grep -c -e '^error' -e '^passed'
+    (cd "$project" && RUNNER_TEMP=$room/project sh -e "$room/steps" 2> /dev/null && echo passed) |
+        grep -c -e '^::error ' -e '^passed'
 }
 hooked() {
     (cd "$project" && clean "$prefix/bin/$hook" src/source.rs 2> /dev/null && echo passed) | grep -c -e '^error' -e '^passed'

@@ -1,3 +1,4 @@
 pub mod ShownLemmas
 pub mod PositionLemmas
 pub mod JsonLemmas
+pub mod GithubLemmas

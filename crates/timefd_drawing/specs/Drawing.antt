@@ -8,9 +8,11 @@ use Rattle.timefd_fault.specs.Sentences.{error_sentence}
 use Rattle.timefd_diagnosis.specs.Codes.{code_of, name_of}
 use Rattle.timefd_diagnosis.specs.declared.diagnostic.Diagnostic.{Diagnostic}
 use Rattle.timefd_drawing.specs.declared.draw.Format.{Format}
-use Rattle.timefd_drawing.specs.declared.draw.Format.TheVariants.{Human, Json, Short}
+use Rattle.timefd_drawing.specs.declared.draw.Format.TheVariants.{Human, Json, Short, Github}
 use Rattle.timefd_drawing.specs.declared.draw.Style.{Style}
+use Rattle.timefd_drawing.specs.declared.github.Command.TheVariants.{Error}
 use Rattle.timefd_drawing.specs.declared.position.Origin.{Origin}
+use Rattle.timefd_drawing.specs.Github.{annotation}
 use Rattle.timefd_drawing.specs.HelpText.{help_text}
 use Rattle.timefd_drawing.specs.Json.{object, note_object}
 use Rattle.timefd_drawing.specs.Lines.{error_line, place_line, bar_line, text_line, caret_line, help_line, short_line}
@@ -64,10 +66,17 @@ json origin text d =
     object (code d) origin.file.now (line_number origin.line text d.span.start)
     (column text d.span.start) (error_sentence d.fault) d.span.start d.span.end (help_text d.help)
 
+-- The same place and sentence as in a line for editors, as an error.
+abbrev pub github : Origin → Text → Diagnostic → Text
+github origin text d =
+    annotation Error (code d) origin.file.now (line_number origin.line text d.span.start)
+    (column text d.span.start) (shown_sentence (fault_of d.fault))
+
 abbrev pub drawn_in : Format → Bool → Origin → Text → Diagnostic → Text
 drawn_in Human colored origin text d = human colored origin text d
 drawn_in Json colored origin text d = json origin text d
 drawn_in Short colored origin text d = short origin text d
+drawn_in Github colored origin text d = github origin text d
 
 abbrev pub drawn : Style → Origin → Text → Diagnostic → Text
 drawn style origin text d = drawn_in style.format style.is_colored origin text d
@@ -84,6 +93,8 @@ note_in Human colored origin code message =
 note_in Json colored origin code message =
     note_object code origin.file.now origin.line 1 message
 note_in Short colored origin code message = short_line origin.file.now origin.line 1 message
+note_in Github colored origin code message =
+    annotation Error code origin.file.now origin.line 1 message
 
 abbrev pub note : Style → Origin → Text → Text → Text
 note style origin code message = note_in style.format style.is_colored origin code message

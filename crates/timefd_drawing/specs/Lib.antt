@@ -1,5 +1,6 @@
 pub mod Shown
 pub mod Json
+pub mod Github
 pub mod Positions
 pub mod HelpText
 pub mod Sentence

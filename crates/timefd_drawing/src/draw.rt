@@ -3,6 +3,7 @@
 ghost use Rattle.std.specs.Prelude.{◌≡◌, ◌≢◌, [], IfOk, string_bytes};
 ghost use Rattle.timefd_drawing.specs.Drawing as spec;
 
+use crate::github::{Command, annotation};
 use crate::help_text::help_text;
 use crate::human::human;
 use crate::json::{Detail, Entry, note_object, object};
@@ -21,6 +22,8 @@ pub enum Format {
     Json,
     /// `FILE:LINE:COLUMN: MESSAGE`, as editors read it.
     Short,
+    /// An annotation on a line, as GitHub reads it in what a step of a workflow writes.
+    Github,
 }
 
 /// How diagnostics look.
@@ -54,6 +57,7 @@ pub fn drawn(
             Ok(line.into_bytes())
         }
         Format::Json => json(alloc, origin, text, diagnostic),
+        Format::Github => github(alloc, origin, text, diagnostic),
     }
 }
 
@@ -69,6 +73,27 @@ fn short(
     let place = position_of(alloc, origin.line, text, diagnostic.span.start)?;
     let sentence = shown_sentence(alloc, &diagnostic.fault)?;
     short_line(alloc, origin.file, place, &sentence)
+}
+
+fn github(
+    alloc: Global,
+    origin: Origin<'_>,
+    text: &str,
+    diagnostic: &Diagnostic,
+) -> Result<Vec<u8>, AllocError>
+    ensures { IfOk result (λ line. line.items
+        ≡ spec.github origin.entry text.now diagnostic.now) }
+{
+    let Position { line, column } = position_of(alloc, origin.line, text, diagnostic.span.start)?;
+    let sentence = shown_sentence(alloc, &diagnostic.fault)?;
+    let entry = Entry {
+        code: code_of(&diagnostic.fault),
+        file: origin.file,
+        line,
+        column: column as u64,
+        message: &sentence,
+    };
+    annotation(alloc, Command::Error, entry)
 }
 
 fn json(
@@ -115,6 +140,13 @@ pub fn note(
         line: origin.line,
         column: 1,
     };
+    let entry = Entry {
+        code,
+        file: origin.file,
+        line: place.line,
+        column: place.column as u64,
+        message,
+    };
     match style.format {
         Format::Human => {
             let drawing = human_note(alloc, style.is_colored, origin.file, place, code, message)?;
@@ -124,16 +156,8 @@ pub fn note(
             let line = short_line(alloc, origin.file, place, message)?;
             Ok(line.into_bytes())
         }
-        Format::Json => note_object(
-            alloc,
-            Entry {
-                code,
-                file: origin.file,
-                line: origin.line,
-                column: 1,
-                message,
-            },
-        ),
+        Format::Json => note_object(alloc, entry),
+        Format::Github => annotation(alloc, Command::Error, entry),
     }
 }
 

@@ -6,7 +6,7 @@ ghost use Rattle.timefd_drawing.specs.Json as spec;
 use crate::shown::is_hidden;
 use std::alloc::{AllocError, Global};
 
-/// What an object on a diagnostic holds.
+/// What an object, or an annotation, holds of a diagnostic.
 #[derive(Clone, Copy)]
 pub struct Entry<'a> {
     /// The stable name of the fault.

@@ -1,5 +1,6 @@
 //! What holds of the definitions.
 
+ghost use Rattle.timefd_drawing.specs.Github.{AnnotationStaysWhole};
 ghost use Rattle.timefd_drawing.specs.Json.{NoneIsHiddenInJson};
 ghost use Rattle.timefd_drawing.specs.Shown.{NoneIsHidden};
 
@@ -11,4 +12,9 @@ pub fn none_is_hidden()
 /// Nor is one of a text in the quotes of JSON.
 pub fn none_is_hidden_in_json()
     ensures { NoneIsHiddenInJson }
+{}
+
+/// No byte of a message or a property of an annotation ends it.
+pub fn annotation_stays_whole()
+    ensures { AnnotationStaysWhole }
 {}

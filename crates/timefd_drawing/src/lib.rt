@@ -1,7 +1,8 @@
-//! Diagnostics as they are written: drawn, on one line, or as an object of JSON.
+//! Diagnostics as they are written: drawn, on one line, as an object of JSON, or as an annotation of GitHub.
 #![tactic(auto)]
 
 mod draw;
+pub mod github;
 pub mod help_text;
 mod human;
 pub mod json;

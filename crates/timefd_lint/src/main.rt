@@ -1,10 +1,12 @@
 //! `timefd_lint [OPTION].. [FILE]..`: reads format descriptions, one a line, and shows which are
-//! none, where, why, and what to write in their place. `docs/LINTER.md` has the options and the names
-//! of the faults.
+//! none, where, why, and what to write in their place. A folder stands for the sources below it.
+//! `docs/LINTER.md` has the options and the names of the faults.
 #![tactic(auto)]
 
+mod color;
 mod failure;
 mod fix;
+mod folders;
 mod line;
 mod lines;
 mod mark;
@@ -18,6 +20,7 @@ mod summary;
 mod tally;
 mod usage;
 
+use color::is_colored;
 use line::RunError;
 use options::{Options, run_options};
 use rewriting::{Rewriting, rewrite_files};
@@ -25,12 +28,13 @@ use run::run;
 use source::BUFFER;
 use std::alloc::{AllocError, Global};
 use std::env;
-use std::io::{BufReader, BufWriter, ErrorKind, IsTerminal, Write};
+use std::io::{BufReader, BufWriter, ErrorKind, Write};
 use std::process::ExitCode;
 use summary::summary;
 use tally::Tally;
 use timefd_convert::conversion_between;
-use timefd_lint_options::{Asked, Color, OptionError, Settings, options_of, target};
+use timefd_lint_files::{Reason, WalkError, expanded};
+use timefd_lint_options::{Asked, OptionError, Settings, options_of, target};
 use timefd_parse::Language;
 use timefd_rewrite::Layout;
 
@@ -73,29 +77,6 @@ fn lent<'a>(alloc: Global, words: &'a [String]) -> Result<Vec<&'a str>, AllocErr
     Ok(all)
 }
 
-fn is_set(rt: &HostRuntime, name: &str) -> bool {
-    match env::var(rt, name) {
-        Ok(value) => !value.is_empty(),
-        Err(env::VarError::NotPresent) => false,
-        Err(_) => true,
-    }
-}
-
-fn is_dumb(rt: &HostRuntime) -> bool {
-    match env::var(rt, "TERM") {
-        Ok(value) => value.as_str() == "dumb",
-        Err(_) => false,
-    }
-}
-
-fn is_colored(rt: &HostRuntime, color: Color) -> bool {
-    match color {
-        Color::Always => true,
-        Color::Never => false,
-        Color::Auto => rt.stdout().is_terminal() && !is_set(rt, "NO_COLOR") && !is_dumb(rt),
-    }
-}
-
 // Writes a text to the standard output, and answers the status.
 fn written(rt: &HostRuntime, text: &str) -> u8 {
     match rt.stdout().write_all(text.as_bytes()) {
@@ -111,16 +92,42 @@ fn status(rt: &HostRuntime, words: &[&str]) -> u8 {
         Ok(Asked::Version) => written(rt, usage::VERSION),
         Ok(Asked::Run(asked)) => {
             let from = words.len().saturating_sub(asked.file_count);
-            let files = words.get(from..).unwrap_or(words);
-            let colored = is_colored(rt, asked.settings.color);
-            run_status(
-                rt,
-                asked.settings,
-                run_options(asked.settings, colored, files),
-            )
+            names_status(rt, asked.settings, words.get(from..).unwrap_or(words))
         }
         Err(error) => wrong_arguments(rt, error),
     }
+}
+
+// The status of a run over what is named. Where nothing is rewritten, a folder stands for the sources
+// below it.
+fn names_status(rt: &HostRuntime, settings: Settings<'_>, names: &[&str]) -> u8 {
+    if rewriting_of(settings).is_some() {
+        return files_status(rt, settings, names);
+    }
+    let files = match expanded(rt, rt.alloc(), names) {
+        Ok(files) => files,
+        Err(WalkError::Memory) => return no_memory(rt),
+        Err(WalkError::Failed { path, reason }) => return walk_failed(rt, &path, reason),
+    };
+    if files.is_empty() && !names.is_empty() {
+        return end_of(rt, settings, 0, Tally::new());
+    }
+    match lent(rt.alloc(), &files) {
+        Ok(files) => files_status(rt, settings, &files),
+        Err(AllocError) => no_memory(rt),
+    }
+}
+
+fn walk_failed(rt: &HostRuntime, path: &str, reason: Reason) -> u8 {
+    match folders::sentence(rt.alloc(), path, reason) {
+        Ok(sentence) => told(rt, FAILED, &sentence),
+        Err(AllocError) => no_memory(rt),
+    }
+}
+
+fn files_status(rt: &HostRuntime, settings: Settings<'_>, files: &[&str]) -> u8 {
+    let colored = is_colored(rt, settings.color);
+    run_status(rt, settings, run_options(settings, colored, files))
 }
 
 // How descriptions are laid out, where they are rewritten.
@@ -149,7 +156,7 @@ fn run_status(rt: &HostRuntime, settings: Settings<'_>, options: Options<'_>) ->
     };
     let end = run_and_rewrite(rt, settings, options, &mut writer);
     match (end, writer.flush()) {
-        (Ok(tally), Ok(())) => end_of(rt, settings, options, tally),
+        (Ok(tally), Ok(())) => end_of(rt, settings, options.file_count(), tally),
         (Err(RunError::Memory), _) => no_memory(rt),
         (Err(RunError::Write), _) | (Ok(_), Err(_)) => write_failed(rt),
     }
@@ -179,13 +186,13 @@ fn end_status(rt: &HostRuntime, status: u8) -> u8 {
     }
 }
 
-// The same, and behind it how much was looked at.
-fn end_of(rt: &HostRuntime, settings: Settings<'_>, options: Options<'_>, tally: Tally) -> u8 {
+// The same, and behind it how much was looked at, in so many files.
+fn end_of(rt: &HostRuntime, settings: Settings<'_>, file_count: usize, tally: Tally) -> u8 {
     let status = end_status(rt, tally.status());
     if settings.is_quiet {
         return status;
     }
-    match summary(rt.alloc(), settings.warns, tally, options.file_count()) {
+    match summary(rt.alloc(), settings.warns, tally, file_count) {
         Ok(line) => {
             let _ = eprintln!(rt; "{line}");
             status

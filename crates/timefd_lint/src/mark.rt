@@ -7,6 +7,8 @@ use crate::line::{RunError, write};
 use crate::options::Options;
 use std::alloc::{AllocError, Global};
 use std::io::Write;
+use timefd_drawing::github::{Command, annotation};
+use timefd_drawing::json::Entry;
 use timefd_drawing::shown::safe;
 use timefd_drawing::{Format, Origin, Style, note};
 
@@ -47,8 +49,22 @@ fn warning(alloc: Global, style: Style, origin: Origin<'_>) -> Result<Vec<u8>, A
 {
     match style.format {
         Format::Human => drawn_warning(alloc, style.is_colored, origin),
+        Format::Github => annotated_warning(alloc, origin),
         Format::Json | Format::Short => note(alloc, style, origin, CODE, SENTENCE),
     }
+}
+
+fn annotated_warning(alloc: Global, origin: Origin<'_>) -> Result<Vec<u8>, AllocError>
+    ensures { IfOk result (λ message. message.items ≢ []) }
+{
+    let entry = Entry {
+        code: CODE,
+        file: origin.file,
+        line: origin.line,
+        column: 1,
+        message: SENTENCE,
+    };
+    annotation(alloc, Command::Warning, entry)
 }
 
 fn drawn_warning(alloc: Global, is_colored: bool, origin: Origin<'_>) -> Result<Vec<u8>, AllocError>

@@ -79,7 +79,6 @@ fn lint_text<W: Write>(
 }
 
 // Notes that a source is no UTF-8.
-#[tactic(auto, using(crate::proofs::SourcesLemmas::noted_no_text))]
 fn not_text<W: Write>(
     alloc: Global,
     options: Options<'_>,

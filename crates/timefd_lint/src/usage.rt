@@ -14,9 +14,12 @@ pub const USAGE: &str = "usage: timefd_lint [OPTION].. [--] [FILE]..
 Reads format descriptions, one a line, from the files or from the standard input, and shows which
 are none, where, why, and what to write in their place. The file - is the standard input. In a file
 whose name ends in .rs, a source of Rust, they are the string literals in calls of time and chrono.
+A folder stands for the sources below it, but hidden ones and those that .gitignore files name.
 
   --language 1|2|3|strftime    the language of all lines; version 3 if it isn't given
-  --format human|json|short    drawn, an object of JSON on a line, or FILE:LINE:COLUMN: MESSAGE
+  --format human|json|short|github
+                               drawn, an object of JSON on a line, FILE:LINE:COLUMN: MESSAGE, or an
+                               annotation of GitHub
   --color always|never|auto    whether the drawing is coloured; auto asks the terminal
   --comment MARK               passes over the lines that begin with the mark
   --whole                      takes a file as one text, each newline in it counted
@@ -94,7 +97,7 @@ fn name(option: Valued) -> &'static str {
 fn values(alloc: Global, option: Valued) -> Result<String, AllocError> {
     match option {
         Valued::Language => String::from_str(alloc, "one of 1, 2, 3, strftime"),
-        Valued::Format => String::from_str(alloc, "one of human, json, short"),
+        Valued::Format => String::from_str(alloc, "one of human, json, short, github"),
         Valued::Color => String::from_str(alloc, "one of always, never, auto"),
         Valued::Comment => String::from_str(alloc, "a mark that is not empty"),
         Valued::To => String::from_str(alloc, "one of 2, 3"),
@@ -116,8 +119,7 @@ fn warning_names(alloc: Global) -> Result<String, AllocError> {
 
 fn conflict_sentence(conflict: Conflict) -> &'static str {
     match conflict {
-        Conflict::ExplainUndrawn =>
-            "`--explain` draws trees, and doesn't go with `--format json` or `short`",
+        Conflict::ExplainUndrawn => "`--explain` draws trees, and goes with `--format human` alone",
         Conflict::WriteWithoutVersion => "`--write` wants `--to 2`, `--to 3` or `--normal`",
         Conflict::PartialWithoutWrite => "`--partial` goes with `--write` alone",
         Conflict::NormalOfAnother => {

@@ -1,7 +1,7 @@
 -- What doesn't go together in settings, and with the names of files.
 use Rattle.std.specs.Prelude.{Bool, true, false, ◌&&◌, ◌==◌, not, Option, Some, None, if◌then◌else◌}
 use Rattle.timefd_drawing.specs.declared.draw.Format.{Format}
-use Rattle.timefd_drawing.specs.declared.draw.Format.TheVariants.{Human, Json, Short}
+use Rattle.timefd_drawing.specs.declared.draw.Format.TheVariants.{Human, Json, Short, Github}
 use Rattle.timefd_language.specs.declared.description_version.DescriptionVersion.{DescriptionVersion}
 use Rattle.timefd_language.specs.declared.description_version.DescriptionVersion.TheVariants.{One, Two, Three}
 use Rattle.timefd_parse.specs.declared.language.Language.{Language}
@@ -16,6 +16,7 @@ abbrev pub is_drawn : Format → Bool
 is_drawn Human = true
 is_drawn Json = false
 is_drawn Short = false
+is_drawn Github = false
 
 -- from version 1 to 2, and from each other language to 3
 abbrev pub is_rewritten : Language → DescriptionVersion → Bool

@@ -63,7 +63,7 @@ fn is_drawn(format: Format) -> bool
 {
     match format {
         Format::Human => true,
-        Format::Json | Format::Short => false,
+        Format::Json | Format::Short | Format::Github => false,
     }
 }
 

@@ -22,7 +22,7 @@ pub enum OptionError<'a> {
 /// Options that don't go together, or want something that isn't there.
 #[derive(Clone, Copy)]
 pub enum Conflict {
-    /// Trees are drawn, and are neither objects of JSON nor short.
+    /// Trees are drawn, and have no other form.
     ExplainUndrawn,
     /// `--write` with neither `--to` nor `--normal`.
     WriteWithoutVersion,

@@ -28,6 +28,7 @@ pub fn format_named(word: &str) -> Option<Format>
         "human" => Some(Format::Human),
         "json" => Some(Format::Json),
         "short" => Some(Format::Short),
+        "github" => Some(Format::Github),
         _ => None,
     }
 }

@@ -4,7 +4,8 @@ ghost use Rattle.std.specs.Prelude.{◌≡◌, IfOk, string_bytes};
 ghost use Rattle.timefd_lint_warnings.specs.Messages as spec;
 
 use std::alloc::{AllocError, Global};
-use timefd_drawing::json::{push_number, push_text};
+use timefd_drawing::github::{Command, annotation};
+use timefd_drawing::json::{Entry, push_number, push_text};
 use timefd_drawing::shown::safe;
 use timefd_drawing::{Format, Origin, Style};
 use timefd_warnings::{Level, Warning};
@@ -31,6 +32,7 @@ pub fn message(
             Ok(line.into_bytes())
         }
         Format::Json => json(alloc, origin, column, level, warning),
+        Format::Github => github(alloc, origin, column, level, warning),
     }
 }
 
@@ -145,6 +147,36 @@ fn short(
     let line = origin.line;
     let (severity, code, sentence) = (severity(level), warning.name(), warning.sentence());
     format!(in alloc; "{file}:{line}:{column}: {severity}[{code}]: {sentence}\n")
+}
+
+// The workflow command that makes its annotation.
+fn command(level: Level) -> Command
+    ensures { result ≡ spec.command level }
+{
+    match level {
+        Level::Allowed => Command::Notice,
+        Level::Warned => Command::Warning,
+        Level::Denied => Command::Error,
+    }
+}
+
+fn github(
+    alloc: Global,
+    origin: Origin<'_>,
+    column: usize,
+    level: Level,
+    warning: Warning,
+) -> Result<Vec<u8>, AllocError>
+    ensures { IfOk result (λ line. line.items ≡ spec.github origin.entry column level warning) }
+{
+    let entry = Entry {
+        code: warning.name(),
+        file: origin.file,
+        line: origin.line,
+        column: column as u64,
+        message: warning.sentence(),
+    };
+    annotation(alloc, command(level), entry)
 }
 
 // The texts of a warning that its object has.

@@ -1,0 +1,62 @@
+-- Annotations, as GitHub reads them in what a step of a workflow writes.
+use Rattle.std.specs.Prelude.{ℕ, Bool, ◌||◌, ◌==◌, [], ◌∷◌, ◌++◌, codes, flat_map, if◌then◌else◌}
+use Rattle.std.specs.Str.{NonePass}
+use Rattle.timefd_component.specs.Tree.{Text}
+use Rattle.timefd_drawing.specs.declared.github.Command.{Command}
+use Rattle.timefd_drawing.specs.declared.github.Command.TheVariants.{Error, Warning, Notice}
+use Rattle.timefd_drawing.specs.declared.json.Entry.{Entry}
+use Rattle.timefd_drawing.specs.Json.{number_field}
+use Rattle.timefd_drawing.specs.Shown.{safe}
+
+-- what the line of a command begins with
+abbrev pub opening : Command → Text
+opening Error = codes "::error"
+opening Warning = codes "::warning"
+opening Notice = codes "::notice"
+
+-- In a message a percent sign, a carriage return and a newline are escaped; all else is as it is.
+abbrev pub message_byte : ℕ → Text
+message_byte byte =
+    if byte == 37 then codes "%25"
+    else if byte == 13 then codes "%0D"
+    else if byte == 10 then codes "%0A"
+    else byte ∷ []
+
+abbrev pub escaped_message : Text → Text
+escaped_message text = flat_map message_byte text
+
+-- In a property a colon and a comma are escaped, too.
+abbrev pub property_byte : ℕ → Text
+property_byte byte =
+    if byte == 58 then codes "%3A"
+    else if byte == 44 then codes "%2C"
+    else message_byte byte
+
+abbrev pub escaped_property : Text → Text
+escaped_property text = flat_map property_byte text
+
+abbrev pub property : Text → Text → Text
+property front value = front ++ escaped_property value
+
+-- `::COMMAND file=FILE,line=LINE,col=COLUMN,title=CODE::MESSAGE`
+abbrev pub annotation : Command → Text → Text → ℕ → ℕ → Text → Text
+annotation command code file line column message =
+    [] ++ opening command ++ property (codes " file=") (safe file)
+    ++ number_field (codes ",line=") line ++ number_field (codes ",col=") column
+    ++ property (codes ",title=") code ++ codes "::" ++ escaped_message message ++ codes "\n"
+
+abbrev pub annotation_of : Command → Entry → Text
+annotation_of command e = annotation command e.code.now e.file.now e.line e.column e.message.now
+
+-- at which bytes a message ends, and at which a property does
+abbrev pub ends_message : ℕ → Bool
+ends_message byte = (byte == 13) || (byte == 10)
+
+abbrev pub ends_property : ℕ → Bool
+ends_property byte = (byte == 58) || (byte == 44) || ends_message byte
+
+-- An escaped message ends at its last byte, and so does an escaped property.
+abbrev pub AnnotationStaysWhole : Type 0
+AnnotationStaysWhole =
+    (text : Text) → NonePass ends_message (escaped_message text)
+    × NonePass ends_property (escaped_property text)

@@ -1,0 +1,26 @@
+//! Folders that can't be walked, in words.
+
+use std::alloc::{AllocError, Global};
+use std::io::ErrorKind;
+use timefd_drawing::shown::safe;
+use timefd_lint_files::Reason;
+
+/// Why the sources below a folder aren't known, in a sentence: of this folder, or this file in it.
+pub fn sentence(alloc: Global, path: &str, reason: Reason) -> Result<String, AllocError> {
+    let path = safe(alloc, path)?;
+    match reason {
+        Reason::Unread(kind) => {
+            let cause = cause(kind);
+            format!(in alloc; "`{path}` can't be read{cause}")
+        }
+        Reason::TooDeep => format!(in alloc; "`{path}` stands in more than 255 folders"),
+    }
+}
+
+fn cause(kind: ErrorKind) -> &'static str {
+    match kind {
+        ErrorKind::NotFound => ": no such file",
+        ErrorKind::PermissionDenied => ": permission denied",
+        _ => "",
+    }
+}

@@ -1,0 +1,113 @@
+-- The items so far, and those that are left.
+use Rattle.std.proofs.Common.{◌≡◌, ℕ, ◌+◌, ◌<◌, suc, List, [], ◌∷◌, ◌++◌, length, get_or, drop, refl, sym, ap, subst, ◌∙◌, append_assoc, append-nil, add-one}
+use Rattle.std.specs.Prelude.{Option, Some, None, true}
+use Rattle.std.proofs.Math.Seq.{drop-cons, drop-length}
+use Rattle.timefd_lint_files.specs.declared.entry.Entry.{Entry}
+use Rattle.timefd_lint_files.specs.declared.ignore_file.IgnoreFile.{IgnoreFile}
+use Rattle.timefd_lint_files.specs.Entries.{has_ignore_file}
+use Rattle.timefd_lint_files.specs.Matching.{Text}
+use Rattle.timefd_lint_files.specs.Walks.{AllGive, AreListed, AreOf, Found, Gives, HasOwn, IsLeft, IsLookedAt, IsOwn, IsWalk, entered, found, passed, taken}
+
+-- Whatever names the items give that are left, those so far and they are the names of all.
+pub record GoesOn {X : Type 0} (Give : X → List Text → Type 0) (items : List X) (at : ℕ) (before now : List Text) : Type 0 where
+  pub own : List Text
+  pub pushed : now ≡ before ++ own
+  pub on : (more : List Text) → AllGive Give (drop at items) more → AllGive Give items (own ++ more)
+
+pub at_first : {X : Type 0} (Give : X → List Text → Type 0) (items : List X) (before : List Text)
+    → GoesOn Give items 0 before before
+at_first Give items before = record {
+  own = [];
+  pushed = sym (append-nil before);
+  on = λ more are. are;
+}
+
+pub one_more : {X : Type 0} (Give : X → List Text → Type 0) (items : List X) (x : X) (at : ℕ)
+    (before now behind names : List Text) → at < length items → x ≡ get_or items at x
+    → GoesOn Give items at before now → Give x names → behind ≡ now ++ names
+    → GoesOn Give items (at + 1) before behind
+one_more {X} Give items x at before now behind names lt read so_far are more =
+    let cut : drop at items ≡ x ∷ drop (at + 1) items =
+    rw add-one (drop-cons items at x lt ∙ ap (λ (y : X). y ∷ drop (suc at) items) (sym read)) in record {
+      own = so_far.own ++ names;
+      pushed = more ∙ ap (λ (ns : List Text). ns ++ names) so_far.pushed ∙ append_assoc before so_far.own names;
+      on = λ rest all. rw append_assoc (so_far.on (names ++ rest) (rw cut (names, rest, are, all, refl)));
+    }
+
+pub at_last : {X : Type 0} (Give : X → List Text → Type 0) (items : List X) (at : ℕ) (before now : List Text)
+    → at ≡ length items → GoesOn Give items at before now
+    → (names : List Text) × (now ≡ before ++ names) × AllGive Give items names
+at_last Give items at before now e so_far =
+    (so_far.own, so_far.pushed, rw append-nil at (so_far.on [] (rw (e, drop-length) refl)))
+
+no_folder : (Below : Text → List Text → Type 0) (f : Found) (before behind : List Text) → IsLeft f before behind None
+    → (names : List Text) × AreOf Below f names × (behind ≡ before ++ names)
+no_folder Below passed before behind left = ([], refl, left.0 ∙ sym (append-nil before))
+no_folder Below (taken path) before behind left = (path ∷ [], refl, left.0)
+no_folder Below (entered path) before behind left = absurd cc
+
+-- an entry that is passed over, or whose name is taken
+pub one_looked_at : (Below : List IgnoreFile → Text → List Text → Type 0) (ignores held : List IgnoreFile) (folder : Text)
+    (entries : List Entry) (entry : Entry) (at : ℕ) (before now behind : List Text) (below : Option Text)
+    → at < length entries → entry ≡ get_or entries at entry
+    → GoesOn (Gives Below ignores folder) entries at before now → held ≡ ignores
+    → IsLookedAt held folder entry now behind below → below ≡ None
+    → GoesOn (Gives Below ignores folder) entries (at + 1) before behind
+one_looked_at Below ignores held folder entries entry at before now behind below lt read so_far same left none =
+    let here : IsLookedAt ignores folder entry now behind None =
+    subst (λ (b : Option Text). IsLookedAt ignores folder entry now behind b) none
+    (subst (λ (files : List IgnoreFile). IsLookedAt files folder entry now behind below) same left) in
+    let own = no_folder (Below ignores) (found ignores folder entry) now behind here in
+    one_more (Gives Below ignores folder) entries entry at before now behind own.0 lt read so_far own.1 own.2
+
+a_folder : (Below : Text → List Text → Type 0) (f : Found) (path : Text) (before behind names : List Text)
+    → IsLeft f before behind (Some path) → Below path names → AreOf Below f names × (behind ≡ before)
+a_folder Below passed path before behind names left is = absurd cc
+a_folder Below (taken own) path before behind names left is = absurd cc
+a_folder Below (entered own) path before behind names left is =
+    (subst (λ (p : Text). Below p names) (same left.1) is, left.0)
+  where
+    same : {own path : Text} → ◌≡◌ {A = Option Text} (Some path) (Some own) → path ≡ own
+    same e = cc
+
+-- a folder that is gone into
+pub one_walked : (Below : List IgnoreFile → Text → List Text → Type 0) (ignores held inside : List IgnoreFile) (folder : Text)
+    (entries : List Entry) (entry : Entry) (at : ℕ) (path name : Text) (before now between behind names : List Text)
+    (below : Option Text)
+    → at < length entries → entry ≡ get_or entries at entry
+    → GoesOn (Gives Below ignores folder) entries at before now → held ≡ ignores → inside ≡ held
+    → IsLookedAt held folder entry now between below → below ≡ Some path → name ≡ path
+    → Below inside name names → behind ≡ between ++ names
+    → GoesOn (Gives Below ignores folder) entries (at + 1) before behind
+one_walked Below ignores held inside folder entries entry at path name before now between behind names below lt read so_far same kept left some named is more =
+    let here : IsLookedAt ignores folder entry now between (Some path) =
+    subst (λ (b : Option Text). IsLookedAt ignores folder entry now between b) some
+    (subst (λ (files : List IgnoreFile). IsLookedAt files folder entry now between below) same left) in
+    let there : Below ignores path names =
+    subst (λ (files : List IgnoreFile). Below files path names) (kept ∙ same)
+    (subst (λ (p : Text). Below inside p names) named is) in
+    let own = a_folder (Below ignores) (found ignores folder entry) path now between names here there in
+    one_more (Gives Below ignores folder) entries entry at before now behind names lt read so_far own.0
+    (more ∙ ap (λ (ns : List Text). ns ++ names) own.1)
+
+-- all entries of a folder
+pub walked : (lists : Text → List Entry → Type 0) (holds : Text → Text → Type 0) (depth below : ℕ)
+    (above ignores : List IgnoreFile) (folder : Text) (entries lent : List Entry) (names : List Text)
+    → depth ≡ suc below → AreListed (lists folder) entries → lent ≡ entries → HasOwn holds folder lent above ignores
+    → AllGive (Gives (IsWalk lists holds below) ignores folder) entries names
+    → IsWalk lists holds depth above folder names
+unfolding IsWalk
+walked lists holds depth below above ignores folder entries lent names deep listed same own are =
+    rw deep (
+      entries,
+      ignores,
+      listed,
+      subst (λ (es : List Entry). HasOwn holds folder es above ignores) same own,
+      are,
+    )
+
+-- a folder that has a file of its own
+pub with_own : (holds : Text → Text → Type 0) (folder : Text) (entries : List Entry)
+    (above all : List IgnoreFile) (own : IgnoreFile) → has_ignore_file entries ≡ true → IsOwn holds folder own
+    → all ≡ above ++ own ∷ [] → HasOwn holds folder entries above all
+with_own holds folder entries above all own has is added = rw has (own, is, added)

@@ -1,0 +1,9 @@
+use Rattle.std.proofs.Common.{◌≡◌, drop}
+use Rattle.timefd_lint_files.specs.Rules.{deepest_verdict, later}
+use Rattle.timefd_lint_files.proofs.rules.deepest_verdict.Given as goal
+
+-- What is left decides, if it says anything.
+abbrev pub invariant-loop-file : goal.invariant-loop-file
+invariant-loop-file l =
+    later l.deepest (deepest_verdict (drop l.file-index l.files) l.path l.is_folder)
+    ≡ deepest_verdict l.fn.files l.fn.path l.is_folder

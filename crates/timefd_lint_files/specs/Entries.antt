@@ -1,0 +1,41 @@
+-- What a walk makes of the entries of a folder.
+use Rattle.std.specs.Prelude.{Bool, true, false, not, ◌&&◌, ◌||◌, ◌==◌, if◌then◌else◌, List, [], ◌∷◌, codes, nat_eq, string_bytes}
+use Rattle.std.specs.Cmp.Lexicographic.{pointwise}
+use Rattle.std.specs.List.{ends_with}
+use Rattle.timefd_lint_files.specs.declared.entry.Entry.{Entry}
+use Rattle.timefd_lint_files.specs.declared.entry.Kind.{Kind}
+use Rattle.timefd_lint_files.specs.declared.entry.Kind.TheVariants as kinds
+use Rattle.timefd_lint_files.specs.declared.entry.Role.{Role}
+use Rattle.timefd_lint_files.specs.declared.entry.Role.TheVariants as roles
+use Rattle.timefd_lint_files.specs.Matching.{Text}
+
+-- A name that begins with a dot is hidden.
+abbrev pub is_hidden : Text → Bool
+is_hidden [] = false
+is_hidden (byte ∷ bytes) = byte == 46
+
+-- Sources of Rust end in `.rs`.
+abbrev pub is_source : Text → Bool
+is_source name = ends_with nat_eq name (codes ".rs")
+
+abbrev pub role_of : Kind → Text → Role
+role_of kinds.Folder name = if is_hidden name then roles.None else roles.Folder
+role_of kinds.File name =
+    if not (is_hidden name) && is_source name then roles.Source else roles.None
+role_of kinds.Other name = roles.None
+
+abbrev pub role : Entry → Role
+role entry = role_of entry.kind (string_bytes entry.name)
+
+abbrev pub is_file : Kind → Bool
+is_file kinds.File = true
+is_file kinds.Folder = false
+is_file kinds.Other = false
+
+abbrev pub is_ignore_file : Entry → Bool
+is_ignore_file entry =
+    is_file entry.kind && pointwise nat_eq (string_bytes entry.name) (codes ".gitignore")
+
+abbrev pub has_ignore_file : List Entry → Bool
+has_ignore_file [] = false
+has_ignore_file (entry ∷ entries) = is_ignore_file entry || has_ignore_file entries

@@ -1,0 +1,76 @@
+-- Which paths a pattern matches. A path is bytes, with a slash between the names.
+use Rattle.std.specs.Prelude.{ℕ, ◌≡◌, ◌≢◌, ◌+◌, ◌≤◌, ◌⊎◌, Bool, true, false, not, ◌&&◌, ◌||◌, ◌==◌, List, [], ◌∷◌, ◌++◌, length, drop, slice_index_or}
+use Rattle.std.specs.List.{AllByRecursion}
+use Rattle.timefd_lint_files.specs.declared.token.Token.{Token}
+use Rattle.timefd_lint_files.specs.declared.token.Token.TheVariants.{Byte, Any, Star, Folders, Rest, Nothing}
+
+abbrev pub Text : Type 0
+Text = List ℕ
+
+-- `/`
+abbrev pub slash : ℕ
+slash = 47
+
+-- The path is a front that the token matches, and a rest that what stands behind it does.
+abbrev pub MatchesFirst : Token → (Text → Type 0) → Text → Type 0
+MatchesFirst (Byte own) Behind path = (rest : Text) × (path ≡ own ∷ rest) × Behind rest
+MatchesFirst Any Behind path =
+    (byte : ℕ) × (rest : Text) × (path ≡ byte ∷ rest) × (byte ≢ slash) × Behind rest
+MatchesFirst Star Behind path =
+    (front : Text) × (rest : Text) × (path ≡ front ++ rest) × AllByRecursion (λ byte. byte ≢ slash) front
+    × Behind rest
+MatchesFirst Folders Behind path =
+    Behind path ⊎ ((front : Text) × (rest : Text) × (path ≡ front ++ slash ∷ rest) × Behind rest)
+MatchesFirst Rest Behind path =
+    (front : Text) × (rest : Text) × (path ≡ front ++ rest) × Behind rest
+MatchesFirst Nothing Behind path = ⊥
+
+-- The tokens match the whole path, one behind another.
+abbrev pub Matches : List Token → Text → Type 0
+Matches [] path = path ≡ []
+Matches (token ∷ tokens) path = MatchesFirst token (Matches tokens) path
+
+-- whether the token matches no byte at all
+abbrev pub takes_none : Token → Bool
+takes_none (Byte own) = false
+takes_none Any = false
+takes_none Star = true
+takes_none Folders = true
+takes_none Rest = true
+takes_none Nothing = false
+
+-- Whether the token matches a front that begins with this byte, if behind the byte the tokens behind it
+-- match the rest (`fits`), or it goes on.
+abbrev pub takes : Token → ℕ → Bool → Bool → Bool
+takes (Byte own) byte fits goes_on = (byte == own) && fits
+takes Any byte fits goes_on = not (byte == slash) && fits
+takes Star byte fits goes_on = not (byte == slash) && (goes_on || fits)
+takes Folders byte fits goes_on = goes_on || ((byte == slash) && fits)
+takes Rest byte fits goes_on = goes_on || fits
+takes Nothing byte fits goes_on = false
+
+-- whether the token matches at least one byte, and what stands behind it the rest
+abbrev pub takes_some : Token → (Text → Bool) → Text → Bool
+takes_some token behind [] = false
+takes_some token behind (byte ∷ bytes) = takes token byte (behind bytes) (takes_some token behind bytes)
+
+abbrev pub is_empty : Text → Bool
+is_empty [] = true
+is_empty (byte ∷ bytes) = false
+
+-- whether the tokens match the whole path
+abbrev pub matches : List Token → Text → Bool
+matches [] path = is_empty path
+matches (token ∷ tokens) path =
+    takes_some token (matches tokens) path || (takes_none token && matches tokens path)
+
+-- For each place of a path, and for its end, whether these match what stands there.
+pub record IsRowOf (test : Text → Bool) (path : Text) (row : List Bool) : Type 0 where
+  pub len : length row ≡ length path + 1
+  pub each : (k : ℕ) → k ≤ length path → slice_index_or row k false ≡ test (drop k path)
+
+abbrev pub IsRow : List Token → Text → List Bool → Type 0
+IsRow tokens path row = IsRowOf (matches tokens) path row
+
+abbrev pub IsRowBehind : List Token → Text → List Bool → Type 0
+IsRowBehind tokens path row = IsRow (drop 1 tokens) path row

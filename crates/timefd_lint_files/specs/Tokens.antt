@@ -1,0 +1,82 @@
+-- The tokens of a pattern.
+use Rattle.std.specs.Prelude.{ℕ, ◌≡◌, Bool, true, false, ◌&&◌, ◌==◌, nat_lt, if◌then◌else◌, List, [], ◌∷◌, length, Option, Some, None}
+use Rattle.timefd_lint_files.specs.declared.token.Token.{Token}
+use Rattle.timefd_lint_files.specs.declared.token.Token.TheVariants.{Byte, Any, Star, Folders, Rest, Nothing}
+use Rattle.timefd_lint_files.specs.declared.tokens.Step.{Step}
+use Rattle.timefd_lint_files.specs.Lines.{backslash}
+use Rattle.timefd_lint_files.specs.Matching.{Text, slash}
+
+-- `*`, `?`, `[`
+abbrev pub star : ℕ
+star = 42
+
+abbrev pub question : ℕ
+question = 63
+
+abbrev pub bracket : ℕ
+bracket = 91
+
+-- a token, and what stands behind it
+pub record Begin : Type 0 where
+  pub token : Token
+  pub rest : Text
+
+abbrev pub begun : Step → Begin
+begun step = record { token = step.token; rest = step.rest.now }
+
+abbrev pub begun_any : Option Step → Option Begin
+begun_any None = None
+begun_any (Some step) = Some (begun step)
+
+abbrev pub behind_stars : Text → Text
+behind_stars [] = []
+behind_stars (byte ∷ bytes) = if byte == star then behind_stars bytes else byte ∷ bytes
+
+-- Behind two stars or more that begin a name: a slash makes any folders of them, and the end makes
+-- everything below.
+abbrev pub doubled : Text → Begin
+doubled [] = record { token = Rest; rest = [] }
+doubled (byte ∷ bytes) =
+    if byte == slash then record { token = Folders; rest = bytes }
+    else record { token = Star; rest = byte ∷ bytes }
+
+-- Behind the first star. Other stars in a row are one.
+abbrev pub starred : Bool → Text → Begin
+starred begins_name text =
+    if begins_name && nat_lt (length (behind_stars text)) (length text) then doubled (behind_stars text)
+    else record { token = Star; rest = behind_stars text }
+
+-- A backslash takes the byte behind it as it is.
+abbrev pub escaped : Text → Begin
+escaped [] = record { token = Nothing; rest = [] }
+escaped (byte ∷ bytes) = record { token = Byte byte; rest = bytes }
+
+-- Classes of bytes, in brackets, match nothing here.
+abbrev pub begun_by : Bool → ℕ → Text → Begin
+begun_by begins_name byte behind =
+    if byte == star then starred begins_name behind
+    else if byte == backslash then escaped behind
+    else if byte == question then record { token = Any; rest = behind }
+    else if byte == bracket then record { token = Nothing; rest = behind }
+    else record { token = Byte byte; rest = behind }
+
+-- none at the end
+abbrev pub first : Bool → Text → Option Begin
+first begins_name [] = None
+first begins_name (byte ∷ bytes) = Some (begun_by begins_name byte bytes)
+
+-- A name begins behind a slash.
+abbrev pub ends_name : Token → Bool
+ends_name (Byte byte) = byte == slash
+ends_name Any = false
+ends_name Star = false
+ends_name Folders = true
+ends_name Rest = false
+ends_name Nothing = false
+
+-- The text is these tokens, one behind another, and nothing else.
+abbrev pub AreTokens : Bool → Text → List Token → Type 0
+AreTokens begins_name text [] = text ≡ []
+AreTokens begins_name text (token ∷ tokens) = (rest : Text)
+    × (first begins_name text ≡ Some (record { token = token; rest = rest }))
+    × AreTokens (ends_name token) rest tokens

@@ -1,0 +1,121 @@
+-- Which sources stand below a folder.
+use Rattle.std.specs.Prelude.{ℕ, zero, suc, ◌≡◌, ◌==◌, nat_eq, Bool, true, false, if◌then◌else◌, List, [], ◌∷◌, ◌++◌, map, length, codes, Option, Some, None, String, string_bytes}
+use denote.Ref.{Bor}
+use Rattle.std.specs.Cmp.Lexicographic.{pointwise}
+use Rattle.std.specs.List.Sorted.{IsPermutation, IsSortedByKey}
+use Rattle.std.specs.String.{string_cmp}
+use Rattle.std.specs.declared.alloc.Global.{Global}
+use Rattle.timefd_lint_files.specs.declared.entry.Entry.{Entry}
+use Rattle.timefd_lint_files.specs.declared.entry.Role.{Role}
+use Rattle.timefd_lint_files.specs.declared.entry.Role.TheVariants as roles
+use Rattle.timefd_lint_files.specs.declared.ignore_file.IgnoreFile.{IgnoreFile}
+use Rattle.timefd_lint_files.specs.Entries.{has_ignore_file, role}
+use Rattle.timefd_lint_files.specs.IgnoreFiles.{IsReadAs}
+use Rattle.timefd_lint_files.specs.Lines.{last}
+use Rattle.timefd_lint_files.specs.Matching.{Text, slash}
+use Rattle.timefd_lint_files.specs.Rules.{is_ignored}
+
+abbrev pub texts : List (String Global) → List Text
+texts names = map string_bytes names
+
+abbrev pub text_any : Option (String Global) → Option Text
+text_any None = None
+text_any (Some name) = Some (string_bytes name)
+
+-- The entries are those of the folder, by name.
+abbrev pub AreListed : (List Entry → Type 0) → List Entry → Type 0
+AreListed lists entries = (listed : List Entry) × lists listed × IsPermutation listed entries
+    × IsSortedByKey (λ (entry : Entry). entry.name) string_cmp entries
+
+-- the file of a folder
+abbrev pub IsOwn : (Text → Text → Type 0) → Text → IgnoreFile → Type 0
+IsOwn holds folder file =
+    (text : Text) × holds (folder ++ codes ".gitignore") text × IsReadAs (length folder) text file
+
+abbrev pub HasOwnIf : Bool → (Text → Text → Type 0) → Text → List IgnoreFile → List IgnoreFile → Type 0
+HasOwnIf false holds folder above all = all ≡ above
+HasOwnIf true holds folder above all =
+    (own : IgnoreFile) × IsOwn holds folder own × (all ≡ above ++ own ∷ [])
+
+-- In a folder the files above it hold, and its own.
+abbrev pub HasOwn : (Text → Text → Type 0) → Text → List Entry → List IgnoreFile → List IgnoreFile → Type 0
+HasOwn holds folder entries above all = HasOwnIf (has_ignore_file entries) holds folder above all
+
+-- what a walk makes of an entry: it passes it over, takes its name, or goes into the folder of this name
+pub data Found : Type 0 where
+  passed : Found
+  taken : Text → Found
+  entered : Text → Found
+
+-- What is ignored is passed over, and so all below it.
+abbrev pub found_as : List IgnoreFile → Text → Role → Found
+found_as ignores path roles.None = passed
+found_as ignores path roles.Source = if is_ignored ignores path false then passed else taken path
+found_as ignores path roles.Folder =
+    if is_ignored ignores path true then passed else entered (path ++ slash ∷ [])
+
+abbrev pub found : List IgnoreFile → Text → Entry → Found
+found ignores folder entry = found_as ignores (folder ++ string_bytes entry.name) (role entry)
+
+-- One name more, or none, and the folder to go into.
+abbrev pub IsLeft : Found → List Text → List Text → Option Text → Type 0
+IsLeft passed before behind below = (behind ≡ before) × (below ≡ None)
+IsLeft (taken path) before behind below = (behind ≡ before ++ path ∷ []) × (below ≡ None)
+IsLeft (entered path) before behind below = (behind ≡ before) × (below ≡ Some path)
+
+abbrev pub IsLookedAt : List IgnoreFile → Text → Entry → List Text → List Text → Option Text → Type 0
+IsLookedAt ignores folder entry before behind below = IsLeft (found ignores folder entry) before behind below
+
+-- the names that an entry gives, where folders give these
+abbrev pub AreOf : (Text → List Text → Type 0) → Found → List Text → Type 0
+AreOf Below passed names = names ≡ []
+AreOf Below (taken path) names = names ≡ path ∷ []
+AreOf Below (entered path) names = Below path names
+
+-- Each of a list gives names, and these are all of them, in turn.
+abbrev pub AllGive : {X : Type 0} → (X → List Text → Type 0) → List X → List Text → Type 0
+AllGive Gives [] names = names ≡ []
+AllGive Gives (x ∷ xs) names = (own : List Text) × (more : List Text)
+    × Gives x own × AllGive Gives xs more × (names ≡ own ++ more)
+
+-- the names that an entry of a folder gives, under the files that hold in it
+abbrev pub Gives : (List IgnoreFile → Text → List Text → Type 0) → List IgnoreFile → Text
+    → Entry → List Text → Type 0
+Gives Below ignores folder entry names = AreOf (Below ignores) (found ignores folder entry) names
+
+-- The names of the sources below a folder, in the order of the names of its entries, if no more than so
+-- many folders stand in one another.
+unfoldable pub IsWalk : (Text → List Entry → Type 0) → (Text → Text → Type 0) → ℕ → List IgnoreFile
+    → Text → List Text → Type 0
+IsWalk lists holds zero above folder names = ⊥
+IsWalk lists holds (suc depth) above folder names = (entries : List Entry) × (ignores : List IgnoreFile)
+    × AreListed (lists folder) entries × HasOwn holds folder entries above ignores
+    × AllGive (Gives (IsWalk lists holds depth) ignores folder) entries names
+
+-- the name of the standard input
+abbrev pub is_input : Text → Bool
+is_input name = pointwise nat_eq name (codes "-")
+
+-- the name of a folder, with a slash at its end
+abbrev pub as_folder : Text → Text
+as_folder name = if last name == slash then name else name ++ slash ∷ []
+
+-- A name that isn't a folder's stays as it is.
+abbrev pub AreOfName : (Text → List Text → Type 0) → Text → Bool → List Text → Type 0
+AreOfName Below name false names = names ≡ name ∷ []
+AreOfName Below name true names = Below (as_folder name) names
+
+-- So does the name of the standard input.
+abbrev pub AreOfNameOr : (Text → List Text → Type 0) → (Text → Bool → Type 0) → Text → Bool → List Text → Type 0
+AreOfNameOr Below tells name true names = names ≡ name ∷ []
+AreOfNameOr Below tells name false names =
+    (is_folder : Bool) × tells name is_folder × AreOfName Below name is_folder names
+
+-- the names that a name of the command line gives
+abbrev pub IsExpanded : (Text → List Text → Type 0) → (Text → Bool → Type 0) → Bor Text → List Text → Type 0
+IsExpanded Below tells name names = AreOfNameOr Below tells name.now (is_input name.now) names
+
+-- those of all names
+abbrev pub AreExpanded : (Text → List Text → Type 0) → (Text → Bool → Type 0) → List (Bor Text) → List Text
+    → Type 0
+AreExpanded Below tells given names = AllGive (IsExpanded Below tells) given names

@@ -1,0 +1,24 @@
+//! The sources of Rust below folders, but those that `.gitignore` files ignore.
+#![tactic(auto)]
+
+mod entry;
+mod ignore_file;
+mod line;
+mod matching;
+mod names;
+mod pattern;
+mod rules;
+mod system;
+mod token;
+mod tokens;
+mod walk;
+
+pub use entry::{Entry, Kind, Role};
+pub use ignore_file::IgnoreFile;
+pub use matching::matches;
+pub use names::expanded;
+pub use pattern::{Pattern, pattern_of};
+pub use rules::{Verdict, is_ignored};
+pub use system::{FileSystem, ReadError};
+pub use token::Token;
+pub use walk::{Reason, WalkError};

@@ -1,0 +1,95 @@
+//! The names of the command line, each folder by the sources below it.
+
+ghost use Rattle.std.specs.Prelude.{◌≡◌, ◌++◌, ◌∷◌, [], List, string_bytes, IfOk, OnOk};
+ghost use Rattle.timefd_lint_files.specs.Matching.{Text};
+ghost use Rattle.timefd_lint_files.specs.Walks as spec;
+ghost use Rattle.timefd_lint_files.specs.Walks.{AreExpanded, IsExpanded, IsWalk, texts};
+
+use crate::system::FileSystem;
+use crate::walk::{DEPTH_LIMIT, Walk, WalkError, walk_folder};
+use std::alloc::{AllocError, Global};
+
+/// Whether a name is that of the standard input.
+fn is_input(name: &str) -> bool
+    ensures { result ≡ spec.is_input name.now }
+{
+    name == "-"
+}
+
+/// The name of a folder, with a `/` at its end.
+fn as_folder(alloc: Global, name: &str) -> Result<String, AllocError>
+    ensures { IfOk result (λ folder. string_bytes folder ≡ spec.as_folder name.now) }
+{
+    let mut folder = String::from_str(alloc, name)?;
+    match name.as_bytes() {
+        [.., b'/'] => Ok(folder),
+        _ => {
+            folder.push('/')?;
+            Ok(folder)
+        }
+    }
+}
+
+/// Adds a name as it is.
+fn push_name(alloc: Global, walk: &mut Walk, name: &str) -> Result<(), WalkError>
+    ensures names { OnOk result (texts walk.new.names.items
+        ≡ texts walk.old.names.items ++ name.now ∷ []) }
+    ensures ignores { walk.new.ignores.items ≡ walk.old.ignores.items }
+{
+    let name = String::from_str(alloc, name)?;
+    match walk.names.push(name) {
+        Ok(()) => Ok(()),
+        Err(_) => Err(WalkError::Memory),
+    }
+}
+
+/// Adds a name, or those of the sources below its folder.
+#[tactic(auto, using(crate::proofs::NameLemmas::as_input, crate::proofs::NameLemmas::as_file, crate::proofs::NameLemmas::as_walked))]
+fn expand<S: FileSystem>(
+    system: &S,
+    alloc: Global,
+    walk: &mut Walk,
+    name: &str,
+) -> Result<(), WalkError>
+    requires { walk.old.ignores.items ≡ [] }
+    ensures names { OnOk result ((names : List Text)
+        × (texts walk.new.names.items ≡ texts walk.old.names.items ++ names)
+        × IsExpanded (IsWalk (S.lists system.now) (S.holds system.now) 255 [])
+        (S.tells system.now) name.entry names) }
+    ensures ignores { OnOk result (walk.new.ignores.items ≡ []) }
+{
+    if is_input(name) {
+        return push_name(alloc, walk, name);
+    }
+    if !system.is_folder(name) {
+        return push_name(alloc, walk, name);
+    }
+    let folder = as_folder(alloc, name)?;
+    walk_folder(system, alloc, walk, &folder, DEPTH_LIMIT)
+}
+
+/// The names of the files to look at: each name that is a folder's is replaced by those of the sources
+/// below it, in the order of the bytes of the entries' names. Any other stays as it is, and so does `-`. A
+/// source is a regular file whose name ends in `.rs`. Hidden entries and links are passed over, and what
+/// `.gitignore` files in these folders ignore. Those of folders above a named one aren't read, and a
+/// pattern with a class of bytes, as `[ab]`, ignores nothing.
+///
+/// # Errors
+///
+/// That memory ran out; or the name of a folder or a `.gitignore` file that can't be read, or of a folder
+/// that more than 255 stand around.
+#[tactic(auto, using(crate::proofs::NameLemmas::at_first))]
+pub fn expanded<S: FileSystem>(
+    system: &S,
+    alloc: Global,
+    names: &[&str],
+) -> Result<Vec<String>, WalkError>
+    ensures { IfOk result (λ all. AreExpanded (IsWalk (S.lists system.now) (S.holds system.now) 255 [])
+        (S.tells system.now) names.now (texts all.items)) }
+{
+    let mut walk = Walk::new(alloc);
+    for name in names {
+        expand(system, alloc, &mut walk, name)?;
+    }
+    Ok(walk.into_names())
+}

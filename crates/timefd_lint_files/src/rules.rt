@@ -1,0 +1,107 @@
+//! What `.gitignore` files say of a path.
+
+ghost use Rattle.std.specs.Prelude.{◌≡◌, IfOk};
+ghost use Rattle.timefd_lint_files.specs.Rules as spec;
+
+use crate::ignore_file::IgnoreFile;
+use crate::pattern::Pattern;
+use std::alloc::AllocError;
+
+/// What a pattern says of the paths that it matches.
+#[derive(Clone, Copy, Debug, PartialEq, Eq)]
+pub enum Verdict {
+    /// They are ignored.
+    Ignored,
+    /// They are kept, whatever patterns in front of it say.
+    Kept,
+}
+
+impl Pattern {
+    /// What it says of the paths that it matches.
+    pub fn verdict(&self) -> Verdict
+        ensures { result ≡ spec.verdict self.now }
+    {
+        if self.is_negated {
+            Verdict::Kept
+        } else {
+            Verdict::Ignored
+        }
+    }
+}
+
+impl IgnoreFile {
+    /// What its last pattern that matches a path says; nothing if none does.
+    fn verdict(
+        &self,
+        path: &[u8],
+        is_folder: bool,
+        row: &mut Vec<bool>,
+    ) -> Result<Option<Verdict>, AllocError>
+        ensures { IfOk result (λ verdict. verdict ≡ spec.verdict_in self.now path.now is_folder) }
+    {
+        let below = path.get(self.folder_len..).unwrap_or(&[]);
+        last_verdict(&self.patterns, below, is_folder, row)
+    }
+}
+
+/// What the last pattern that matches a path says; nothing if none does.
+#[tactic(auto, using(crate::proofs::RuleLemmas::later_twice, crate::proofs::RuleLemmas::from_none))]
+fn last_verdict(
+    patterns: &[Pattern],
+    path: &[u8],
+    is_folder: bool,
+    row: &mut Vec<bool>,
+) -> Result<Option<Verdict>, AllocError>
+    ensures { IfOk result (λ verdict.
+        verdict ≡ spec.last_verdict patterns.now path.now is_folder) }
+{
+    let mut last = None;
+    for pattern in patterns {
+        if pattern.applies(path, is_folder, row)? {
+            last = Some(pattern.verdict());
+        }
+    }
+    Ok(last)
+}
+
+/// What the deepest file says that says anything of a path. The files are those of the folders that the
+/// path leads through, from the top.
+#[tactic(auto, using(crate::proofs::RuleLemmas::later_twice, crate::proofs::RuleLemmas::from_none))]
+fn deepest_verdict(
+    files: &[IgnoreFile],
+    path: &[u8],
+    is_folder: bool,
+    row: &mut Vec<bool>,
+) -> Result<Option<Verdict>, AllocError>
+    ensures { IfOk result (λ verdict.
+        verdict ≡ spec.deepest_verdict files.now path.now is_folder) }
+{
+    let mut deepest = None;
+    for file in files {
+        if let Some(verdict) = file.verdict(path, is_folder, row)? {
+            deepest = Some(verdict);
+        }
+    }
+    Ok(deepest)
+}
+
+/// Whether a path is ignored: by the last pattern that matches it, of the deepest file that has one. The
+/// files are those of the folders that the path leads through, from the top. That no folder in front of
+/// it is ignored, the caller sees to. The row is room to work in.
+///
+/// # Errors
+///
+/// That memory ran out.
+pub fn is_ignored(
+    files: &[IgnoreFile],
+    path: &[u8],
+    is_folder: bool,
+    row: &mut Vec<bool>,
+) -> Result<bool, AllocError>
+    ensures { IfOk result (λ ignored. ignored ≡ spec.is_ignored files.now path.now is_folder) }
+{
+    match deepest_verdict(files, path, is_folder, row)? {
+        Some(Verdict::Ignored) => Ok(true),
+        Some(Verdict::Kept) | None => Ok(false),
+    }
+}

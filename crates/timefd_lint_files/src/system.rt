@@ -1,0 +1,106 @@
+//! What has files and folders.
+
+ghost use Rattle.std.specs.Prelude.{List, Bool, IfOk, ⊤};
+ghost use Rattle.timefd_lint_files.specs.Matching.{Text};
+ghost use Rattle.timefd_lint_files.specs.declared.entry.Entry.{Entry};
+
+use crate::entry::{Entry, Kind};
+use std::alloc::{AllocError, Global};
+use std::fs;
+use std::fs::{DirEntry, FileType};
+use std::io::ErrorKind;
+use std::rt::Files;
+
+/// Why a folder or a file can't be read.
+#[derive(Clone, Copy, Debug, PartialEq, Eq)]
+pub enum ReadError {
+    /// Memory ran out.
+    Memory,
+    /// The system says so.
+    Failed(ErrorKind),
+}
+
+/// What has files and folders.
+pub trait FileSystem {
+    // That these may be the entries of a folder.
+    ghost lists: { Self → Text → List Entry → Type 0 };
+
+    // That this may be the text of a file.
+    ghost holds: { Self → Text → Text → Type 0 };
+
+    // That a name may stand for a folder, or for none.
+    ghost tells: { Self → Text → Bool → Type 0 };
+
+    /// The entries of a folder, in any order.
+    fn entries(&self, alloc: Global, folder: &str) -> Result<Vec<Entry>, ReadError>
+        ensures { IfOk result (λ entries. lists self.now folder.now entries.items) };
+
+    /// All bytes of a file.
+    fn text(&self, alloc: Global, file: &str) -> Result<Vec<u8>, ReadError>
+        ensures { IfOk result (λ text. holds self.now file.now text.items) };
+
+    /// Whether a name stands for a folder, also through links.
+    fn is_folder(&self, name: &str) -> bool
+        ensures { tells self.now name.now result };
+}
+
+impl From<AllocError> for ReadError {
+    fn from(_: AllocError) -> Self {
+        ReadError::Memory
+    }
+}
+
+impl From<std::io::Error> for ReadError {
+    fn from(error: std::io::Error) -> Self {
+        match error.kind() {
+            ErrorKind::OutOfMemory => ReadError::Memory,
+            kind => ReadError::Failed(kind),
+        }
+    }
+}
+
+fn kind_of(file_type: FileType) -> Kind {
+    if file_type.is_dir() {
+        Kind::Folder
+    } else if file_type.is_file() {
+        Kind::File
+    } else {
+        Kind::Other
+    }
+}
+
+fn entry_of<R: Files>(alloc: Global, entry: &DirEntry<R, Global>) -> Result<Entry, ReadError> {
+    Ok(Entry {
+        name: String::from_str(alloc, entry.file_name())?,
+        kind: kind_of(entry.file_type()?),
+    })
+}
+
+// What the system's files hold isn't known.
+impl<R: Files + AllocGlobal + Clone + Drop> FileSystem for R {
+    ghost lists = { λ _ _ _. ⊤ };
+
+    ghost holds = { λ _ _ _. ⊤ };
+
+    ghost tells = { λ _ _ _. ⊤ };
+
+    fn entries(&self, alloc: Global, folder: &str) -> Result<Vec<Entry>, ReadError> {
+        let mut entries = Vec::new(alloc);
+        for entry in fs::read_dir(self, folder)? {
+            let entry = entry_of(alloc, &entry?)?;
+            entries.push(entry).map_err(AllocError::from)?;
+        }
+        Ok(entries)
+    }
+
+    fn text(&self, _: Global, file: &str) -> Result<Vec<u8>, ReadError> {
+        Ok(fs::read(self, file)?)
+    }
+
+    fn is_folder(&self, name: &str) -> bool {
+        match fs::metadata(self, name) {
+            Ok(metadata) => metadata.is_dir(),
+            Err(_) => false,
+        }
+    }
+}

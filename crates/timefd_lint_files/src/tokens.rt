@@ -1,0 +1,142 @@
+//! The tokens of a pattern.
+
+ghost use Rattle.std.specs.Prelude.{◌≡◌, ◌≤◌, ◌<◌, ◌++◌, true, length, List, MatchOption, IfOk, ⊤};
+ghost use Rattle.timefd_lint_files.specs.Tokens as spec;
+ghost use Rattle.timefd_lint_files.specs.Tokens.{AreTokens, begun, begun_any};
+
+use crate::token::Token;
+use std::alloc::AllocError;
+
+/// A token, and what stands behind it.
+#[derive(Clone, Copy)]
+pub struct Step<'a> {
+    pub token: Token,
+    pub rest: &'a [u8],
+}
+
+/// What stands behind all stars in front.
+fn behind_stars(text: &[u8]) -> &[u8]
+    ensures rest { result.now ≡ spec.behind_stars text.now }
+    ensures within { length result.now ≤ length text.now }
+{
+    let mut rest = text;
+    'stars: while let [b'*', behind @ ..] = rest {
+        rest = behind;
+    }
+    rest
+}
+
+/// Behind two stars or more that begin a name.
+fn doubled(behind: &[u8]) -> Step<'_>
+    ensures begin { begun result ≡ spec.doubled behind.now }
+    ensures within { length result.rest.now ≤ length behind.now }
+{
+    match behind {
+        [] => Step {
+            token: Token::Rest,
+            rest: behind,
+        },
+        [b'/', rest @ ..] => Step {
+            token: Token::Folders,
+            rest,
+        },
+        _ => Step {
+            token: Token::Star,
+            rest: behind,
+        },
+    }
+}
+
+/// Behind the first star.
+fn starred(begins_name: bool, text: &[u8]) -> Step<'_>
+    ensures begin { begun result ≡ spec.starred begins_name text.now }
+    ensures within { length result.rest.now ≤ length text.now }
+{
+    let rest = behind_stars(text);
+    if begins_name && rest.len() < text.len() {
+        return doubled(rest);
+    }
+    Step {
+        token: Token::Star,
+        rest,
+    }
+}
+
+/// Behind a backslash.
+fn escaped(text: &[u8]) -> Step<'_>
+    ensures begin { begun result ≡ spec.escaped text.now }
+    ensures within { length result.rest.now ≤ length text.now }
+{
+    match text {
+        [] => Step {
+            token: Token::Nothing,
+            rest: text,
+        },
+        [byte, rest @ ..] => Step {
+            token: Token::Byte(*byte),
+            rest,
+        },
+    }
+}
+
+/// The token that begins with this byte.
+fn begun_by(begins_name: bool, byte: u8, behind: &[u8]) -> Step<'_>
+    ensures begin { begun result ≡ spec.begun_by begins_name byte behind.now }
+    ensures within { length result.rest.now ≤ length behind.now }
+{
+    match byte {
+        b'*' => starred(begins_name, behind),
+        b'\\' => escaped(behind),
+        b'?' => Step {
+            token: Token::Any,
+            rest: behind,
+        },
+        b'[' => Step {
+            token: Token::Nothing,
+            rest: behind,
+        },
+        _ => Step {
+            token: Token::Byte(byte),
+            rest: behind,
+        },
+    }
+}
+
+/// The token that a text begins with; none at its end. At the beginning of a name two stars mean
+/// folders.
+fn first(begins_name: bool, text: &[u8]) -> Option<Step<'_>>
+    ensures begin { begun_any result ≡ spec.first begins_name text.now }
+    ensures within { MatchOption result ⊤ (λ step. length step.rest.now < length text.now) }
+{
+    match text {
+        [] => None,
+        [byte, behind @ ..] => Some(begun_by(begins_name, *byte, behind)),
+    }
+}
+
+/// Whether a name begins behind a token.
+fn ends_name(token: Token) -> bool
+    ensures { result ≡ spec.ends_name token }
+{
+    match token {
+        Token::Byte(byte) => byte == b'/',
+        Token::Folders => true,
+        Token::Any | Token::Star | Token::Rest | Token::Nothing => false,
+    }
+}
+
+/// Adds the tokens of a text that begins a name.
+#[tactic(auto, using(crate::proofs::TokenLemmas::at_first, crate::proofs::TokenLemmas::one_more, crate::proofs::TokenLemmas::at_last))]
+pub fn push_tokens(tokens: &mut Vec<Token>, text: &[u8]) -> Result<(), AllocError>
+    ensures { IfOk result (λ _. (more : List Token) × (tokens.new.items ≡ tokens.old.items ++ more)
+        × AreTokens true text.now more) }
+{
+    let mut begins_name = true;
+    let mut rest = text;
+    'tokens: while let Some(step) = first(begins_name, rest) {
+        tokens.push(step.token)?;
+        begins_name = ends_name(step.token);
+        rest = step.rest;
+    }
+    Ok(())
+}

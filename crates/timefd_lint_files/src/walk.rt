@@ -1,0 +1,218 @@
+//! The sources of Rust below a folder.
+
+ghost use Rattle.std.specs.Prelude.{◌≡◌, ◌++◌, [], List, length, string_bytes, IfOk, OnOk};
+ghost use Rattle.timefd_lint_files.specs.Entries as spec;
+ghost use Rattle.timefd_lint_files.specs.Matching.{Text};
+ghost use Rattle.timefd_lint_files.specs.Walks.{AreListed, HasOwn, IsLookedAt, IsOwn, IsWalk, text_any, texts};
+
+use crate::entry::{Entry, Role};
+use crate::ignore_file::IgnoreFile;
+use crate::rules::is_ignored;
+use crate::system::{FileSystem, ReadError};
+use std::alloc::{AllocError, Global};
+use std::io::ErrorKind;
+
+/// How many folders may stand in one another.
+pub const DEPTH_LIMIT: usize = 255;
+
+/// Why the sources below a folder aren't known.
+#[derive(Clone, Copy, Debug, PartialEq, Eq)]
+pub enum Reason {
+    /// It, or its `.gitignore` file, can't be read.
+    Unread(ErrorKind),
+    /// It stands in too many others.
+    TooDeep,
+}
+
+/// Why a walk didn't come to its end.
+#[derive(Debug, Drop)]
+pub enum WalkError {
+    /// Memory ran out.
+    Memory,
+    /// This fails of a folder or a file.
+    Failed { path: String, reason: Reason },
+}
+
+impl From<AllocError> for WalkError {
+    fn from(_: AllocError) -> Self {
+        WalkError::Memory
+    }
+}
+
+/// Where a walk is, and what it has found.
+#[derive(Drop)]
+pub struct Walk {
+    /// The `.gitignore` files of the folders that it is in, from the top.
+    pub ignores: Vec<IgnoreFile>,
+    /// Room to work in.
+    pub row: Vec<bool>,
+    /// The names of the sources so far.
+    pub names: Vec<String>,
+}
+
+impl Walk {
+    pub fn new(alloc: Global) -> Walk
+        ensures ignores { result.ignores.items ≡ [] }
+        ensures names { result.names.items ≡ [] }
+    {
+        Walk {
+            ignores: Vec::new(alloc),
+            row: Vec::new(alloc),
+            names: Vec::new(alloc),
+        }
+    }
+
+    pub fn into_names(self) -> Vec<String>
+        ensures { result ≡ self.names }
+    {
+        let Walk { names, .. } = self;
+        names
+    }
+}
+
+fn failed(alloc: Global, path: &str, reason: Reason) -> WalkError {
+    match String::from_str(alloc, path) {
+        Ok(path) => WalkError::Failed { path, reason },
+        Err(AllocError) => WalkError::Memory,
+    }
+}
+
+fn unread(alloc: Global, path: &str, error: ReadError) -> WalkError {
+    match error {
+        ReadError::Memory => WalkError::Memory,
+        ReadError::Failed(kind) => failed(alloc, path, Reason::Unread(kind)),
+    }
+}
+
+fn joined(alloc: Global, folder: &str, name: &str) -> Result<String, AllocError>
+    ensures { IfOk result (λ path. string_bytes path ≡ folder.now ++ name.now) }
+{
+    let mut path = String::from_str(alloc, folder)?;
+    path.push_str(name)?;
+    Ok(path)
+}
+
+/// The entries of a folder, by name.
+fn sorted_entries<S: FileSystem>(
+    system: &S,
+    alloc: Global,
+    folder: &str,
+) -> Result<Vec<Entry>, WalkError>
+    ensures { IfOk result (λ entries. AreListed (S.lists system.now folder.now) entries.items) }
+{
+    match system.entries(alloc, folder) {
+        Ok(mut entries) => {
+            entries.sort_unstable();
+            Ok(entries)
+        }
+        Err(error) => Err(unread(alloc, folder, error)),
+    }
+}
+
+fn has_ignore_file(entries: &[Entry]) -> bool
+    ensures { result ≡ spec.has_ignore_file entries.now }
+{
+    for entry in entries {
+        if entry.is_ignore_file() {
+            return true;
+        }
+    }
+    false
+}
+
+/// The `.gitignore` file of a folder.
+fn ignore_file<S: FileSystem>(
+    system: &S,
+    alloc: Global,
+    folder: &str,
+) -> Result<IgnoreFile, WalkError>
+    ensures { IfOk result (λ file. IsOwn (S.holds system.now) folder.now file) }
+{
+    let path = joined(alloc, folder, ".gitignore")?;
+    match system.text(alloc, &path) {
+        Ok(text) => Ok(IgnoreFile::of_text(alloc, folder.len(), &text)?),
+        Err(error) => Err(unread(alloc, &path, error)),
+    }
+}
+
+/// Adds the `.gitignore` file of a folder, if it has one.
+#[tactic(auto, using(crate::proofs::WalkLemmas::with_own))]
+fn add_own<S: FileSystem>(
+    system: &S,
+    alloc: Global,
+    folder: &str,
+    entries: &[Entry],
+    ignores: &mut Vec<IgnoreFile>,
+) -> Result<(), WalkError>
+    ensures { OnOk result (HasOwn (S.holds system.now) folder.now entries.now
+        ignores.old.items ignores.new.items) }
+{
+    if !has_ignore_file(entries) {
+        return Ok(());
+    }
+    let file = ignore_file(system, alloc, folder)?;
+    match ignores.push(file) {
+        Ok(()) => Ok(()),
+        Err(_) => Err(WalkError::Memory),
+    }
+}
+
+/// Adds the name of an entry that is a source, or answers the name of a folder to go into. What is
+/// ignored it passes over.
+fn look_at(
+    alloc: Global,
+    walk: &mut Walk,
+    folder: &str,
+    entry: &Entry,
+) -> Result<Option<String>, AllocError>
+    ensures looked { IfOk result (λ below. IsLookedAt walk.old.ignores.items folder.now entry.now
+        (texts walk.old.names.items) (texts walk.new.names.items) (text_any below)) }
+    ensures ignores { walk.new.ignores.items ≡ walk.old.ignores.items }
+{
+    let role = entry.role();
+    if role == Role::None {
+        return Ok(None);
+    }
+    let mut path = joined(alloc, folder, &entry.name)?;
+    let is_folder = role == Role::Folder;
+    if is_ignored(&walk.ignores, path.as_bytes(), is_folder, &mut walk.row)? {
+        return Ok(None);
+    }
+    if is_folder {
+        path.push('/')?;
+        return Ok(Some(path));
+    }
+    walk.names.push(path).map_err(AllocError::from)?;
+    Ok(None)
+}
+
+/// Adds the names of the sources below a folder, whose name ends in a `/` or is empty. Folders may stand
+/// in one another up to this depth.
+pub fn walk_folder<S: FileSystem>(
+    system: &S,
+    alloc: Global,
+    walk: &mut Walk,
+    folder: &str,
+    depth: usize,
+) -> Result<(), WalkError>
+    ensures found { OnOk result ((names : List Text)
+        × (texts walk.new.names.items ≡ texts walk.old.names.items ++ names)
+        × IsWalk (S.lists system.now) (S.holds system.now) depth walk.old.ignores.items
+        folder.now names) }
+    ensures ignores { OnOk result (walk.new.ignores.items ≡ walk.old.ignores.items) }
+{
+    if depth == 0 {
+        return Err(failed(alloc, folder, Reason::TooDeep));
+    }
+    let entries = sorted_entries(system, alloc, folder)?;
+    let outer = walk.ignores.len();
+    add_own(system, alloc, folder, &entries, &mut walk.ignores)?;
+    'entries: for at in 0..entries.len() {
+        let Some(below) = look_at(alloc, walk, folder, &entries[at])? else {
+            continue;
+        };
+        walk_folder(system, alloc, walk, &below, depth - 1)?;
+    }
+    walk.ignores.truncate(outer);
+    Ok(())
+}

@@ -1,0 +1,83 @@
+//! A file system of a few folders.
+
+ghost use Rattle.std.specs.Prelude.{⊤};
+
+use std::alloc::{AllocError, Global};
+use std::io::ErrorKind;
+use timefd_lint_files::{Entry, FileSystem, Kind, ReadError};
+
+/// A few folders, and one, `deep`, that holds a folder of its own name, and so on.
+pub struct Fake;
+
+fn push(alloc: Global, entries: &mut Vec<Entry>, name: &str, kind: Kind) -> Result<(), AllocError> {
+    let name = String::from_str(alloc, name)?;
+    entries.push(Entry { name, kind }).map_err(AllocError::from)
+}
+
+/// The entries of `src/`, not in order.
+fn src(alloc: Global) -> Result<Vec<Entry>, AllocError> {
+    let mut entries = Vec::new(alloc);
+    push(alloc, &mut entries, "z.rs", Kind::File)?;
+    push(alloc, &mut entries, "a", Kind::Folder)?;
+    push(alloc, &mut entries, "a.rs", Kind::File)?;
+    push(alloc, &mut entries, "notes.txt", Kind::File)?;
+    push(alloc, &mut entries, "generated.rs", Kind::File)?;
+    push(alloc, &mut entries, "target", Kind::Folder)?;
+    push(alloc, &mut entries, ".hidden", Kind::Folder)?;
+    push(alloc, &mut entries, ".hidden.rs", Kind::File)?;
+    push(alloc, &mut entries, "link.rs", Kind::Other)?;
+    push(alloc, &mut entries, ".gitignore", Kind::File)?;
+    Ok(entries)
+}
+
+/// The entries of `src/a/`.
+fn below_src(alloc: Global) -> Result<Vec<Entry>, AllocError> {
+    let mut entries = Vec::new(alloc);
+    push(alloc, &mut entries, "target", Kind::File)?;
+    push(alloc, &mut entries, "generated.rs", Kind::File)?;
+    push(alloc, &mut entries, "kept.rs", Kind::File)?;
+    push(alloc, &mut entries, "old.rs", Kind::File)?;
+    push(alloc, &mut entries, ".gitignore", Kind::File)?;
+    Ok(entries)
+}
+
+fn deeper(alloc: Global) -> Result<Vec<Entry>, AllocError> {
+    let mut entries = Vec::new(alloc);
+    push(alloc, &mut entries, "deep", Kind::Folder)?;
+    Ok(entries)
+}
+
+impl FileSystem for Fake {
+    ghost lists = { λ _ _ _. ⊤ };
+
+    ghost holds = { λ _ _ _. ⊤ };
+
+    ghost tells = { λ _ _ _. ⊤ };
+
+    fn entries(&self, alloc: Global, folder: &str) -> Result<Vec<Entry>, ReadError> {
+        if folder == "src/" {
+            return Ok(src(alloc)?);
+        }
+        if folder == "src/a/" {
+            return Ok(below_src(alloc)?);
+        }
+        if folder.ends_with("deep/") {
+            return Ok(deeper(alloc)?);
+        }
+        Err(ReadError::Failed(ErrorKind::PermissionDenied))
+    }
+
+    fn text(&self, alloc: Global, file: &str) -> Result<Vec<u8>, ReadError> {
+        if file == "src/.gitignore" {
+            return Ok(b"generated.rs\ntarget/\n".to_vec(alloc)?);
+        }
+        if file == "src/a/.gitignore" {
+            return Ok(b"/old.rs\n!generated.rs\n".to_vec(alloc)?);
+        }
+        Err(ReadError::Failed(ErrorKind::NotFound))
+    }
+
+    fn is_folder(&self, name: &str) -> bool {
+        name == "src" || name == "src/" || name == "deep" || name == "closed"
+    }
+}

@@ -1,0 +1,13 @@
+//! Tests of `timefd_lint_files`. The expected values are those of git's page on `gitignore`.
+#![tactic(auto)]
+
+#[cfg(test)]
+mod fake;
+#[cfg(test)]
+mod folders;
+#[cfg(test)]
+mod lines;
+#[cfg(test)]
+mod patterns;
+#[cfg(test)]
+mod rules;
