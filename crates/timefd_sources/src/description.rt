@@ -8,6 +8,7 @@ use crate::calls::{Call, Frame, call_of, dialect_in, text_at};
 use crate::dialect::Dialect;
 use crate::literal::literal_text;
 use crate::marks::{Mark, first_open, marks_of};
+use crate::names::may_describe;
 use crate::piece::{Piece, pieces_of};
 use crate::token::{Kind, Token};
 use crate::unescape::Unescaped;
@@ -168,6 +169,9 @@ fn push_any(
 pub fn descriptions_of(alloc: Global, source: &str) -> Result<Vec<Description>, AllocError>
     ensures { IfOk result (λ found. AllStandIn source.now found.items) }
 {
+    if !may_describe(source.as_bytes()) {
+        return Ok(Vec::new(alloc));
+    }
     let all = pieces_of(alloc, source)?;
     let marks = marks_of(alloc, source, &all)?;
     let pieces = significant(alloc, &all)?;

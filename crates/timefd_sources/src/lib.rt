@@ -13,6 +13,7 @@ mod escape;
 pub mod laws;
 mod literal;
 mod marks;
+mod names;
 mod piece;
 mod place;
 mod string;
