@@ -1,4 +1,5 @@
 pub mod ShownLemmas
 pub mod PositionLemmas
+pub mod DrawLemmas
 pub mod JsonLemmas
 pub mod GithubLemmas

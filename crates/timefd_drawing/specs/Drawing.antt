@@ -7,6 +7,7 @@ use Rattle.timefd_fault.specs.Faults.{fault_of}
 use Rattle.timefd_fault.specs.Sentences.{error_sentence}
 use Rattle.timefd_diagnosis.specs.Codes.{code_of, name_of}
 use Rattle.timefd_diagnosis.specs.declared.diagnostic.Diagnostic.{Diagnostic}
+use Rattle.timefd_diagnosis.specs.Helps.{nearest_in}
 use Rattle.timefd_drawing.specs.declared.draw.Format.{Format}
 use Rattle.timefd_drawing.specs.declared.draw.Format.TheVariants.{Human, Json, Short, Github}
 use Rattle.timefd_drawing.specs.declared.draw.Style.{Style}
@@ -65,6 +66,7 @@ abbrev pub json : Origin → Text → Diagnostic → Text
 json origin text d =
     object (code d) origin.file.now (line_number origin.line text d.span.start)
     (column text d.span.start) (error_sentence d.fault) d.span.start d.span.end (help_text d.help)
+    (nearest_in d.help)
 
 -- The same place and sentence as in a line for editors, as an error.
 abbrev pub github : Origin → Text → Diagnostic → Text

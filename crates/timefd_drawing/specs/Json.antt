@@ -1,5 +1,5 @@
 -- Texts as JSON writes them.
-use Rattle.std.specs.Prelude.{ℕ, ◌+◌, ◌-◌, ◌/◌, ◌%◌, ◌||◌, ◌==◌, [], ◌∷◌, ◌++◌, chars, codes, decimal, encode_utf8, flat_map, nat_lt, if◌then◌else◌}
+use Rattle.std.specs.Prelude.{ℕ, ◌+◌, ◌-◌, ◌/◌, ◌%◌, ◌||◌, ◌==◌, [], ◌∷◌, ◌++◌, Option, None, Some, chars, codes, decimal, encode_utf8, flat_map, nat_lt, option_map, if◌then◌else◌}
 use Rattle.std.specs.Char.Escape.{encode_utf16}
 use Rattle.std.specs.Str.{IsUtf8, NonePass}
 use Rattle.timefd_component.specs.Tree.{Text}
@@ -41,14 +41,19 @@ text_field front text = front ++ quoted text
 abbrev pub number_field : Text → ℕ → Text
 number_field front number = front ++ decimal number
 
+-- the word to write in the place of the one at fault, where one is near
+abbrev pub replacement_field : Option Text → Text
+replacement_field None = []
+replacement_field (Some word) = text_field (codes ",\"replacement\":") word
+
 -- an object on a fault of a text, and one where no text was looked at
-abbrev pub object : Text → Text → ℕ → ℕ → Text → ℕ → ℕ → Text → Text
-object code file line column message start end help =
+abbrev pub object : Text → Text → ℕ → ℕ → Text → ℕ → ℕ → Text → Option Text → Text
+object code file line column message start end help replacement =
     [] ++ text_field (codes "{\"code\":") code ++ number_field (codes ",\"column\":") column
     ++ number_field (codes ",\"end\":") end ++ text_field (codes ",\"file\":") file
     ++ text_field (codes ",\"help\":") help ++ number_field (codes ",\"line\":") line
-    ++ text_field (codes ",\"message\":") message ++ number_field (codes ",\"start\":") start
-    ++ codes "}\n"
+    ++ text_field (codes ",\"message\":") message ++ replacement_field replacement
+    ++ number_field (codes ",\"start\":") start ++ codes "}\n"
 
 abbrev pub note_object : Text → Text → ℕ → ℕ → Text → Text
 note_object code file line column message =
@@ -59,6 +64,7 @@ note_object code file line column message =
 abbrev pub object_of : Entry → Detail → Text
 object_of e d =
     object e.code.now e.file.now e.line e.column e.message.now d.start d.end d.help.now
+    (option_map (λ word. word.now) d.replacement)
 
 abbrev pub note_object_of : Entry → Text
 note_object_of e = note_object e.code.now e.file.now e.line e.column e.message.now

@@ -119,6 +119,7 @@ fn json(
         start: diagnostic.span.start as u64,
         end: diagnostic.span.end as u64,
         help: &help,
+        replacement: diagnostic.help.nearest(),
     };
     object(alloc, entry, detail)
 }

@@ -1,6 +1,6 @@
 //! Objects of JSON.
 
-ghost use Rattle.std.specs.Prelude.{◌≡◌, ◌<◌, ◌++◌, decimal, flat_map, IfOk, OnOk};
+ghost use Rattle.std.specs.Prelude.{◌≡◌, ◌<◌, ◌++◌, decimal, flat_map, option_map, IfOk, OnOk};
 ghost use Rattle.timefd_drawing.specs.Json as spec;
 
 use crate::shown::is_hidden;
@@ -27,6 +27,8 @@ pub struct Detail<'a> {
     pub end: u64,
     /// What helps.
     pub help: &'a str,
+    /// The word to write in the place of these bytes, where one is near.
+    pub replacement: Option<&'a str>,
 }
 
 /// An object on a line, on a fault of a text.
@@ -41,9 +43,20 @@ pub fn object(alloc: Global, entry: Entry<'_>, detail: Detail<'_>) -> Result<Vec
     push_text(&mut out, ",\"help\":", detail.help)?;
     push_number(alloc, &mut out, ",\"line\":", entry.line)?;
     push_text(&mut out, ",\"message\":", entry.message)?;
+    push_replacement(&mut out, detail.replacement)?;
     push_number(alloc, &mut out, ",\"start\":", detail.start)?;
     out.extend_from_slice(b"}\n")?;
     Ok(out)
+}
+
+fn push_replacement(out: &mut Vec<u8>, replacement: Option<&str>) -> Result<(), AllocError>
+    ensures { OnOk result (out.new.items
+        ≡ out.old.items ++ spec.replacement_field (option_map (λ word. word.now) replacement.entry)) }
+{
+    match replacement {
+        Some(word) => push_text(out, ",\"replacement\":", word),
+        None => Ok(()),
+    }
 }
 
 /// An object on a line, where no text was looked at.
