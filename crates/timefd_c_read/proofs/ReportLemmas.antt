@@ -7,7 +7,6 @@ use Rattle.timefd_component.specs.Reserved.{reserve, reserve_all}
 use Rattle.timefd_component.specs.Tree.{Text, Tree, pack, trees}
 use Rattle.timefd_fault.specs.Faults.{Fault}
 use Rattle.timefd_language.specs.Bytes.{is_version_three}
-use Rattle.timefd_language.specs.Grammar.{nesting_limit}
 use Rattle.timefd_language.specs.declared.description_version.DescriptionVersion.{DescriptionVersion}
 use Rattle.timefd_language.specs.declared.description_version.DescriptionVersion.TheVariants.{One, Two, Three}
 use Rattle.timefd_node_list.specs.Nodes.{kept_bytes}
@@ -109,19 +108,19 @@ tree_report t u ns ms a b r is reports =
 
 -- What was read.
 
-pub accepted : (language : Language) (text : Text) (list : List Tree) (ns ms : List Node)
-    (a b : Text) (r : Report) → SpellsIn language nesting_limit text list
-    → IsReport language list ns ms a b r → IsRead language text ns ms a b (Ok r)
-accepted (Version v) text list ns ms a b r spells is = record {
+pub accepted : (language : Language) (limit : ℕ) (text : Text) (list : List Tree)
+    (ns ms : List Node) (a b : Text) (r : Report) → SpellsIn language limit text list
+    → IsReport language list ns ms a b r → IsRead language limit text ns ms a b (Ok r)
+accepted (Version v) limit text list ns ms a b r spells is = record {
   found = (list, spells, is);
   fault = tt;
   spelled = λ other s.
       subst (λ l. IsReport (Version v) l ns ms a b r)
-      ((one v nesting_limit text).one_list list other spells s) is;
-  refused = λ f h. (one v nesting_limit text).not_both list f spells h;
+      ((one v limit text).one_list list other spells s) is;
+  refused = λ f h. (one v limit text).not_both list f spells h;
   empty = λ e. refl;
 }
-accepted Strftime text list ns ms a b r spells is = record {
+accepted Strftime limit text list ns ms a b r spells is = record {
   found = (list, spells, is);
   fault = tt;
   spelled = λ other s.
@@ -131,12 +130,12 @@ accepted Strftime text list ns ms a b r spells is = record {
   empty = λ e. refl;
 }
 
-pub not_read : (language : Language) (text : Text) (ns ms : List Node) (a b : Text)
-    (e : BorrowedParseError) → IsLentOf (FaultIn language nesting_limit text) e
-    → ((list : List Tree) → SpellsIn language nesting_limit text list → IsMemory e)
-    → ((f : Fault) → FaultIn language nesting_limit text f → IsLent f e) → 0 < length text
-    → IsRead language text ns ms a b (Err e)
-not_read language text ns ms a b e fault spelled refused some = record {
+pub not_read : (language : Language) (limit : ℕ) (text : Text) (ns ms : List Node) (a b : Text)
+    (e : BorrowedParseError) → IsLentOf (FaultIn language limit text) e
+    → ((list : List Tree) → SpellsIn language limit text list → IsMemory e)
+    → ((f : Fault) → FaultIn language limit text f → IsLent f e) → 0 < length text
+    → IsRead language limit text ns ms a b (Err e)
+not_read language limit text ns ms a b e fault spelled refused some = record {
   found = tt;
   fault = fault;
   spelled = spelled;

@@ -11,7 +11,6 @@ use Rattle.timefd_language.specs.declared.description_version.DescriptionVersion
 use Rattle.timefd_parse.specs.declared.language.Language.{Language}
 use Rattle.timefd_parse.specs.declared.language.Language.TheVariants.{Version, Strftime}
 use Rattle.timefd_fault.specs.Faults.{Fault}
-use Rattle.timefd_language.specs.Grammar.{nesting_limit}
 use Rattle.timefd_parse.specs.Language.{FaultIn, SpellsIn, amount}
 use Rattle.timefd_c_nodes.specs.declared.node.Node.{Node}
 use Rattle.timefd_c_nodes.specs.Encoding.{nodes_from, literals_of}
@@ -62,16 +61,17 @@ IsReport language list nodes_before nodes_after before after r =
     Reports (parts language list) (amount language list) (longest language list) nodes_before
     nodes_after before after r
 
--- What is read of a text of the language: what is accepted is spelled so, and reported; what is
--- refused is refused for the fault that the rules assign. What is spelled is accepted, unless memory
--- runs out, and what has a fault is refused for it. The empty text takes no memory.
-pub record IsRead (language : Language) (text : Text) (nodes_before nodes_after : List Node)
+-- What is read of a text of the language, with at most `limit` nested descriptions around one another:
+-- what is accepted is spelled so, and reported; what is refused is refused for the fault that the
+-- rules assign. What is spelled is accepted, unless memory runs out, and what has a fault is refused
+-- for it. The empty text takes no memory.
+pub record IsRead (language : Language) (limit : ℕ) (text : Text) (nodes_before nodes_after : List Node)
     (before after : Text) (r : Result Report BorrowedParseError) : Type 0 where
-  pub found : IfOk r (λ x. (list : List Tree) × SpellsIn language nesting_limit text list
+  pub found : IfOk r (λ x. (list : List Tree) × SpellsIn language limit text list
       × IsReport language list nodes_before nodes_after before after x)
-  pub fault : IfErr r (IsLentOf (FaultIn language nesting_limit text))
-  pub spelled : (list : List Tree) → SpellsIn language nesting_limit text list
+  pub fault : IfErr r (IsLentOf (FaultIn language limit text))
+  pub spelled : (list : List Tree) → SpellsIn language limit text list
       → MatchResult r (IsReport language list nodes_before nodes_after before after) IsMemory
-  pub refused : (f : Fault) → FaultIn language nesting_limit text f
+  pub refused : (f : Fault) → FaultIn language limit text f
       → MatchResult r (λ _. ⊥) (IsLent f)
   pub empty : text ≡ [] → IsOk r

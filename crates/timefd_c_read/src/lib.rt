@@ -12,5 +12,5 @@ mod strftime;
 mod version;
 mod version_three;
 
-pub use reading::read;
+pub use reading::{read, read_within};
 pub use report::Report;

@@ -1,8 +1,9 @@
 //! Texts of version 3, and long ones that nest descriptions: these are built first, and then written.
 
-ghost use Rattle.std.specs.Prelude.{◌≡◌, ◌<◌, IfSome, length};
+ghost use Rattle.std.specs.Prelude.{◌≡◌, ◌<◌, ◌≤◌, IfSome, length};
 ghost use Rattle.timefd_component.specs.Reserved.{reserve};
 ghost use Rattle.timefd_items.specs.Description.{description_tree};
+ghost use Rattle.timefd_language.specs.Grammar.{nesting_limit};
 ghost use Rattle.timefd_language.specs.declared.description_version.DescriptionVersion.TheVariants.{Three};
 ghost use Rattle.timefd_node_list.specs.Views.{walked};
 ghost use Rattle.timefd_c_read.specs.Reports.{IsRead, Reports};
@@ -13,8 +14,7 @@ use std::alloc::{AllocError, Global};
 use timefd_c_nodes::{Node, START, write_view};
 use timefd_items::FormatDescriptionV3;
 use timefd_parse::{
-    BorrowedOutput, BorrowedParseError, DescriptionVersion, Language, NESTING_LIMIT,
-    parse_all_borrowed,
+    BorrowedOutput, BorrowedParseError, DescriptionVersion, Language, parse_all_borrowed,
 };
 
 // A text that has so many bytes may nest many descriptions. They tell whether it does.
@@ -24,17 +24,19 @@ const FRONT: usize = 256;
 /// few blocks of memory and not one for each.
 pub fn read_version_three<'a>(
     alloc: Global,
+    limit: u8,
     text: &'a str,
     nodes: &mut [Node],
     literals: &mut [u8],
 ) -> Result<Report, BorrowedParseError<'a>>
-    ensures { IsRead (Language.Version Three) text.now nodes.old nodes.new literals.old literals.new
-        result }
+    requires { limit ≤ nesting_limit }
+    ensures { IsRead (Language.Version Three) limit text.now nodes.old nodes.new literals.old
+        literals.new result }
 {
     if !text.is_empty() && seems_nested(text) {
-        return read_built(alloc, text, nodes, literals);
+        return read_built(alloc, limit, text, nodes, literals);
     }
-    read_in_turn(alloc, text, nodes, literals)
+    read_in_turn(alloc, limit, text, nodes, literals)
 }
 
 // Whether a text is long, and a bracket opens in another one, as a nested description's does. The answer of
@@ -62,15 +64,17 @@ fn seems_nested(text: &str) -> bool {
 #[inline(never)]
 fn read_built<'a>(
     alloc: Global,
+    limit: u8,
     text: &'a str,
     nodes: &mut [Node],
     literals: &mut [u8],
 ) -> Result<Report, BorrowedParseError<'a>>
-    requires { 0 < length text.now }
-    ensures { IsRead (Language.Version Three) text.now nodes.old nodes.new literals.old literals.new
-        result }
+    requires within { limit ≤ nesting_limit }
+    requires some { 0 < length text.now }
+    ensures { IsRead (Language.Version Three) limit text.now nodes.old nodes.new literals.old
+        literals.new result }
 {
-    match parse_all_borrowed(alloc, DescriptionVersion::Three, NESTING_LIMIT, text) {
+    match parse_all_borrowed(alloc, DescriptionVersion::Three, limit, text) {
         Ok(BorrowedOutput::Description(description)) => {
             match report_description(&description, nodes, literals) {
                 Some(report) => Ok(report),

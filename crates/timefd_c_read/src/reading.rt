@@ -1,6 +1,6 @@
 //! Texts of each language, read as nodes.
 
-ghost use Rattle.std.specs.Prelude.{◌≡◌, [], List, IfOk, IsOk, MatchResult};
+ghost use Rattle.std.specs.Prelude.{◌≡◌, ◌≤◌, [], List, IfOk, IsOk, MatchResult};
 ghost use Rattle.std.specs.Result.{IfErr};
 ghost use Rattle.timefd_borrowed_fault.specs.BorrowedFaults.{IsLent, IsLentOf, IsMemory};
 ghost use Rattle.timefd_component.specs.Tree.{Tree};
@@ -15,7 +15,7 @@ use crate::strftime::read_strftime;
 use crate::version::read_version;
 use std::alloc::Global;
 use timefd_c_nodes::Node;
-use timefd_parse::{BorrowedParseError, DescriptionVersion, Language};
+use timefd_parse::{BorrowedParseError, DescriptionVersion, Language, NESTING_LIMIT};
 
 /// Reads a text of a language, and writes its nodes and the bytes of its literals to the fronts of
 /// the buffers, as far as there is room. Of buffers that are too short, and of a text that is refused,
@@ -46,13 +46,47 @@ pub fn read<'a>(
     // The empty text takes no memory.
     ensures empty { text.now ≡ [] → IsOk result }
 {
+    read_within(alloc, language, NESTING_LIMIT, text, nodes, literals)
+}
+
+/// Reads and writes as `read` does, with at most `limit` nested descriptions around one another. A text
+/// that nests more is refused.
+///
+/// The error is `Invalid` with the fault of the text, or `Memory` where memory ran out. A text that
+/// has a fault is refused for it even then.
+pub fn read_within<'a>(
+    alloc: Global,
+    language: Language,
+    limit: u8,
+    text: &'a str,
+    nodes: &mut [Node],
+    literals: &mut [u8],
+) -> Result<Report, BorrowedParseError<'a>>
+    requires { limit ≤ nesting_limit }
+
+    // What is accepted is spelled so, and what is refused is refused for the fault that the rules
+    // assign.
+    ensures found { IfOk result (λ r. (list : List Tree)
+        × SpellsIn language limit text.now list
+        × IsReport language list nodes.old nodes.new literals.old literals.new r) }
+    ensures fault { IfErr result (IsLentOf (FaultIn language limit text.now)) }
+
+    // What is spelled is accepted, unless memory runs out, and what has a fault is refused for it.
+    ensures spelled { (list : List Tree) → SpellsIn language limit text.now list
+        → MatchResult result (IsReport language list nodes.old nodes.new literals.old literals.new) IsMemory }
+    ensures refused { (f : spec.Fault) → FaultIn language limit text.now f
+        → MatchResult result (λ _. ⊥) (IsLent f) }
+
+    // The empty text takes no memory.
+    ensures empty { text.now ≡ [] → IsOk result }
+{
     match language {
         Language::Strftime => read_strftime(text, nodes, literals),
         Language::Version(version) => {
             if let DescriptionVersion::Three = version {
-                return read_version_three(alloc, text, nodes, literals);
+                return read_version_three(alloc, limit, text, nodes, literals);
             }
-            read_version(alloc, version, text, nodes, literals)
+            read_version(alloc, version, limit, text, nodes, literals)
         }
     }
 }

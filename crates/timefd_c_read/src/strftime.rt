@@ -31,7 +31,7 @@ pub fn read_strftime<'a>(
     nodes: &mut [Node],
     literals: &mut [u8],
 ) -> Result<Report, BorrowedParseError<'a>>
-    ensures { IsRead Language.Strftime text.now nodes.old nodes.new literals.old literals.new result }
+    ensures { IsRead Language.Strftime 0 text.now nodes.old nodes.new literals.old literals.new result }
 {
     match write_pieces(text, nodes, literals) {
         Ok(all) => Ok(report_of(

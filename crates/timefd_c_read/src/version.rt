@@ -5,7 +5,6 @@ ghost use Rattle.std.specs.Result.{IfErr};
 ghost use Rattle.timefd_component.specs.Tree.{Tree};
 ghost use Rattle.timefd_language.specs.Bytes.{is_version_three};
 ghost use Rattle.timefd_language.specs.FaultMeaning.{MemoryOr};
-ghost use Rattle.timefd_language.specs.Grammar.{nesting_limit};
 ghost use Rattle.timefd_parse.specs.Read.{IsFaultIn, PiecesToEnd};
 ghost use Rattle.timefd_c_read.specs.Progress.{HasWritten};
 ghost use Rattle.timefd_c_read.specs.Reports.{IsRead};
@@ -17,31 +16,31 @@ use std::alloc::Global;
 use timefd_c_nodes::Node;
 use timefd_items::DescriptionBuilder;
 use timefd_language::fault::ReadError;
-use timefd_parse::{
-    BorrowedParseError, DescriptionVersion, Language, NESTING_LIMIT, error_of, next_piece,
-};
+use timefd_parse::{BorrowedParseError, DescriptionVersion, Language, error_of, next_piece};
 
-/// Reads a text of version 1 or 2. It takes no memory.
+/// Reads a text of version 1 or 2, in which a nested description is a fault: one of its own where more
+/// than `limit` would stand around one another. It takes no memory.
 #[inline(never)]
 pub fn read_version<'a>(
     alloc: Global,
     version: DescriptionVersion,
+    limit: u8,
     text: &'a str,
     nodes: &mut [Node],
     literals: &mut [u8],
 ) -> Result<Report, BorrowedParseError<'a>>
     requires { IsFalse (is_version_three version) }
-    ensures { IsRead (Language.Version version) text.now nodes.old nodes.new literals.old literals.new
-        result }
+    ensures { IsRead (Language.Version version) limit text.now nodes.old nodes.new literals.old
+        literals.new result }
 {
-    match write_pieces(alloc, version, text, nodes, literals) {
+    match write_pieces(alloc, version, limit, text, nodes, literals) {
         Ok(all) => Ok(report_of(
             all.count,
             all.bytes,
             all.end,
             has_room(all.end, nodes, literals),
         )),
-        Err(error) => Err(error_of(alloc, version, NESTING_LIMIT, text, error)),
+        Err(error) => Err(error_of(alloc, version, limit, text, error)),
     }
 }
 
@@ -51,28 +50,23 @@ pub fn read_version<'a>(
 fn write_pieces<'a>(
     alloc: Global,
     version: DescriptionVersion,
+    limit: u8,
     text: &'a str,
     nodes: &mut [Node],
     literals: &mut [u8],
 ) -> Result<Progress, ReadError<'a>>
     requires { IsFalse (is_version_three version) }
     ensures pieces { MatchResult result (λ p. (list : List Tree)
-        × PiecesToEnd version nesting_limit 0 text.now list []
+        × PiecesToEnd version limit 0 text.now list []
         × HasWritten list nodes.old nodes.new literals.old literals.new p)
-        (MemoryOr (IsFaultIn version nesting_limit 0 text.now)) }
+        (MemoryOr (IsFaultIn version limit 0 text.now)) }
     ensures some { IfErr result (λ _. 0 < length text.now) }
 {
     let mut builder = DescriptionBuilder::new(alloc);
     let mut progress = NOTHING;
     let mut rest = text;
     'pieces: loop {
-        let Some((piece, after)) = next_piece::<false>(
-            &mut builder,
-            version,
-            rest,
-            NESTING_LIMIT,
-            0,
-        )?
+        let Some((piece, after)) = next_piece::<false>(&mut builder, version, rest, limit, 0)?
         else {
             return Ok(progress);
         };

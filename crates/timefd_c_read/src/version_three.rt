@@ -6,7 +6,6 @@ ghost use Rattle.timefd_component.specs.Reserved.{reserve, reserve_all};
 ghost use Rattle.timefd_component.specs.Tree.{Text, Tree, pack, trees};
 ghost use Rattle.timefd_items.specs.Builder.{built};
 ghost use Rattle.timefd_language.specs.FaultMeaning.{MemoryOr};
-ghost use Rattle.timefd_language.specs.Grammar.{nesting_limit};
 ghost use Rattle.timefd_language.specs.declared.description_version.DescriptionVersion.TheVariants.{Three};
 ghost use Rattle.timefd_node_list.specs.Views.{walked};
 ghost use Rattle.timefd_c_nodes.specs.declared.node.Node as spec_node;
@@ -25,23 +24,22 @@ use std::mem;
 use timefd_c_nodes::{Node, Place, START, Written, put, write_view};
 use timefd_items::DescriptionBuilder;
 use timefd_language::fault::ReadError;
-use timefd_parse::{
-    BorrowedParseError, DescriptionVersion, Language, NESTING_LIMIT, Piece, error_of, next_piece,
-};
+use timefd_parse::{BorrowedParseError, DescriptionVersion, Language, Piece, error_of, next_piece};
 
 /// Reads a text of version 3, and writes each piece as it is read. A piece with nested descriptions is
 /// built first.
 #[inline(never)]
 pub fn read_in_turn<'a>(
     alloc: Global,
+    limit: u8,
     text: &'a str,
     nodes: &mut [Node],
     literals: &mut [u8],
 ) -> Result<Report, BorrowedParseError<'a>>
-    ensures { IsRead (Language.Version Three) text.now nodes.old nodes.new literals.old literals.new
-        result }
+    ensures { IsRead (Language.Version Three) limit text.now nodes.old nodes.new literals.old
+        literals.new result }
 {
-    match write_pieces(alloc, text, nodes, literals) {
+    match write_pieces(alloc, limit, text, nodes, literals) {
         Ok(all) => match write_whole(all, nodes) {
             Some(whole) => Ok(report_of(
                 whole.bytes,
@@ -53,7 +51,7 @@ pub fn read_in_turn<'a>(
         },
         Err(error) => {
             let version = DescriptionVersion::Three;
-            Err(error_of(alloc, version, NESTING_LIMIT, text, error))
+            Err(error_of(alloc, version, limit, text, error))
         }
     }
 }
@@ -86,14 +84,15 @@ fn write_whole(all: Progress, nodes: &mut [Node]) -> Option<Written>
 #[inline(always)]
 fn write_pieces<'a>(
     alloc: Global,
+    limit: u8,
     text: &'a str,
     nodes: &mut [Node],
     literals: &mut [u8],
 ) -> Result<Progress, ReadError<'a>>
     ensures pieces { MatchResult result (λ p. (list : List Tree)
-        × PiecesToEnd Three nesting_limit 0 text.now list []
+        × PiecesToEnd Three limit 0 text.now list []
         × HasWritten list nodes.old nodes.new literals.old literals.new p)
-        (MemoryOr (IsFaultIn Three nesting_limit 0 text.now)) }
+        (MemoryOr (IsFaultIn Three limit 0 text.now)) }
     ensures some { IfErr result (λ _. 0 < length text.now) }
 {
     let version = DescriptionVersion::Three;
@@ -101,14 +100,7 @@ fn write_pieces<'a>(
     let mut progress = NOTHING;
     let mut rest = text;
     'pieces: loop {
-        let Some((piece, after)) = next_piece::<true>(
-            &mut builder,
-            version,
-            rest,
-            NESTING_LIMIT,
-            0,
-        )?
-        else {
+        let Some((piece, after)) = next_piece::<true>(&mut builder, version, rest, limit, 0)? else {
             return Ok(progress);
         };
         let Some(written) = write_piece(alloc, &mut builder, piece, progress.end, nodes, literals)

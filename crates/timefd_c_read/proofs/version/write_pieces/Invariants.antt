@@ -1,6 +1,5 @@
 use Rattle.std.proofs.Common.{◌≤◌, List, length, IsUtf8}
 use Rattle.timefd_component.specs.Tree.{Tree}
-use Rattle.timefd_language.specs.Grammar.{nesting_limit}
 use Rattle.timefd_parse.proofs.ReadLemmas.{Continues}
 use Rattle.timefd_c_read.specs.Progress.{HasWritten}
 use Rattle.timefd_c_read.proofs.version.write_pieces.Given as goal
@@ -9,7 +8,7 @@ use Rattle.timefd_c_read.proofs.version.write_pieces.Given as goal
 abbrev pub invariant-pieces : goal.invariant-pieces
 invariant-pieces l =
     IsUtf8 l.rest × (length l.rest ≤ length l.text) × (done : List Tree)
-    × Continues l.version nesting_limit 0 l.text done l.rest
+    × Continues l.version l.limit 0 l.text done l.rest
     × HasWritten done l.fn.nodes l.nodes l.fn.literals l.literals l.progress
 
 abbrev pub decreases-pieces : goal.decreases-pieces

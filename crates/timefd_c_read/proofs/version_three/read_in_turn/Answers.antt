@@ -1,7 +1,6 @@
 use Rattle.std.proofs.Common.{◌≤◌, [], length, refl, ap, arith}
 use Rattle.timefd_component.specs.Reserved.{reserve_all}
 use Rattle.timefd_component.specs.Tree.{trees}
-use Rattle.timefd_language.specs.Grammar.{nesting_limit}
 use Rattle.timefd_language.specs.declared.description_version.DescriptionVersion.TheVariants.{Three}
 use Rattle.timefd_node_list.specs.Views.{walked_all}
 use Rattle.timefd_parse.specs.declared.language.Language.TheVariants.{Version}
@@ -15,8 +14,8 @@ pub returns-in-Some : goal.returns-in-Some
 returns-in-Some c =
     let m = c.in-Ok.ensures.pieces in
     let within : reserve_all (trees m.0) ≤ length c.args.text.now =
-    list_within Three nesting_limit 0 c.args.text.now m.0 [] refl m.1 in
-    accepted (Version Three) c.args.text.now m.0 _ _ _ _ c.report_of.result
+    list_within Three c.args.limit 0 c.args.text.now m.0 [] refl m.1 in
+    accepted (Version Three) c.args.limit c.args.text.now m.0 _ _ _ _ c.report_of.result
     (items_spelled _ _ _ _ _ m.1)
     (whole_report m.0 c.in-Some.whole _ _ _ _ c.has_room.result c.report_of.result
     (c.in-Some.ensures.some m.0 _ _ _ m.2)
@@ -40,5 +39,5 @@ returns-in-None c =
 
 pub returns-in-Err : goal.returns-in-Err
 returns-in-Err c =
-    not_read (Version Three) c.args.text.now _ _ _ _ c.error_of.result c.error_of.ensures.fault
+    not_read (Version Three) c.args.limit c.args.text.now _ _ _ _ c.error_of.result c.error_of.ensures.fault
     c.error_of.ensures.spelled c.error_of.ensures.refused c.in-Err.ensures.some

@@ -2,7 +2,6 @@ use Rattle.std.proofs.Common.{◌∷◌, ◌++◌, [], List, true, arith, subst}
 use Rattle.std.proofs.lemmas.Result.{err_from_is_err_and}
 use Rattle.timefd_component.specs.Tree.{Tree}
 use Rattle.timefd_items.specs.Builder.{built}
-use Rattle.timefd_language.specs.Grammar.{nesting_limit}
 use Rattle.timefd_language.specs.declared.description_version.DescriptionVersion.TheVariants.{Three}
 use Rattle.timefd_parse.specs.Pieces.{IsPiece}
 use Rattle.timefd_parse.specs.Read.{IsFaultIn, IsNext, PiecesToEnd}
@@ -15,35 +14,35 @@ use Rattle.timefd_c_read.proofs.version_three.write_pieces.Goals as goal
 pub returns-in_err-piece-clause-pieces : goal.returns-in_err-piece-clause-pieces
 returns-in_err-piece-clause-pieces c =
     let p = err_from_is_err_and c.from_residual.result c.from_residual.ensures.1 in
-    rw (p.1, p.2) (memory_or _ (IsFaultIn Three nesting_limit 0 c.args.text.now)
+    rw (p.1, p.2) (memory_or _ (IsFaultIn Three c.args.limit 0 c.args.text.now)
     (λ f is. items_fault _ _ _ _ c.pieces.rest.now _ f c.pieces.invariant.4 is)
     c.in_err-piece.field-0.0 c.in_err-piece.ensures.next)
 
 pub returns-in_default-clause-pieces : goal.returns-in_default-clause-pieces
 returns-in_default-clause-pieces c =
-    let end = subst (IsNext Three true nesting_limit 0 c.pieces.rest.now
+    let end = subst (IsNext Three true c.args.limit 0 c.pieces.rest.now
     (built c.pieces.builder) (built c.next_piece.new.builder)) c.in_default.is
     c.in_ok-piece.ensures.next in (
       c.pieces.invariant.3,
-      subst (PiecesToEnd Three nesting_limit 0 c.args.text.now c.pieces.invariant.3)
+      subst (PiecesToEnd Three c.args.limit 0 c.args.text.now c.pieces.invariant.3)
           (end_outside _ end.0) (items_end _ _ _ _ _ _ c.pieces.invariant.4 end.0),
       c.pieces.invariant.5,
     )
 
 pub write_piece-requires : goal.write_piece-requires
 write_piece-requires c =
-    let next = subst (IsNext Three true nesting_limit 0 c.pieces.rest.now
+    let next = subst (IsNext Three true c.args.limit 0 c.pieces.rest.now
     (built c.pieces.builder) (built c.next_piece.new.builder)) c.in-Some.is
     c.in_ok-piece.ensures.next in
     let piece = subst (λ (old : List Tree). IsPiece true true old (built c.next_piece.new.builder)
     c.in-Some.piece next.0) c.pieces.invariant.2 next.2 in
     built_small c.pieces.invariant.3 _ c.in-Some.piece next.0 _ piece
-    (continues_within nesting_limit c.args.text.now _ _
+    (continues_within c.args.limit c.args.text.now _ _
     (continues_more _ _ _ _ _ _ _ _ c.pieces.invariant.4 next.1.leads)) (omega (arith, c.type_inv.text))
 
 pub one_more-progress-requires : goal.one_more-progress-requires
 one_more-progress-requires c =
-    let next = subst (IsNext Three true nesting_limit 0 c.pieces.rest.now
+    let next = subst (IsNext Three true c.args.limit 0 c.pieces.rest.now
     (built c.pieces.builder) (built c.next_piece.new.builder)) c.in-Some.is
     c.in_ok-piece.ensures.next in
     let piece = subst (λ (old : List Tree). IsPiece true true old (built c.next_piece.new.builder)
@@ -53,7 +52,7 @@ one_more-progress-requires c =
 
 pub pieces-preserved : goal.pieces-preserved
 pieces-preserved c =
-    let next = subst (IsNext Three true nesting_limit 0 c.pieces.rest.now
+    let next = subst (IsNext Three true c.args.limit 0 c.pieces.rest.now
     (built c.pieces.builder) (built c.next_piece.new.builder)) c.in-Some.is
     c.in_ok-piece.ensures.next in
     let piece = subst (λ (old : List Tree). IsPiece true true old (built c.next_piece.new.builder)
