@@ -283,6 +283,16 @@ typedef struct timefd_read_answer {
 timefd_read_answer timefd_read(uint32_t kind, const uint8_t *text, size_t len, timefd_node *nodes, size_t node_room,
                                uint8_t *literals, size_t literal_room);
 
+/* Says and writes what timefd_read does, with a limit on nesting: at most `limit` nested descriptions may stand around one
+   another, from 0, where none may be nested, to 127, the limit of all other calls. A greater number counts as 127. A text that
+   nests more is refused at the `[` of the first nested description inside of too many, unless it is refused for what stands in
+   front of that. Versions 1 and 2, which take no nested descriptions, have the limit too; strftime nests none. timefd_check and
+   timefd_diagnose don't tell of this fault where the limit 127 allows the text.
+
+   The limit bounds how deep a program goes that walks the nodes. The buffers are as those of timefd_read. */
+timefd_read_answer timefd_read_within(uint32_t kind, uint32_t limit, const uint8_t *text, size_t len, timefd_node *nodes,
+                                      size_t node_room, uint8_t *literals, size_t literal_room);
+
 /* What is known of a moment, in `known`: one of these, or several joined by |. */
 #define TIMEFD_HAS_DATE 1u
 #define TIMEFD_HAS_TIME 2u

@@ -163,6 +163,13 @@ timefd_date_answer read_date(uint32_t kind, const struct text *text, const struc
     return answer;
 }
 
+timefd_read_answer read_within(uint32_t kind, uint32_t limit, const struct text *text) {
+    uint8_t *bytes = lend(kind, text);
+    timefd_read_answer answer = timefd_read_within(kind, limit, bytes, text->len, NULL, 0, NULL, 0);
+    take_back(kind, text, bytes);
+    return answer;
+}
+
 timefd_read_answer read_nodes(uint32_t kind, const struct text *text, struct node_buffers *buffers,
                               size_t node_room, size_t literal_room) {
     uint8_t *bytes = lend(kind, text);

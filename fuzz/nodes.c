@@ -8,6 +8,7 @@
 struct tree {
     size_t begin; /* the index of the first of its nodes */
     size_t bytes;
+    size_t nesting; /* how many nested descriptions stand around one another in it */
 };
 
 static struct tree trees[NODE_ROOM];
@@ -38,6 +39,15 @@ static size_t bytes_of(const timefd_node *node, const struct tree *members) {
     return bytes;
 }
 
+/* How deep a node of these members nests. A member of these two is a nested description. */
+static size_t nesting_of(const timefd_node *node, const struct tree *members) {
+    size_t nesting = 0;
+    for (size_t i = 0; i < node->count; i++) {
+        nesting = members[i].nesting > nesting ? members[i].nesting : nesting;
+    }
+    return node->what == TIMEFD_OPTIONAL || node->what == TIMEFD_FIRST ? nesting + 1 : nesting;
+}
+
 /* Takes the members of a node off the trees so far, and puts its own there: how many there are then,
    or 0 where it doesn't fit them. */
 static size_t grown(const timefd_node *node, size_t index, size_t depth) {
@@ -50,7 +60,7 @@ static size_t grown(const timefd_node *node, size_t index, size_t depth) {
     if (node->start != begin || node->bytes != bytes_of(node, members)) {
         return 0;
     }
-    *members = (struct tree){.begin = begin, .bytes = node->bytes};
+    *members = (struct tree){.begin = begin, .bytes = node->bytes, .nesting = nesting_of(node, members)};
     return depth - node->count + 1;
 }
 
@@ -107,6 +117,20 @@ static bool is_answer(timefd_read_answer a, timefd_read_answer b) {
            a.literals == b.literals && a.written == b.written && a.bytes == b.bytes;
 }
 
+/* With a limit on nesting the same is told of a description that keeps it, and any other is refused. */
+static void check_limit(uint32_t kind, const struct text *text, timefd_read_answer answer) {
+    size_t nesting = kind == TIMEFD_VERSION_3 ? trees[0].nesting : 0;
+    timefd_read_answer none = answer;
+    none.written = answer.nodes == 0 && answer.literals == 0;
+    uint32_t limit = one_in(2) ? UINT32_MAX : (uint32_t)(nesting + random_below(3));
+    expect(is_answer(read_within(kind, limit, text), none), kind, text, "the same within the limit");
+    if (nesting > 0) {
+        timefd_read_answer within = read_within(kind, (uint32_t)random_below(nesting), text);
+        expect(within.status == TIMEFD_REFUSED && within.value < text->len, kind, text,
+               "to be refused where it nests more than the limit");
+    }
+}
+
 /* With less room in one buffer than is needed the same is told, but that all is written. */
 static void check_less_room(uint32_t kind, const struct text *text, timefd_read_answer answer) {
     static struct node_buffers less;
@@ -140,6 +164,7 @@ void check_nodes(uint32_t kind, const struct text *text, timefd_answer judged) {
     expect(answer.written, kind, text, "nodes in large buffers");
     if (answer.written) {
         check_trees(kind, text, buffers.nodes + 1, answer);
+        check_limit(kind, text, answer);
         check_less_room(kind, text, answer);
     }
 }

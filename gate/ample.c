@@ -166,6 +166,9 @@ static void try_nodes(const struct text *text) {
     begin();
     read = timefd_read(text->kind, text->bytes, text->len, NULL, 0, NULL, 0);
     expect("timefd_read without room", text->name, read.status, list.blocks, list.most);
+    begin();
+    read = timefd_read_within(text->kind, text->nests ? UINT32_MAX : 0, text->bytes, text->len, NULL, 0, NULL, 0);
+    expect("timefd_read_within", text->name, read.status, list.blocks, list.most);
     __real_free(nodes);
     __real_free(literals);
 }
@@ -262,6 +265,7 @@ static void try_null(void) {
         expect("timefd_check", "null", timefd_check(kind, NULL, 0, NULL, 0).status, 0, 0);
         expect("timefd_diagnose", "null", timefd_diagnose(kind, NULL, 0, NULL, 0, NULL, 0).answer.status, 0, 0);
         expect("timefd_read", "null", timefd_read(kind, NULL, 0, NULL, 0, NULL, 0).status, 0, 0);
+        expect("timefd_read_within", "null", timefd_read_within(kind, 0, NULL, 0, NULL, 0, NULL, 0).status, 0, 0);
         expect("timefd_read_date", "null", timefd_read_date(kind, NULL, 0, NULL, 0).status, 0, 0);
         begin();
         const uint8_t *day = (const uint8_t *)(kind == TIMEFD_STRFTIME ? "%d" : "[day]");

@@ -57,7 +57,10 @@ struct outcome {
     timefd_node nodes[ROOM];
 };
 
-enum call { CHECK_OR_CONVERT, READ, FORMAT, DIAGNOSE, READ_DATE };
+enum call { CHECK_OR_CONVERT, READ, READ_WITHIN, FORMAT, DIAGNOSE, READ_DATE };
+
+/* The limit of timefd_read_within: some texts nest more. */
+enum { LIMIT = 1 };
 
 /* What is read by each text: some read it, and of others a part of it doesn't read. */
 static const char DATE[] = "2026-11-23 at 05:06:07";
@@ -149,8 +152,10 @@ static struct outcome outcome_of(enum call call, const struct sample *sample, si
     memset(outcome.nodes, '.', sizeof outcome.nodes);
     asked = 0;
     refused = number;
-    if (call == READ) {
-        outcome.read = timefd_read(sample->kind, text, len, outcome.nodes, ROOM, outcome.buffer, ROOM);
+    if (call == READ || call == READ_WITHIN) {
+        outcome.read = call == READ
+                           ? timefd_read(sample->kind, text, len, outcome.nodes, ROOM, outcome.buffer, ROOM)
+                           : timefd_read_within(sample->kind, LIMIT, text, len, outcome.nodes, ROOM, outcome.buffer, ROOM);
         refused = 0;
         if (!outcome.read.written) {
             /* Parts may stand in the buffers. */
@@ -219,7 +224,7 @@ static struct outcome out_of_memory(enum call call) {
     memset(out.nodes, '.', sizeof out.nodes);
     if (call == DIAGNOSE) {
         out.diagnosis.answer.status = TIMEFD_NO_MEMORY;
-    } else if (call == READ) {
+    } else if (call == READ || call == READ_WITHIN) {
         out.read.status = TIMEFD_NO_MEMORY;
     } else if (call == FORMAT) {
         out.format.status = TIMEFD_NO_MEMORY;
@@ -255,11 +260,11 @@ static void take_word(struct outcome *ample, const struct outcome *one) {
 static bool holds(enum call call, const struct sample *sample, size_t *count) {
     struct outcome ample = outcome_of(call, sample, 0);
     struct outcome out = out_of_memory(call);
-    uint32_t status = call == READ     ? ample.read.status
-                      : call == FORMAT ? ample.format.status
-                      : call == READ_DATE ? ample.date.status
-                      : call == DIAGNOSE ? ample.diagnosis.answer.status
-                                         : ample.answer.status;
+    uint32_t status = call == READ || call == READ_WITHIN ? ample.read.status
+                      : call == FORMAT                    ? ample.format.status
+                      : call == READ_DATE                 ? ample.date.status
+                      : call == DIAGNOSE                  ? ample.diagnosis.answer.status
+                                                          : ample.answer.status;
     bool may_run_out = status != TIMEFD_REFUSED;
     if (is_same(&ample, &out) || held != 0) {
         return false;
@@ -414,7 +419,8 @@ int main(void) {
     }
     for (size_t i = 0; i < sizeof SAMPLES / sizeof SAMPLES[0]; i++) {
         bool is_read = SAMPLES[i].kind >= LIFT ||
-                       (holds(READ, &SAMPLES[i], &count) && holds(FORMAT, &SAMPLES[i], &count) &&
+                       (holds(READ, &SAMPLES[i], &count) && holds(READ_WITHIN, &SAMPLES[i], &count) &&
+                        holds(FORMAT, &SAMPLES[i], &count) &&
                         holds(DIAGNOSE, &SAMPLES[i], &count) && holds(READ_DATE, &SAMPLES[i], &count) && writes_alike(&SAMPLES[i]));
         if (!holds(CHECK_OR_CONVERT, &SAMPLES[i], &count) || !is_read || !takes_little(&SAMPLES[i])) {
             failed++;

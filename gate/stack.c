@@ -80,6 +80,8 @@ static void call_each(text given, uint32_t in_three) {
         expect("diagnose", kind, expected, diagnosis.answer);
         timefd_read_answer read = timefd_read(kind, bytes, given.len, NULL, 0, NULL, 0);
         expect("read", kind, expected, (timefd_answer){.status = read.status});
+        read = timefd_read_within(kind, UINT32_MAX, bytes, given.len, NULL, 0, NULL, 0);
+        expect("read_within", kind, expected, (timefd_answer){.status = read.status});
         timefd_format_answer format = timefd_format(kind, bytes, given.len, &moment, buffer, BUFFER);
         expect("format", kind, expected, (timefd_answer){.status = format.status});
         if (read.status == TIMEFD_ACCEPTED)

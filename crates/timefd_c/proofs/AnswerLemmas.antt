@@ -4,26 +4,26 @@ use Rattle.std.specs.Str.{IsCharBoundary}
 use Rattle.std.proofs.lemmas.Str.{IsUtf8-nil}
 use Rattle.timefd_component.specs.Tree.{Text}
 use Rattle.timefd_fault.specs.Faults.{Fault}
-use Rattle.timefd_language.specs.Grammar.{nesting_limit}
 use Rattle.timefd_parse.specs.declared.language.Language.{Language}
 use Rattle.timefd_parse.proofs.AmountLemmas.{placed_in}
 use Rattle.timefd_c.specs.declared.answer.TheConstants.{ACCEPTED, REFUSED, NOT_UTF8, NO_MEMORY, UNKNOWN_KIND}
-use Rattle.timefd_c.specs.Answers.{HasFault, IsAnswer}
+use Rattle.timefd_c.specs.Answers.{HasFaultWithin, IsAnswer}
 
 pub some_not_none : (language : Language) → ◌≡◌ {A = Option Language} (Some language) None → ⊥
 some_not_none language none = cc
 
 -- a fault stands in its text
-placed : (language : Option Language) (bytes : Text) (f : Fault) → HasFault language bytes f
-    → IsCharBoundary bytes f.index
-placed (Some language) bytes f has = placed_in language nesting_limit bytes has.0 f has.1
-placed None bytes f has = absurd has.1
+placed : (language : Option Language) (limit : ℕ) (bytes : Text) (f : Fault)
+    → HasFaultWithin language limit bytes f → IsCharBoundary bytes f.index
+placed (Some language) limit bytes f has = placed_in language limit bytes has.0 f has.1
+placed None limit bytes f has = absurd has.1
 
-module _ (language : Option Language) (bytes : Text) (X : Type 0) (Is Told : X → Type 0) where
+module _ (language : Option Language) (limit : ℕ) (bytes : Text) (X : Type 0)
+    (Is Told : X → Type 0) where
   pub accepting : (language ≡ None → ⊥) → (value : ℕ) → IsUtf8 bytes → (x : X) → Is x
       → ((y : X) → Is y → Told y)
-      → ((f : Fault) → HasFault language bytes f → ⊥)
-      → IsAnswer language bytes X Is Told ACCEPTED value
+      → ((f : Fault) → HasFaultWithin language limit bytes f → ⊥)
+      → IsAnswer language limit bytes X Is Told ACCEPTED value
   accepting some value utf8 x is told no_fault = record {
     accepted = λ e. (x, is, told x is);
     refused = λ e. absurd (omega (arith, e));
@@ -37,16 +37,17 @@ module _ (language : Option Language) (bytes : Text) (X : Type 0) (Is Told : X �
     no_value = λ accepted refused. absurd (accepted refl);
   }
 
-  pub refusing : (language ≡ None → ⊥) → (f : Fault) → HasFault language bytes f
-      → ((x : X) → Is x → ⊥)
-      → ((g : Fault) → HasFault language bytes g → f ≡ g) → (IsSome language → bytes ≡ [] → ⊥)
-      → IsAnswer language bytes X Is Told REFUSED f.index
+  pub refusing : (language ≡ None → ⊥) → (f : Fault)
+      → HasFaultWithin language limit bytes f → ((x : X) → Is x → ⊥)
+      → ((g : Fault) → HasFaultWithin language limit bytes g → f ≡ g)
+      → (IsSome language → bytes ≡ [] → ⊥)
+      → IsAnswer language limit bytes X Is Told REFUSED f.index
   refusing some f has nothing one not_empty = record {
     accepted = λ e. absurd (omega (arith, e));
     refused = λ e. (f, has, refl);
     spelled = λ x is more. absurd (nothing x is);
     faulty = λ g h. (refl, ap (λ x. x.index) (one g h));
-    place = λ e. placed language bytes f has;
+    place = λ e. placed language limit bytes f has;
     unknown_kind = (λ e. absurd (omega (arith, e)), λ none. absurd (some none));
     not_utf8 = (λ e. absurd (omega (arith, e)), λ no. absurd (no.1 has.0));
     empty = λ is_some nil. absurd (not_empty is_some nil);
@@ -55,8 +56,8 @@ module _ (language : Option Language) (bytes : Text) (X : Type 0) (Is Told : X �
   }
 
   pub unread : (language ≡ None → ⊥) → (IsSome language → ¬ (IsUtf8 bytes) → ⊥)
-      → ((f : Fault) → HasFault language bytes f → ⊥) → (IsSome language → bytes ≡ [] → ⊥)
-      → IsAnswer language bytes X Is Told NO_MEMORY 0
+      → ((f : Fault) → HasFaultWithin language limit bytes f → ⊥)
+      → (IsSome language → bytes ≡ [] → ⊥) → IsAnswer language limit bytes X Is Told NO_MEMORY 0
   unread some text no_fault not_empty = record {
     accepted = λ e. absurd (omega (arith, e));
     refused = λ e. absurd (omega (arith, e));
@@ -71,7 +72,7 @@ module _ (language : Option Language) (bytes : Text) (X : Type 0) (Is Told : X �
   }
 
   pub no_text : (language ≡ None → ⊥) → IsSome language → ¬ (IsUtf8 bytes)
-      → ((x : X) → Is x → IsUtf8 bytes) → IsAnswer language bytes X Is Told NOT_UTF8 0
+      → ((x : X) → Is x → IsUtf8 bytes) → IsAnswer language limit bytes X Is Told NOT_UTF8 0
   no_text some is_some invalid is_text = record {
     accepted = λ e. absurd (omega (arith, e));
     refused = λ e. absurd (omega (arith, e));
@@ -86,12 +87,14 @@ module _ (language : Option Language) (bytes : Text) (X : Type 0) (Is Told : X �
   }
 
   pub no_language : language ≡ None → ((x : X) → Is x → ⊥)
-      → IsAnswer language bytes X Is Told UNKNOWN_KIND 0
+      → IsAnswer language limit bytes X Is Told UNKNOWN_KIND 0
   no_language none nothing = record {
     accepted = λ e. absurd (omega (arith, e));
     refused = λ e. absurd (omega (arith, e));
     spelled = λ x is more. absurd (nothing x is);
-    faulty = λ f h. let no : HasFault None bytes f = subst (λ l. HasFault l bytes f) none h in
+    faulty = λ f h.
+        let no : HasFaultWithin None limit bytes f =
+        subst (λ l. HasFaultWithin l limit bytes f) none h in
         absurd no.1;
     place = λ e. absurd (omega (arith, e));
     unknown_kind = (λ e. none, λ is. refl);

@@ -25,7 +25,7 @@ module _ (language : Language) (IsOne HasItems : Text → Text → Type 0) (byte
       → ConvertsBy language IsOne HasItems bytes before after
       (record { status = ACCEPTED; value = length text; sentence_len = 0; written = written })
   written_or_kept before after text written utf8 is same one no_fault whole too_short = record {
-    answers = answers.accepting (Some language) bytes Text (IsConverted IsOne bytes)
+    answers = answers.accepting (Some language) nesting_limit bytes Text (IsConverted IsOne bytes)
         (IsToldOf HasItems bytes
         (record { status = ACCEPTED; value = length text; sentence_len = 0; written = written }))
         (answers.some_not_none language) (length text) utf8 text (utf8, is)
@@ -67,7 +67,7 @@ module _ (language : Language) (IsOne HasItems : Text → Text → Type 0) (byte
 
   -- where nothing was written, the status and the value are all that is answered
   silent : (buffer : Text) (status value : ℕ) → (status ≡ ACCEPTED → ⊥) → status ≤ NO_MEMORY
-      → IsAnswer (Some language) bytes Text (IsConverted IsOne bytes)
+      → IsAnswer (Some language) nesting_limit bytes Text (IsConverted IsOne bytes)
       (IsToldOf HasItems bytes (plain status value)) status value
       → ConvertsBy language IsOne HasItems bytes buffer buffer (plain status value)
   silent buffer status value not_accepted known is = record {
@@ -87,13 +87,13 @@ module _ (language : Language) (IsOne HasItems : Text → Text → Type 0) (byte
       → ConvertsBy language IsOne HasItems bytes buffer buffer (error_answer e)
   unconverted buffer (errors.Invalid f) utf8 has not_spelled one not_empty =
       silent buffer REFUSED f.index (λ e. omega (arith, e)) (omega arith)
-      (answers.refusing (Some language) bytes Text (IsConverted IsOne bytes)
+      (answers.refusing (Some language) nesting_limit bytes Text (IsConverted IsOne bytes)
       (IsToldOf HasItems bytes (plain REFUSED f.index)) (answers.some_not_none language)
       (lent_fault f) (utf8, has) (λ other other_is. not_spelled other other_is.1)
       (λ g h. one g h.1) (λ some nil. not_empty nil))
   unconverted buffer (errors.Memory m) utf8 has not_spelled one not_empty =
       silent buffer NO_MEMORY 0 (λ e. omega (arith, e)) (omega arith)
-      (answers.unread (Some language) bytes Text (IsConverted IsOne bytes)
+      (answers.unread (Some language) nesting_limit bytes Text (IsConverted IsOne bytes)
       (IsToldOf HasItems bytes (plain NO_MEMORY 0)) (answers.some_not_none language)
       (λ some invalid. invalid utf8) (λ f h. one f h.1) (λ some nil. not_empty nil))
 

@@ -8,7 +8,6 @@ use Rattle.timefd_c_nodes.specs.Encoding.{nodes_from, literals_of, own_text}
 use Rattle.timefd_c_nodes.proofs.DecodeLemmas.{trees_back, tree_back}
 use Rattle.timefd_fault.specs.Faults.{Fault}
 use Rattle.timefd_parse.specs.declared.language.Language.{Language}
-use Rattle.timefd_language.specs.Grammar.{nesting_limit}
 use Rattle.timefd_parse.specs.Language.{SpellsIn, FaultIn}
 use Rattle.timefd_c_nodes.specs.declared.node.Node.{Node}
 use Rattle.timefd_c.specs.declared.answer.TheConstants.{ACCEPTED, REFUSED}
@@ -20,7 +19,7 @@ use Rattle.timefd_language.proofs.Reserved.{reserves_within_law}
 use Rattle.timefd_c_nodes.proofs.TreeLemmas.{walked_length}
 use Rattle.timefd_c.proofs.LongestLemmas.{is_longest, three_reserved}
 use Rattle.timefd_c.proofs.RoomLemmas.{nodes_within, literals_within}
-use Rattle.timefd_c.specs.Answers.{Describes, IsAnswer}
+use Rattle.timefd_c.specs.Answers.{DescribesWithin, IsAnswer}
 use Rattle.timefd_c_read.specs.Reports.{IsReport, parts, tops}
 use Rattle.timefd_c.specs.Reading.{Reads, Tells}
 use Rattle.timefd_c.proofs.AnswerLemmas as answers
@@ -48,37 +47,37 @@ silent status value = record {
 }
 
 -- a text of version 3 has at most one node more than bytes
-three_within : (language : Language) (bytes : Text) (list : List Tree) (nodes : ℕ)
-    → SpellsIn language nesting_limit bytes list
+three_within : (language : Language) (limit : ℕ) (bytes : Text) (list : List Tree) (nodes : ℕ)
+    → SpellsIn language limit bytes list
     → ◌≡◌ {A = Option Language} (Some language) (Some (Version Three))
     → nodes ≡ length (parts language list) → nodes ≤ length bytes + 1
-three_within (Version One) bytes list nodes spelled three is = absurd cc
-three_within (Version Two) bytes list nodes spelled three is = absurd cc
-three_within (Version Three) bytes list nodes spelled three is =
+three_within (Version One) limit bytes list nodes spelled three is = absurd cc
+three_within (Version Two) limit bytes list nodes spelled three is = absurd cc
+three_within (Version Three) limit bytes list nodes spelled three is =
     omega (
       arith,
       is,
-      (reserves_within_law nesting_limit 0 bytes list spelled).1,
+      (reserves_within_law limit 0 bytes list spelled).1,
       walked_length (pack list),
     )
-three_within Strftime bytes list nodes spelled three is = absurd cc
+three_within Strftime limit bytes list nodes spelled three is = absurd cc
 
 nodes_length : (ts : List Tree) (at used : ℕ) → length (nodes_from at used ts) ≡ length ts
 nodes_length [] at used = refl
 nodes_length (t ∷ ts) at used = omega (arith, nodes_length ts (at + 1) (used + length (own_text t)))
 
-parts_back : (language : Language) (bytes : Text) (list : List Tree)
-    → SpellsIn language nesting_limit bytes list
+parts_back : (language : Language) (limit : ℕ) (bytes : Text) (list : List Tree)
+    → SpellsIn language limit bytes list
     → read_nodes (literals_of (parts language list)) (nodes_from 0 0 (parts language list)) ≡ Some
     (tops language list)
-parts_back (Version One) bytes list spelled =
-    trees_back list (modernity_law One nesting_limit 0 bytes list spelled)
-parts_back (Version Two) bytes list spelled =
-    trees_back list (modernity_law Two nesting_limit 0 bytes list spelled)
-parts_back (Version Three) bytes list spelled =
+parts_back (Version One) limit bytes list spelled =
+    trees_back list (modernity_law One limit 0 bytes list spelled)
+parts_back (Version Two) limit bytes list spelled =
+    trees_back list (modernity_law Two limit 0 bytes list spelled)
+parts_back (Version Three) limit bytes list spelled =
     tree_back (pack list) (pack_modern list
-    (modernity_law Three nesting_limit 0 bytes list spelled))
-parts_back Strftime bytes list spelled = trees_back list (strftime_modernity_law bytes list spelled)
+    (modernity_law Three limit 0 bytes list spelled))
+parts_back Strftime limit bytes list spelled = trees_back list (strftime_modernity_law bytes list spelled)
 
 -- the fronts are what was written
 fronts_back : (ts : List Tree) (ns ms : List Node) (a b : Text) (nodes literals : ℕ)
@@ -94,33 +93,36 @@ fronts_back ts ns ms a b nodes literals n l m k =
     ap (λ x. take (length (nodes_from 0 0 ts)) x) m ∙
     take-append_seam (nodes_from 0 0 ts) (drop (length ts) ns))
 
-read_back_of : (language : Language) (bytes : Text) (list : List Tree) (ns ms : List Node)
-    (a b : Text) (r : Report) → SpellsIn language nesting_limit bytes list
+read_back_of : (language : Language) (limit : ℕ) (bytes : Text) (list : List Tree)
+    (ns ms : List Node) (a b : Text) (r : Report) → SpellsIn language limit bytes list
     → IsReport language list ns ms a b r → IsTrue r.written
     → read_nodes (take r.literals b) (take r.nodes ms) ≡ Some (tops language list)
-read_back_of language bytes list ns ms a b r spelled report written =
+read_back_of language limit bytes list ns ms a b r spelled report written =
     fronts_back (parts language list) ns ms a b r.nodes r.literals report.nodes report.literals
     (report.nodes_written written) (report.literals_written written)
-    ∙ parts_back language bytes list spelled
+    ∙ parts_back language limit bytes list spelled
 
-pub reported : (language : Language) (bytes : Text) (ns ms : List Node) (a b : Text) (r : Report)
-    → IsUtf8 bytes
-    → ((list : List Tree) × SpellsIn language nesting_limit bytes list
+pub reported : (language : Language) (limit : ℕ) (bytes : Text) (ns ms : List Node) (a b : Text)
+    (r : Report) → IsUtf8 bytes
+    → ((list : List Tree) × SpellsIn language limit bytes list
     × IsReport language list ns ms a b r)
-    → ((list : List Tree) → SpellsIn language nesting_limit bytes list
+    → ((list : List Tree) → SpellsIn language limit bytes list
     → IsReport language list ns ms a b r)
-    → ((f : Fault) → FaultIn language nesting_limit bytes f → ⊥)
-    → Reads (Some language) bytes ns ms a b (told r)
-reported language bytes ns ms a b r utf8 found spelled no_fault = record {
-  answers = answers.accepting (Some language) bytes (List Tree) (Describes (Some language) bytes)
+    → ((f : Fault) → FaultIn language limit bytes f → ⊥)
+    → Reads (Some language) limit bytes ns ms a b (told r)
+reported language limit bytes ns ms a b r utf8 found spelled no_fault = record {
+  answers = answers.accepting (Some language) limit bytes (List Tree)
+      (DescribesWithin (Some language) limit bytes)
       (λ list. Tells (Some language) list ns ms a b (told r)) (answers.some_not_none language)
       r.value utf8 found.0 (utf8, found.1) (λ list d. spelled list d.1)
       (λ f h. no_fault f h.1);
-  read = λ e written list d. read_back_of language bytes list ns ms a b r d.1 (spelled list d.1)
-      written;
-  within = λ e three. three_within language bytes found.0 r.nodes found.1 three found.2.nodes;
-  nodes_within = nodes_within language bytes found.0 r.nodes found.1 found.2.nodes;
-  literals_within = literals_within language bytes found.0 r.literals found.1 found.2.literals;
+  read = λ e written list d. read_back_of language limit bytes list ns ms a b r d.1
+      (spelled list d.1) written;
+  within = λ e three. three_within language limit bytes found.0 r.nodes found.1 three
+      found.2.nodes;
+  nodes_within = nodes_within language limit bytes found.0 r.nodes found.1 found.2.nodes;
+  literals_within = literals_within language limit bytes found.0 r.literals found.1
+      found.2.literals;
   longest = λ e list d. is_longest language list r.bytes (spelled list d.1).bytes;
   reserved = λ e three. three_reserved language found.0 r.bytes r.value three found.2.bytes
       found.2.value;
@@ -130,13 +132,14 @@ reported language bytes ns ms a b r utf8 found spelled no_fault = record {
 }
 
 -- a text with a fault, of which the status and its index are answered
-pub faulted : (language : Language) (bytes : Text) (ns ms : List Node) (a b : Text) (f : Fault)
-    → IsUtf8 bytes → FaultIn language nesting_limit bytes f
-    → ((list : List Tree) → SpellsIn language nesting_limit bytes list → ⊥)
-    → ((g : Fault) → FaultIn language nesting_limit bytes g → f ≡ g) → (bytes ≡ [] → ⊥)
-    → Reads (Some language) bytes ns ms a b (silent REFUSED f.index)
-faulted language bytes ns ms a b f utf8 has not_spelled one not_empty = record {
-  answers = answers.refusing (Some language) bytes (List Tree) (Describes (Some language) bytes)
+pub faulted : (language : Language) (limit : ℕ) (bytes : Text) (ns ms : List Node) (a b : Text)
+    (f : Fault) → IsUtf8 bytes → FaultIn language limit bytes f
+    → ((list : List Tree) → SpellsIn language limit bytes list → ⊥)
+    → ((g : Fault) → FaultIn language limit bytes g → f ≡ g) → (bytes ≡ [] → ⊥)
+    → Reads (Some language) limit bytes ns ms a b (silent REFUSED f.index)
+faulted language limit bytes ns ms a b f utf8 has not_spelled one not_empty = record {
+  answers = answers.refusing (Some language) limit bytes (List Tree)
+      (DescribesWithin (Some language) limit bytes)
       (λ list. Tells (Some language) list ns ms a b (silent REFUSED f.index))
       (answers.some_not_none language) f (utf8, has) (λ list d. not_spelled list d.1)
       (λ g h. one g h.1) (λ some nil. not_empty nil);

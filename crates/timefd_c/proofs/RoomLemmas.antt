@@ -9,7 +9,7 @@ use Rattle.timefd_language.specs.Bytes.{right, left, is_run_byte, is_version_thr
 use Rattle.timefd_language.specs.Head.{Head, head_text, placed}
 use Rattle.timefd_language.specs.Names.{Row, row_of}
 use Rattle.timefd_language.specs.Verdict.{PlacedDescription, bad_modifiers, settings, made, is_formatted, only, component_verdict, verdict}
-use Rattle.timefd_language.specs.Grammar.{Pieces, no_pieces, run, escape, closing, bracket, Nested, no_nested, nested, spelling, nested_text, items, ArePieces, AreNested, parts_from, nesting_limit}
+use Rattle.timefd_language.specs.Grammar.{Pieces, no_pieces, run, escape, closing, bracket, Nested, no_nested, nested, spelling, nested_text, items, ArePieces, AreNested, parts_from}
 use Rattle.timefd_language.specs.Letters.{Flag, letters, item_of}
 use Rattle.timefd_language.specs.Strftime.{Directives, no_directives, plain, directive, is_plain, flag_text, directives_text, directive_items, AreDirectives}
 use Rattle.timefd_language.proofs.Lookup.{Each, each-passes}
@@ -198,10 +198,10 @@ mutual
         literals = omega (arith, whole, front, inner.literals, more.literals);
       }
 
-spelled_within : (v : DescriptionVersion) (bytes : Text) (list : List Tree)
-    → SpellsIn (Version v) nesting_limit bytes list → AreWithin list bytes
-spelled_within v bytes list h =
-    let within = pieces_within h.0 v nesting_limit 0 h.1 in
+spelled_within : (v : DescriptionVersion) (limit : ℕ) (bytes : Text) (list : List Tree)
+    → SpellsIn (Version v) limit bytes list → AreWithin list bytes
+spelled_within v limit bytes list h =
+    let within = pieces_within h.0 v limit 0 h.1 in
     record {
       nodes = omega (arith, within.nodes, ap length h.2, ap (λ l. trees_count (trees l)) h.3);
       literals = omega (
@@ -250,7 +250,7 @@ directives_within (directive f b tree rest) are =
       literals = omega (arith, whole, item.literals, more.literals);
     }
 
-strftime_within : (bytes : Text) (list : List Tree) → SpellsIn Strftime nesting_limit bytes list
+strftime_within : (bytes : Text) (list : List Tree) → SpellsIn Strftime 0 bytes list
     → DirectivesWithin list bytes
 strftime_within bytes list h =
     let within = directives_within h.0 h.1 in
@@ -266,39 +266,39 @@ strftime_within bytes list h =
 
 -- What is told of a text that spells the list.
 
-pub nodes_within : (language : Language) (bytes : Text) (list : List Tree) (nodes : ℕ)
-    → SpellsIn language nesting_limit bytes list → nodes ≡ length (parts language list)
+pub nodes_within : (language : Language) (limit : ℕ) (bytes : Text) (list : List Tree) (nodes : ℕ)
+    → SpellsIn language limit bytes list → nodes ≡ length (parts language list)
     → nodes ≤ most_nodes (Some language) (length bytes)
-nodes_within (Version One) bytes list nodes spelled is =
-    omega (arith, is, walked_all_length (trees list), (spelled_within One bytes list spelled).nodes)
-nodes_within (Version Two) bytes list nodes spelled is =
-    omega (arith, is, walked_all_length (trees list), (spelled_within Two bytes list spelled).nodes)
-nodes_within (Version Three) bytes list nodes spelled is = omega (
+nodes_within (Version One) limit bytes list nodes spelled is =
+    omega (arith, is, walked_all_length (trees list), (spelled_within One limit bytes list spelled).nodes)
+nodes_within (Version Two) limit bytes list nodes spelled is =
+    omega (arith, is, walked_all_length (trees list), (spelled_within Two limit bytes list spelled).nodes)
+nodes_within (Version Three) limit bytes list nodes spelled is = omega (
   arith,
   is,
   walked_length (pack list),
   pack_count list,
-  (spelled_within Three bytes list spelled).nodes,
+  (spelled_within Three limit bytes list spelled).nodes,
 )
-nodes_within Strftime bytes list nodes spelled is =
+nodes_within Strftime limit bytes list nodes spelled is =
     omega (arith, is, walked_all_length (trees list), (strftime_within bytes list spelled).nodes)
 
-pub literals_within : (language : Language) (bytes : Text) (list : List Tree) (literals : ℕ)
-    → SpellsIn language nesting_limit bytes list
+pub literals_within : (language : Language) (limit : ℕ) (bytes : Text) (list : List Tree)
+    (literals : ℕ) → SpellsIn language limit bytes list
     → literals ≡ length (literals_of (parts language list))
     → literals ≤ most_literals (Some language) (length bytes)
-literals_within (Version One) bytes list literals spelled is =
-    let within = spelled_within One bytes list spelled in
+literals_within (Version One) limit bytes list literals spelled is =
+    let within = spelled_within One limit bytes list spelled in
     omega (arith, is, all_walked_bytes (trees list), within.literals)
-literals_within (Version Two) bytes list literals spelled is =
-    let within = spelled_within Two bytes list spelled in
+literals_within (Version Two) limit bytes list literals spelled is =
+    let within = spelled_within Two limit bytes list spelled in
     omega (arith, is, all_walked_bytes (trees list), within.literals)
-literals_within (Version Three) bytes list literals spelled is = omega (
+literals_within (Version Three) limit bytes list literals spelled is = omega (
   arith,
   is,
   walked_bytes (pack list),
   pack_bytes list,
-  (spelled_within Three bytes list spelled).literals,
+  (spelled_within Three limit bytes list spelled).literals,
 )
-literals_within Strftime bytes list literals spelled is =
+literals_within Strftime limit bytes list literals spelled is =
     omega (arith, is, all_walked_bytes (trees list), (strftime_within bytes list spelled).literals)

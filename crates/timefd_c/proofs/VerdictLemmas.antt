@@ -27,7 +27,7 @@ pub refusal : (language : Option Language) (bytes : Text) (f : BorrowedFault) (l
     → Judges language bytes
     (record { status = REFUSED; value = f.index; sentence_len = len; written = written })
 refusal language bytes f len written says spelled faulty no_language empty = record {
-  answers = answers.refusing language bytes (List Tree) (Describes language bytes)
+  answers = answers.refusing language nesting_limit bytes (List Tree) (Describes language bytes)
       (Counts language
       (record { status = REFUSED; value = f.index; sentence_len = len; written = written }))
       (λ none. let is : Refused f ≡ UnknownKind = no_language none in absurd cc)
@@ -45,7 +45,7 @@ pub judged : (language : Option Language) (bytes : Text) (v : Verdict) → Says 
     → Judges language bytes (answer_of v)
 judged language bytes (Accepted value) says spelled faulty no_text no_language empty memory =
     record {
-      answers = answers.accepting language bytes (List Tree) (Describes language bytes)
+      answers = answers.accepting language nesting_limit bytes (List Tree) (Describes language bytes)
           (Counts language (plain ACCEPTED value))
           (λ none. let is : Accepted value ≡ UnknownKind = no_language none in absurd cc)
           value says.0 says.1.0 (says.0, says.1.1) (λ list d. spelled list d.0 d.1)
@@ -55,14 +55,14 @@ judged language bytes (Accepted value) says spelled faulty no_text no_language e
 judged language bytes (Refused f) says spelled faulty no_text no_language empty memory =
     refusal language bytes f 0 0 says spelled faulty no_language empty
 judged language bytes NotUtf8 says spelled faulty no_text no_language empty memory = record {
-  answers = answers.no_text language bytes (List Tree) (Describes language bytes)
+  answers = answers.no_text language nesting_limit bytes (List Tree) (Describes language bytes)
       (Counts language (plain NOT_UTF8 0))
       (λ none. let is : NotUtf8 ≡ UnknownKind = no_language none in absurd cc)
       says.0 says.1 (λ list d. d.0);
   memory = λ l is lax status. omega (arith, status);
 }
 judged language bytes NoMemory says spelled faulty no_text no_language empty memory = record {
-  answers = answers.unread language bytes (List Tree) (Describes language bytes)
+  answers = answers.unread language nesting_limit bytes (List Tree) (Describes language bytes)
       (Counts language (plain NO_MEMORY 0))
       (λ none. let is : NoMemory ≡ UnknownKind = no_language none in absurd cc)
       (λ some invalid. let is : NoMemory ≡ NotUtf8 = no_text some invalid in absurd cc)
@@ -70,7 +70,7 @@ judged language bytes NoMemory says spelled faulty no_text no_language empty mem
   memory = λ l is lax status. memory l is lax refl;
 }
 judged language bytes UnknownKind says spelled faulty no_text no_language empty memory = record {
-  answers = answers.no_language language bytes (List Tree) (Describes language bytes)
+  answers = answers.no_language language nesting_limit bytes (List Tree) (Describes language bytes)
       (Counts language (plain UNKNOWN_KIND 0)) says (λ list d. spelled list d.0 d.1);
   memory = λ l is lax status. omega (arith, status);
 }

@@ -12,26 +12,39 @@ use Rattle.timefd_c.specs.declared.answer.TheConstants.{ACCEPTED, REFUSED, NOT_U
 use Rattle.timefd_c.specs.declared.answer.Answer.{Answer}
 use Rattle.timefd_c.specs.declared.verdict.Verdict.{Verdict}
 use Rattle.timefd_c.specs.declared.verdict.Verdict.TheVariants.{Accepted, Refused, NotUtf8, NoMemory, UnknownKind}
-use Rattle.timefd_c.specs.Languages.{SpellsIn, FaultIn, amount}
+use Rattle.timefd_language.specs.Grammar.{nesting_limit}
+use Rattle.timefd_c.specs.Languages.{SpellsWithin, FaultWithin, amount}
 
--- The bytes are a text that spells the list in the language.
+-- The bytes are a text that spells the list in the language, with at most so many nested descriptions
+-- around one another.
+abbrev pub DescribesWithin : Option Language → ℕ → Text → List Tree → Type 0
+DescribesWithin language limit bytes list = IsUtf8 bytes × SpellsWithin language limit bytes list
+
+-- The bytes are a text to which the rules of the language assign the fault, where at most so many may
+-- be nested.
+abbrev pub HasFaultWithin : Option Language → ℕ → Text → Fault → Type 0
+HasFaultWithin language limit bytes f = IsUtf8 bytes × FaultWithin language limit bytes f
+
+-- The same, nested at most as deep as there may be.
 abbrev pub Describes : Option Language → Text → List Tree → Type 0
-Describes language bytes list = IsUtf8 bytes × SpellsIn language bytes list
+Describes language bytes list = DescribesWithin language nesting_limit bytes list
 
--- The bytes are a text to which the rules of the language assign the fault.
 abbrev pub HasFault : Option Language → Text → Fault → Type 0
-HasFault language bytes f = IsUtf8 bytes × FaultIn language bytes f
+HasFault language bytes f = HasFaultWithin language nesting_limit bytes f
 
--- The status and the value say what the bytes are in the language, where there is one: `Is x` that
--- they are a text without a fault and mean `x`, and `Told x` that this is what is answered.
-pub record IsAnswer (language : Option Language) (bytes : Text) (X : Type 0) (Is Told : X → Type 0)
-    (status value : ℕ) : Type 0 where
+-- The status and the value say what the bytes are in the language, where there is one, and where at
+-- most `limit` descriptions may be nested around one another: `Is x` that they are a text without a
+-- fault and mean `x`, and `Told x` that this is what is answered.
+pub record IsAnswer (language : Option Language) (limit : ℕ) (bytes : Text) (X : Type 0)
+    (Is Told : X → Type 0) (status value : ℕ) : Type 0 where
   -- What is answered is so.
   pub accepted : status ≡ ACCEPTED → (x : X) × Is x × Told x
-  pub refused : status ≡ REFUSED → (f : Fault) × HasFault language bytes f × (value ≡ f.index)
+  pub refused : status ≡ REFUSED
+      → (f : Fault) × HasFaultWithin language limit bytes f × (value ≡ f.index)
   -- What is so is answered: a text without a fault unless memory runs out, and a fault always.
   pub spelled : (x : X) → Is x → status ≢ NO_MEMORY → (status ≡ ACCEPTED) × Told x
-  pub faulty : (f : Fault) → HasFault language bytes f → (status ≡ REFUSED) × (value ≡ f.index)
+  pub faulty : (f : Fault) → HasFaultWithin language limit bytes f
+      → (status ≡ REFUSED) × (value ≡ f.index)
   -- The index of a fault is at most the length of the text, and stands between two characters.
   pub place : status ≡ REFUSED → IsCharBoundary bytes value
   -- These take no memory.
@@ -48,7 +61,7 @@ Counts language answer list = answer.value ≡ amount language list
 
 -- The answer says what the bytes are in the language, where there is one, and how much they hold.
 pub record Judges (language : Option Language) (bytes : Text) (answer : Answer) : Type 0 where
-  pub answers : IsAnswer language bytes (List Tree) (Describes language bytes)
+  pub answers : IsAnswer language nesting_limit bytes (List Tree) (Describes language bytes)
       (Counts language answer) answer.status answer.value
   -- Versions 1 and 2 and strftime take no memory.
   pub memory : (l : Language) → language ≡ Some l → IsFalse (takes_memory l)

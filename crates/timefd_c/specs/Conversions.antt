@@ -1,6 +1,7 @@
 -- What is answered to C of a text of one language that is rewritten as one of another.
 use Rattle.std.specs.Prelude.{ℕ, ◌≡◌, ◌≢◌, ◌≤◌, ◌<◌, ◌*◌, ◌++◌, Option, Some, None, length, drop, IsUtf8}
 use Rattle.timefd_component.specs.Tree.{Text}
+use Rattle.timefd_language.specs.Grammar.{nesting_limit}
 use Rattle.timefd_language.specs.declared.description_version.DescriptionVersion.TheVariants.{One, Two}
 use Rattle.timefd_parse.specs.declared.language.Language.{Language}
 use Rattle.timefd_parse.specs.declared.language.Language.TheVariants.{Version}
@@ -27,7 +28,7 @@ IsToldOf HasItems bytes answer converted =
 -- text it is, and `HasItems` that it means the same.
 pub record ConvertsBy (language : Language) (IsOne HasItems : Text → Text
     → Type 0) (bytes before after : Text) (answer : Answer) : Type 0 where
-  pub answers : IsAnswer (Some language) bytes Text (IsConverted IsOne bytes)
+  pub answers : IsAnswer (Some language) nesting_limit bytes Text (IsConverted IsOne bytes)
       (IsToldOf HasItems bytes answer) answer.status answer.value
   -- The language has a kind, so that there are four statuses.
   pub status : answer.status ≤ NO_MEMORY

@@ -17,15 +17,23 @@ language_of number =
     else if number == 4 then Some Strftime
     else None
 
--- The text spells the list in the language, nested at most as deep as there may be.
-abbrev pub SpellsIn : Option Language → Text → List Tree → Type 0
-SpellsIn (Some language) text list = spec.SpellsIn language nesting_limit text list
-SpellsIn None text list = ⊥
+-- The text spells the list in the language, with at most so many nested descriptions around one
+-- another.
+abbrev pub SpellsWithin : Option Language → ℕ → Text → List Tree → Type 0
+SpellsWithin (Some language) limit text list = spec.SpellsIn language limit text list
+SpellsWithin None limit text list = ⊥
 
--- The rules of the language assign the fault to the text.
+-- The rules of the language assign the fault to the text, where at most so many may be nested.
+abbrev pub FaultWithin : Option Language → ℕ → Text → Fault → Type 0
+FaultWithin (Some language) limit text f = spec.FaultIn language limit text f
+FaultWithin None limit text f = ⊥
+
+-- The same, nested at most as deep as there may be.
+abbrev pub SpellsIn : Option Language → Text → List Tree → Type 0
+SpellsIn language text list = SpellsWithin language nesting_limit text list
+
 abbrev pub FaultIn : Option Language → Text → Fault → Type 0
-FaultIn (Some language) text f = spec.FaultIn language nesting_limit text f
-FaultIn None text f = ⊥
+FaultIn language text f = FaultWithin language nesting_limit text f
 
 -- how many items a text has that spells the list, or in version 3 how many bytes it reserves
 abbrev pub amount : Option Language → List Tree → ℕ

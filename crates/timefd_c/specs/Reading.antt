@@ -9,7 +9,7 @@ use Rattle.timefd_c_nodes.specs.declared.node.Node.{Node}
 use Rattle.timefd_c.specs.declared.answer.TheConstants.{ACCEPTED, NO_MEMORY, REFUSED}
 use Rattle.timefd_c.specs.declared.answer.ReadAnswer.{ReadAnswer}
 use Rattle.timefd_c_read.specs.declared.report.Report.{Report}
-use Rattle.timefd_c.specs.Answers.{Describes, IsAnswer}
+use Rattle.timefd_c.specs.Answers.{DescribesWithin, IsAnswer}
 use Rattle.timefd_c_nodes.specs.Decoding.{read_nodes}
 use Rattle.timefd_c_read.specs.Reports.{IsReport, tops}
 
@@ -60,16 +60,17 @@ pub record IsLongest (list : List Tree) (bytes : ℕ) : Type 0 where
   pub most : bytes < 2 ^ 64 - 1 → (text : Text) → RendersAll (trees list) text
       → length text ≤ bytes
 
--- The answer says what the bytes are in the language, where there is one, and of the buffers, which
--- held `nodes_before` and `before` and hold `nodes_after` and `after`, what was written.
-pub record Reads (language : Option Language) (bytes : Text) (nodes_before nodes_after : List Node)
-    (before after : Text) (answer : ReadAnswer) : Type 0 where
-  pub answers : IsAnswer language bytes (List Tree) (Describes language bytes)
+-- The answer says what the bytes are in the language, where there is one, with at most `limit` nested
+-- descriptions around one another; and of the buffers, which held `nodes_before` and `before` and hold
+-- `nodes_after` and `after`, what was written.
+pub record Reads (language : Option Language) (limit : ℕ) (bytes : Text)
+    (nodes_before nodes_after : List Node) (before after : Text) (answer : ReadAnswer) : Type 0 where
+  pub answers : IsAnswer language limit bytes (List Tree) (DescribesWithin language limit bytes)
       (λ list. Tells language list nodes_before nodes_after before after answer)
       answer.status answer.value
   -- What is written reads as what the text spells.
   pub read : answer.status ≡ ACCEPTED → IsTrue answer.written → (list : List Tree)
-      → Describes language bytes list
+      → DescribesWithin language limit bytes list
       → ReadAs language list nodes_after after answer
   -- A text of version 3 has at most one node more than bytes.
   pub within : answer.status ≡ ACCEPTED → language ≡ Some (Version Three)
@@ -78,8 +79,8 @@ pub record Reads (language : Option Language) (bytes : Text) (nodes_before nodes
   pub nodes_within : answer.nodes ≤ most_nodes language (length bytes)
   pub literals_within : answer.literals ≤ most_literals language (length bytes)
   -- In every language the longest rendering is told. In version 3 it has the bytes of the value.
-  pub longest : answer.status ≡ ACCEPTED → (list : List Tree) → Describes language bytes list
-      → IsLongest list answer.bytes
+  pub longest : answer.status ≡ ACCEPTED → (list : List Tree)
+      → DescribesWithin language limit bytes list → IsLongest list answer.bytes
   pub reserved : answer.status ≡ ACCEPTED → language ≡ Some (Version Three)
       → answer.bytes ≡ answer.value
   -- Where no text is read, as the language is unknown or the bytes are no text, nothing is written.

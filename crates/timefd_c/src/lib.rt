@@ -1,8 +1,8 @@
 //! The readers for C, and for Rust outside of this workspace: two functions that say of the bytes
 //! of a text what they are in a language, which a number names, one that tells the fault of a text
-//! whole, three that rewrite a text as one of a later version, one that writes the nodes of a
-//! description, two that write a date and time, by a description or by such nodes, and one that reads
-//! them.
+//! whole, three that rewrite a text as one of a later version, two that write the nodes of a
+//! description, one of them within a limit on nesting, two that write a date and time, by a description
+//! or by such nodes, and one that reads them.
 //! `examples/timefd.h` declares them.
 #![tactic(auto)]
 
@@ -36,6 +36,6 @@ pub use format::timefd_format;
 pub use format_answer::{FormatAnswer, NO_DESCRIPTION, OUT_OF_RANGE, UNSHOWN};
 pub use format_nodes::timefd_format_nodes;
 pub use moment::MomentFields;
-pub use nodes::{VERSION, timefd_read, timefd_version};
+pub use nodes::{VERSION, timefd_read, timefd_read_within, timefd_version};
 pub use read_date::timefd_read_date;
 pub use timefd_c_nodes::Node;

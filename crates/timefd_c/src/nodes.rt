@@ -1,15 +1,16 @@
 //! The functions that C calls for nodes, and for the number of this version.
 
-ghost use Rattle.std.specs.Prelude.{◌≡◌};
+ghost use Rattle.std.specs.Prelude.{◌≡◌, ◌≤◌, min};
+ghost use Rattle.timefd_language.specs.Grammar.{nesting_limit};
 ghost use Rattle.timefd_c.specs.Languages.{language_of};
 ghost use Rattle.timefd_c.specs.Reading.{Reads};
 
 use crate::answer::{ACCEPTED, NO_MEMORY, NOT_UTF8, REFUSED, ReadAnswer, UNKNOWN_KIND};
-use crate::numbers::from_number;
+use crate::numbers::{from_number, limit_from};
 use std::alloc::Global;
 use timefd_c_nodes::Node;
-use timefd_c_read::read;
-use timefd_parse::BorrowedParseError;
+use timefd_c_read::read_within;
+use timefd_parse::{BorrowedParseError, NESTING_LIMIT};
 
 /// The number of this version, 0.1.0: a million for each major one, a thousand for each minor one.
 pub const VERSION: u32 = 1_000;
@@ -33,7 +34,42 @@ pub extern "C" fn timefd_read(
     nodes: &mut [Node],
     literals: &mut [u8],
 ) -> ReadAnswer
-    ensures reads { Reads (language_of kind) text.now nodes.old nodes.new literals.old literals.new
+    ensures reads { Reads (language_of kind) nesting_limit text.now nodes.old nodes.new literals.old
+        literals.new result }
+{
+    read_bytes(alloc, kind, NESTING_LIMIT, text, nodes, literals)
+}
+
+/// Says and writes what `timefd_read` does, with at most `limit` nested descriptions around one another:
+/// a text that nests more is refused. A limit above `NESTING_LIMIT` counts as that.
+#[unsafe(no_mangle)]
+pub extern "C" fn timefd_read_within(
+    alloc: Global,
+    kind: u32,
+    limit: u32,
+    text: &[u8],
+    nodes: &mut [Node],
+    literals: &mut [u8],
+) -> ReadAnswer
+    ensures reads { Reads (language_of kind) (min limit nesting_limit) text.now nodes.old nodes.new
+        literals.old literals.new result }
+{
+    read_bytes(alloc, kind, limit_from(limit), text, nodes, literals)
+}
+
+/// Says what the bytes are in the language with this number, with at most `limit` nested descriptions
+/// around one another, and writes what they are.
+#[inline(always)]
+fn read_bytes(
+    alloc: Global,
+    kind: u32,
+    limit: u8,
+    text: &[u8],
+    nodes: &mut [Node],
+    literals: &mut [u8],
+) -> ReadAnswer
+    requires { limit ≤ nesting_limit }
+    ensures { Reads (language_of kind) limit text.now nodes.old nodes.new literals.old literals.new
         result }
 {
     let Some(language) = from_number(kind) else {
@@ -42,7 +78,7 @@ pub extern "C" fn timefd_read(
     let Ok(text) = str::from_utf8(text) else {
         return ReadAnswer::plain(NOT_UTF8, 0);
     };
-    match read(alloc, language, text, nodes, literals) {
+    match read_within(alloc, language, limit, text, nodes, literals) {
         Ok(report) => ReadAnswer {
             status: ACCEPTED,
             value: report.value,

@@ -1,9 +1,10 @@
-//! The numbers that name the languages.
+//! The numbers that name the languages, and those that limit nesting.
 
-ghost use Rattle.std.specs.Prelude.{◌≡◌};
+ghost use Rattle.std.specs.Prelude.{◌≡◌, min};
+ghost use Rattle.timefd_language.specs.Grammar.{nesting_limit};
 ghost use Rattle.timefd_c.specs.Languages.{language_of};
 
-use timefd_parse::{DescriptionVersion, Language};
+use timefd_parse::{DescriptionVersion, Language, NESTING_LIMIT};
 
 /// The language of a number: each version has its own, strftime has 4, and no other number has one.
 #[inline(always)]
@@ -16,5 +17,16 @@ pub fn from_number(number: u32) -> Option<Language>
         3 => Some(Language::Version(DescriptionVersion::Three)),
         4 => Some(Language::Strftime),
         _ => None,
+    }
+}
+
+/// The limit on nesting that a number is. One above `NESTING_LIMIT` counts as that.
+#[inline(always)]
+pub fn limit_from(number: u32) -> u8
+    ensures { result ≡ min number nesting_limit }
+{
+    match u8::try_from(number) {
+        Ok(limit) => limit.min(NESTING_LIMIT),
+        Err(_) => NESTING_LIMIT,
     }
 }

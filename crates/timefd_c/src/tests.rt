@@ -5,6 +5,7 @@ mod buffers;
 mod conversions;
 mod dates;
 mod formats;
+mod limits;
 mod longest;
 mod node_buffers;
 mod nodes;

@@ -2,24 +2,24 @@ use Rattle.std.proofs.Common.{◌≡◌, ◌∙◌, Some, IsUtf8, false, true, s
 use Rattle.timefd_c.specs.Reading.{Reads}
 use Rattle.timefd_c.proofs.ReadingLemmas.{reported, faulted, told}
 use Rattle.timefd_borrowed_fault.specs.BorrowedFaults.{lent_fault, IsLent, IsLentOf, IsMemory}
-use Rattle.timefd_language.specs.Grammar.{nesting_limit}
 use Rattle.timefd_parse.specs.Language.{FaultIn}
-use Rattle.timefd_c.proofs.nodes.timefd_read.Goals as goal
+use Rattle.timefd_c.proofs.nodes.read_bytes.Goals as goal
 
-pub returns-in-Ok-read : goal.returns-in-Ok-read
-returns-in-Ok-read c =
+pub returns-in-Ok-read_within : goal.returns-in-Ok-read_within
+returns-in-Ok-read_within c =
     let text = c.in-Ok.ensures.cases in
-    let r = c.in-Ok-read.ensures in
-    record {
-      reads = subst (λ l. Reads l c.args.text.now c.args.nodes.now c.read.new.nodes
-          c.args.literals.now c.read.new.literals (told c.in-Ok-read.report))
-          (sym c.in-Some.is ∙ c.from_number.ensures)
-          (subst (λ bytes. Reads (Some c.in-Some.language) bytes c.args.nodes.now c.read.new.nodes
-          c.args.literals.now c.read.new.literals (told c.in-Ok-read.report)) text.0
-          (reported c.in-Some.language c.in-Ok.text.now c.args.nodes.now c.read.new.nodes
-          c.args.literals.now c.read.new.literals c.in-Ok-read.report
-          (subst IsUtf8 (sym text.0) text.1) r.found r.spelled r.refused));
-    }
+    let r = c.in-Ok-read_within.ensures in
+    let limit = c.args.limit in
+    let answer = told c.in-Ok-read_within.report in
+    let ns = c.args.nodes.now in
+    let a = c.args.literals.now in
+    let ms = c.read_within.new.nodes in
+    let b = c.read_within.new.literals in
+    subst (λ l. Reads l limit c.args.text.now ns ms a b answer)
+    (sym c.in-Some.is ∙ c.from_number.ensures)
+    (subst (λ bytes. Reads (Some c.in-Some.language) limit bytes ns ms a b answer) text.0
+    (reported c.in-Some.language limit c.in-Ok.text.now ns ms a b c.in-Ok-read_within.report
+    (subst IsUtf8 (sym text.0) text.1) r.found r.spelled r.refused))
 
 pub returns-in-Err-Invalid : goal.returns-in-Err-Invalid
 returns-in-Err-Invalid c =
@@ -27,20 +27,19 @@ returns-in-Err-Invalid c =
     let r = c.in-Err-Invalid.ensures in
     let is = c.in-Err-Invalid.field-0-is in
     let language = c.in-Some.language in
+    let limit = c.args.limit in
     let bytes = c.in-Ok.text.now in
     let ns = c.args.nodes.now in
     let a = c.args.literals.now in
-    let ms = c.read.new.nodes in
-    let b = c.read.new.literals in
-    record {
-      reads = subst (λ l. Reads l c.args.text.now ns ms a b c.plain-in-Err-Invalid.result)
-          (sym c.in-Some.is ∙ c.from_number.ensures)
-          (subst (λ t. Reads (Some language) t ns ms a b c.plain-in-Err-Invalid.result) text.0
-          (subst (Reads (Some language) bytes ns ms a b) (sym c.plain-in-Err-Invalid.ensures)
-          (faulted language bytes ns ms a b (lent_fault c.in-Err-Invalid.fault)
-          (subst IsUtf8 (sym text.0) text.1)
-          (subst (IsLentOf (FaultIn language nesting_limit bytes)) is r.fault)
-          (λ list s. subst IsMemory is (r.spelled list s))
-          (λ g h. subst (IsLent g) is (r.refused g h))
-          (λ nil. let no : false ≡ true = r.empty nil in absurd cc))));
-    }
+    let ms = c.read_within.new.nodes in
+    let b = c.read_within.new.literals in
+    subst (λ l. Reads l limit c.args.text.now ns ms a b c.plain-in-Err-Invalid.result)
+    (sym c.in-Some.is ∙ c.from_number.ensures)
+    (subst (λ t. Reads (Some language) limit t ns ms a b c.plain-in-Err-Invalid.result) text.0
+    (subst (Reads (Some language) limit bytes ns ms a b) (sym c.plain-in-Err-Invalid.ensures)
+    (faulted language limit bytes ns ms a b (lent_fault c.in-Err-Invalid.fault)
+    (subst IsUtf8 (sym text.0) text.1)
+    (subst (IsLentOf (FaultIn language limit bytes)) is r.fault)
+    (λ list s. subst IsMemory is (r.spelled list s))
+    (λ g h. subst (IsLent g) is (r.refused g h))
+    (λ nil. let no : false ≡ true = r.empty nil in absurd cc))))
