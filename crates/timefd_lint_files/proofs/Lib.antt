@@ -1,5 +1,6 @@
 pub mod RowLemmas
 pub mod MatchingLemmas
+pub mod ClassLemmas
 pub mod TokenLemmas
 pub mod LineLemmas
 pub mod RuleLemmas

@@ -3,9 +3,10 @@ use Rattle.std.proofs.Common.{◌≡◌, ℕ, ◌≢◌, Bool, true, false, List
 use Rattle.std.specs.Prelude.{not, ◌&&◌, ◌||◌, ◌==◌, ◌↔◌, IsTrue}
 use Rattle.std.specs.List.{AllByRecursion}
 use Rattle.std.proofs.lemmas.Bool.{and_parts, and_from, or_cases, not-true, eqb-true, eqb-false, eq-eqb, ne_eqb}
+use Rattle.timefd_lint_files.specs.declared.class.Class.{Class}
 use Rattle.timefd_lint_files.specs.declared.token.Token.{Token}
-use Rattle.timefd_lint_files.specs.declared.token.Token.TheVariants.{Byte, Any, Star, Folders, Rest, Nothing}
-use Rattle.timefd_lint_files.specs.Matching.{Text, slash, IsRow, Matches, MatchesFirst, matches, takes_none, takes_some}
+use Rattle.timefd_lint_files.specs.declared.token.Token.TheVariants.{Byte, Any, OneOf, Star, Folders, Rest, Nothing}
+use Rattle.timefd_lint_files.specs.Matching.{Text, slash, has, IsRow, Matches, MatchesFirst, matches, takes_none, takes_some}
 
 or_left : (x y : Bool) → x ≡ true → (x || y) ≡ true
 or_left x y e = rw e refl
@@ -42,6 +43,18 @@ any_to test B is (b ∷ bytes) h = elim (or_cases (not (b == slash) && test byte
       (b, bytes, refl, not_slash b parts.0, is.to bytes parts.1)
   | inr none ↦ absurd cc
 ]
+
+class_to : (class : Class) (test : Text → Bool) (B : Text → Type 0) → Behind test B → (path : Text)
+    → (takes_some (OneOf class) test path || false) ≡ true → MatchesFirst (OneOf class) B path
+class_to class test B is [] h = absurd cc
+class_to class test B is (b ∷ bytes) h =
+    elim (or_cases ((not (b == slash) && has class b) && test bytes) false h) [
+      | inl all ↦
+          let parts = and_parts (not (b == slash) && has class b) (test bytes) all in
+          let byte = and_parts (not (b == slash)) (has class b) parts.0 in
+          (b, bytes, refl, not_slash b byte.0, byte.1, is.to bytes parts.1)
+      | inr none ↦ absurd cc
+    ]
 
 star_to : (test : Text → Bool) (B : Text → Type 0) → Behind test B → (path : Text)
     → (takes_some Star test path || test path) ≡ true → MatchesFirst Star B path
@@ -112,6 +125,7 @@ first_to : (token : Token) (test : Text → Bool) (B : Text → Type 0) → Behi
     → (takes_some token test path || (takes_none token && test path)) ≡ true → MatchesFirst token B path
 first_to (Byte own) test B is path h = byte_to own test B is path h
 first_to Any test B is path h = any_to test B is path h
+first_to (OneOf class) test B is path h = class_to class test B is path h
 first_to Star test B is path h = star_to test B is path h
 first_to Folders test B is path h = folders_to test B is path h
 first_to Rest test B is path h = rest_to test B is path h
@@ -124,6 +138,9 @@ first_from (Byte own) test B is path m =
     rw m.1 (or_left _ _ (and_from (own == own) (test m.0) (eq-eqb own own refl) (is.from m.0 m.2)))
 first_from Any test B is path m =
     rw m.2 (or_left _ _ (and_from (not (m.0 == slash)) (test m.1) (is_no_slash m.0 m.3) (is.from m.1 m.4)))
+first_from (OneOf class) test B is path m =
+    rw m.2 (or_left _ _ (and_from (not (m.0 == slash) && has class m.0) (test m.1)
+    (and_from (not (m.0 == slash)) (has class m.0) (is_no_slash m.0 m.3) m.4) (is.from m.1 m.5)))
 first_from Star test B is path m = rw m.2 (star_from test B is m.0 m.1 m.3 m.4)
 first_from Folders test B is path m = elim m [
   | inl here ↦ or_right (takes_some Folders test path) (test path) (is.from path here)

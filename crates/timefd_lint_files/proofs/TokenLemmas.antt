@@ -1,10 +1,10 @@
 -- The tokens so far, and those of the rest.
-use Rattle.std.proofs.Common.{◌≡◌, Bool, true, List, [], ◌∷◌, ◌++◌, refl, sym, ap, ◌∙◌, append_assoc, append-nil}
+use Rattle.std.proofs.Common.{◌≡◌, Bool, true, List, [], ◌∷◌, ◌++◌, sym, ap, subst, ◌∙◌, append_assoc, append-nil}
 use Rattle.std.specs.Prelude.{Option, Some, None}
+use Rattle.timefd_lint_files.specs.declared.token.Step.{Step}
 use Rattle.timefd_lint_files.specs.declared.token.Token.{Token}
-use Rattle.timefd_lint_files.specs.declared.tokens.Step.{Step}
 use Rattle.timefd_lint_files.specs.Matching.{Text}
-use Rattle.timefd_lint_files.specs.Tokens.{AreTokens, begun_any, ends_name, first}
+use Rattle.timefd_lint_files.specs.Tokens.{AreTokens, BeginsAny, ends_name}
 
 -- Whatever tokens the rest is, those so far and they are the whole text.
 pub record GoesOn (text : Text) (before now : List Token) (begins_name : Bool) (rest : Text) : Type 0 where
@@ -16,7 +16,7 @@ pub at_first : (text : Text) (before : List Token) → GoesOn text before before
 at_first text before = record { read = []; pushed = sym (append-nil before); on = λ tokens are. are }
 
 pub one_more : (text rest : Text) (before now more : List Token) (begins_name : Bool) (found : Option Step) (step : Step)
-    → GoesOn text before now begins_name rest → begun_any found ≡ first begins_name rest
+    → GoesOn text before now begins_name rest → BeginsAny begins_name rest found
     → found ≡ Some step → more ≡ now ++ step.token ∷ []
     → GoesOn text before more (ends_name step.token) step.rest.now
 one_more text rest before now more begins_name found step so_far begin is pushed = record {
@@ -24,18 +24,14 @@ one_more text rest before now more begins_name found step so_far begin is pushed
   pushed = pushed ∙ ap (λ (ts : List Token). ts ++ step.token ∷ []) so_far.pushed ∙
       append_assoc before so_far.read (step.token ∷ []);
   on = λ tokens are. rw append_assoc (so_far.on (step.token ∷ tokens)
-      (step.rest.now, sym begin ∙ ap begun_any is, are));
+      (step.rest.now, subst (BeginsAny begins_name rest) is begin, are));
 }
 
-nothing_left : (begins_name : Bool) (text : Text) → None ≡ first begins_name text → text ≡ []
-nothing_left begins_name [] e = refl
-nothing_left begins_name (b ∷ bytes) e = absurd cc
-
 pub at_last : (text rest : Text) (before now : List Token) (begins_name : Bool) (found : Option Step)
-    → GoesOn text before now begins_name rest → begun_any found ≡ first begins_name rest → found ≡ None
+    → GoesOn text before now begins_name rest → BeginsAny begins_name rest found → found ≡ None
     → (more : List Token) × (now ≡ before ++ more) × AreTokens true text more
 at_last text rest before now begins_name found so_far begin is = (
   so_far.read,
   so_far.pushed,
-  rw append-nil at (so_far.on [] (nothing_left begins_name rest (sym (ap begun_any is) ∙ begin))),
+  rw append-nil at (so_far.on [] (subst (BeginsAny begins_name rest) is begin)),
 )

@@ -1,5 +1,6 @@
 pub mod Matching
 pub mod Lines
+pub mod Classes
 pub mod Tokens
 pub mod Patterns
 pub mod IgnoreFiles

@@ -1,8 +1,10 @@
 -- Which paths a pattern matches. A path is bytes, with a slash between the names.
-use Rattle.std.specs.Prelude.{ℕ, ◌≡◌, ◌≢◌, ◌+◌, ◌≤◌, ◌⊎◌, Bool, true, false, not, ◌&&◌, ◌||◌, ◌==◌, List, [], ◌∷◌, ◌++◌, length, drop, slice_index_or}
+use Rattle.std.specs.Prelude.{ℕ, ◌≡◌, ◌≢◌, ◌+◌, ◌≤◌, ◌⊎◌, Bool, true, false, not, ◌&&◌, ◌||◌, ◌==◌, nat_le, if◌then◌else◌, List, [], ◌∷◌, ◌++◌, length, drop, slice_index_or, IsTrue}
 use Rattle.std.specs.List.{AllByRecursion}
+use Rattle.timefd_lint_files.specs.declared.class.ByteRange.{ByteRange}
+use Rattle.timefd_lint_files.specs.declared.class.Class.{Class}
 use Rattle.timefd_lint_files.specs.declared.token.Token.{Token}
-use Rattle.timefd_lint_files.specs.declared.token.Token.TheVariants.{Byte, Any, Star, Folders, Rest, Nothing}
+use Rattle.timefd_lint_files.specs.declared.token.Token.TheVariants.{Byte, Any, OneOf, Star, Folders, Rest, Nothing}
 
 abbrev pub Text : Type 0
 Text = List ℕ
@@ -11,11 +13,28 @@ Text = List ℕ
 abbrev pub slash : ℕ
 slash = 47
 
+-- A range has its first byte, and those from it up to its last. One that goes back has the first alone.
+abbrev pub is_within : ByteRange → ℕ → Bool
+is_within range byte = (byte == range.first) || (nat_le range.first byte && nat_le byte range.last)
+
+abbrev pub is_within_any : List ByteRange → ℕ → Bool
+is_within_any [] byte = false
+is_within_any (range ∷ ranges) byte = is_within range byte || is_within_any ranges byte
+
+-- A class has the bytes of its ranges; a negated one has all others.
+abbrev pub has : Class → ℕ → Bool
+has class byte =
+    if class.is_negated then not (is_within_any class.ranges.items byte)
+    else is_within_any class.ranges.items byte
+
 -- The path is a front that the token matches, and a rest that what stands behind it does.
 abbrev pub MatchesFirst : Token → (Text → Type 0) → Text → Type 0
 MatchesFirst (Byte own) Behind path = (rest : Text) × (path ≡ own ∷ rest) × Behind rest
 MatchesFirst Any Behind path =
     (byte : ℕ) × (rest : Text) × (path ≡ byte ∷ rest) × (byte ≢ slash) × Behind rest
+MatchesFirst (OneOf class) Behind path =
+    (byte : ℕ) × (rest : Text) × (path ≡ byte ∷ rest) × (byte ≢ slash) × IsTrue (has class byte)
+    × Behind rest
 MatchesFirst Star Behind path =
     (front : Text) × (rest : Text) × (path ≡ front ++ rest) × AllByRecursion (λ byte. byte ≢ slash) front
     × Behind rest
@@ -34,6 +53,7 @@ Matches (token ∷ tokens) path = MatchesFirst token (Matches tokens) path
 abbrev pub takes_none : Token → Bool
 takes_none (Byte own) = false
 takes_none Any = false
+takes_none (OneOf class) = false
 takes_none Star = true
 takes_none Folders = true
 takes_none Rest = true
@@ -44,6 +64,7 @@ takes_none Nothing = false
 abbrev pub takes : Token → ℕ → Bool → Bool → Bool
 takes (Byte own) byte fits goes_on = (byte == own) && fits
 takes Any byte fits goes_on = not (byte == slash) && fits
+takes (OneOf class) byte fits goes_on = (not (byte == slash) && has class byte) && fits
 takes Star byte fits goes_on = not (byte == slash) && (goes_on || fits)
 takes Folders byte fits goes_on = goes_on || ((byte == slash) && fits)
 takes Rest byte fits goes_on = goes_on || fits

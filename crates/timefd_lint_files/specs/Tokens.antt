@@ -1,20 +1,18 @@
 -- The tokens of a pattern.
 use Rattle.std.specs.Prelude.{ℕ, ◌≡◌, Bool, true, false, ◌&&◌, ◌==◌, nat_lt, if◌then◌else◌, List, [], ◌∷◌, length, Option, Some, None}
 use Rattle.timefd_lint_files.specs.declared.token.Token.{Token}
-use Rattle.timefd_lint_files.specs.declared.token.Token.TheVariants.{Byte, Any, Star, Folders, Rest, Nothing}
-use Rattle.timefd_lint_files.specs.declared.tokens.Step.{Step}
+use Rattle.timefd_lint_files.specs.declared.token.Token.TheVariants.{Byte, Any, OneOf, Star, Folders, Rest, Nothing}
+use Rattle.timefd_lint_files.specs.declared.token.Step.{Step}
+use Rattle.timefd_lint_files.specs.Classes.{BeginsClass, bracket}
 use Rattle.timefd_lint_files.specs.Lines.{backslash}
 use Rattle.timefd_lint_files.specs.Matching.{Text, slash}
 
--- `*`, `?`, `[`
+-- `*`, `?`
 abbrev pub star : ℕ
 star = 42
 
 abbrev pub question : ℕ
 question = 63
-
-abbrev pub bracket : ℕ
-bracket = 91
 
 -- a token, and what stands behind it
 pub record Begin : Type 0 where
@@ -23,10 +21,6 @@ pub record Begin : Type 0 where
 
 abbrev pub begun : Step → Begin
 begun step = record { token = step.token; rest = step.rest.now }
-
-abbrev pub begun_any : Option Step → Option Begin
-begun_any None = None
-begun_any (Some step) = Some (begun step)
 
 abbrev pub behind_stars : Text → Text
 behind_stars [] = []
@@ -51,24 +45,34 @@ abbrev pub escaped : Text → Begin
 escaped [] = record { token = Nothing; rest = [] }
 escaped (byte ∷ bytes) = record { token = Byte byte; rest = bytes }
 
--- Classes of bytes, in brackets, match nothing here.
 abbrev pub begun_by : Bool → ℕ → Text → Begin
 begun_by begins_name byte behind =
     if byte == star then starred begins_name behind
     else if byte == backslash then escaped behind
     else if byte == question then record { token = Any; rest = behind }
-    else if byte == bracket then record { token = Nothing; rest = behind }
     else record { token = Byte byte; rest = behind }
 
+abbrev pub BeginsBy : Bool → Bool → ℕ → Text → Token → Text → Type 0
+BeginsBy true begins_name byte behind token rest = BeginsClass behind token rest
+BeginsBy false begins_name byte behind token rest =
+    begun_by begins_name byte behind ≡ record { token = token; rest = rest }
+
+-- The text begins with this token. A bracket opens a class.
+abbrev pub Begins : Bool → Text → Token → Text → Type 0
+Begins begins_name [] token rest = ⊥
+Begins begins_name (byte ∷ bytes) token rest =
+    BeginsBy (byte == bracket) begins_name byte bytes token rest
+
 -- none at the end
-abbrev pub first : Bool → Text → Option Begin
-first begins_name [] = None
-first begins_name (byte ∷ bytes) = Some (begun_by begins_name byte bytes)
+abbrev pub BeginsAny : Bool → Text → Option Step → Type 0
+BeginsAny begins_name text None = text ≡ []
+BeginsAny begins_name text (Some step) = Begins begins_name text step.token step.rest.now
 
 -- A name begins behind a slash.
 abbrev pub ends_name : Token → Bool
 ends_name (Byte byte) = byte == slash
 ends_name Any = false
+ends_name (OneOf class) = false
 ends_name Star = false
 ends_name Folders = true
 ends_name Rest = false
@@ -78,5 +82,5 @@ ends_name Nothing = false
 abbrev pub AreTokens : Bool → Text → List Token → Type 0
 AreTokens begins_name text [] = text ≡ []
 AreTokens begins_name text (token ∷ tokens) = (rest : Text)
-    × (first begins_name text ≡ Some (record { token = token; rest = rest }))
+    × Begins begins_name text token rest
     × AreTokens (ends_name token) rest tokens

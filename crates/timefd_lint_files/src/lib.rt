@@ -1,18 +1,21 @@
 //! The sources of Rust below folders, but those that `.gitignore` files ignore.
 #![tactic(auto)]
 
+mod class;
 mod entry;
 mod ignore_file;
 mod line;
 mod matching;
 mod names;
 mod pattern;
+mod ranges;
 mod rules;
 mod system;
 mod token;
 mod tokens;
 mod walk;
 
+pub use class::{ByteRange, Class};
 pub use entry::{Entry, Kind, Role};
 pub use ignore_file::IgnoreFile;
 pub use matching::matches;

@@ -16,7 +16,7 @@ fn add_first(tokens: &[Token], path: &[u8], row: &mut [bool])
     requires behind { IsRowBehind tokens.now path.now row.old }
     ensures { IsRow tokens.now path.now row.new }
 {
-    let first = tokens[0];
+    let first = &tokens[0];
     let takes_none = first.takes_none();
     let mut at = path.len();
     let mut fits = row[at];
@@ -44,7 +44,7 @@ fn add_all(tokens: &[Token], path: &[u8], row: &mut [bool])
 }
 
 /// Whether the tokens match the path, whose names have a `/` between them. It takes a step for each
-/// token and byte. The row is room to work in.
+/// token, or range of a class, and byte. The row is room to work in.
 ///
 /// # Errors
 ///

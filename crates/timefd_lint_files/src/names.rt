@@ -72,7 +72,7 @@ fn expand<S: FileSystem>(
 /// below it, in the order of the bytes of the entries' names. Any other stays as it is, and so does `-`. A
 /// source is a regular file whose name ends in `.rs`. Hidden entries and links are passed over, and what
 /// `.gitignore` files in these folders ignore. Those of folders above a named one aren't read, and a
-/// pattern with a class of bytes, as `[ab]`, ignores nothing.
+/// pattern with a named class, as `[[:alpha:]]`, ignores nothing.
 ///
 /// # Errors
 ///

@@ -27,9 +27,9 @@ fn tokens_of(alloc: Global, line: Line<'_>) -> Result<Vec<Token>, AllocError>
 {
     let mut tokens = Vec::new(alloc);
     if !line.is_anchored {
-        tokens.push(Token::Folders)?;
+        tokens.push(Token::Folders).map_err(AllocError::from)?;
     }
-    push_tokens(&mut tokens, line.text)?;
+    push_tokens(alloc, &mut tokens, line.text)?;
     Ok(tokens)
 }
 

@@ -2,17 +2,11 @@
 
 ghost use Rattle.std.specs.Prelude.{◌≡◌, ◌≤◌, ◌<◌, ◌++◌, true, length, List, MatchOption, IfOk, ⊤};
 ghost use Rattle.timefd_lint_files.specs.Tokens as spec;
-ghost use Rattle.timefd_lint_files.specs.Tokens.{AreTokens, begun, begun_any};
+ghost use Rattle.timefd_lint_files.specs.Tokens.{AreTokens, BeginsAny, begun};
 
-use crate::token::Token;
-use std::alloc::AllocError;
-
-/// A token, and what stands behind it.
-#[derive(Clone, Copy)]
-pub struct Step<'a> {
-    pub token: Token,
-    pub rest: &'a [u8],
-}
+use crate::ranges::begin_class;
+use crate::token::{Step, Token};
+use std::alloc::{AllocError, Global};
 
 /// What stands behind all stars in front.
 fn behind_stars(text: &[u8]) -> &[u8]
@@ -79,7 +73,7 @@ fn escaped(text: &[u8]) -> Step<'_>
     }
 }
 
-/// The token that begins with this byte.
+/// The token that begins with this byte, which opens no class.
 fn begun_by(begins_name: bool, byte: u8, behind: &[u8]) -> Step<'_>
     ensures begin { begun result ≡ spec.begun_by begins_name byte behind.now }
     ensures within { length result.rest.now ≤ length behind.now }
@@ -91,10 +85,6 @@ fn begun_by(begins_name: bool, byte: u8, behind: &[u8]) -> Step<'_>
             token: Token::Any,
             rest: behind,
         },
-        b'[' => Step {
-            token: Token::Nothing,
-            rest: behind,
-        },
         _ => Step {
             token: Token::Byte(byte),
             rest: behind,
@@ -104,38 +94,40 @@ fn begun_by(begins_name: bool, byte: u8, behind: &[u8]) -> Step<'_>
 
 /// The token that a text begins with; none at its end. At the beginning of a name two stars mean
 /// folders.
-fn first(begins_name: bool, text: &[u8]) -> Option<Step<'_>>
-    ensures begin { begun_any result ≡ spec.first begins_name text.now }
-    ensures within { MatchOption result ⊤ (λ step. length step.rest.now < length text.now) }
+fn first(alloc: Global, begins_name: bool, text: &[u8]) -> Result<Option<Step<'_>>, AllocError>
+    ensures begin { IfOk result (λ found. BeginsAny begins_name text.now found) }
+    ensures within { IfOk result (λ found.
+        MatchOption found ⊤ (λ step. length step.rest.now < length text.now)) }
 {
     match text {
-        [] => None,
-        [byte, behind @ ..] => Some(begun_by(begins_name, *byte, behind)),
+        [] => Ok(None),
+        [b'[', behind @ ..] => Ok(Some(begin_class(alloc, behind)?)),
+        [byte, behind @ ..] => Ok(Some(begun_by(begins_name, *byte, behind))),
     }
 }
 
 /// Whether a name begins behind a token.
-fn ends_name(token: Token) -> bool
-    ensures { result ≡ spec.ends_name token }
+fn ends_name(token: &Token) -> bool
+    ensures { result ≡ spec.ends_name token.now }
 {
     match token {
-        Token::Byte(byte) => byte == b'/',
+        Token::Byte(byte) => *byte == b'/',
         Token::Folders => true,
-        Token::Any | Token::Star | Token::Rest | Token::Nothing => false,
+        Token::Any | Token::OneOf(_) | Token::Star | Token::Rest | Token::Nothing => false,
     }
 }
 
 /// Adds the tokens of a text that begins a name.
 #[tactic(auto, using(crate::proofs::TokenLemmas::at_first, crate::proofs::TokenLemmas::one_more, crate::proofs::TokenLemmas::at_last))]
-pub fn push_tokens(tokens: &mut Vec<Token>, text: &[u8]) -> Result<(), AllocError>
+pub fn push_tokens(alloc: Global, tokens: &mut Vec<Token>, text: &[u8]) -> Result<(), AllocError>
     ensures { IfOk result (λ _. (more : List Token) × (tokens.new.items ≡ tokens.old.items ++ more)
         × AreTokens true text.now more) }
 {
     let mut begins_name = true;
     let mut rest = text;
-    'tokens: while let Some(step) = first(begins_name, rest) {
-        tokens.push(step.token)?;
-        begins_name = ends_name(step.token);
+    'tokens: while let Some(step) = first(alloc, begins_name, rest)? {
+        begins_name = ends_name(&step.token);
+        tokens.push(step.token).map_err(AllocError::from)?;
         rest = step.rest;
     }
     Ok(())

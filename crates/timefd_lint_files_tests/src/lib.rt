@@ -1,6 +1,9 @@
-//! Tests of `timefd_lint_files`. The expected values are those of git's page on `gitignore`.
+//! Tests of `timefd_lint_files`. The expected values are those of git's page on `gitignore`,
+//! and what `git check-ignore` answers.
 #![tactic(auto)]
 
+#[cfg(test)]
+mod classes;
 #[cfg(test)]
 mod fake;
 #[cfg(test)]

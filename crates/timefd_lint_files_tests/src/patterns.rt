@@ -14,17 +14,17 @@ fn matches(rt: &impl Abort, alloc: Global, line: &str, path: &str, is_folder: bo
         .expect(rt, "memory")
 }
 
-fn expect(rt: &impl Abort, alloc: Global, line: &str, path: &str) {
+pub fn expect(rt: &impl Abort, alloc: Global, line: &str, path: &str) {
     assert!(rt; matches(rt, alloc, line, path, false), "{line} {path}");
     assert!(rt; matches(rt, alloc, line, path, true), "{line} {path}");
 }
 
-fn expect_folder(rt: &impl Abort, alloc: Global, line: &str, path: &str) {
+pub fn expect_folder(rt: &impl Abort, alloc: Global, line: &str, path: &str) {
     assert!(rt; !matches(rt, alloc, line, path, false), "{line} {path}");
     assert!(rt; matches(rt, alloc, line, path, true), "{line} {path}");
 }
 
-fn expect_none(rt: &impl Abort, alloc: Global, line: &str, path: &str) {
+pub fn expect_none(rt: &impl Abort, alloc: Global, line: &str, path: &str) {
     assert!(rt; !matches(rt, alloc, line, path, false), "{line} {path}");
     assert!(rt; !matches(rt, alloc, line, path, true), "{line} {path}");
 }

@@ -1,0 +1,195 @@
+//! The text of a class of bytes.
+
+ghost use Rattle.std.specs.Prelude.{◌≡◌, ◌≤◌, ◌<◌, ◌++◌, true, false, length, List, MatchOption, IfOk, ⊤};
+ghost use Rattle.timefd_lint_files.specs.Classes as spec;
+ghost use Rattle.timefd_lint_files.specs.Classes.{AreRanges, BeginsClass, IsClass, read_byte, read_range, read_rest};
+ghost use Rattle.timefd_lint_files.specs.declared.class.ByteRange.{ByteRange};
+
+use crate::class::{ByteRange, Class};
+use crate::token::{Step, Token};
+use std::alloc::{AllocError, Global};
+
+/// A byte, and what stands behind it.
+#[derive(Clone, Copy)]
+pub struct ByteStep<'a> {
+    pub byte: u8,
+    pub rest: &'a [u8],
+}
+
+/// A range, and what stands behind it.
+#[derive(Clone, Copy)]
+pub struct RangeStep<'a> {
+    pub range: ByteRange,
+    pub rest: &'a [u8],
+}
+
+/// The first byte as it is.
+fn bare(text: &[u8]) -> Option<ByteStep<'_>>
+    ensures read { read_byte result ≡ spec.bare text.now }
+    ensures within { MatchOption result ⊤ (λ step. length step.rest.now < length text.now) }
+{
+    match text {
+        [] => None,
+        [byte, rest @ ..] => Some(ByteStep { byte: *byte, rest }),
+    }
+}
+
+/// The first byte, or the one behind a backslash.
+fn first_byte(text: &[u8]) -> Option<ByteStep<'_>>
+    ensures read { read_byte result ≡ spec.first_byte text.now }
+    ensures within { MatchOption result ⊤ (λ step. length step.rest.now < length text.now) }
+{
+    match text {
+        [b'\\', quoted @ ..] => bare(quoted),
+        _ => bare(text),
+    }
+}
+
+/// Whether a byte comes that doesn't close the class.
+fn goes_on(text: &[u8]) -> bool
+    ensures { result ≡ spec.goes_on text.now }
+{
+    match text {
+        [] | [b']', ..] => false,
+        _ => true,
+    }
+}
+
+/// The range from a byte up to the first of a text.
+fn up_to(first: u8, text: &[u8]) -> Option<RangeStep<'_>>
+    ensures read { read_range result ≡ spec.up_to first (spec.first_byte text.now) }
+    ensures within { MatchOption result ⊤ (λ step. length step.rest.now ≤ length text.now) }
+{
+    let last = first_byte(text)?;
+    Some(RangeStep {
+        range: ByteRange {
+            first,
+            last: last.byte,
+        },
+        rest: last.rest,
+    })
+}
+
+/// The range that begins with this byte.
+fn range_from(first: u8, behind: &[u8]) -> Option<RangeStep<'_>>
+    ensures read { read_range result ≡ spec.range_from first behind.now }
+    ensures within { MatchOption result ⊤ (λ step. length step.rest.now ≤ length behind.now) }
+{
+    match behind {
+        [b'-', text @ ..] if goes_on(text) => up_to(first, text),
+        _ => Some(RangeStep {
+            range: ByteRange { first, last: first },
+            rest: behind,
+        }),
+    }
+}
+
+/// Whether a colon stands in front of the next closing bracket.
+fn closes_name(text: &[u8]) -> bool
+    ensures { result ≡ spec.closes_name false text.now }
+{
+    let mut is_colon = false;
+    for byte in text {
+        if *byte == b']' {
+            return is_colon;
+        }
+        is_colon = *byte == b':';
+    }
+    false
+}
+
+/// Whether behind a bracket the name of a class stands between colons.
+fn is_name(text: &[u8]) -> bool
+    ensures { result ≡ spec.is_name text.now }
+{
+    match text {
+        [b':', behind @ ..] => closes_name(behind),
+        _ => false,
+    }
+}
+
+/// Whether no range begins with this byte.
+fn is_none(is_first: bool, byte: u8, behind: &[u8]) -> bool
+    ensures { result ≡ spec.is_none is_first byte behind.now }
+{
+    match byte {
+        b']' => !is_first,
+        b'[' => is_name(behind),
+        _ => false,
+    }
+}
+
+/// The range that a text begins with, at the beginning of a class or further on.
+fn first_range(is_first: bool, text: &[u8]) -> Option<RangeStep<'_>>
+    ensures read { read_range result ≡ spec.first_range is_first text.now }
+    ensures within { MatchOption result ⊤ (λ step. length step.rest.now < length text.now) }
+{
+    match text {
+        [byte, behind @ ..] if !is_none(is_first, *byte, behind) => {
+            let first = first_byte(text)?;
+            range_from(first.byte, first.rest)
+        }
+        _ => None,
+    }
+}
+
+/// What stands behind the bracket that closes a class.
+fn behind_closing(text: &[u8]) -> Option<&[u8]>
+    ensures read { read_rest result ≡ spec.behind_closing text.now }
+    ensures within { MatchOption result ⊤ (λ rest. length rest.now ≤ length text.now) }
+{
+    match text {
+        [b']', rest @ ..] => Some(rest),
+        _ => None,
+    }
+}
+
+/// Adds the ranges of a class, and answers what stands behind it; none if it isn't closed, or has a
+/// named class in it.
+#[tactic(auto, using(crate::proofs::ClassLemmas::at_first, crate::proofs::ClassLemmas::one_more, crate::proofs::ClassLemmas::at_last))]
+fn push_ranges<'a>(
+    ranges: &mut Vec<ByteRange>,
+    text: &'a [u8],
+) -> Result<Option<&'a [u8]>, AllocError>
+    ensures ranges { IfOk result (λ behind. (more : List ByteRange)
+        × (ranges.new.items ≡ ranges.old.items ++ more) × AreRanges true text.now more (read_rest behind)) }
+    ensures within { IfOk result (λ behind. MatchOption behind ⊤ (λ rest. length rest.now ≤ length text.now)) }
+{
+    let mut is_first = true;
+    let mut rest = text;
+    'class: while let Some(step) = first_range(is_first, rest) {
+        ranges.push(step.range)?;
+        is_first = false;
+        rest = step.rest;
+    }
+    Ok(behind_closing(rest))
+}
+
+/// The class with these ranges.
+fn class(alloc: Global, is_negated: bool, text: &[u8]) -> Result<Step<'_>, AllocError>
+    ensures begin { IfOk result (λ step. IsClass is_negated text.now step.token step.rest.now) }
+    ensures within { IfOk result (λ step. length step.rest.now ≤ length text.now) }
+{
+    let mut ranges = Vec::new(alloc);
+    match push_ranges(&mut ranges, text)? {
+        Some(rest) => Ok(Step {
+            token: Token::OneOf(Class { is_negated, ranges }),
+            rest,
+        }),
+        None => Ok(Step {
+            token: Token::Nothing,
+            rest: text,
+        }),
+    }
+}
+
+/// The class behind an opening bracket.
+pub fn begin_class(alloc: Global, text: &[u8]) -> Result<Step<'_>, AllocError>
+    ensures begin { IfOk result (λ step. BeginsClass text.now step.token step.rest.now) }
+    ensures within { IfOk result (λ step. length step.rest.now ≤ length text.now) }
+{
+    match text {
+        [b'!' | b'^', behind @ ..] => class(alloc, true, behind),
+        _ => class(alloc, false, text),
+    }
+}
