@@ -1,12 +1,13 @@
 -- The items so far, and those that are left.
 use Rattle.std.proofs.Common.{◌≡◌, ℕ, ◌+◌, ◌<◌, suc, List, [], ◌∷◌, ◌++◌, length, get_or, drop, refl, sym, ap, subst, ◌∙◌, append_assoc, append-nil, add-one}
-use Rattle.std.specs.Prelude.{Option, Some, None, true}
+use Rattle.std.specs.Prelude.{Option, Some, None, Bool, true, codes}
 use Rattle.std.proofs.Math.Seq.{drop-cons, drop-length}
 use Rattle.timefd_lint_files.specs.declared.entry.Entry.{Entry}
+use Rattle.timefd_lint_files.specs.declared.entry.Kind.TheVariants as kinds
 use Rattle.timefd_lint_files.specs.declared.ignore_file.IgnoreFile.{IgnoreFile}
-use Rattle.timefd_lint_files.specs.Entries.{has_ignore_file}
+use Rattle.timefd_lint_files.specs.Entries.{has_entry}
 use Rattle.timefd_lint_files.specs.Matching.{Text}
-use Rattle.timefd_lint_files.specs.Walks.{AllGive, AreListed, AreOf, Found, Gives, HasOwn, IsLeft, IsLookedAt, IsOwn, IsWalk, entered, found, passed, taken}
+use Rattle.timefd_lint_files.specs.Walks.{AllGive, AreListed, AreOf, Found, Gives, HasExclude, HasOwn, HasOwnIf, IsLeft, IsLookedAt, IsOwn, IsWalk, entered, found, passed, taken}
 
 -- Whatever names the items give that are left, those so far and they are the names of all.
 pub record GoesOn {X : Type 0} (Give : X → List Text → Type 0) (items : List X) (at : ℕ) (before now : List Text) : Type 0 where
@@ -93,7 +94,7 @@ one_walked Below ignores held inside folder entries entry at path name before no
 -- all entries of a folder
 pub walked : (lists : Text → List Entry → Type 0) (holds : Text → Text → Type 0) (depth below : ℕ)
     (above ignores : List IgnoreFile) (folder : Text) (entries lent : List Entry) (names : List Text)
-    → depth ≡ suc below → AreListed (lists folder) entries → lent ≡ entries → HasOwn holds folder lent above ignores
+    → depth ≡ suc below → AreListed (lists folder) entries → lent ≡ entries → HasOwn lists holds folder lent above ignores
     → AllGive (Gives (IsWalk lists holds below) ignores folder) entries names
     → IsWalk lists holds depth above folder names
 unfolding IsWalk
@@ -102,12 +103,21 @@ walked lists holds depth below above ignores folder entries lent names deep list
       entries,
       ignores,
       listed,
-      subst (λ (es : List Entry). HasOwn holds folder es above ignores) same own,
+      subst (λ (es : List Entry). HasOwn lists holds folder es above ignores) same own,
       are,
     )
 
--- a folder that has a file of its own
-pub with_own : (holds : Text → Text → Type 0) (folder : Text) (entries : List Entry)
-    (above all : List IgnoreFile) (own : IgnoreFile) → has_ignore_file entries ≡ true → IsOwn holds folder own
-    → all ≡ above ++ own ∷ [] → HasOwn holds folder entries above all
-with_own holds folder entries above all own has is added = rw has (own, is, added)
+-- a folder that has a file of this name
+pub with_own : (holds : Text → Text → Type 0) (folder name : Text) (is : Bool)
+    (above all : List IgnoreFile) (own : IgnoreFile) → is ≡ true → IsOwn holds folder name own
+    → all ≡ above ++ own ∷ [] → HasOwnIf is holds folder name above all
+with_own holds folder name is above all own has read added = rw has (own, read, added)
+
+-- a folder whose exclude file is added, if it has one, and then its own
+pub with_both : (lists : Text → List Entry → Type 0) (holds : Text → Text → Type 0) (folder : Text) (entries : List Entry)
+    (above between all : List IgnoreFile) (excludes is : Bool) → HasExclude lists folder entries excludes
+    → HasOwnIf excludes holds folder (codes ".git/info/exclude") above between
+    → is ≡ has_entry kinds.File (codes ".gitignore") entries
+    → HasOwnIf is holds folder (codes ".gitignore") between all → HasOwn lists holds folder entries above all
+with_both lists holds folder entries above between all excludes is told added same own =
+    (excludes, between, told, added, subst (λ (b : Bool). HasOwnIf b holds folder (codes ".gitignore") between all) same own)

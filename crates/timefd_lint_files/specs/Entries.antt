@@ -32,10 +32,25 @@ is_file kinds.File = true
 is_file kinds.Folder = false
 is_file kinds.Other = false
 
-abbrev pub is_ignore_file : Entry → Bool
-is_ignore_file entry =
-    is_file entry.kind && pointwise nat_eq (string_bytes entry.name) (codes ".gitignore")
+abbrev pub is_folder : Kind → Bool
+is_folder kinds.File = false
+is_folder kinds.Folder = true
+is_folder kinds.Other = false
 
-abbrev pub has_ignore_file : List Entry → Bool
-has_ignore_file [] = false
-has_ignore_file (entry ∷ entries) = is_ignore_file entry || has_ignore_file entries
+abbrev pub is_other : Kind → Bool
+is_other kinds.File = false
+is_other kinds.Folder = false
+is_other kinds.Other = true
+
+abbrev pub is_kind : Kind → Kind → Bool
+is_kind kinds.File own = is_file own
+is_kind kinds.Folder own = is_folder own
+is_kind kinds.Other own = is_other own
+
+abbrev pub is_entry : Kind → Text → Entry → Bool
+is_entry kind name entry = is_kind kind entry.kind && pointwise nat_eq (string_bytes entry.name) name
+
+-- whether one of the entries has this kind and this name
+abbrev pub has_entry : Kind → Text → List Entry → Bool
+has_entry kind name [] = false
+has_entry kind name (entry ∷ entries) = is_entry kind name entry || has_entry kind name entries

@@ -6,10 +6,12 @@ use Rattle.std.specs.List.Sorted.{IsPermutation, IsSortedByKey}
 use Rattle.std.specs.String.{string_cmp}
 use Rattle.std.specs.declared.alloc.Global.{Global}
 use Rattle.timefd_lint_files.specs.declared.entry.Entry.{Entry}
+use Rattle.timefd_lint_files.specs.declared.entry.Kind.{Kind}
+use Rattle.timefd_lint_files.specs.declared.entry.Kind.TheVariants as kinds
 use Rattle.timefd_lint_files.specs.declared.entry.Role.{Role}
 use Rattle.timefd_lint_files.specs.declared.entry.Role.TheVariants as roles
 use Rattle.timefd_lint_files.specs.declared.ignore_file.IgnoreFile.{IgnoreFile}
-use Rattle.timefd_lint_files.specs.Entries.{has_ignore_file, role}
+use Rattle.timefd_lint_files.specs.Entries.{has_entry, role}
 use Rattle.timefd_lint_files.specs.IgnoreFiles.{IsReadAs}
 use Rattle.timefd_lint_files.specs.Lines.{last}
 use Rattle.timefd_lint_files.specs.Matching.{Text, slash}
@@ -27,19 +29,47 @@ abbrev pub AreListed : (List Entry → Type 0) → List Entry → Type 0
 AreListed lists entries = (listed : List Entry) × lists listed × IsPermutation listed entries
     × IsSortedByKey (λ (entry : Entry). entry.name) string_cmp entries
 
--- the file of a folder
-abbrev pub IsOwn : (Text → Text → Type 0) → Text → IgnoreFile → Type 0
-IsOwn holds folder file =
-    (text : Text) × holds (folder ++ codes ".gitignore") text × IsReadAs (length folder) text file
+-- the file of this name, whose patterns hold in a folder
+abbrev pub IsOwn : (Text → Text → Type 0) → Text → Text → IgnoreFile → Type 0
+IsOwn holds folder name file =
+    (text : Text) × holds (folder ++ name) text × IsReadAs (length folder) text file
 
-abbrev pub HasOwnIf : Bool → (Text → Text → Type 0) → Text → List IgnoreFile → List IgnoreFile → Type 0
-HasOwnIf false holds folder above all = all ≡ above
-HasOwnIf true holds folder above all =
-    (own : IgnoreFile) × IsOwn holds folder own × (all ≡ above ++ own ∷ [])
+abbrev pub HasOwnIf : Bool → (Text → Text → Type 0) → Text → Text → List IgnoreFile → List IgnoreFile → Type 0
+HasOwnIf false holds folder name above all = all ≡ above
+HasOwnIf true holds folder name above all =
+    (own : IgnoreFile) × IsOwn holds folder name own × (all ≡ above ++ own ∷ [])
 
--- In a folder the files above it hold, and its own.
-abbrev pub HasOwn : (Text → Text → Type 0) → Text → List Entry → List IgnoreFile → List IgnoreFile → Type 0
-HasOwn holds folder entries above all = HasOwnIf (has_ignore_file entries) holds folder above all
+-- whether a folder has an entry of this kind and name
+abbrev pub Tells : (Text → List Entry → Type 0) → Text → Kind → Text → Bool → Type 0
+Tells lists folder kind name has =
+    (entries : List Entry) × lists folder entries × (has ≡ has_entry kind name entries)
+
+-- whether `.git/info/` has the file `exclude`, if there is such a folder
+abbrev pub TellsExclude : Bool → (Text → List Entry → Type 0) → Text → Bool → Type 0
+TellsExclude false lists folder has = has ≡ false
+TellsExclude true lists folder has =
+    Tells lists (folder ++ codes ".git/info/") kinds.File (codes "exclude") has
+
+-- the same, if there is a folder `.git/`
+abbrev pub TellsRepository : Bool → (Text → List Entry → Type 0) → Text → Bool → Type 0
+TellsRepository false lists folder has = has ≡ false
+TellsRepository true lists folder has = (has_info : Bool)
+    × Tells lists (folder ++ codes ".git/") kinds.Folder (codes "info") has_info
+    × TellsExclude has_info lists folder has
+
+-- whether a folder with these entries has the exclude file of a repository
+abbrev pub HasExclude : (Text → List Entry → Type 0) → Text → List Entry → Bool → Type 0
+HasExclude lists folder entries has =
+    TellsRepository (has_entry kinds.Folder (codes ".git") entries) lists folder has
+
+-- In a folder the files above it hold, its exclude file, and its `.gitignore` file. Each is overruled by
+-- those behind it.
+abbrev pub HasOwn : (Text → List Entry → Type 0) → (Text → Text → Type 0) → Text → List Entry
+    → List IgnoreFile → List IgnoreFile → Type 0
+HasOwn lists holds folder entries above all = (has_exclude : Bool) × (between : List IgnoreFile)
+    × HasExclude lists folder entries has_exclude
+    × HasOwnIf has_exclude holds folder (codes ".git/info/exclude") above between
+    × HasOwnIf (has_entry kinds.File (codes ".gitignore") entries) holds folder (codes ".gitignore") between all
 
 -- what a walk makes of an entry: it passes it over, takes its name, or goes into the folder of this name
 pub data Found : Type 0 where
@@ -89,7 +119,7 @@ unfoldable pub IsWalk : (Text → List Entry → Type 0) → (Text → Text → 
     → Text → List Text → Type 0
 IsWalk lists holds zero above folder names = ⊥
 IsWalk lists holds (suc depth) above folder names = (entries : List Entry) × (ignores : List IgnoreFile)
-    × AreListed (lists folder) entries × HasOwn holds folder entries above ignores
+    × AreListed (lists folder) entries × HasOwn lists holds folder entries above ignores
     × AllGive (Gives (IsWalk lists holds depth) ignores folder) entries names
 
 -- the name of the standard input

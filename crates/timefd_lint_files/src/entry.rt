@@ -1,7 +1,9 @@
 //! What stands in a folder, and which of it is looked at.
 
-ghost use Rattle.std.specs.Prelude.{◌≡◌};
+ghost use Rattle.std.specs.Prelude.{◌≡◌, ◌++◌, string_bytes, IfOk};
 ghost use Rattle.timefd_lint_files.specs.Entries as spec;
+
+use std::alloc::{AllocError, Global};
 
 /// What a name stands for.
 #[derive(Clone, Copy, Debug, PartialEq, Eq, PartialOrd, Ord)]
@@ -47,12 +49,33 @@ impl Entry {
         }
     }
 
-    /// Whether it is a `.gitignore` file.
-    pub fn is_ignore_file(&self) -> bool
-        ensures { result ≡ spec.is_ignore_file self.now }
+    /// Whether it is of this kind, and has this name.
+    fn is(&self, kind: Kind, name: &str) -> bool
+        ensures { result ≡ spec.is_entry kind name.now self.now }
     {
-        self.kind == Kind::File && self.name.as_str() == ".gitignore"
+        self.kind == kind && self.name.as_str() == name
     }
+}
+
+/// Whether one of the entries is of this kind, and has this name.
+pub fn has_entry(entries: &[Entry], kind: Kind, name: &str) -> bool
+    ensures { result ≡ spec.has_entry kind name.now entries.now }
+{
+    for entry in entries {
+        if entry.is(kind, name) {
+            return true;
+        }
+    }
+    false
+}
+
+/// The path of what has this name in a folder, whose name ends in a `/` or is empty.
+pub fn joined(alloc: Global, folder: &str, name: &str) -> Result<String, AllocError>
+    ensures { IfOk result (λ path. string_bytes path ≡ folder.now ++ name.now) }
+{
+    let mut path = String::from_str(alloc, folder)?;
+    path.push_str(name)?;
+    Ok(path)
 }
 
 /// Whether a name begins with a dot.

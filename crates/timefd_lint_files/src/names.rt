@@ -6,7 +6,8 @@ ghost use Rattle.timefd_lint_files.specs.Walks as spec;
 ghost use Rattle.timefd_lint_files.specs.Walks.{AreExpanded, IsExpanded, IsWalk, texts};
 
 use crate::system::FileSystem;
-use crate::walk::{DEPTH_LIMIT, Walk, WalkError, walk_folder};
+use crate::walk::{DEPTH_LIMIT, Walk, walk_folder};
+use crate::walk_error::WalkError;
 use std::alloc::{AllocError, Global};
 
 /// Whether a name is that of the standard input.
@@ -71,12 +72,12 @@ fn expand<S: FileSystem>(
 /// The names of the files to look at: each name that is a folder's is replaced by those of the sources
 /// below it, in the order of the bytes of the entries' names. Any other stays as it is, and so does `-`. A
 /// source is a regular file whose name ends in `.rs`. Hidden entries and links are passed over, and what
-/// `.gitignore` files in these folders ignore. Those of folders above a named one aren't read, and a
-/// pattern with a named class, as `[[:alpha:]]`, ignores nothing.
+/// `.gitignore` files in these folders ignore, or the file `.git/info/exclude`. Those of folders above a
+/// named one aren't read, and a pattern with a named class, as `[[:alpha:]]`, ignores nothing.
 ///
 /// # Errors
 ///
-/// That memory ran out; or the name of a folder or a `.gitignore` file that can't be read, or of a folder
+/// That memory ran out; or the name of a folder or a file with patterns that can't be read, or of a folder
 /// that more than 255 stand around.
 #[tactic(auto, using(crate::proofs::NameLemmas::at_first))]
 pub fn expanded<S: FileSystem>(

@@ -1,48 +1,24 @@
 //! The sources of Rust below a folder.
 
 ghost use Rattle.std.specs.Prelude.{◌≡◌, ◌++◌, [], List, length, string_bytes, IfOk, OnOk};
-ghost use Rattle.timefd_lint_files.specs.Entries as spec;
 ghost use Rattle.timefd_lint_files.specs.Matching.{Text};
-ghost use Rattle.timefd_lint_files.specs.Walks.{AreListed, HasOwn, IsLookedAt, IsOwn, IsWalk, text_any, texts};
+ghost use Rattle.timefd_lint_files.specs.Walks.{AreListed, IsLookedAt, IsWalk, text_any, texts};
 
-use crate::entry::{Entry, Role};
+use crate::entry::{Entry, Role, joined};
 use crate::ignore_file::IgnoreFile;
+use crate::own::add_own;
 use crate::rules::is_ignored;
-use crate::system::{FileSystem, ReadError};
+use crate::system::FileSystem;
+use crate::walk_error::{Reason, WalkError, failed, unread};
 use std::alloc::{AllocError, Global};
-use std::io::ErrorKind;
 
 /// How many folders may stand in one another.
 pub const DEPTH_LIMIT: usize = 255;
 
-/// Why the sources below a folder aren't known.
-#[derive(Clone, Copy, Debug, PartialEq, Eq)]
-pub enum Reason {
-    /// It, or its `.gitignore` file, can't be read.
-    Unread(ErrorKind),
-    /// It stands in too many others.
-    TooDeep,
-}
-
-/// Why a walk didn't come to its end.
-#[derive(Debug, Drop)]
-pub enum WalkError {
-    /// Memory ran out.
-    Memory,
-    /// This fails of a folder or a file.
-    Failed { path: String, reason: Reason },
-}
-
-impl From<AllocError> for WalkError {
-    fn from(_: AllocError) -> Self {
-        WalkError::Memory
-    }
-}
-
 /// Where a walk is, and what it has found.
 #[derive(Drop)]
 pub struct Walk {
-    /// The `.gitignore` files of the folders that it is in, from the top.
+    /// The files with patterns of the folders that it is in, from the top.
     pub ignores: Vec<IgnoreFile>,
     /// Room to work in.
     pub row: Vec<bool>,
@@ -70,28 +46,6 @@ impl Walk {
     }
 }
 
-fn failed(alloc: Global, path: &str, reason: Reason) -> WalkError {
-    match String::from_str(alloc, path) {
-        Ok(path) => WalkError::Failed { path, reason },
-        Err(AllocError) => WalkError::Memory,
-    }
-}
-
-fn unread(alloc: Global, path: &str, error: ReadError) -> WalkError {
-    match error {
-        ReadError::Memory => WalkError::Memory,
-        ReadError::Failed(kind) => failed(alloc, path, Reason::Unread(kind)),
-    }
-}
-
-fn joined(alloc: Global, folder: &str, name: &str) -> Result<String, AllocError>
-    ensures { IfOk result (λ path. string_bytes path ≡ folder.now ++ name.now) }
-{
-    let mut path = String::from_str(alloc, folder)?;
-    path.push_str(name)?;
-    Ok(path)
-}
-
 /// The entries of a folder, by name.
 fn sorted_entries<S: FileSystem>(
     system: &S,
@@ -106,54 +60,6 @@ fn sorted_entries<S: FileSystem>(
             Ok(entries)
         }
         Err(error) => Err(unread(alloc, folder, error)),
-    }
-}
-
-fn has_ignore_file(entries: &[Entry]) -> bool
-    ensures { result ≡ spec.has_ignore_file entries.now }
-{
-    for entry in entries {
-        if entry.is_ignore_file() {
-            return true;
-        }
-    }
-    false
-}
-
-/// The `.gitignore` file of a folder.
-fn ignore_file<S: FileSystem>(
-    system: &S,
-    alloc: Global,
-    folder: &str,
-) -> Result<IgnoreFile, WalkError>
-    ensures { IfOk result (λ file. IsOwn (S.holds system.now) folder.now file) }
-{
-    let path = joined(alloc, folder, ".gitignore")?;
-    match system.text(alloc, &path) {
-        Ok(text) => Ok(IgnoreFile::of_text(alloc, folder.len(), &text)?),
-        Err(error) => Err(unread(alloc, &path, error)),
-    }
-}
-
-/// Adds the `.gitignore` file of a folder, if it has one.
-#[tactic(auto, using(crate::proofs::WalkLemmas::with_own))]
-fn add_own<S: FileSystem>(
-    system: &S,
-    alloc: Global,
-    folder: &str,
-    entries: &[Entry],
-    ignores: &mut Vec<IgnoreFile>,
-) -> Result<(), WalkError>
-    ensures { OnOk result (HasOwn (S.holds system.now) folder.now entries.now
-        ignores.old.items ignores.new.items) }
-{
-    if !has_ignore_file(entries) {
-        return Ok(());
-    }
-    let file = ignore_file(system, alloc, folder)?;
-    match ignores.push(file) {
-        Ok(()) => Ok(()),
-        Err(_) => Err(WalkError::Memory),
     }
 }
 

@@ -6,7 +6,8 @@ use std::alloc::{AllocError, Global};
 use std::io::ErrorKind;
 use timefd_lint_files::{Entry, FileSystem, Kind, ReadError};
 
-/// A few folders, and one, `deep`, that holds a folder of its own name, and so on.
+/// A few folders, and one, `deep`, that holds a folder of its own name, and so on. Three of them, `made`,
+/// `young` and `linked`, are those of repositories.
 pub struct Fake;
 
 fn push(alloc: Global, entries: &mut Vec<Entry>, name: &str, kind: Kind) -> Result<(), AllocError> {
@@ -41,10 +42,41 @@ fn below_src(alloc: Global) -> Result<Vec<Entry>, AllocError> {
     Ok(entries)
 }
 
-fn deeper(alloc: Global) -> Result<Vec<Entry>, AllocError> {
+/// The entries of the folder of a repository, which is a folder or a file.
+fn repository(alloc: Global, kind: Kind) -> Result<Vec<Entry>, AllocError> {
     let mut entries = Vec::new(alloc);
-    push(alloc, &mut entries, "deep", Kind::Folder)?;
+    push(alloc, &mut entries, ".git", kind)?;
+    push(alloc, &mut entries, ".gitignore", Kind::File)?;
+    push(alloc, &mut entries, "a.rs", Kind::File)?;
+    push(alloc, &mut entries, "b.rs", Kind::File)?;
+    push(alloc, &mut entries, "c.rs", Kind::File)?;
     Ok(entries)
+}
+
+fn one(alloc: Global, name: &str, kind: Kind) -> Result<Vec<Entry>, AllocError> {
+    let mut entries = Vec::new(alloc);
+    push(alloc, &mut entries, name, kind)?;
+    Ok(entries)
+}
+
+/// The entries of a folder of a repository, or in it.
+fn of_repository(alloc: Global, folder: &str) -> Result<Vec<Entry>, ReadError> {
+    if folder == "made/" || folder == "young/" {
+        return Ok(repository(alloc, Kind::Folder)?);
+    }
+    if folder == "linked/" {
+        return Ok(repository(alloc, Kind::File)?);
+    }
+    if folder == "made/.git/" {
+        return Ok(one(alloc, "info", Kind::Folder)?);
+    }
+    if folder == "young/.git/" {
+        return Ok(one(alloc, "HEAD", Kind::File)?);
+    }
+    if folder == "made/.git/info/" {
+        return Ok(one(alloc, "exclude", Kind::File)?);
+    }
+    Err(ReadError::Failed(ErrorKind::PermissionDenied))
 }
 
 impl FileSystem for Fake {
@@ -62,9 +94,9 @@ impl FileSystem for Fake {
             return Ok(below_src(alloc)?);
         }
         if folder.ends_with("deep/") {
-            return Ok(deeper(alloc)?);
+            return Ok(one(alloc, "deep", Kind::Folder)?);
         }
-        Err(ReadError::Failed(ErrorKind::PermissionDenied))
+        of_repository(alloc, folder)
     }
 
     fn text(&self, alloc: Global, file: &str) -> Result<Vec<u8>, ReadError> {
@@ -74,10 +106,22 @@ impl FileSystem for Fake {
         if file == "src/a/.gitignore" {
             return Ok(b"/old.rs\n!generated.rs\n".to_vec(alloc)?);
         }
+        if file == "made/.git/info/exclude" {
+            return Ok(b"a.rs\nb.rs\n".to_vec(alloc)?);
+        }
+        if file.ends_with("/.gitignore") {
+            return Ok(b"!b.rs\n".to_vec(alloc)?);
+        }
         Err(ReadError::Failed(ErrorKind::NotFound))
     }
 
     fn is_folder(&self, name: &str) -> bool {
-        name == "src" || name == "src/" || name == "deep" || name == "closed"
+        name == "src"
+            || name == "src/"
+            || name == "deep"
+            || name == "closed"
+            || name == "made"
+            || name == "young"
+            || name == "linked"
     }
 }

@@ -62,6 +62,19 @@ fn folders_and_files(rt: HostRuntime) {
 }
 
 #[test]
+fn folders_of_repositories(rt: HostRuntime) {
+    let alloc = rt.alloc();
+    expect(&rt, alloc, &["made"], "|made/b.rs|made/c.rs");
+    expect(&rt, alloc, &["young"], "|young/a.rs|young/b.rs|young/c.rs");
+    expect(
+        &rt,
+        alloc,
+        &["linked"],
+        "|linked/a.rs|linked/b.rs|linked/c.rs",
+    );
+}
+
+#[test]
 fn folders_that_fail(rt: HostRuntime) {
     let alloc = rt.alloc();
     let denied = Reason::Unread(ErrorKind::PermissionDenied);

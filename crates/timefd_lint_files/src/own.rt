@@ -1,0 +1,111 @@
+//! The files with patterns that a folder has: `.gitignore`, and the exclude file of its repository.
+
+ghost use Rattle.std.specs.Prelude.{IfOk, OnOk};
+ghost use Rattle.timefd_lint_files.specs.Walks.{HasExclude, HasOwn, HasOwnIf, IsOwn, Tells};
+
+use crate::entry::{Entry, Kind, has_entry, joined};
+use crate::ignore_file::IgnoreFile;
+use crate::system::FileSystem;
+use crate::walk_error::{WalkError, unread};
+use std::alloc::Global;
+
+/// Whether a folder has an entry of this kind and name.
+fn tells<S: FileSystem>(
+    system: &S,
+    alloc: Global,
+    folder: &str,
+    kind: Kind,
+    name: &str,
+) -> Result<bool, WalkError>
+    ensures { IfOk result (λ has. Tells (S.lists system.now) folder.now kind name.now has) }
+{
+    match system.entries(alloc, folder) {
+        Ok(entries) => Ok(has_entry(&entries, kind, name)),
+        Err(error) => Err(unread(alloc, folder, error)),
+    }
+}
+
+/// Whether a folder with these entries has a repository with an exclude file.
+fn has_exclude<S: FileSystem>(
+    system: &S,
+    alloc: Global,
+    folder: &str,
+    entries: &[Entry],
+) -> Result<bool, WalkError>
+    ensures { IfOk result (λ has. HasExclude (S.lists system.now) folder.now entries.now has) }
+{
+    if !has_entry(entries, Kind::Folder, ".git") {
+        return Ok(false);
+    }
+    let repository = joined(alloc, folder, ".git/")?;
+    if !tells(system, alloc, &repository, Kind::Folder, "info")? {
+        return Ok(false);
+    }
+    let info = joined(alloc, folder, ".git/info/")?;
+    tells(system, alloc, &info, Kind::File, "exclude")
+}
+
+/// The file of this name, whose patterns hold in a folder.
+fn file_of<S: FileSystem>(
+    system: &S,
+    alloc: Global,
+    folder: &str,
+    name: &str,
+) -> Result<IgnoreFile, WalkError>
+    ensures { IfOk result (λ file. IsOwn (S.holds system.now) folder.now name.now file) }
+{
+    let path = joined(alloc, folder, name)?;
+    match system.text(alloc, &path) {
+        Ok(text) => Ok(IgnoreFile::of_text(alloc, folder.len(), &text)?),
+        Err(error) => Err(unread(alloc, &path, error)),
+    }
+}
+
+/// Adds the file of this name, if there is one.
+#[tactic(auto, using(crate::proofs::WalkLemmas::with_own))]
+fn add_if<S: FileSystem>(
+    system: &S,
+    alloc: Global,
+    folder: &str,
+    name: &str,
+    is: bool,
+    ignores: &mut Vec<IgnoreFile>,
+) -> Result<(), WalkError>
+    ensures { OnOk result (HasOwnIf is (S.holds system.now) folder.now name.now
+        ignores.old.items ignores.new.items) }
+{
+    if !is {
+        return Ok(());
+    }
+    let file = file_of(system, alloc, folder, name)?;
+    match ignores.push(file) {
+        Ok(()) => Ok(()),
+        Err(_) => Err(WalkError::Memory),
+    }
+}
+
+/// Adds the files of a folder with these entries: first the exclude file, which `.gitignore` overrules.
+#[tactic(auto, using(crate::proofs::WalkLemmas::with_both))]
+pub fn add_own<S: FileSystem>(
+    system: &S,
+    alloc: Global,
+    folder: &str,
+    entries: &[Entry],
+    ignores: &mut Vec<IgnoreFile>,
+) -> Result<(), WalkError>
+    ensures { OnOk result (HasOwn (S.lists system.now) (S.holds system.now) folder.now entries.now
+        ignores.old.items ignores.new.items) }
+{
+    let excludes = has_exclude(system, alloc, folder, entries)?;
+    let has_own = has_entry(entries, Kind::File, ".gitignore");
+    add_if(
+        system,
+        alloc,
+        folder,
+        ".git/info/exclude",
+        excludes,
+        ignores,
+    )?;
+    add_if(system, alloc, folder, ".gitignore", has_own, ignores)?;
+    Ok(())
+}

@@ -1,0 +1,45 @@
+//! Why a walk didn't come to its end.
+
+use crate::system::ReadError;
+use std::alloc::{AllocError, Global};
+use std::io::ErrorKind;
+
+/// Why the sources below a folder aren't known.
+#[derive(Clone, Copy, Debug, PartialEq, Eq)]
+pub enum Reason {
+    /// It, or a file with patterns in it, can't be read.
+    Unread(ErrorKind),
+    /// It stands in too many others.
+    TooDeep,
+}
+
+/// Why a walk didn't come to its end.
+#[derive(Debug, Drop)]
+pub enum WalkError {
+    /// Memory ran out.
+    Memory,
+    /// This fails of a folder or a file.
+    Failed { path: String, reason: Reason },
+}
+
+impl From<AllocError> for WalkError {
+    fn from(_: AllocError) -> Self {
+        WalkError::Memory
+    }
+}
+
+/// The error that this fails of a folder or a file.
+pub fn failed(alloc: Global, path: &str, reason: Reason) -> WalkError {
+    match String::from_str(alloc, path) {
+        Ok(path) => WalkError::Failed { path, reason },
+        Err(AllocError) => WalkError::Memory,
+    }
+}
+
+/// The error that a folder or a file can't be read.
+pub fn unread(alloc: Global, path: &str, error: ReadError) -> WalkError {
+    match error {
+        ReadError::Memory => WalkError::Memory,
+        ReadError::Failed(kind) => failed(alloc, path, Reason::Unread(kind)),
+    }
+}
