@@ -70,7 +70,7 @@ pub stamp_example : StampExample
 stamp_example = (refl, refl)
 
 -- the date has what was read
-date_agrees : (d : Date) → d.years ≡ 1002026 → d.month ≡ 11 → d.day ≡ 23 → DateAgrees date_fields d
+pub date_agrees : (d : Date) → d.years ≡ 1002026 → d.month ≡ 11 → d.day ≡ 23 → DateAgrees date_fields d
 date_agrees d y m n DatePart.Day = eq-eqb 23 d.day (sym n)
 date_agrees d y m n DatePart.Month = eq-eqb 11 d.month (sym m)
 date_agrees d y m n DatePart.Ordinal = refl

@@ -213,7 +213,7 @@ same_offset f g e h =
 
 -- timestamps
 
-some_instant : (fraction : Option Fraction) (ns us ms s : Option Signed)
+pub some_instant : (fraction : Option Fraction) (ns us ms s : Option Signed)
     → is_some (instant_by fraction ns us ms s) ≡ is_some ns || (is_some us || (is_some ms || is_some s))
 some_instant fraction (Some n) us ms s = refl
 some_instant fraction None (Some n) ms s = refl

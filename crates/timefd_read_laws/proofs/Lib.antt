@@ -24,8 +24,17 @@ pub mod PlainLemmas
 pub mod ShownPartLemmas
 pub mod KnownLemmas
 pub mod MoreLemmas
+pub mod KindLemmas
+pub mod GrowLemmas
+pub mod ReadRowLemmas
+pub mod ComponentReadLemmas
+pub mod MomentKnownLemmas
+pub mod FieldShownLemmas
+pub mod WrittenLemmas
+pub mod ComesBackLemmas
 pub mod RestLemmas
 pub mod StampedAgainLemmas
 pub mod AgainLemmas
 pub mod ExampleLemmas
 pub mod StampExampleLemmas
+pub mod WrittenExampleLemmas

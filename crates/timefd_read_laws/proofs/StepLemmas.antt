@@ -42,10 +42,10 @@ abbrev in_some : {A : Type 0} → A → Option A → A
 in_some a None = a
 in_some a (Some b) = b
 
-same_some : {A : Type 0} (a b : A) → Some a ≡ Some b → a ≡ b
+pub same_some : {A : Type 0} (a b : A) → Some a ≡ Some b → a ≡ b
 same_some a b e = ap (in_some a) e
 
-no_some : {A : Type 0} (a : A) → None ≡ Some a → ⊥
+pub no_some : {A : Type 0} (a : A) → None ≡ Some a → ⊥
 no_some a e = clash true (sym (ap is_some e)) refl
 
 -- what is behind the digits of a second that are known is 0
@@ -70,7 +70,7 @@ either_took g x true q e P none k = k e
 either_took g x false q e P none k = absurd (clash (is_ok (g None)) none (ap is_ok e))
 
 -- what is taken agrees with what was read before
-agreed_is : (c : Component) (p q : Point) (len : ℕ) (r : Option Fields) → agreed c p len r ≡ Ok q
+pub agreed_is : (c : Component) (p q : Point) (len : ℕ) (r : Option Fields) → agreed c p len r ≡ Ok q
     → r ≡ Some q.fields
 agreed_is c p q len None e = absurd (clash true (sym (ap is_ok e)) refl)
 agreed_is c p q len (Some f) e = ap (λ r. Some (fields_in f r)) e
@@ -80,7 +80,7 @@ same_step p q s e same =
     (ap parts (sym e) ∙ same, λ h. subst (λ (f : Fields). IsWhole f.subsecond) e h)
 
 -- a part that is no fraction
-kept_is : (f g : Fields) (b : Bool) → kept f b ≡ Some g → f ≡ g
+pub kept_is : (f g : Fields) (b : Bool) → kept f b ≡ Some g → f ≡ g
 kept_is f g true e = same_some f g e
 kept_is f g false e = absurd (no_some g e)
 

@@ -4,4 +4,6 @@ pub mod Laws
 pub mod Values
 pub mod StampedValues
 pub mod Again
+pub mod Written
 pub mod Examples
+pub mod WrittenExamples

@@ -6,5 +6,7 @@ pub mod examples;
 pub mod laws;
 pub mod stamped_laws;
 pub mod value_laws;
+pub mod written_examples;
+pub mod written_laws;
 
 pub use timefd_settled::Bound;

@@ -1,0 +1,118 @@
+-- What was read by a settled description is written, and read as the same.
+use Rattle.std.proofs.Common.{◌≡◌, ◌∙◌, true, false, Option, Some, None, Ok, IfSome, refl, sym, ap}
+use Rattle.std.proofs.Common.{arith}
+use Rattle.timefd_component.specs.Modern.{modern}
+use Rattle.timefd_component.specs.Tree.{Text, Tree, component, literal, compound, optional, first, Trees, no_trees, more_trees}
+use Rattle.timefd_moment.specs.declared.date.Date.{Date}
+use Rattle.timefd_moment.specs.declared.time.Time.{Time}
+use Rattle.timefd_moment.specs.declared.offset.UtcOffset.{UtcOffset}
+use Rattle.timefd_moment.specs.declared.moment.Moment.{Moment}
+use Rattle.timefd_read_dates.specs.declared.fields.Fields.{Fields}
+use Rattle.timefd_read_dates.specs.Reads.{Point, start}
+use Rattle.timefd_read_dates.proofs.RelationLemmas.{reads_exactly}
+use Rattle.timefd_read_moment.specs.Values.{IsMomentOf}
+use Rattle.timefd_read_moment.proofs.ShownLemmas.{clash}
+use Rattle.timefd_read_moment.proofs.YearLemmas.{both}
+use Rattle.timefd_settled.specs.declared.bound.Bound.{Bound}
+use Rattle.timefd_settled.specs.Settled.{begin_all, is_settled, settled, settled_all}
+use Rattle.timefd_read_laws.specs.Again.{IsWrittenAgain, parts}
+use Rattle.timefd_read_laws.specs.Shown.{IsOf, fields_shown, shows, with_tree, with_trees}
+use Rattle.timefd_read_laws.specs.Written.{ComesBack, HasText, IsKept, IsReadWritten, ReadsAllWritten, ReadsWritten}
+use Rattle.timefd_read_laws.proofs.AgainLemmas.{fields_again, shows_back}
+use Rattle.timefd_read_laws.proofs.ComponentStepLemmas.{component_step}
+use Rattle.timefd_read_laws.proofs.WrittenLemmas.{writes_again}
+
+-- Of a settled description all is read that is written, and nothing else.
+
+mutual
+  tree_parts : (t : Tree) (known : Bound) (p q : Point) → settled t known ≡ true → ReadsWritten t p q
+      → parts q.fields ≡ with_tree t (parts p.fields)
+  tree_parts (component c) known p q e h =
+      (component_step p q (modern c) ((reads_exactly (component c) p q).0 h)).0
+  tree_parts (literal bytes) known p q e h = ap parts h.1
+  tree_parts (compound ts) known p q e h = trees_parts ts known p q e h
+  tree_parts (optional true t) known p q e h = tree_parts t known p q e h
+  tree_parts (optional false t) known p q e h = absurd (clash true (sym e) refl)
+  tree_parts (first no_trees) known p q e h = ap (λ (x : Point). parts x.fields) h
+  tree_parts (first (more_trees t ts)) known p q e h = tree_parts t known p q e h
+
+  trees_parts : (ts : Trees) (known : Bound) (p q : Point) → settled_all ts known ≡ true → ReadsAllWritten ts p q
+      → parts q.fields ≡ with_trees ts (parts p.fields)
+  trees_parts no_trees known p q e h = ap (λ (x : Point). parts x.fields) h
+  trees_parts (more_trees t ts) known p q e (mid, one, rest) =
+      let each = both (settled t (begin_all ts known)) (settled_all ts known) e in
+      trees_parts ts known mid q each.1 rest
+      ∙ ap (with_trees ts) (tree_parts t (begin_all ts known) p mid each.0 one)
+
+same_parts : (tree : Tree) (text : Text) (f : Fields) → is_settled tree ≡ true → IsReadWritten tree text f
+    → parts f ≡ shows tree
+same_parts tree text f e h =
+    ap parts (sym h.fields) ∙ tree_parts tree Bound.End (start text) h.end e h.reads
+
+-- a date, a time and an offset that are the moment's where it has them
+
+abbrev some_date : Option Date → Date
+some_date (Some d) = d
+some_date None =
+    record { years = 1; month = 1; day = 1; exists = (omega arith, omega arith, omega arith, omega arith, omega arith, omega arith) }
+
+date_is : (x : Option Date) → IfSome x (λ e. e ≡ some_date x)
+date_is (Some d) = refl
+date_is None = tt
+
+abbrev some_time : Option Time → Time
+some_time (Some t) = t
+some_time None = record {
+  hour = 0;
+  minute = 0;
+  second = 0;
+  nanosecond = 0;
+  hours = omega arith;
+  minutes = omega arith;
+  seconds = omega arith;
+  nanoseconds = omega arith;
+}
+
+time_is : (x : Option Time) → IfSome x (λ e. e ≡ some_time x)
+time_is (Some t) = refl
+time_is None = tt
+
+abbrev some_offset : Option UtcOffset → UtcOffset
+some_offset (Some o) = o
+some_offset None = record {
+  seconds = 0;
+  is_negative = false;
+  within = omega arith;
+  no_negative_zero = λ e. absurd (clash true (sym e) refl);
+}
+
+offset_is : (x : Option UtcOffset) → IfSome x (λ e. e ≡ some_offset x)
+offset_is (Some o) = refl
+offset_is None = tt
+
+kept : (m : Moment) (d : Date) (t : Time) (o : UtcOffset) (tree : Tree) (text : Text) (f : Fields)
+    → is_settled tree ≡ true → IsReadWritten tree text f → IsMomentOf f (Ok m) → IsOf m d t o → HasText m tree
+    → IsKept m tree
+kept m d t o tree text f e h is of has =
+    let anew : IsWrittenAgain m d t o tree f has.0 = record {
+      text = text;
+      settles = e;
+      read = h.read;
+      same_parts = same_parts tree text f e h;
+      moment = is;
+      is_of = of;
+      wrote = has.1;
+    } in
+    let again = fields_again m d t o tree f has.0 anew in
+    record {
+      again = has.0;
+      fields = fields_shown d t o (shows tree);
+      wrote = has.1;
+      read = again;
+      same = λ r r_is. shows_back m d t o tree f (fields_shown d t o (shows tree)) has.0 r anew again r_is;
+    }
+
+pub comes_back : ComesBack
+comes_back m tree text f e h is =
+    kept m (some_date m.date) (some_time m.time) (some_offset m.offset) tree text f e h is
+    (date_is m.date, time_is m.time, offset_is m.offset) (writes_again m tree text f h is)

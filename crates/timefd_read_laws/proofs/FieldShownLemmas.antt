@@ -1,0 +1,158 @@
+-- Each component shows something of a moment of which its field was read.
+use Rattle.std.proofs.Common.{ℕ, ◌≡◌, ◌∙◌, ◌≤◌, ◌+◌, ◌*◌, ◌/◌, ◌==◌, ◌||◌, Bool, true, nat_le, if◌then◌else◌}
+use Rattle.std.proofs.Common.{Option, Some, None, Result, Ok, Err, refl, ap, subst, arith}
+use Rattle.std.proofs.lemmas.Bool.{eqb-true, le-leb}
+use Rattle.timefd_component.specs.declared.component.Component.{Component}
+use Rattle.timefd_component.specs.declared.component.Component.TheVariants as of
+use Rattle.timefd_format.specs.declared.field.Field.{Field}
+use Rattle.timefd_format.specs.declared.field.Lack.{Lack}
+use Rattle.timefd_format.specs.declared.field.Lack.TheVariants as lack
+use Rattle.timefd_format.specs.Fields.{date_field, field, instant_field, kind, offset_field, on_date, on_offset, on_time}
+use Rattle.timefd_format.specs.Fields.{signed, stamp_field, time_field, year}
+use Rattle.timefd_modifier.specs.declared.enums.Padding.{Padding}
+use Rattle.timefd_moment.specs.declared.date.Date.{Date}
+use Rattle.timefd_moment.specs.declared.time.Time.{Time}
+use Rattle.timefd_moment.specs.declared.offset.UtcOffset.{UtcOffset}
+use Rattle.timefd_moment.specs.declared.moment.Moment.{Moment}
+use Rattle.timefd_moment.specs.Instants.{is_within}
+use Rattle.timefd_moment.specs.Moments.{is_before_zero, iso_years, magnitude, unix_time}
+use Rattle.timefd_read_dates.specs.declared.fields.Fields.{Fields}
+use Rattle.timefd_read_dates.specs.declared.fields.Signed.{Signed}
+use Rattle.timefd_read_dates.specs.Readings.{same}
+use Rattle.timefd_read_moment.specs.declared.part.DatePart.{DatePart}
+use Rattle.timefd_read_moment.specs.Shown.{is_century, is_shown, is_year}
+use Rattle.timefd_read_moment.proofs.YearLemmas.{both}
+use Rattle.timefd_read_laws.proofs.ComponentReadLemmas.{range_of}
+use Rattle.timefd_read_laws.proofs.GrowLemmas.{InRange, IsAtMost, years}
+use Rattle.timefd_read_laws.proofs.MomentKnownLemmas.{Has, HasDate, HasInstant, HasOffset, HasTime}
+use Rattle.timefd_read_laws.proofs.StepLemmas.{is_ok}
+
+date_shown : (m : Moment) (f : Fields) (h : HasDate m f) (g : Date → Result Field Lack) → is_ok (g h.date) ≡ true
+    → is_ok (on_date m.date g) ≡ true
+date_shown m f h g e = ap (λ (x : Option Date). is_ok (on_date x g)) h.is ∙ e
+
+time_shown : (m : Moment) → HasTime m → (g : Time → Field) → is_ok (on_time m.time (λ t. Ok (g t))) ≡ true
+time_shown m h g = ap (λ (x : Option Time). is_ok (on_time x (λ t. Ok (g t)))) h.is
+
+offset_shown : (m : Moment) → HasOffset m → (g : UtcOffset → Field)
+    → is_ok (on_offset m.offset (λ o. Ok (g o))) ≡ true
+offset_shown m h g = ap (λ (x : Option UtcOffset). is_ok (on_offset x (λ o. Ok (g o)))) h.is
+
+abbrev instant_by : Option Date → Option Time → Option UtcOffset → Component → Result Field Lack
+instant_by x y z c =
+    on_date x (λ d. on_time y (λ t. on_offset z (λ o. instant_field (unix_time d t o) c)))
+
+if_ok : {A E : Type 0} (b : Bool) (a : A) (e : E) → b ≡ true → is_ok (if b then Ok a else Err e) ≡ true
+if_ok b a e is = ap (λ x. is_ok (if x then Ok a else Err e)) is
+
+instant_shown : (m : Moment) → HasInstant m → (c : Component)
+    → is_ok (instant_by m.date m.time m.offset c) ≡ true
+instant_shown m h c =
+    (λ i. is_ok (instant_by (h.is_date i) (h.is_time i) (h.is_offset i) c))
+    ∙ if_ok (is_within (unix_time h.date h.time h.offset)) (stamp_field (unix_time h.date h.time h.offset) c)
+    lack.InstantOutOfRange h.within
+
+-- A year that was read is no greater than what was read.
+
+part_small : (x : Option Signed) (negative : Bool) (whole part n : ℕ) → IsAtMost n x
+    → is_shown x negative whole part ≡ true → part ≤ n
+part_small None negative whole part n h e = absurd h
+part_small (Some s) negative whole part n h e =
+    let is : s.magnitude ≡ part =
+    eqb-true s.magnitude part (both (s.magnitude == part) ((whole == 0) || same s.is_negative negative) e).0 in
+    subst (λ (k : ℕ). k ≤ n) is h
+
+year_shown : (greatest width unit : ℕ) (padding : Padding) (mandatory : Bool) (years : ℕ) → magnitude years ≤ greatest
+    → is_ok (year greatest width unit padding mandatory years) ≡ true
+year_shown greatest width unit padding mandatory years h =
+    if_ok (nat_le (magnitude years) greatest)
+    (signed (is_before_zero years) (mandatory || nat_le 10000 (magnitude years)) padding width (magnitude years / unit))
+    lack.YearTooLong (le-leb (magnitude years) greatest h)
+
+full_shown : (greatest width : ℕ) (padding : Padding) (mandatory : Bool) (x : Option Signed) (years : ℕ)
+    → IsAtMost greatest x → is_year x years ≡ true → is_ok (year greatest width 1 padding mandatory years) ≡ true
+full_shown greatest width padding mandatory x years h e =
+    year_shown greatest width 1 padding mandatory years
+    (part_small x (is_before_zero years) (magnitude years) (magnitude years) greatest h e)
+
+hundreds : (n k greatest : ℕ) → k * 100 + 99 ≤ greatest → n / 100 ≤ k → n ≤ greatest
+hundreds n k greatest most h = omega (arith, most, h)
+
+century_shown : (greatest k : ℕ) (padding : Padding) (mandatory : Bool) (x : Option Signed) (years : ℕ)
+    → k * 100 + 99 ≤ greatest → IsAtMost k x → is_century x years ≡ true
+    → is_ok (year greatest 2 100 padding mandatory years) ≡ true
+century_shown greatest k padding mandatory x years most h e =
+    year_shown greatest 2 100 padding mandatory years
+    (hundreds (magnitude years) k greatest most
+    (part_small x (is_before_zero years) (magnitude years) (magnitude years / 100) k h e))
+
+module _ (m : Moment) (f : Fields) where
+  pub component_shown : (c : Component) → Has (kind c) m f → InRange (range_of c) (years f)
+      → is_ok (field m c) ≡ true
+  component_shown (of.Day c) h r = date_shown m f h (λ d. date_field d (of.Day c)) refl
+  component_shown (of.MonthShort c) h r = date_shown m f h (λ d. date_field d (of.MonthShort c)) refl
+  component_shown (of.MonthLong c) h r = date_shown m f h (λ d. date_field d (of.MonthLong c)) refl
+  component_shown (of.MonthNumerical c) h r = date_shown m f h (λ d. date_field d (of.MonthNumerical c)) refl
+  component_shown (of.Ordinal c) h r = date_shown m f h (λ d. date_field d (of.Ordinal c)) refl
+  component_shown (of.WeekdayShort c) h r = date_shown m f h (λ d. date_field d (of.WeekdayShort c)) refl
+  component_shown (of.WeekdayLong c) h r = date_shown m f h (λ d. date_field d (of.WeekdayLong c)) refl
+  component_shown (of.WeekdaySunday c) h r = date_shown m f h (λ d. date_field d (of.WeekdaySunday c)) refl
+  component_shown (of.WeekdayMonday c) h r = date_shown m f h (λ d. date_field d (of.WeekdayMonday c)) refl
+  component_shown (of.WeekNumberIso c) h r = date_shown m f h (λ d. date_field d (of.WeekNumberIso c)) refl
+  component_shown (of.WeekNumberSunday c) h r = date_shown m f h (λ d. date_field d (of.WeekNumberSunday c)) refl
+  component_shown (of.WeekNumberMonday c) h r = date_shown m f h (λ d. date_field d (of.WeekNumberMonday c)) refl
+  component_shown (of.CalendarYearFullExtendedRange c) h r =
+      date_shown m f h (λ d. date_field d (of.CalendarYearFullExtendedRange c))
+      (full_shown 999999 4 c.padding c.sign_is_mandatory f.year h.date.years r
+      (h.agrees DatePart.Year))
+  component_shown (of.CalendarYearFullStandardRange c) h r =
+      date_shown m f h (λ d. date_field d (of.CalendarYearFullStandardRange c))
+      (full_shown 9999 4 c.padding c.sign_is_mandatory f.year h.date.years r
+      (h.agrees DatePart.Year))
+  component_shown (of.CalendarYearCenturyExtendedRange c) h r =
+      date_shown m f h (λ d. date_field d (of.CalendarYearCenturyExtendedRange c))
+      (century_shown 999999 9999 c.padding c.sign_is_mandatory f.century h.date.years (omega arith) r
+      (h.agrees DatePart.Century))
+  component_shown (of.CalendarYearCenturyStandardRange c) h r =
+      date_shown m f h (λ d. date_field d (of.CalendarYearCenturyStandardRange c))
+      (century_shown 9999 99 c.padding c.sign_is_mandatory f.century h.date.years (omega arith) r
+      (h.agrees DatePart.Century))
+  component_shown (of.IsoYearFullExtendedRange c) h r =
+      date_shown m f h (λ d. date_field d (of.IsoYearFullExtendedRange c))
+      (full_shown 999999 4 c.padding c.sign_is_mandatory f.iso_year (iso_years h.date) r
+      (h.agrees DatePart.IsoYear))
+  component_shown (of.IsoYearFullStandardRange c) h r =
+      date_shown m f h (λ d. date_field d (of.IsoYearFullStandardRange c))
+      (full_shown 9999 4 c.padding c.sign_is_mandatory f.iso_year (iso_years h.date) r
+      (h.agrees DatePart.IsoYear))
+  component_shown (of.IsoYearCenturyExtendedRange c) h r =
+      date_shown m f h (λ d. date_field d (of.IsoYearCenturyExtendedRange c))
+      (century_shown 999999 9999 c.padding c.sign_is_mandatory f.iso_century (iso_years h.date) (omega arith) r
+      (h.agrees DatePart.IsoCentury))
+  component_shown (of.IsoYearCenturyStandardRange c) h r =
+      date_shown m f h (λ d. date_field d (of.IsoYearCenturyStandardRange c))
+      (century_shown 9999 99 c.padding c.sign_is_mandatory f.iso_century (iso_years h.date) (omega arith) r
+      (h.agrees DatePart.IsoCentury))
+  component_shown (of.CalendarYearLastTwo c) h r = date_shown m f h (λ d. date_field d (of.CalendarYearLastTwo c)) refl
+  component_shown (of.IsoYearLastTwo c) h r = date_shown m f h (λ d. date_field d (of.IsoYearLastTwo c)) refl
+  component_shown (of.Hour12 c) h r = time_shown m h (λ t. time_field t (of.Hour12 c))
+  component_shown (of.Hour24 c) h r = time_shown m h (λ t. time_field t (of.Hour24 c))
+  component_shown (of.Minute c) h r = time_shown m h (λ t. time_field t (of.Minute c))
+  component_shown (of.Second c) h r = time_shown m h (λ t. time_field t (of.Second c))
+  component_shown (of.OffsetMinute c) h r = offset_shown m h (λ o. offset_field o (of.OffsetMinute c))
+  component_shown (of.OffsetSecond c) h r = offset_shown m h (λ o. offset_field o (of.OffsetSecond c))
+  component_shown (of.Period c) h r = time_shown m h (λ t. time_field t (of.Period c))
+  component_shown (of.Subsecond c) h r = time_shown m h (λ t. time_field t (of.Subsecond c))
+  component_shown (of.OffsetHour c) h r = offset_shown m h (λ o. offset_field o (of.OffsetHour c))
+  component_shown (of.UnixTimestampSecond c) h r = instant_shown m h (of.UnixTimestampSecond c)
+  component_shown (of.UnixTimestampMillisecond c) h r = instant_shown m h (of.UnixTimestampMillisecond c)
+  component_shown (of.UnixTimestampMicrosecond c) h r = instant_shown m h (of.UnixTimestampMicrosecond c)
+  component_shown (of.UnixTimestampNanosecond c) h r = instant_shown m h (of.UnixTimestampNanosecond c)
+  component_shown (of.Ignore c) h r = refl
+  component_shown (of.End c) h r = refl
+  component_shown (of.Month c) h r = date_shown m f h (λ d. date_field d (of.Month c)) refl
+  component_shown (of.Weekday c) h r = date_shown m f h (λ d. date_field d (of.Weekday c)) refl
+  component_shown (of.WeekNumber c) h r = date_shown m f h (λ d. date_field d (of.WeekNumber c)) refl
+  component_shown (of.Hour c) h r = date_shown m f h (λ d. date_field d (of.Hour c)) refl
+  component_shown (of.UnixTimestamp c) h r = date_shown m f h (λ d. date_field d (of.UnixTimestamp c)) refl
+  component_shown (of.Year c) h r = date_shown m f h (λ d. date_field d (of.Year c)) refl

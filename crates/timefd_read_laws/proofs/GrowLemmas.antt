@@ -1,0 +1,150 @@
+-- What was known stays known with one field more, and so does how great a year is.
+use Rattle.std.proofs.Common.{ℕ, ◌≡◌, ◌∙◌, ◌≤◌, Bool, true, Option, Some, None, sym, ap, subst}
+use Rattle.std.specs.Prelude.{⊤}
+use Rattle.timefd_format.specs.declared.field.Kind.{Kind}
+use Rattle.timefd_format.specs.declared.field.Kind.TheVariants as of
+use Rattle.timefd_read_dates.specs.declared.fields.Fields.{Fields}
+use Rattle.timefd_read_dates.specs.declared.fields.Signed.{Signed}
+use Rattle.timefd_read_moment.specs.Known.{has_date, has_offset, has_time}
+use Rattle.timefd_read_laws.proofs.KindLemmas.{has_kind, has_stamp}
+
+-- which kinds are known
+
+pub record Kinds : Type 0 where
+  pub date : Bool
+  pub time : Bool
+  pub offset : Bool
+  pub stamp : Bool
+
+abbrev pub kinds : Fields → Kinds
+kinds f = record { date = has_date f; time = has_time f; offset = has_offset f; stamp = has_stamp f }
+
+abbrev pub but : Kind → Kinds → Kinds
+but of.Date k = record k { date = true }
+but of.Time k = record k { time = true }
+but of.Offset k = record k { offset = true }
+but of.Instant k = record k { stamp = true }
+but of.Nothing k = k
+
+-- with one field more of a kind
+pub kind_more : (k : Kind) (f g : Fields) → has_kind k g ≡ true → but k (kinds f) ≡ but k (kinds g)
+    → (j : Kind) → has_kind j f ≡ true → has_kind j g ≡ true
+kind_more of.Date f g e same of.Date h = e
+kind_more of.Date f g e same of.Time h = sym (ap (λ (k : Kinds). k.time) same) ∙ h
+kind_more of.Date f g e same of.Offset h = sym (ap (λ (k : Kinds). k.offset) same) ∙ h
+kind_more of.Date f g e same of.Instant h = sym (ap (λ (k : Kinds). k.stamp) same) ∙ h
+kind_more of.Time f g e same of.Date h = sym (ap (λ (k : Kinds). k.date) same) ∙ h
+kind_more of.Time f g e same of.Time h = e
+kind_more of.Time f g e same of.Offset h = sym (ap (λ (k : Kinds). k.offset) same) ∙ h
+kind_more of.Time f g e same of.Instant h = sym (ap (λ (k : Kinds). k.stamp) same) ∙ h
+kind_more of.Offset f g e same of.Date h = sym (ap (λ (k : Kinds). k.date) same) ∙ h
+kind_more of.Offset f g e same of.Time h = sym (ap (λ (k : Kinds). k.time) same) ∙ h
+kind_more of.Offset f g e same of.Offset h = e
+kind_more of.Offset f g e same of.Instant h = sym (ap (λ (k : Kinds). k.stamp) same) ∙ h
+kind_more of.Instant f g e same of.Date h = sym (ap (λ (k : Kinds). k.date) same) ∙ h
+kind_more of.Instant f g e same of.Time h = sym (ap (λ (k : Kinds). k.time) same) ∙ h
+kind_more of.Instant f g e same of.Offset h = sym (ap (λ (k : Kinds). k.offset) same) ∙ h
+kind_more of.Instant f g e same of.Instant h = e
+kind_more of.Nothing f g e same of.Date h = sym (ap (λ (k : Kinds). k.date) same) ∙ h
+kind_more of.Nothing f g e same of.Time h = sym (ap (λ (k : Kinds). k.time) same) ∙ h
+kind_more of.Nothing f g e same of.Offset h = sym (ap (λ (k : Kinds). k.offset) same) ∙ h
+kind_more of.Nothing f g e same of.Instant h = sym (ap (λ (k : Kinds). k.stamp) same) ∙ h
+kind_more k f g e same of.Nothing h = h
+
+-- how great years are
+
+pub record Years : Type 0 where
+  pub year : Option Signed
+  pub century : Option Signed
+  pub iso_year : Option Signed
+  pub iso_century : Option Signed
+
+abbrev pub years : Fields → Years
+years f = record { year = f.year; century = f.century; iso_year = f.iso_year; iso_century = f.iso_century }
+
+pub data Range : Type 0 where
+  any : Range
+  year : ℕ → Range
+  century : ℕ → Range
+  iso_year : ℕ → Range
+  iso_century : ℕ → Range
+
+-- a number of at most this magnitude was read
+abbrev pub IsAtMost : ℕ → Option Signed → Type 0
+IsAtMost n None = ⊥
+IsAtMost n (Some s) = s.magnitude ≤ n
+
+abbrev pub InRange : Range → Years → Type 0
+InRange any y = ⊤
+InRange (year n) y = IsAtMost n y.year
+InRange (century n) y = IsAtMost n y.century
+InRange (iso_year n) y = IsAtMost n y.iso_year
+InRange (iso_century n) y = IsAtMost n y.iso_century
+
+-- where none was read of a field, it may have any value afterwards
+
+none_at_most : (n : ℕ) (x : Option Signed) → x ≡ None → IsAtMost n x → ⊥
+none_at_most n x e h = subst (IsAtMost n) e h
+
+pub year_more : (y z : Years) → y.year ≡ None → record y { year = None } ≡ record z { year = None } → (r : Range)
+    → InRange r y → InRange r z
+year_more y z e same any h = tt
+year_more y z e same (year n) h = absurd (none_at_most n y.year e h)
+year_more y z e same (century n) h = subst (λ (x : Years). IsAtMost n x.century) same h
+year_more y z e same (iso_year n) h = subst (λ (x : Years). IsAtMost n x.iso_year) same h
+year_more y z e same (iso_century n) h = subst (λ (x : Years). IsAtMost n x.iso_century) same h
+
+pub century_more : (y z : Years) → y.century ≡ None → record y { century = None } ≡ record z { century = None }
+    → (r : Range) → InRange r y → InRange r z
+century_more y z e same any h = tt
+century_more y z e same (year n) h = subst (λ (x : Years). IsAtMost n x.year) same h
+century_more y z e same (century n) h = absurd (none_at_most n y.century e h)
+century_more y z e same (iso_year n) h = subst (λ (x : Years). IsAtMost n x.iso_year) same h
+century_more y z e same (iso_century n) h = subst (λ (x : Years). IsAtMost n x.iso_century) same h
+
+pub iso_year_more : (y z : Years) → y.iso_year ≡ None → record y { iso_year = None } ≡ record z { iso_year = None }
+    → (r : Range) → InRange r y → InRange r z
+iso_year_more y z e same any h = tt
+iso_year_more y z e same (year n) h = subst (λ (x : Years). IsAtMost n x.year) same h
+iso_year_more y z e same (century n) h = subst (λ (x : Years). IsAtMost n x.century) same h
+iso_year_more y z e same (iso_year n) h = absurd (none_at_most n y.iso_year e h)
+iso_year_more y z e same (iso_century n) h = subst (λ (x : Years). IsAtMost n x.iso_century) same h
+
+pub iso_century_more : (y z : Years) → y.iso_century ≡ None
+    → record y { iso_century = None } ≡ record z { iso_century = None } → (r : Range) → InRange r y → InRange r z
+iso_century_more y z e same any h = tt
+iso_century_more y z e same (year n) h = subst (λ (x : Years). IsAtMost n x.year) same h
+iso_century_more y z e same (century n) h = subst (λ (x : Years). IsAtMost n x.century) same h
+iso_century_more y z e same (iso_year n) h = subst (λ (x : Years). IsAtMost n x.iso_year) same h
+iso_century_more y z e same (iso_century n) h = absurd (none_at_most n y.iso_century e h)
+
+pub same_range : (y z : Years) → y ≡ z → (r : Range) → InRange r y → InRange r z
+same_range y z same r h = subst (λ (x : Years). InRange r x) same h
+
+-- What was known stays so.
+
+pub record Grows (f g : Fields) : Type 0 where
+  pub kind : (k : Kind) → has_kind k f ≡ true → has_kind k g ≡ true
+  pub range : (r : Range) → InRange r (years f) → InRange r (years g)
+
+pub same_grows : (f : Fields) → Grows f f
+same_grows f = record { kind = λ k h. h; range = λ r h. h }
+
+pub both_grow : (f g h : Fields) → Grows f g → Grows g h → Grows f h
+both_grow f g h a b = record {
+  kind = λ k e. b.kind k (a.kind k e);
+  range = λ r e. b.range r (a.range r e);
+}
+
+-- by a field that is no year
+pub more : (k : Kind) (f g : Fields) → has_kind k g ≡ true → but k (kinds f) ≡ but k (kinds g) → years f ≡ years g
+    → Grows f g
+more k f g e same ys = record { kind = kind_more k f g e same; range = same_range (years f) (years g) ys }
+
+-- Of a kind, and in a range of years.
+pub record Knows (k : Kind) (r : Range) (f : Fields) : Type 0 where
+  pub kind : has_kind k f ≡ true
+  pub range : InRange r (years f)
+
+pub knows_more : (k : Kind) (r : Range) (f g : Fields) → Grows f g → Knows k r f → Knows k r g
+knows_more k r f g h is = record { kind = h.kind k is.kind; range = h.range r is.range }

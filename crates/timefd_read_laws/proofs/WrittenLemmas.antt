@@ -1,0 +1,192 @@
+-- What was read is written again.
+use Rattle.std.proofs.Common.{◌≡◌, inl, inr, true, false, Result, Ok, Err, refl, sym, subst}
+use Rattle.std.specs.Prelude.{⊤}
+use Rattle.timefd_component.specs.declared.component.Component.{Component}
+use Rattle.timefd_component.specs.Modern.{modern}
+use Rattle.timefd_component.specs.Tree.{Text, Tree, component, literal, compound, optional, first, Trees, no_trees, more_trees}
+use Rattle.timefd_format.specs.declared.field.Field.{Field}
+use Rattle.timefd_format.specs.declared.field.Kind.{Kind}
+use Rattle.timefd_format.specs.declared.field.Lack.{Lack}
+use Rattle.timefd_format.specs.declared.unshown.Unshown.{Unshown}
+use Rattle.timefd_format.specs.Fields.{field, kind}
+use Rattle.timefd_format.specs.Written.{followed, shown, text_of, written, written_all}
+use Rattle.timefd_moment.specs.declared.moment.Moment.{Moment}
+use Rattle.timefd_read_dates.specs.declared.fields.Fields.{Fields}
+use Rattle.timefd_read_dates.specs.Reads.{Point, start}
+use Rattle.timefd_read_dates.specs.Relations.{Reads, ReadsAll, ReadsFirst}
+use Rattle.timefd_read_dates.proofs.RelationLemmas.{reads_exactly}
+use Rattle.timefd_read_moment.proofs.ShownLemmas.{clash}
+use Rattle.timefd_read_moment.proofs.YearLemmas.{both}
+use Rattle.timefd_read_laws.specs.Again.{are_plain, is_plain}
+use Rattle.timefd_read_laws.specs.Written.{HasText, IsReadWritten, ReadsAllWritten, ReadsWritten, WritesAgain}
+use Rattle.timefd_read_laws.specs.Written.{PlainReadsWritten}
+use Rattle.timefd_read_laws.specs.Written.{WritesPlainAgain}
+use Rattle.timefd_read_laws.proofs.ComponentReadLemmas.{component_read, range_of}
+use Rattle.timefd_read_laws.proofs.FieldShownLemmas.{component_shown}
+use Rattle.timefd_read_laws.proofs.GrowLemmas.{Grows, Knows, both_grow, knows_more, same_grows}
+use Rattle.timefd_read_laws.proofs.KindLemmas.{has_kind}
+use Rattle.timefd_read_laws.proofs.MomentKnownLemmas.{Has, moment_known}
+use Rattle.timefd_read_laws.proofs.PlainLemmas.{read_whole}
+use Rattle.timefd_read_laws.proofs.ReadRowLemmas.{Leaves}
+use Rattle.timefd_read_laws.proofs.StepLemmas.{is_ok}
+
+-- each component that is written
+abbrev mutual
+  Each : (Component → Type 0) → Tree → Type 0
+  Each P (component c) = P c
+  Each P (literal bytes) = ⊤
+  Each P (compound ts) = EachOf P ts
+  Each P (optional true t) = Each P t
+  Each P (optional false t) = ⊤
+  Each P (first no_trees) = ⊤
+  Each P (first (more_trees t ts)) = Each P t
+
+  EachOf : (Component → Type 0) → Trees → Type 0
+  EachOf P no_trees = ⊤
+  EachOf P (more_trees t ts) = Each P t × EachOf P ts
+
+mutual
+  each_more : (P Q : Component → Type 0) → ((c : Component) → P c → Q c) → (t : Tree) → Each P t → Each Q t
+  each_more P Q f (component c) h = f c h
+  each_more P Q f (literal bytes) h = tt
+  each_more P Q f (compound ts) h = each_of_more P Q f ts h
+  each_more P Q f (optional true t) h = each_more P Q f t h
+  each_more P Q f (optional false t) h = tt
+  each_more P Q f (first no_trees) h = tt
+  each_more P Q f (first (more_trees t ts)) h = each_more P Q f t h
+
+  each_of_more : (P Q : Component → Type 0) → ((c : Component) → P c → Q c) → (ts : Trees) → EachOf P ts
+      → EachOf Q ts
+  each_of_more P Q f no_trees h = tt
+  each_of_more P Q f (more_trees t ts) h = (each_more P Q f t h.0, each_of_more P Q f ts h.1)
+
+-- what is known behind what was read
+
+abbrev KnowsOf : Fields → Component → Type 0
+KnowsOf f c = Knows (kind (modern c)) (range_of (modern c)) f
+
+leaves : (c : Component) (p q : Point) → Reads (component c) p q
+    → Leaves (kind (modern c)) (range_of (modern c)) p.fields q.fields
+leaves c p q h = component_read p q (modern c) ((reads_exactly (component c) p q).0 h)
+
+mutual
+  tree_grows : (t : Tree) (p q : Point) → Reads t p q → Grows p.fields q.fields
+  tree_grows (component c) p q h = (leaves c p q h).grows
+  tree_grows (literal bytes) p q h = subst (λ (f : Fields). Grows p.fields f) (sym h.1) (same_grows p.fields)
+  tree_grows (compound ts) p q h = trees_grow ts p q h
+  tree_grows (optional format t) p q (inl h) = tree_grows t p q h
+  tree_grows (optional format t) p q (inr h) =
+      subst (λ (x : Point). Grows p.fields x.fields) (sym h.1) (same_grows p.fields)
+  tree_grows (first no_trees) p q h =
+      subst (λ (x : Point). Grows p.fields x.fields) (sym h) (same_grows p.fields)
+  tree_grows (first (more_trees t ts)) p q (inl h) = tree_grows t p q h
+  tree_grows (first (more_trees t ts)) p q (inr h) = first_grows ts p q h.1
+
+  trees_grow : (ts : Trees) (p q : Point) → ReadsAll ts p q → Grows p.fields q.fields
+  trees_grow no_trees p q h =
+      subst (λ (x : Point). Grows p.fields x.fields) (sym h) (same_grows p.fields)
+  trees_grow (more_trees t ts) p q (mid, one, rest) =
+      both_grow p.fields mid.fields q.fields (tree_grows t p mid one) (trees_grow ts mid q rest)
+
+  first_grows : (ts : Trees) (p q : Point) → ReadsFirst ts p q → Grows p.fields q.fields
+  first_grows no_trees p q h = absurd h
+  first_grows (more_trees t ts) p q (inl h) = tree_grows t p q h
+  first_grows (more_trees t ts) p q (inr h) = first_grows ts p q h.1
+
+mutual
+  tree_known : (t : Tree) (p q : Point) → ReadsWritten t p q
+      → Grows p.fields q.fields × Each (KnowsOf q.fields) t
+  tree_known (component c) p q h = let is = leaves c p q h in (is.grows, is.knows)
+  tree_known (literal bytes) p q h = (tree_grows (literal bytes) p q h, tt)
+  tree_known (compound ts) p q h = trees_known ts p q h
+  tree_known (optional true t) p q h = tree_known t p q h
+  tree_known (optional false t) p q h = (tree_grows (optional false t) p q h, tt)
+  tree_known (first no_trees) p q h = (tree_grows (first no_trees) p q h, tt)
+  tree_known (first (more_trees t ts)) p q h = tree_known t p q h
+
+  trees_known : (ts : Trees) (p q : Point) → ReadsAllWritten ts p q
+      → Grows p.fields q.fields × EachOf (KnowsOf q.fields) ts
+  trees_known no_trees p q h = (trees_grow no_trees p q h, tt)
+  trees_known (more_trees t ts) p q (mid, one, rest) =
+      let a = tree_known t p mid one in
+      let b = trees_known ts mid q rest in (
+        both_grow p.fields mid.fields q.fields a.0 b.0,
+        (
+          each_more (KnowsOf mid.fields) (KnowsOf q.fields)
+              (λ c h. knows_more (kind (modern c)) (range_of (modern c)) mid.fields q.fields b.0 h) t a.1,
+          b.1,
+        ),
+      )
+
+-- what is written
+
+text_ok : (c : Component) (r : Result Field Lack) → is_ok r ≡ true → is_ok (text_of c r) ≡ true
+text_ok c (Ok f) e = refl
+text_ok c (Err l) e = absurd (clash true (sym e) refl)
+
+followed_ok : (a b : Result Text Unshown) → is_ok a ≡ true → is_ok b ≡ true → is_ok (followed a b) ≡ true
+followed_ok (Ok a) (Ok b) e h = refl
+followed_ok (Ok a) (Err u) e h = absurd (clash true (sym h) refl)
+followed_ok (Err u) b e h = absurd (clash true (sym e) refl)
+
+mutual
+  tree_written : (m : Moment) (t : Tree) → Each (λ c. is_ok (shown m c) ≡ true) t → is_ok (written m t) ≡ true
+  tree_written m (component c) h = h
+  tree_written m (literal bytes) h = refl
+  tree_written m (compound ts) h = trees_written m ts h
+  tree_written m (optional true t) h = tree_written m t h
+  tree_written m (optional false t) h = refl
+  tree_written m (first no_trees) h = refl
+  tree_written m (first (more_trees t ts)) h = tree_written m t h
+
+  trees_written : (m : Moment) (ts : Trees) → EachOf (λ c. is_ok (shown m c) ≡ true) ts
+      → is_ok (written_all m ts) ≡ true
+  trees_written m no_trees h = refl
+  trees_written m (more_trees t ts) h =
+      followed_ok (written m t) (written_all m ts) (tree_written m t h.0) (trees_written m ts h.1)
+
+has_text : (r : Result Text Unshown) → is_ok r ≡ true → (text : Text) × (r ≡ Ok text)
+has_text (Ok text) e = (text, refl)
+has_text (Err u) e = absurd (clash true (sym e) refl)
+
+-- of a moment that has each kind of which something was read
+pub written_of : (m : Moment) (tree : Tree) (text : Text) (f : Fields)
+    → ((k : Kind) → has_kind k f ≡ true → Has k m f) → IsReadWritten tree text f → HasText m tree
+written_of m tree text f has h =
+    has_text (written m tree) (tree_written m tree
+    (each_more (KnowsOf f) (λ c. is_ok (shown m c) ≡ true)
+    (λ c is. text_ok (modern c) (field m (modern c)) (component_shown m f (modern c) (has (kind (modern c)) is.kind) is.range)) tree
+    (subst (λ (g : Fields). Each (KnowsOf g) tree) h.fields (tree_known tree (start text) h.end h.reads).1)))
+
+pub writes_again : WritesAgain
+writes_again m tree text f h is = written_of m tree text f (λ k. moment_known m f k is) h
+
+-- of plain trees
+
+mutual
+  plain_reads : (t : Tree) (p q : Point) → is_plain t ≡ true → Reads t p q → ReadsWritten t p q
+  plain_reads (component c) p q plain h = h
+  plain_reads (literal bytes) p q plain h = h
+  plain_reads (compound ts) p q plain h = plain_all ts p q plain h
+  plain_reads (optional format t) p q plain h = absurd (clash true (sym plain) refl)
+  plain_reads (first ts) p q plain h = absurd (clash true (sym plain) refl)
+
+  plain_all : (ts : Trees) (p q : Point) → are_plain ts ≡ true → ReadsAll ts p q → ReadsAllWritten ts p q
+  plain_all no_trees p q plain h = h
+  plain_all (more_trees t ts) p q plain (mid, one, rest) =
+      let each = both (is_plain t) (are_plain ts) plain in
+      (mid, plain_reads t p mid each.0 one, plain_all ts mid q each.1 rest)
+
+pub plain_reads_written : PlainReadsWritten
+plain_reads_written tree text f plain read =
+    let h = read_whole tree text f read in
+    record {
+      read = read;
+      end = h.end;
+      fields = h.fields;
+      reads = plain_reads tree (start text) h.end plain h.reads;
+    }
+
+pub writes_plain_again : WritesPlainAgain
+writes_plain_again m tree text f plain read is =
+    writes_again m tree text f (plain_reads_written tree text f plain read) is

@@ -1,0 +1,5 @@
+use Rattle.timefd_read_laws.proofs.WrittenExampleLemmas as lemmas
+use Rattle.timefd_read_laws.proofs.written_examples.written_example.Goals as goal
+
+pub returns : goal.returns
+returns c = lemmas.written_example

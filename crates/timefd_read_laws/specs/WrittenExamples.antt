@@ -1,0 +1,68 @@
+-- Worked examples of what was read and is written, and of what was read and can't be.
+use Rattle.std.specs.Prelude.{◌≡◌, true, false, [], ◌∷◌, codes, Some, Ok, Err}
+use Rattle.timefd_component.specs.declared.component.Component.{Component}
+use Rattle.timefd_component.specs.declared.component.Component.TheVariants.{CalendarYearFullStandardRange, Hour24, Minute}
+use Rattle.timefd_component.specs.Tree.{Tree, component, literal, compound, optional, trees}
+use Rattle.timefd_format.specs.declared.field.Lack.{Lack}
+use Rattle.timefd_format.specs.Written.{written}
+use Rattle.timefd_modifier.specs.declared.enums.Padding.{Padding}
+use Rattle.timefd_moment.specs.declared.date.Date.{Date}
+use Rattle.timefd_read_dates.specs.declared.fields.Fields.{Fields}
+use Rattle.timefd_read_dates.specs.Fields.{no_fields}
+use Rattle.timefd_read_dates.specs.Reads.{fields_of}
+use Rattle.timefd_read_moment.specs.Values.{IsMomentOf}
+use Rattle.timefd_read_laws.specs.Again.{is_plain, parts}
+use Rattle.timefd_read_laws.specs.Examples.{date_fields, day, iso_date, month, only, year}
+use Rattle.timefd_read_laws.specs.Shown.{shows, with_sign}
+use Rattle.timefd_read_laws.specs.Written.{IsReadWritten}
+
+abbrev pub hour : Component
+hour = Hour24 (record { padding = Padding.Zero })
+
+abbrev pub standard_year : Component
+standard_year = CalendarYearFullStandardRange (record { padding = Padding.Zero; sign_is_mandatory = false })
+
+-- `[year]-[month]-[day]` and more
+abbrev pub date_and : Tree → Tree
+date_and more = compound (trees (year ∷ literal (codes "-") ∷ month Padding.Zero ∷ literal (codes "-")
+    ∷ day Padding.Zero ∷ more ∷ []))
+
+-- ` [hour]:[minute]`
+abbrev pub short_clock : Tree
+short_clock = compound (trees (literal (codes " ") ∷ component hour ∷ literal (codes ":")
+    ∷ component (Minute (record { padding = Padding.Zero })) ∷ []))
+
+-- ` [year range:standard]`
+abbrev pub year_again : Tree
+year_again = compound (trees (literal (codes " ") ∷ component standard_year ∷ []))
+
+abbrev pub long_year_fields : Fields
+long_year_fields = record no_fields { year = Some (with_sign false 12026); month = Some 11; day = Some 23 }
+
+-- A year with a plus is read, and written without it.
+abbrev pub WrittenExample : Type 0
+WrittenExample = (d : Date) → d.years ≡ 1002026 → d.month ≡ 11 → d.day ≡ 23
+    → (is_plain iso_date ≡ true) × IsReadWritten iso_date (codes "+2026-11-23") date_fields
+    × IsMomentOf date_fields (Ok (only d)) × (written (only d) iso_date ≡ Ok (codes "2026-11-23"))
+
+-- an optional part that is written and was read
+abbrev pub OptionalExample : Type 0
+OptionalExample = IsReadWritten (date_and (optional true short_clock)) (codes "2026-11-23 05:36")
+    (record date_fields { hour = Some 5; minute = Some 36 })
+
+-- An optional part that was left out in the text is written all the same: the moment lacks its time.
+abbrev pub LeftOutExample : Type 0
+LeftOutExample = (d : Date) → d.years ≡ 1002026 → d.month ≡ 11 → d.day ≡ 23
+    → (fields_of (date_and (optional true short_clock)) (codes "2026-11-23") ≡ Ok date_fields)
+    × IsMomentOf date_fields (Ok (only d))
+    × (written (only d) (date_and (optional true short_clock))
+    ≡ Err (record { component = hour; lack = Lack.NoTime }))
+
+-- The same fields are read as are written, and the year is too long for the part that was left out.
+abbrev pub LongYearExample : Type 0
+LongYearExample = (d : Date) → d.years ≡ 1012026 → d.month ≡ 11 → d.day ≡ 23
+    → (fields_of (date_and (optional true year_again)) (codes "+12026-11-23") ≡ Ok long_year_fields)
+    × (parts long_year_fields ≡ shows (date_and (optional true year_again)))
+    × IsMomentOf long_year_fields (Ok (only d))
+    × (written (only d) (date_and (optional true year_again))
+    ≡ Err (record { component = standard_year; lack = Lack.YearTooLong }))

@@ -1,0 +1,24 @@
+//! That what was read can be written.
+
+ghost use Rattle.timefd_read_laws.specs.Written.{ComesBack, PlainReadsWritten, WritesAgain, WritesPlainAgain};
+
+/// By a description without optional parts and alternatives all is read that it writes.
+pub fn plain_reads_written()
+    ensures { PlainReadsWritten }
+{}
+
+/// A moment that was read can be written, where all was read that is written: no component lacks a part of
+/// the moment, or shows no year of so many digits.
+pub fn writes_again()
+    ensures { WritesAgain }
+{}
+
+/// A moment that was read by a description without optional parts and alternatives can be written.
+pub fn writes_plain_again()
+    ensures { WritesPlainAgain }
+{}
+
+/// Of a moment that was read a settled description writes a text, of which the same moment is answered.
+pub fn comes_back()
+    ensures { ComesBack }
+{}
