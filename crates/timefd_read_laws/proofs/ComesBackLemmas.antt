@@ -53,8 +53,12 @@ same_parts tree text f e h =
 
 abbrev some_date : Option Date → Date
 some_date (Some d) = d
-some_date None =
-    record { years = 1; month = 1; day = 1; exists = (omega arith, omega arith, omega arith, omega arith, omega arith, omega arith) }
+some_date None = record {
+  years = 1;
+  month = 1;
+  day = 1;
+  exists = (omega arith, omega arith, omega arith, omega arith, omega arith, omega arith);
+}
 
 date_is : (x : Option Date) → IfSome x (λ e. e ≡ some_date x)
 date_is (Some d) = refl

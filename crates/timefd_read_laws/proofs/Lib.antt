@@ -27,10 +27,12 @@ pub mod MoreLemmas
 pub mod KindLemmas
 pub mod GrowLemmas
 pub mod ReadRowLemmas
+pub mod FractionReadLemmas
 pub mod ComponentReadLemmas
 pub mod MomentKnownLemmas
 pub mod FieldShownLemmas
 pub mod WrittenLemmas
+pub mod ValuesWrittenLemmas
 pub mod ComesBackLemmas
 pub mod RestLemmas
 pub mod StampedAgainLemmas

@@ -64,7 +64,7 @@ part_known Is true (Some a) P e h k = k a refl h
 part_known Is true None P e h k = absurd h
 part_known Is false x P e h k = absurd (clash true (sym e) refl)
 
-no_stamp : (x : Option UnixTime) → x ≡ None → is_some x ≡ true → ⊥
+pub no_stamp : (x : Option UnixTime) → x ≡ None → is_some x ≡ true → ⊥
 no_stamp x none some = clash (is_some x) (ap is_some none) some
 
 by_parts : (m : Moment) (f : Fields) (k : Kind) → instant_read f ≡ None → IsMomentBy None f (Ok m)

@@ -55,7 +55,7 @@ is_read f u d t o whole e agrees at = (
 -- The offset that is written.
 
 -- by its two cases
-each_result : {S E : Type 0} (r : Result S E) (P Q : Result S E → Type 0) → ((s : S) → r ≡ Ok s → P (Ok s) → Q (Ok s))
+pub each_result : {S E : Type 0} (r : Result S E) (P Q : Result S E → Type 0) → ((s : S) → r ≡ Ok s → P (Ok s) → Q (Ok s))
     → ((e : E) → P (Err e) → ⊥) → P r → Q r
 each_result (Ok s) P Q f g h = f s refl h
 each_result (Err e) P Q f g h = absurd (g e h)

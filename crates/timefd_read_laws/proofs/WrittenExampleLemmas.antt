@@ -1,23 +1,25 @@
 -- Worked examples of what was read and is written.
-use Rattle.std.proofs.Common.{ℕ, ◌≡◌, false, codes, Some, Result, Ok, Err, refl, sym, ap}
+use Rattle.std.proofs.Common.{ℕ, ◌≡◌, false, true, codes, Some, Result, Ok, Err, refl, sym, ap, arith}
 use Rattle.std.proofs.lemmas.Bool.{eq-eqb}
 use Rattle.timefd_component.specs.declared.component.Component.TheVariants.{CalendarYearFullExtendedRange, Day}
 use Rattle.timefd_component.specs.declared.component.Component.TheVariants.{MonthNumerical}
-use Rattle.timefd_component.specs.Tree.{Text}
+use Rattle.timefd_component.specs.Tree.{Text, optional}
 use Rattle.timefd_format.specs.declared.field.Lack.{Lack}
 use Rattle.timefd_format.specs.declared.unshown.Unshown.{Unshown}
 use Rattle.timefd_format.specs.Fields.{plain, year}
-use Rattle.timefd_format.specs.Written.{followed, text_of}
+use Rattle.timefd_format.specs.Written.{followed, text_of, written}
 use Rattle.timefd_modifier.specs.declared.enums.Padding.{Padding}
 use Rattle.timefd_moment.specs.declared.date.Date.{Date}
 use Rattle.timefd_read_moment.specs.declared.part.DatePart.{DatePart}
 use Rattle.timefd_read_moment.specs.Shown.{DateAgrees, is_year}
-use Rattle.timefd_read_laws.specs.Examples.{date_fields, iso_date}
+use Rattle.timefd_read_moment.proofs.ShownLemmas.{clash}
+use Rattle.timefd_read_laws.specs.Examples.{date_fields, iso_date, only}
 use Rattle.timefd_read_laws.specs.Shown.{with_sign}
 use Rattle.timefd_read_laws.specs.Written.{IsReadWritten}
 use Rattle.timefd_read_laws.specs.WrittenExamples.{LeftOutExample, LongYearExample, OptionalExample, WrittenExample, date_and}
-use Rattle.timefd_read_laws.specs.WrittenExamples.{hour, long_year_fields, short_clock, standard_year}
+use Rattle.timefd_read_laws.specs.WrittenExamples.{NeedsAllRead, hour, long_year_fields, short_clock, standard_year, year_again}
 use Rattle.timefd_read_laws.proofs.ExampleLemmas.{date_agrees, date_example}
+use Rattle.timefd_read_laws.proofs.StepLemmas.{is_ok}
 use Rattle.timefd_read_laws.proofs.WrittenLemmas.{plain_reads_written}
 
 pub written_example : WrittenExample
@@ -79,3 +81,22 @@ long_year_example d y m n = (
   ((long_agrees d y m n, tt), tt, tt),
   (λ i. of_numbers (y i) (m i) (n i) (again (y i))),
 )
+
+long_date : Date
+long_date = record {
+  years = 1012026;
+  month = 11;
+  day = 23;
+  exists = (omega arith, omega arith, omega arith, omega arith, omega arith, omega arith);
+}
+
+no_text : (r : Result Text Unshown) (u : Unshown) (text : Text) → r ≡ Err u → r ≡ Ok text → ⊥
+no_text r u text e h = clash (is_ok r) (ap is_ok e) (ap is_ok h)
+
+pub needs_all_read : NeedsAllRead
+unfolding long_date
+needs_all_read law =
+    let tree = date_and (optional true year_again) in
+    let is = long_year_example long_date refl refl refl in
+    let has = law (only long_date) tree (codes "+12026-11-23") long_year_fields is.0 is.1 is.2 in
+    no_text (written (only long_date) tree) (record { component = standard_year; lack = Lack.YearTooLong }) has.0 is.3 has.1

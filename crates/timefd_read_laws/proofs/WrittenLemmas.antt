@@ -155,7 +155,9 @@ pub written_of : (m : Moment) (tree : Tree) (text : Text) (f : Fields)
 written_of m tree text f has h =
     has_text (written m tree) (tree_written m tree
     (each_more (KnowsOf f) (λ c. is_ok (shown m c) ≡ true)
-    (λ c is. text_ok (modern c) (field m (modern c)) (component_shown m f (modern c) (has (kind (modern c)) is.kind) is.range)) tree
+    (λ c is.
+    text_ok (modern c) (field m (modern c))
+    (component_shown m f (modern c) (has (kind (modern c)) is.kind) is.range)) tree
     (subst (λ (g : Fields). Each (KnowsOf g) tree) h.fields (tree_known tree (start text) h.end h.reads).1)))
 
 pub writes_again : WritesAgain

@@ -5,5 +5,6 @@ pub mod Values
 pub mod StampedValues
 pub mod Again
 pub mod Written
+pub mod WrittenValues
 pub mod Examples
 pub mod WrittenExamples

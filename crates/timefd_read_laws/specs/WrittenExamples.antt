@@ -2,11 +2,12 @@
 use Rattle.std.specs.Prelude.{◌≡◌, true, false, [], ◌∷◌, codes, Some, Ok, Err}
 use Rattle.timefd_component.specs.declared.component.Component.{Component}
 use Rattle.timefd_component.specs.declared.component.Component.TheVariants.{CalendarYearFullStandardRange, Hour24, Minute}
-use Rattle.timefd_component.specs.Tree.{Tree, component, literal, compound, optional, trees}
+use Rattle.timefd_component.specs.Tree.{Text, Tree, component, literal, compound, optional, trees}
 use Rattle.timefd_format.specs.declared.field.Lack.{Lack}
 use Rattle.timefd_format.specs.Written.{written}
 use Rattle.timefd_modifier.specs.declared.enums.Padding.{Padding}
 use Rattle.timefd_moment.specs.declared.date.Date.{Date}
+use Rattle.timefd_moment.specs.declared.moment.Moment.{Moment}
 use Rattle.timefd_read_dates.specs.declared.fields.Fields.{Fields}
 use Rattle.timefd_read_dates.specs.Fields.{no_fields}
 use Rattle.timefd_read_dates.specs.Reads.{fields_of}
@@ -14,7 +15,7 @@ use Rattle.timefd_read_moment.specs.Values.{IsMomentOf}
 use Rattle.timefd_read_laws.specs.Again.{is_plain, parts}
 use Rattle.timefd_read_laws.specs.Examples.{date_fields, day, iso_date, month, only, year}
 use Rattle.timefd_read_laws.specs.Shown.{shows, with_sign}
-use Rattle.timefd_read_laws.specs.Written.{IsReadWritten}
+use Rattle.timefd_read_laws.specs.Written.{HasText, IsReadWritten}
 
 abbrev pub hour : Component
 hour = Hour24 (record { padding = Padding.Zero })
@@ -66,3 +67,8 @@ LongYearExample = (d : Date) → d.years ≡ 1012026 → d.month ≡ 11 → d.da
     × IsMomentOf long_year_fields (Ok (only d))
     × (written (only d) (date_and (optional true year_again))
     ≡ Err (record { component = standard_year; lack = Lack.YearTooLong }))
+
+-- So it isn't enough that the same fields are read as are written: what is written itself has to be read.
+abbrev pub NeedsAllRead : Type 0
+NeedsAllRead = ((m : Moment) (tree : Tree) (text : Text) (f : Fields) → fields_of tree text ≡ Ok f
+    → parts f ≡ shows tree → IsMomentOf f (Ok m) → HasText m tree) → ⊥

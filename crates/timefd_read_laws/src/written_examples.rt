@@ -1,6 +1,7 @@
 //! Worked examples of what was read and is written, and of what can't be written.
 
-ghost use Rattle.timefd_read_laws.specs.WrittenExamples.{LeftOutExample, LongYearExample, OptionalExample, WrittenExample};
+ghost use Rattle.timefd_read_laws.specs.WrittenExamples.{LeftOutExample, LongYearExample, NeedsAllRead};
+ghost use Rattle.timefd_read_laws.specs.WrittenExamples.{OptionalExample, WrittenExample};
 
 /// A year that was read with a plus is written without it.
 pub fn written_example()
@@ -21,4 +22,9 @@ pub fn left_out_example()
 /// though the same fields are read as are written.
 pub fn long_year_example()
     ensures { LongYearExample }
+{}
+
+/// Not each moment that was read can be written, even where the same fields are read as are written.
+pub fn needs_all_read()
+    ensures { NeedsAllRead }
 {}

@@ -1,6 +1,7 @@
 //! That what was read can be written.
 
 ghost use Rattle.timefd_read_laws.specs.Written.{ComesBack, PlainReadsWritten, WritesAgain, WritesPlainAgain};
+ghost use Rattle.timefd_read_laws.specs.WrittenValues.{WritesValues};
 
 /// By a description without optional parts and alternatives all is read that it writes.
 pub fn plain_reads_written()
@@ -16,6 +17,11 @@ pub fn writes_again()
 /// A moment that was read by a description without optional parts and alternatives can be written.
 pub fn writes_plain_again()
     ensures { WritesPlainAgain }
+{}
+
+/// A date, a time of day and an offset that were read can be written, together or alone.
+pub fn writes_values()
+    ensures { WritesValues }
 {}
 
 /// Of a moment that was read a settled description writes a text, of which the same moment is answered.

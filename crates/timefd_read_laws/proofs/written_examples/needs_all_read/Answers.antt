@@ -1,0 +1,5 @@
+use Rattle.timefd_read_laws.proofs.WrittenExampleLemmas as lemmas
+use Rattle.timefd_read_laws.proofs.written_examples.needs_all_read.Goals as goal
+
+pub returns : goal.returns
+returns c = lemmas.needs_all_read
