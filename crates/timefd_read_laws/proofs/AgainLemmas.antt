@@ -57,7 +57,7 @@ none_is : (x : Option UnixTime) → is_some x ≡ false → x ≡ None
 none_is None e = refl
 none_is (Some u) e = absurd (clash true e refl)
 
-abbrev date_shown : Shows → Bool
+abbrev pub date_shown : Shows → Bool
 date_shown s =
     ((((s.year || s.century) || s.year_last_two) || ((s.iso_year || s.iso_century) || s.iso_year_last_two))
     || ((s.month || s.day) || s.ordinal)) || (((s.weekday || s.iso_week) || s.sunday_week) || s.monday_week)

@@ -51,7 +51,7 @@ same_parts tree text f e h =
 
 -- a date, a time and an offset that are the moment's where it has them
 
-abbrev some_date : Option Date → Date
+abbrev pub some_date : Option Date → Date
 some_date (Some d) = d
 some_date None = record {
   years = 1;
@@ -64,7 +64,7 @@ date_is : (x : Option Date) → IfSome x (λ e. e ≡ some_date x)
 date_is (Some d) = refl
 date_is None = tt
 
-abbrev some_time : Option Time → Time
+abbrev pub some_time : Option Time → Time
 some_time (Some t) = t
 some_time None = record {
   hour = 0;
@@ -81,7 +81,7 @@ time_is : (x : Option Time) → IfSome x (λ e. e ≡ some_time x)
 time_is (Some t) = refl
 time_is None = tt
 
-abbrev some_offset : Option UtcOffset → UtcOffset
+abbrev pub some_offset : Option UtcOffset → UtcOffset
 some_offset (Some o) = o
 some_offset None = record {
   seconds = 0;

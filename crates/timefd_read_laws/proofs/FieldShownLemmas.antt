@@ -27,7 +27,7 @@ use Rattle.timefd_read_laws.proofs.GrowLemmas.{InRange, IsAtMost, years}
 use Rattle.timefd_read_laws.proofs.MomentKnownLemmas.{Has, HasDate, HasInstant, HasOffset, HasTime}
 use Rattle.timefd_read_laws.proofs.StepLemmas.{is_ok}
 
-date_shown : (m : Moment) (f : Fields) (h : HasDate m f) (g : Date → Result Field Lack) → is_ok (g h.date) ≡ true
+pub date_shown : (m : Moment) (f : Fields) (h : HasDate m f) (g : Date → Result Field Lack) → is_ok (g h.date) ≡ true
     → is_ok (on_date m.date g) ≡ true
 date_shown m f h g e = ap (λ (x : Option Date). is_ok (on_date x g)) h.is ∙ e
 
@@ -62,7 +62,7 @@ part_small (Some s) negative whole part n h e =
     eqb-true s.magnitude part (both (s.magnitude == part) ((whole == 0) || same s.is_negative negative) e).0 in
     subst (λ (k : ℕ). k ≤ n) is h
 
-year_shown : (greatest width unit : ℕ) (padding : Padding) (mandatory : Bool) (years : ℕ) → magnitude years ≤ greatest
+pub year_shown : (greatest width unit : ℕ) (padding : Padding) (mandatory : Bool) (years : ℕ) → magnitude years ≤ greatest
     → is_ok (year greatest width unit padding mandatory years) ≡ true
 year_shown greatest width unit padding mandatory years h =
     if_ok (nat_le (magnitude years) greatest)

@@ -221,7 +221,7 @@ some_instant fraction None None (Some n) s = refl
 some_instant fraction None None None (Some n) = refl
 some_instant fraction None None None None = refl
 
-abbrev stamp_known : Shows → Bool
+abbrev pub stamp_known : Shows → Bool
 stamp_known s = s.unix_nanosecond || (s.unix_microsecond || (s.unix_millisecond || s.unix_second))
 
 stamp_known_is : (f : Fields) → is_some (instant_read f) ≡ stamp_known (parts f)

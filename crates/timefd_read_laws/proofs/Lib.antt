@@ -34,6 +34,9 @@ pub mod FieldShownLemmas
 pub mod WrittenLemmas
 pub mod ValuesWrittenLemmas
 pub mod ComesBackLemmas
+pub mod ShownKindLemmas
+pub mod ShortYearLemmas
+pub mod LackLemmas
 pub mod RestLemmas
 pub mod StampedAgainLemmas
 pub mod AgainLemmas

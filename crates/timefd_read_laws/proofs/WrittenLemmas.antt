@@ -32,7 +32,7 @@ use Rattle.timefd_read_laws.proofs.StepLemmas.{is_ok}
 
 -- each component that is written
 abbrev mutual
-  Each : (Component → Type 0) → Tree → Type 0
+  pub Each : (Component → Type 0) → Tree → Type 0
   Each P (component c) = P c
   Each P (literal bytes) = ⊤
   Each P (compound ts) = EachOf P ts
@@ -41,12 +41,12 @@ abbrev mutual
   Each P (first no_trees) = ⊤
   Each P (first (more_trees t ts)) = Each P t
 
-  EachOf : (Component → Type 0) → Trees → Type 0
+  pub EachOf : (Component → Type 0) → Trees → Type 0
   EachOf P no_trees = ⊤
   EachOf P (more_trees t ts) = Each P t × EachOf P ts
 
 mutual
-  each_more : (P Q : Component → Type 0) → ((c : Component) → P c → Q c) → (t : Tree) → Each P t → Each Q t
+  pub each_more : (P Q : Component → Type 0) → ((c : Component) → P c → Q c) → (t : Tree) → Each P t → Each Q t
   each_more P Q f (component c) h = f c h
   each_more P Q f (literal bytes) h = tt
   each_more P Q f (compound ts) h = each_of_more P Q f ts h
@@ -120,7 +120,7 @@ mutual
 
 -- what is written
 
-text_ok : (c : Component) (r : Result Field Lack) → is_ok r ≡ true → is_ok (text_of c r) ≡ true
+pub text_ok : (c : Component) (r : Result Field Lack) → is_ok r ≡ true → is_ok (text_of c r) ≡ true
 text_ok c (Ok f) e = refl
 text_ok c (Err l) e = absurd (clash true (sym e) refl)
 
@@ -130,7 +130,7 @@ followed_ok (Ok a) (Err u) e h = absurd (clash true (sym h) refl)
 followed_ok (Err u) b e h = absurd (clash true (sym e) refl)
 
 mutual
-  tree_written : (m : Moment) (t : Tree) → Each (λ c. is_ok (shown m c) ≡ true) t → is_ok (written m t) ≡ true
+  pub tree_written : (m : Moment) (t : Tree) → Each (λ c. is_ok (shown m c) ≡ true) t → is_ok (written m t) ≡ true
   tree_written m (component c) h = h
   tree_written m (literal bytes) h = refl
   tree_written m (compound ts) h = trees_written m ts h
@@ -145,7 +145,7 @@ mutual
   trees_written m (more_trees t ts) h =
       followed_ok (written m t) (written_all m ts) (tree_written m t h.0) (trees_written m ts h.1)
 
-has_text : (r : Result Text Unshown) → is_ok r ≡ true → (text : Text) × (r ≡ Ok text)
+pub has_text : (r : Result Text Unshown) → is_ok r ≡ true → (text : Text) × (r ≡ Ok text)
 has_text (Ok text) e = (text, refl)
 has_text (Err u) e = absurd (clash true (sym e) refl)
 

@@ -6,5 +6,6 @@ pub mod StampedValues
 pub mod Again
 pub mod Written
 pub mod WrittenValues
+pub mod ShortYears
 pub mod Examples
 pub mod WrittenExamples

@@ -1,5 +1,6 @@
 //! That what was read can be written.
 
+ghost use Rattle.timefd_read_laws.specs.ShortYears.{LacksYearsAlone, WritesShortYears};
 ghost use Rattle.timefd_read_laws.specs.Written.{ComesBack, PlainReadsWritten, WritesAgain, WritesPlainAgain};
 ghost use Rattle.timefd_read_laws.specs.WrittenValues.{WritesValues};
 
@@ -22,6 +23,18 @@ pub fn writes_plain_again()
 /// A date, a time of day and an offset that were read can be written, together or alone.
 pub fn writes_values()
     ensures { WritesValues }
+{}
+
+/// Where the same fields were read as are written, whichever optional parts and alternatives were read, a
+/// moment that was read lacks no part: at most a component shows no year of so many digits.
+pub fn lacks_years_alone()
+    ensures { LacksYearsAlone }
+{}
+
+/// Where the same fields were read as are written, a moment whose years have four digits at most can be
+/// written.
+pub fn writes_short_years()
+    ensures { WritesShortYears }
 {}
 
 /// Of a moment that was read a settled description writes a text, of which the same moment is answered.

@@ -1,0 +1,128 @@
+-- Moments whose years have four digits at most can be written.
+use Rattle.std.proofs.Common.{◌≡◌, ◌∙◌, ◌||◌, true, false, Option, IfSome, Ok, refl, ap, subst}
+use Rattle.std.proofs.Common.{arith}
+use Rattle.timefd_component.specs.declared.component.Component.{Component}
+use Rattle.timefd_component.specs.declared.component.Component.TheVariants as of
+use Rattle.timefd_component.specs.Modern.{modern}
+use Rattle.timefd_component.specs.Tree.{Tree, component, literal, compound, optional, first, Trees, no_trees, more_trees}
+use Rattle.timefd_format.specs.declared.field.Kind.{Kind}
+use Rattle.timefd_format.specs.declared.field.Kind.TheVariants as kind
+use Rattle.timefd_format.specs.Fields.{date_field, field}
+use Rattle.timefd_format.specs.Fields.{kind as kind_of}
+use Rattle.timefd_format.specs.Written.{shown, written}
+use Rattle.timefd_moment.specs.declared.date.Date.{Date}
+use Rattle.timefd_moment.specs.declared.time.Time.{Time}
+use Rattle.timefd_moment.specs.declared.offset.UtcOffset.{UtcOffset}
+use Rattle.timefd_moment.specs.declared.moment.Moment.{Moment}
+use Rattle.timefd_moment.specs.Moments.{iso_years}
+use Rattle.timefd_read_dates.specs.declared.fields.Fields.{Fields}
+use Rattle.timefd_read_moment.specs.Values.{IsMomentOf}
+use Rattle.timefd_read_laws.specs.Again.{parts}
+use Rattle.timefd_read_laws.specs.ShortYears.{HasShortYears, WritesShortYears}
+use Rattle.timefd_read_laws.specs.Shown.{Shows, shows, shows_nothing, with_tree, with_trees}
+use Rattle.timefd_read_laws.proofs.AgainLemmas.{date_shown as shows_date}
+use Rattle.timefd_read_laws.proofs.ComesBackLemmas.{some_date, some_offset, some_time}
+use Rattle.timefd_read_laws.proofs.FieldShownLemmas.{component_shown, date_shown, year_shown}
+use Rattle.timefd_read_laws.proofs.KindLemmas.{has_kind}
+use Rattle.timefd_read_laws.proofs.KnownLemmas.{same_has_time, stamp_known}
+use Rattle.timefd_read_laws.proofs.MomentKnownLemmas.{Has, HasDate, moment_known}
+use Rattle.timefd_read_laws.proofs.ShownKindLemmas.{as_fields, component_shows, modern_current}
+use Rattle.timefd_read_laws.proofs.ShownPartLemmas.{same_shown}
+use Rattle.timefd_read_laws.proofs.StepLemmas.{is_ok}
+use Rattle.timefd_read_laws.proofs.WrittenLemmas.{Each, EachOf, each_more, has_text, text_ok, tree_written}
+
+-- which kinds a description shows
+
+module _ (d : Date) (t : Time) (o : UtcOffset) where
+  abbrev KindIn : Shows → Component → Type 0
+  KindIn s c = has_kind (kind_of (modern c)) (as_fields d t o s) ≡ true
+
+  record ShowsMore (s v : Shows) : Type 0 where
+    grows : (j : Kind) → has_kind j (as_fields d t o s) ≡ true → has_kind j (as_fields d t o v) ≡ true
+
+  mutual
+    tree_shows : (tree : Tree) (s : Shows) → ShowsMore s (with_tree tree s) × Each (KindIn (with_tree tree s)) tree
+    tree_shows (component c) s =
+        let is = component_shows d t o (modern c) (modern_current c) s in
+        (record { grows = is.grows }, is.here)
+    tree_shows (literal bytes) s = (record { grows = λ j h. h }, tt)
+    tree_shows (compound ts) s = trees_show ts s
+    tree_shows (optional true tree) s = tree_shows tree s
+    tree_shows (optional false tree) s = (record { grows = λ j h. h }, tt)
+    tree_shows (first no_trees) s = (record { grows = λ j h. h }, tt)
+    tree_shows (first (more_trees tree ts)) s = tree_shows tree s
+
+    trees_show : (ts : Trees) (s : Shows) → ShowsMore s (with_trees ts s) × EachOf (KindIn (with_trees ts s)) ts
+    trees_show no_trees s = (record { grows = λ j h. h }, tt)
+    trees_show (more_trees tree ts) s =
+        let a = tree_shows tree s in
+        let b = trees_show ts (with_tree tree s) in (
+          record { grows = λ j h. b.0.grows j (a.0.grows j h) },
+          (
+            each_more (KindIn (with_tree tree s)) (KindIn (with_trees ts (with_tree tree s)))
+                (λ c h. b.0.grows (kind_of (modern c)) h) tree a.1,
+            b.1,
+          ),
+        )
+
+-- which kinds were read rests on which fields were
+
+kind_same : (k : Kind) (f g : Fields) → parts f ≡ parts g → has_kind k g ≡ true → has_kind k f ≡ true
+kind_same kind.Date f g e h = ap (λ (s : Shows). shows_date s) e ∙ h
+kind_same kind.Time f g e h = same_has_time f g e ∙ h
+kind_same kind.Offset f g e h = ap (λ (s : Shows). (s.offset_hour || s.offset_minute) || s.offset_second) e ∙ h
+kind_same kind.Instant f g e h = ap stamp_known e ∙ h
+kind_same kind.Nothing f g e h = refl
+
+-- What each component shows of short years.
+
+module _ (m : Moment) (f : Fields) (short : IfSome m.date HasShortYears) where
+  years_short : (h : HasDate m f) → HasShortYears h.date
+  years_short h = subst (λ (x : Option Date). IfSome x HasShortYears) h.is short
+
+  field_short : (c : Component) → Has (kind_of c) m f → is_ok (field m c) ≡ true
+  field_short (of.CalendarYearFullExtendedRange c) h =
+      date_shown m f h (λ d. date_field d (of.CalendarYearFullExtendedRange c))
+      (year_shown 999999 4 1 c.padding c.sign_is_mandatory h.date.years (omega (arith, (years_short h).0)))
+  field_short (of.CalendarYearFullStandardRange c) h =
+      date_shown m f h (λ d. date_field d (of.CalendarYearFullStandardRange c))
+      (year_shown 9999 4 1 c.padding c.sign_is_mandatory h.date.years (years_short h).0)
+  field_short (of.CalendarYearCenturyExtendedRange c) h =
+      date_shown m f h (λ d. date_field d (of.CalendarYearCenturyExtendedRange c))
+      (year_shown 999999 2 100 c.padding c.sign_is_mandatory h.date.years (omega (arith, (years_short h).0)))
+  field_short (of.CalendarYearCenturyStandardRange c) h =
+      date_shown m f h (λ d. date_field d (of.CalendarYearCenturyStandardRange c))
+      (year_shown 9999 2 100 c.padding c.sign_is_mandatory h.date.years (years_short h).0)
+  field_short (of.IsoYearFullExtendedRange c) h =
+      date_shown m f h (λ d. date_field d (of.IsoYearFullExtendedRange c))
+      (year_shown 999999 4 1 c.padding c.sign_is_mandatory (iso_years h.date) (omega (arith, (years_short h).1)))
+  field_short (of.IsoYearFullStandardRange c) h =
+      date_shown m f h (λ d. date_field d (of.IsoYearFullStandardRange c))
+      (year_shown 9999 4 1 c.padding c.sign_is_mandatory (iso_years h.date) (years_short h).1)
+  field_short (of.IsoYearCenturyExtendedRange c) h =
+      date_shown m f h (λ d. date_field d (of.IsoYearCenturyExtendedRange c))
+      (year_shown 999999 2 100 c.padding c.sign_is_mandatory (iso_years h.date) (omega (arith, (years_short h).1)))
+  field_short (of.IsoYearCenturyStandardRange c) h =
+      date_shown m f h (λ d. date_field d (of.IsoYearCenturyStandardRange c))
+      (year_shown 9999 2 100 c.padding c.sign_is_mandatory (iso_years h.date) (years_short h).1)
+  field_short c h = component_shown m f c h tt
+
+-- each component that is written is of a kind that was read
+pub kinds_read : (m : Moment) (tree : Tree) (f : Fields) → parts f ≡ shows tree → IsMomentOf f (Ok m)
+    → Each (λ c. Has (kind_of (modern c)) m f) tree
+kinds_read m tree f same is =
+    let d = some_date m.date in
+    let t = some_time m.time in
+    let o = some_offset m.offset in
+    each_more (KindIn d t o (shows tree)) (λ c. Has (kind_of (modern c)) m f)
+    (λ c h.
+    moment_known m f (kind_of (modern c)) is
+    (kind_same (kind_of (modern c)) f (as_fields d t o (shows tree)) (same_shown d t o f (shows tree) same) h)) tree
+    (tree_shows d t o tree shows_nothing).1
+
+pub writes_short_years : WritesShortYears
+writes_short_years m tree text f read same is short =
+    has_text (written m tree) (tree_written m tree
+    (each_more (λ c. Has (kind_of (modern c)) m f) (λ c. is_ok (shown m c) ≡ true)
+    (λ c h. text_ok (modern c) (field m (modern c)) (field_short m f short (modern c) h)) tree
+    (kinds_read m tree f same is)))

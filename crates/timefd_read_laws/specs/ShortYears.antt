@@ -1,0 +1,29 @@
+-- What can be written where the same fields were read as are written, whichever optional parts and alternatives
+-- were read.
+use Rattle.std.specs.Prelude.{◌≡◌, ◌≤◌, IfErr, IfSome, Ok}
+use Rattle.timefd_component.specs.Tree.{Text, Tree}
+use Rattle.timefd_format.specs.declared.field.Lack.{Lack}
+use Rattle.timefd_format.specs.Written.{written}
+use Rattle.timefd_moment.specs.declared.date.Date.{Date}
+use Rattle.timefd_moment.specs.declared.moment.Moment.{Moment}
+use Rattle.timefd_moment.specs.Moments.{iso_years, magnitude}
+use Rattle.timefd_read_dates.specs.declared.fields.Fields.{Fields}
+use Rattle.timefd_read_dates.specs.Reads.{fields_of}
+use Rattle.timefd_read_moment.specs.Values.{IsMomentOf}
+use Rattle.timefd_read_laws.specs.Again.{parts}
+use Rattle.timefd_read_laws.specs.Shown.{shows}
+use Rattle.timefd_read_laws.specs.Written.{HasText}
+
+-- A moment that was read lacks no part: at most a component shows too few digits of its year.
+abbrev pub LacksYearsAlone : Type 0
+LacksYearsAlone = (m : Moment) (tree : Tree) (text : Text) (f : Fields) → fields_of tree text ≡ Ok f
+    → parts f ≡ shows tree → IsMomentOf f (Ok m) → IfErr (written m tree) (λ u. u.lack ≡ Lack.YearTooLong)
+
+-- the year, and that of its ISO week
+abbrev pub HasShortYears : Date → Type 0
+HasShortYears d = (magnitude d.years ≤ 9999) × (magnitude (iso_years d) ≤ 9999)
+
+-- Where they have four digits at most, the moment can be written.
+abbrev pub WritesShortYears : Type 0
+WritesShortYears = (m : Moment) (tree : Tree) (text : Text) (f : Fields) → fields_of tree text ≡ Ok f
+    → parts f ≡ shows tree → IsMomentOf f (Ok m) → IfSome m.date HasShortYears → HasText m tree
