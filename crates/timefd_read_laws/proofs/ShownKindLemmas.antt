@@ -1,6 +1,6 @@
 -- Of which kinds is what a component shows.
-use Rattle.std.proofs.Common.{◌≡◌, true, refl}
-use Rattle.std.specs.Prelude.{⊤}
+use Rattle.std.proofs.Common.{◌≡◌, Bool, true, refl}
+use Rattle.std.specs.Prelude.{is_some, ⊤}
 use Rattle.timefd_component.specs.declared.component.Component.{Component}
 use Rattle.timefd_component.specs.declared.component.Component.TheVariants as of
 use Rattle.timefd_component.specs.Modern.{modern}
@@ -61,81 +61,84 @@ module _ (d : Date) (t : Time) (o : UtcOffset) where
     pub grows : (j : Kind) → has_kind j (as_fields s) ≡ true → has_kind j (as_fields v) ≡ true
     pub here : has_kind k (as_fields v) ≡ true
 
-  row : (k : Kind) (s v : Shows) → has_kind k (as_fields v) ≡ true
-      → but k (kinds (as_fields s)) ≡ but k (kinds (as_fields v)) → Kept k s v
-  row k s v e same = record { grows = kind_more k (as_fields s) (as_fields v) e same; here = e }
+  row : (k : Kind) (c : Component) (s : Shows) (has : Fields → Bool) → ((f : Fields) → has f ≡ true → has_kind k f ≡ true)
+      → has (as_fields (with_component c s)) ≡ true
+      → but k (kinds (as_fields s)) ≡ but k (kinds (as_fields (with_component c s))) → Kept k s (with_component c s)
+  row k c s has by e same =
+      let here : has_kind k (as_fields (with_component c s)) ≡ true = by (as_fields (with_component c s)) e in
+      record { grows = kind_more k (as_fields s) (as_fields (with_component c s)) here same; here = here }
 
   pub component_shows : (c : Component) → IsCurrent c → (s : Shows) → Kept (kind_of c) s (with_component c s)
   component_shows (of.Day c) is s =
-      row kind.Date s (with_component (of.Day c) s) (by_day (as_fields (with_component (of.Day c) s)) refl) refl
+      row kind.Date (of.Day c) s (λ f. is_some f.day) by_day refl refl
   component_shows (of.MonthShort c) is s =
-      row kind.Date s (with_component (of.MonthShort c) s) (by_month (as_fields (with_component (of.MonthShort c) s)) refl) refl
+      row kind.Date (of.MonthShort c) s (λ f. is_some f.month) by_month refl refl
   component_shows (of.MonthLong c) is s =
-      row kind.Date s (with_component (of.MonthLong c) s) (by_month (as_fields (with_component (of.MonthLong c) s)) refl) refl
+      row kind.Date (of.MonthLong c) s (λ f. is_some f.month) by_month refl refl
   component_shows (of.MonthNumerical c) is s =
-      row kind.Date s (with_component (of.MonthNumerical c) s) (by_month (as_fields (with_component (of.MonthNumerical c) s)) refl) refl
+      row kind.Date (of.MonthNumerical c) s (λ f. is_some f.month) by_month refl refl
   component_shows (of.Ordinal c) is s =
-      row kind.Date s (with_component (of.Ordinal c) s) (by_ordinal (as_fields (with_component (of.Ordinal c) s)) refl) refl
+      row kind.Date (of.Ordinal c) s (λ f. is_some f.ordinal) by_ordinal refl refl
   component_shows (of.WeekdayShort c) is s =
-      row kind.Date s (with_component (of.WeekdayShort c) s) (by_weekday (as_fields (with_component (of.WeekdayShort c) s)) refl) refl
+      row kind.Date (of.WeekdayShort c) s (λ f. is_some f.weekday) by_weekday refl refl
   component_shows (of.WeekdayLong c) is s =
-      row kind.Date s (with_component (of.WeekdayLong c) s) (by_weekday (as_fields (with_component (of.WeekdayLong c) s)) refl) refl
+      row kind.Date (of.WeekdayLong c) s (λ f. is_some f.weekday) by_weekday refl refl
   component_shows (of.WeekdaySunday c) is s =
-      row kind.Date s (with_component (of.WeekdaySunday c) s) (by_weekday (as_fields (with_component (of.WeekdaySunday c) s)) refl) refl
+      row kind.Date (of.WeekdaySunday c) s (λ f. is_some f.weekday) by_weekday refl refl
   component_shows (of.WeekdayMonday c) is s =
-      row kind.Date s (with_component (of.WeekdayMonday c) s) (by_weekday (as_fields (with_component (of.WeekdayMonday c) s)) refl) refl
+      row kind.Date (of.WeekdayMonday c) s (λ f. is_some f.weekday) by_weekday refl refl
   component_shows (of.WeekNumberIso c) is s =
-      row kind.Date s (with_component (of.WeekNumberIso c) s) (by_iso_week (as_fields (with_component (of.WeekNumberIso c) s)) refl) refl
+      row kind.Date (of.WeekNumberIso c) s (λ f. is_some f.iso_week) by_iso_week refl refl
   component_shows (of.WeekNumberSunday c) is s =
-      row kind.Date s (with_component (of.WeekNumberSunday c) s) (by_sunday_week (as_fields (with_component (of.WeekNumberSunday c) s)) refl) refl
+      row kind.Date (of.WeekNumberSunday c) s (λ f. is_some f.sunday_week) by_sunday_week refl refl
   component_shows (of.WeekNumberMonday c) is s =
-      row kind.Date s (with_component (of.WeekNumberMonday c) s) (by_monday_week (as_fields (with_component (of.WeekNumberMonday c) s)) refl) refl
+      row kind.Date (of.WeekNumberMonday c) s (λ f. is_some f.monday_week) by_monday_week refl refl
   component_shows (of.CalendarYearFullExtendedRange c) is s =
-      row kind.Date s (with_component (of.CalendarYearFullExtendedRange c) s) (by_year (as_fields (with_component (of.CalendarYearFullExtendedRange c) s)) refl) refl
+      row kind.Date (of.CalendarYearFullExtendedRange c) s (λ f. is_some f.year) by_year refl refl
   component_shows (of.CalendarYearFullStandardRange c) is s =
-      row kind.Date s (with_component (of.CalendarYearFullStandardRange c) s) (by_year (as_fields (with_component (of.CalendarYearFullStandardRange c) s)) refl) refl
+      row kind.Date (of.CalendarYearFullStandardRange c) s (λ f. is_some f.year) by_year refl refl
   component_shows (of.CalendarYearCenturyExtendedRange c) is s =
-      row kind.Date s (with_component (of.CalendarYearCenturyExtendedRange c) s) (by_century (as_fields (with_component (of.CalendarYearCenturyExtendedRange c) s)) refl) refl
+      row kind.Date (of.CalendarYearCenturyExtendedRange c) s (λ f. is_some f.century) by_century refl refl
   component_shows (of.CalendarYearCenturyStandardRange c) is s =
-      row kind.Date s (with_component (of.CalendarYearCenturyStandardRange c) s) (by_century (as_fields (with_component (of.CalendarYearCenturyStandardRange c) s)) refl) refl
+      row kind.Date (of.CalendarYearCenturyStandardRange c) s (λ f. is_some f.century) by_century refl refl
   component_shows (of.IsoYearFullExtendedRange c) is s =
-      row kind.Date s (with_component (of.IsoYearFullExtendedRange c) s) (by_iso_year (as_fields (with_component (of.IsoYearFullExtendedRange c) s)) refl) refl
+      row kind.Date (of.IsoYearFullExtendedRange c) s (λ f. is_some f.iso_year) by_iso_year refl refl
   component_shows (of.IsoYearFullStandardRange c) is s =
-      row kind.Date s (with_component (of.IsoYearFullStandardRange c) s) (by_iso_year (as_fields (with_component (of.IsoYearFullStandardRange c) s)) refl) refl
+      row kind.Date (of.IsoYearFullStandardRange c) s (λ f. is_some f.iso_year) by_iso_year refl refl
   component_shows (of.IsoYearCenturyExtendedRange c) is s =
-      row kind.Date s (with_component (of.IsoYearCenturyExtendedRange c) s) (by_iso_century (as_fields (with_component (of.IsoYearCenturyExtendedRange c) s)) refl) refl
+      row kind.Date (of.IsoYearCenturyExtendedRange c) s (λ f. is_some f.iso_century) by_iso_century refl refl
   component_shows (of.IsoYearCenturyStandardRange c) is s =
-      row kind.Date s (with_component (of.IsoYearCenturyStandardRange c) s) (by_iso_century (as_fields (with_component (of.IsoYearCenturyStandardRange c) s)) refl) refl
+      row kind.Date (of.IsoYearCenturyStandardRange c) s (λ f. is_some f.iso_century) by_iso_century refl refl
   component_shows (of.CalendarYearLastTwo c) is s =
-      row kind.Date s (with_component (of.CalendarYearLastTwo c) s) (by_year_last_two (as_fields (with_component (of.CalendarYearLastTwo c) s)) refl) refl
+      row kind.Date (of.CalendarYearLastTwo c) s (λ f. is_some f.year_last_two) by_year_last_two refl refl
   component_shows (of.IsoYearLastTwo c) is s =
-      row kind.Date s (with_component (of.IsoYearLastTwo c) s) (by_iso_year_last_two (as_fields (with_component (of.IsoYearLastTwo c) s)) refl) refl
+      row kind.Date (of.IsoYearLastTwo c) s (λ f. is_some f.iso_year_last_two) by_iso_year_last_two refl refl
   component_shows (of.Hour12 c) is s =
-      row kind.Time s (with_component (of.Hour12 c) s) (by_hour_12 (as_fields (with_component (of.Hour12 c) s)) refl) refl
+      row kind.Time (of.Hour12 c) s (λ f. is_some f.hour_12) by_hour_12 refl refl
   component_shows (of.Hour24 c) is s =
-      row kind.Time s (with_component (of.Hour24 c) s) (by_hour (as_fields (with_component (of.Hour24 c) s)) refl) refl
+      row kind.Time (of.Hour24 c) s (λ f. is_some f.hour) by_hour refl refl
   component_shows (of.Minute c) is s =
-      row kind.Time s (with_component (of.Minute c) s) (by_minute (as_fields (with_component (of.Minute c) s)) refl) refl
+      row kind.Time (of.Minute c) s (λ f. is_some f.minute) by_minute refl refl
   component_shows (of.Second c) is s =
-      row kind.Time s (with_component (of.Second c) s) (by_second (as_fields (with_component (of.Second c) s)) refl) refl
+      row kind.Time (of.Second c) s (λ f. is_some f.second) by_second refl refl
   component_shows (of.OffsetMinute c) is s =
-      row kind.Offset s (with_component (of.OffsetMinute c) s) (by_offset_minute (as_fields (with_component (of.OffsetMinute c) s)) refl) refl
+      row kind.Offset (of.OffsetMinute c) s (λ f. is_some f.offset_minute) by_offset_minute refl refl
   component_shows (of.OffsetSecond c) is s =
-      row kind.Offset s (with_component (of.OffsetSecond c) s) (by_offset_second (as_fields (with_component (of.OffsetSecond c) s)) refl) refl
+      row kind.Offset (of.OffsetSecond c) s (λ f. is_some f.offset_second) by_offset_second refl refl
   component_shows (of.Period c) is s =
-      row kind.Time s (with_component (of.Period c) s) (by_is_afternoon (as_fields (with_component (of.Period c) s)) refl) refl
+      row kind.Time (of.Period c) s (λ f. is_some f.is_afternoon) by_is_afternoon refl refl
   component_shows (of.Subsecond c) is s =
-      row kind.Time s (with_component (of.Subsecond c) s) (by_subsecond (as_fields (with_component (of.Subsecond c) s)) refl) refl
+      row kind.Time (of.Subsecond c) s (λ f. is_some f.subsecond) by_subsecond refl refl
   component_shows (of.OffsetHour c) is s =
-      row kind.Offset s (with_component (of.OffsetHour c) s) (by_offset_hour (as_fields (with_component (of.OffsetHour c) s)) refl) refl
+      row kind.Offset (of.OffsetHour c) s (λ f. is_some f.offset_hour) by_offset_hour refl refl
   component_shows (of.UnixTimestampSecond c) is s =
-      row kind.Instant s (with_component (of.UnixTimestampSecond c) s) (by_unix_second (as_fields (with_component (of.UnixTimestampSecond c) s)) refl) refl
+      row kind.Instant (of.UnixTimestampSecond c) s (λ f. is_some f.unix_second) by_unix_second refl refl
   component_shows (of.UnixTimestampMillisecond c) is s =
-      row kind.Instant s (with_component (of.UnixTimestampMillisecond c) s) (by_unix_millisecond (as_fields (with_component (of.UnixTimestampMillisecond c) s)) refl) refl
+      row kind.Instant (of.UnixTimestampMillisecond c) s (λ f. is_some f.unix_millisecond) by_unix_millisecond refl refl
   component_shows (of.UnixTimestampMicrosecond c) is s =
-      row kind.Instant s (with_component (of.UnixTimestampMicrosecond c) s) (by_unix_microsecond (as_fields (with_component (of.UnixTimestampMicrosecond c) s)) refl) refl
+      row kind.Instant (of.UnixTimestampMicrosecond c) s (λ f. is_some f.unix_microsecond) by_unix_microsecond refl refl
   component_shows (of.UnixTimestampNanosecond c) is s =
-      row kind.Instant s (with_component (of.UnixTimestampNanosecond c) s) (by_unix_nanosecond (as_fields (with_component (of.UnixTimestampNanosecond c) s)) refl) refl
+      row kind.Instant (of.UnixTimestampNanosecond c) s (λ f. is_some f.unix_nanosecond) by_unix_nanosecond refl refl
   component_shows (of.Ignore c) is s = record { grows = λ j h. h; here = refl }
   component_shows (of.End c) is s = record { grows = λ j h. h; here = refl }
   component_shows (of.Month c) is s = absurd is
