@@ -38,7 +38,7 @@ same 'the hook where there are none' "$(hooked)" 1
 if has man 'reading the manual pages'; then
     for page in timefd.1 timefd_lint.1 timefd_format.1 timefd.3 timefd_judge.3; do
         MANPATH="$prefix/share/man" man "${page##*.}" "${page%.*}" > "$room/said" || fail "man does not show $page"
-        grep -q "^ *timefd.* - " "$room/said" || fail "man shows something else as $page"
+        grep -Eq "^ *timefd.* -( |\$)" "$room/said" || fail "man shows something else as $page"
     done
 fi
 if has mandoc 'mandoc over the manual pages'; then
