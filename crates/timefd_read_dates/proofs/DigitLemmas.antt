@@ -1,7 +1,7 @@
 -- Runs of digits and of spaces.
-use Rattle.std.proofs.Common.{ℕ, ◌≡◌, ◌∙◌, ◌≤◌, ◌<◌, ◌+◌, ◌*◌, ◌-◌, ◌^◌, ◌&&◌, ◌==◌, Bool, true, false, nat_le, Some, None, get_or, length, min, arith, ap, sym, take, refl, add-one}
+use Rattle.std.proofs.Common.{ℕ, List, [], ◌∷◌, if◌then◌else◌, subst, ◌≡◌, ◌∙◌, ◌≤◌, ◌<◌, ◌+◌, ◌*◌, ◌-◌, ◌^◌, ◌&&◌, ◌==◌, Bool, true, false, nat_le, Some, None, get_or, length, min, arith, ap, sym, take, refl, add-one, zero-add}
 use Rattle.std.proofs.Math.Nat.{pow-le-pow_right, pow-suc}
-use Rattle.std.proofs.lemmas.Bool.{leb-true}
+use Rattle.std.proofs.lemmas.Bool.{eqb-true, leb-true}
 use Rattle.std.proofs.lemmas.List.Sums.{prefix_len-le-length, prefix_len-drop_yes, prefix_len-drop_no, prefix_len-drop_all}
 use Rattle.std.proofs.lemmas.Int.Digits.{digits_value_more}
 use Rattle.std.proofs.lemmas.Str.{digit_value_digit}
@@ -9,7 +9,7 @@ use Rattle.std.specs.Char.{digit_value, is_ascii_digit}
 use Rattle.std.specs.List.{prefix_len}
 use Rattle.std.specs.Str.Parse.{digits_value}
 use Rattle.timefd_component.specs.Tree.{Text}
-use Rattle.timefd_read_dates.specs.Numbers.{IsDigitAt, IsSpaceAt, is_space}
+use Rattle.timefd_read_dates.specs.Numbers.{IsDigitAt, IsSpaceAt, digits, enough, is_space, sign_in}
 
 -- so many digits stand in the text
 pub digits_within : (text : Text) (most n : ℕ) → n ≡ min most (prefix_len is_ascii_digit text)
@@ -75,3 +75,42 @@ pub next_value : (text : Text) (v d n : ℕ) → n < length text → v ≡ digit
 next_value text v d n inside value digit =
     ap (λ (x : ℕ). x * 10 + d) value ∙ ap (λ (x : ℕ). digits_value 10 (take n text) * 10 + x) digit
     ∙ sym (digits_value_more 10 text n inside)
+
+-- two digits, and four
+
+pub two_found : (text : Text) (a b : ℕ) → IsDigitAt text 0 (Some a) → IsDigitAt text 1 (Some b)
+    → digits 2 2 text ≡ Some (a * 10 + b, 2)
+two_found text a b first second =
+    let all : min 2 (prefix_len is_ascii_digit text) ≡ 2 = omega (arith, first.3, second.3) in
+    let one : a ≡ digits_value 10 (take 1 text) =
+    sym (zero-add a) ∙ next_value text 0 a 0 first.0 refl first.1 in
+    let two = next_value text a b 1 second.0 one second.1 in
+    ap (λ n. enough 2 n text) all ∙ ap (λ v. Some (v, 2)) (sym two)
+
+pub four_found : (text : Text) (a b c d : ℕ) → IsDigitAt text 0 (Some a) → IsDigitAt text 1 (Some b)
+    → IsDigitAt text 2 (Some c) → IsDigitAt text 3 (Some d)
+    → digits 4 4 text ≡ Some (((a * 10 + b) * 10 + c) * 10 + d, 4)
+four_found text a b c d first second third fourth =
+    let all : min 4 (prefix_len is_ascii_digit text) ≡ 4 =
+    omega (arith, first.3, second.3, third.3, fourth.3) in
+    let one : a ≡ digits_value 10 (take 1 text) =
+    sym (zero-add a) ∙ next_value text 0 a 0 first.0 refl first.1 in
+    let two = next_value text a b 1 second.0 one second.1 in
+    let three = next_value text (a * 10 + b) c 2 third.0 two third.1 in
+    let four = next_value text ((a * 10 + b) * 10 + c) d 3 fourth.0 three fourth.1 in
+    ap (λ n. enough 4 n text) all ∙ ap (λ v. Some (v, 4)) (sym four)
+
+-- what begins with a digit has no sign
+sign_none : (b n : ℕ) (bytes : Text) (minus plus : Bool) → (b == 45) ≡ minus → (b == 43) ≡ plus
+    → prefix_len is_ascii_digit (b ∷ bytes) ≡ 1 + n
+    → (if minus then Some true else (if plus then Some false else None)) ≡ None
+sign_none b n bytes false false is is2 digit = refl
+sign_none b n bytes true plus is is2 digit =
+    absurd (omega (arith, subst (λ x. prefix_len is_ascii_digit (x ∷ bytes) ≡ 1 + n) (eqb-true b 45 is) digit))
+sign_none b n bytes false true is is2 digit =
+    absurd (omega (arith, subst (λ x. prefix_len is_ascii_digit (x ∷ bytes) ≡ 1 + n) (eqb-true b 43 is2) digit))
+
+pub digit_unsigned : (text : Text) (a : ℕ) → IsDigitAt text 0 (Some a) → sign_in text ≡ None
+digit_unsigned [] a first = refl
+digit_unsigned (b ∷ bytes) a first =
+    sign_none b (prefix_len is_ascii_digit bytes) bytes (b == 45) (b == 43) refl refl first.3

@@ -1,6 +1,6 @@
 -- How a tree reads a text: what is left and which fields were read, or the first part that does not
 -- read. Each component takes the longest front that it can, and nothing is tried twice.
-use Rattle.std.specs.Prelude.{ℕ, ◌≡◌, ◌==◌, ◌-◌, eqb, if◌then◌else◌, drop, length, Option, Some, None, Result, Ok, Err}
+use Rattle.std.specs.Prelude.{ℕ, ◌≡◌, ◌==◌, ◌≤◌, ◌-◌, eqb, if◌then◌else◌, drop, length, Option, Some, None, Result, Ok, Err}
 use Rattle.std.specs.Borrow.{Bor}
 use Rattle.std.specs.List.{starts_with}
 use Rattle.timefd_component.specs.declared.component.Component.{Component}
@@ -40,6 +40,13 @@ taken c p (Some r) = agreed c p r.1 (with_reading p.fields r.0)
 -- a modern component reads what stands at the front, and that is no other value than was read before
 abbrev pub read_component : Component → Point → Result Point Fault
 read_component c p = taken c p (input (rule_of c) p.rest)
+
+-- What is taken is read at the front, and the fields have it. `None` says nothing of the text, and leaves them as
+-- they are.
+abbrev pub TakesFront : Option (Reading × ℕ) → Text → Fields → Fields → Option ℕ → Type 0
+TakesFront read text old new (Some len) = (reading : Reading) × (read ≡ Some (reading, len))
+    × (with_reading old reading ≡ Some new) × (len ≤ length text)
+TakesFront read text old new None = new ≡ old
 
 abbrev pub read_literal : Text → Point → Result Point Fault
 read_literal bytes p = if starts_with eqb p.rest bytes

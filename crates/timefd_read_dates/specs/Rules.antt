@@ -1,5 +1,5 @@
 -- How each component is read.
-use Rattle.std.specs.Prelude.{ℕ, ◌≤◌, Bool, true, false, ⊤}
+use Rattle.std.specs.Prelude.{ℕ, ◌≡◌, ◌≤◌, Bool, true, false, ⊤}
 use Rattle.timefd_modifier.specs.declared.enums.Padding.{Padding}
 use Rattle.timefd_component.specs.declared.component.Component.{Component}
 use Rattle.timefd_component.specs.declared.component.Component.TheVariants.{Day, MonthShort, MonthLong, MonthNumerical, Ordinal, WeekdayShort, WeekdayLong, WeekdaySunday, WeekdayMonday, WeekNumberIso, WeekNumberSunday, WeekNumberMonday, CalendarYearFullExtendedRange, CalendarYearFullStandardRange, CalendarYearCenturyExtendedRange, CalendarYearCenturyStandardRange, IsoYearFullExtendedRange, IsoYearFullStandardRange, IsoYearCenturyExtendedRange, IsoYearCenturyStandardRange, CalendarYearLastTwo, IsoYearLastTwo, Hour12, Hour24, Minute, Second, OffsetMinute, OffsetSecond, Period, Subsecond, OffsetHour, UnixTimestampSecond, UnixTimestampMillisecond, UnixTimestampMicrosecond, UnixTimestampNanosecond, Ignore, End}
@@ -79,6 +79,10 @@ rule_of deprecated = by.Deprecated
 -- a number has a digit at least, and at most 23
 abbrev pub IsForm : Form → Type 0
 IsForm f = (1 ≤ f.width) × (f.width ≤ f.most) × (f.most ≤ f.most_signed) × (f.most_signed ≤ 23)
+
+-- four digits, filled with zeros
+abbrev pub IsFour : Form → Type 0
+IsFour f = (f.padding ≡ Padding.Zero) × (f.width ≡ 4) × (f.most ≡ 4)
 
 abbrev pub IsRule : Rule → Type 0
 IsRule (by.Number field padding width lowest highest) = (1 ≤ width) × (width ≤ 23) × (highest ≤ 366)

@@ -1,6 +1,6 @@
 //! Runs of digits and of spaces at the front of a text.
 
-ghost use Rattle.std.specs.Prelude.{◌≡◌, ◌≤◌, ◌<◌, ◌^◌, IfSome, length, min, take};
+ghost use Rattle.std.specs.Prelude.{◌≡◌, ◌≤◌, ◌<◌, ◌^◌, IfSome, None, Some, length, min, take};
 ghost use Rattle.std.specs.Char.{is_ascii_digit};
 ghost use Rattle.std.specs.List.{prefix_len};
 ghost use Rattle.std.specs.Str.Parse.{digits_value};
@@ -43,6 +43,31 @@ fn digit_at(text: &[u8], at: usize) -> Option<u8>
     } else {
         None
     }
+}
+
+/// The number of the two digits at the front.
+#[tactic(auto, using(crate::proofs::DigitLemmas::two_found))]
+pub(crate) fn two_digits(text: &[u8]) -> Option<u16>
+    ensures value { IfSome result (λ number. spec.digits 2 2 text.now ≡ Some (number, 2)) }
+    ensures within { IfSome result (λ number. 2 ≤ length text.now) }
+{
+    let tens = digit_at(text, 0)? as u16;
+    let ones = digit_at(text, 1)? as u16;
+    Some(tens * 10 + ones)
+}
+
+/// The number of the four digits at the front.
+#[tactic(auto, using(crate::proofs::DigitLemmas::four_found, crate::proofs::DigitLemmas::digit_unsigned))]
+pub(crate) fn four_digits(text: &[u8]) -> Option<u16>
+    ensures value { IfSome result (λ number. spec.digits 4 4 text.now ≡ Some (number, 4)) }
+    ensures within { IfSome result (λ number. 4 ≤ length text.now) }
+    ensures unsigned { IfSome result (λ number. spec.sign_in text.now ≡ None) }
+{
+    let thousands = digit_at(text, 0)? as u16;
+    let hundreds = digit_at(text, 1)? as u16;
+    let tens = digit_at(text, 2)? as u16;
+    let ones = digit_at(text, 3)? as u16;
+    Some(((thousands * 10 + hundreds) * 10 + tens) * 10 + ones)
 }
 
 /// A number of so many digits, from `least` to `most`.

@@ -10,7 +10,7 @@ ghost use Rattle.timefd_read_dates.specs.Reads.{Gives, at};
 
 use crate::fault::Fault;
 use crate::fields::Fields;
-use crate::part::{read_literal, read_modern};
+use crate::part::{read_front, read_literal};
 use std::alloc::{AllocError, Global};
 use timefd_node_list::{Leaf, Members, Shape, View};
 
@@ -82,7 +82,7 @@ fn read_leaf<'t>(leaf: Leaf<'_>, rest: &'t [u8], fields: &mut Fields) -> Result<
     ensures { Gives (spec.read (leaf_tree leaf.entry) (at rest.now fields.old)) fields.new result }
 {
     match leaf {
-        Leaf::Component(component) => read_modern(component.modern(), rest, fields),
+        Leaf::Component(component) => read_front(component, rest, fields),
         Leaf::Literal(text) => read_literal(text.as_bytes(), rest, fields),
     }
 }

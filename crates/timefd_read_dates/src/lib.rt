@@ -11,6 +11,7 @@ mod leaves;
 mod names;
 mod numbers;
 mod part;
+mod quick;
 mod read;
 mod reading;
 mod rule;

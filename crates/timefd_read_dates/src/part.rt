@@ -1,6 +1,7 @@
 //! One part of a description at the front of what is left of a text.
 
-ghost use Rattle.std.specs.Prelude.{◌≡◌, ◌≤◌, IfSome, length};
+ghost use Rattle.std.specs.List.{starts_with};
+ghost use Rattle.std.specs.Prelude.{◌≡◌, ◌≤◌, IfSome, eqb, length};
 ghost use Rattle.timefd_component.specs.Modern.{modern};
 ghost use Rattle.timefd_read_dates.specs.Inputs.{as_amount, as_count, input};
 ghost use Rattle.timefd_read_dates.specs.Reads as spec;
@@ -11,6 +12,7 @@ use crate::fault::{Fault, Reason};
 use crate::fields::{Amount, Count, Fields, Signed};
 use crate::input::{input, number};
 use crate::numbers::signed;
+use crate::quick::take_quickly;
 use crate::reading::{take, take_amount, take_count};
 use crate::rule::{Rule, rule_of};
 use timefd_component::Component;
@@ -38,10 +40,26 @@ pub(crate) fn read_component<'t>(
     read_modern(component.modern(), rest, fields)
 }
 
+/// The same where it stands. Most components are short numbers, which are taken at once.
+#[inline(always)]
+pub(crate) fn read_front<'t>(
+    component: Component,
+    rest: &'t [u8],
+    fields: &mut Fields,
+) -> Result<&'t [u8], Fault>
+    ensures { Gives (spec.read_component (modern component) (at rest.now fields.old)) fields.new
+        result }
+{
+    match take_quickly(component, rest, fields) {
+        Some(len) => Ok(&rest[len..]),
+        None => read_component(component, rest, fields),
+    }
+}
+
 /// Reads a modern component. Most are numbers, which are taken as they are found.
 #[inline(always)]
 #[tactic(auto, using(crate::proofs::TakeLemmas::by_rule))]
-pub(crate) fn read_modern<'t>(
+fn read_modern<'t>(
     component: Component,
     rest: &'t [u8],
     fields: &mut Fields,
@@ -147,6 +165,7 @@ fn read_other<'t>(
 }
 
 /// Reads literal text. The fields stay as they are.
+#[inline(always)]
 pub(crate) fn read_literal<'t>(
     bytes: &[u8],
     rest: &'t [u8],
@@ -154,9 +173,19 @@ pub(crate) fn read_literal<'t>(
 ) -> Result<&'t [u8], Fault>
     ensures { Gives (spec.read_literal bytes.now (at rest.now fields.now)) fields.now result }
 {
-    if rest.starts_with(bytes) {
+    if begins(rest, bytes) {
         Ok(&rest[bytes.len()..])
     } else {
         Err(fault(rest, Reason::Literal))
+    }
+}
+
+/// Whether a text begins with a literal. Most have one byte.
+fn begins(text: &[u8], literal: &[u8]) -> bool
+    ensures { result ≡ starts_with eqb text.now literal.now }
+{
+    match (literal, text) {
+        ([byte], [first, ..]) => first == byte,
+        _ => text.starts_with(literal),
     }
 }

@@ -1,5 +1,6 @@
 //! What one component reads, and the fields with it.
 
+ghost use Rattle.std.specs.Bool.{IsFalse};
 ghost use Rattle.std.specs.Prelude.{◌≡◌, ◌≤◌, ◌^◌};
 ghost use Rattle.timefd_read_dates.specs.Fields.{amount, count};
 ghost use Rattle.timefd_read_dates.specs.Readings as spec;
@@ -35,8 +36,9 @@ pub(crate) fn take(fields: &mut Fields, reading: Reading) -> bool
 #[inline(always)]
 #[tactic(auto, using(crate::proofs::TakeLemmas::count_kept, crate::proofs::TakeLemmas::count_set))]
 pub(crate) fn take_count(fields: &mut Fields, field: Count, number: u16) -> bool
-    ensures { Takes (spec.count_with fields.old field number (count fields.old field)) fields.new
+    ensures takes { Takes (spec.count_with fields.old field number (count fields.old field)) fields.new
         result }
+    ensures kept { IsFalse result → fields.new ≡ fields.old }
 {
     match fields.count(field) {
         Some(before) => before == number,
@@ -51,8 +53,9 @@ pub(crate) fn take_count(fields: &mut Fields, field: Count, number: u16) -> bool
 #[inline(always)]
 #[tactic(auto, using(crate::proofs::TakeLemmas::amount_kept, crate::proofs::TakeLemmas::amount_set))]
 pub(crate) fn take_amount(fields: &mut Fields, field: Amount, number: Signed) -> bool
-    ensures { Takes (spec.amount_with fields.old field number (amount fields.old field)) fields.new
+    ensures takes { Takes (spec.amount_with fields.old field number (amount fields.old field)) fields.new
         result }
+    ensures kept { IsFalse result → fields.new ≡ fields.old }
 {
     match fields.amount(field) {
         Some(before) => same_signed(before, number),

@@ -5,7 +5,10 @@ use std::process::Abort;
 use timefd_parse::{
     BorrowedOutput, DescriptionVersion, FormatDescriptionV3, parse, parse_borrowed,
 };
-use timefd_read_dates::{Fields, ReadError, Reason, Signed, read_fields, read_item_fields};
+use timefd_read_dates::{
+    Fields, NO_FIELDS, ReadError, Reason, Signed, fill_leaf_fields, leaves_in_turn, read_fields,
+    read_item_fields,
+};
 
 const AMPLE: &str = "ample memory";
 
@@ -110,6 +113,22 @@ pub fn expect_read(rt: &impl Abort, alloc: Global, by: &str, text: &str, expecte
     let description = description(rt, alloc, by);
     let answer = answer_text(rt, alloc, read_fields(description.view(), text));
     assert_eq!(rt; answer.as_str(), expected, "{by} of {text}");
+}
+
+/// Expects the same by the components and literals in turn, where the description is no more.
+pub fn expect_by_leaves(rt: &impl Abort, alloc: Global, by: &str, text: &str, expected: &str) {
+    let description = description(rt, alloc, by);
+    let found = leaves_in_turn(alloc, description.view()).expect(rt, AMPLE);
+    if let Some(leaves) = found {
+        let mut fields = NO_FIELDS;
+        let read = fill_leaf_fields(&leaves, text, &mut fields);
+        let answer = match read {
+            Ok(()) => Ok(fields),
+            Err(error) => Err(error),
+        };
+        let answer = answer_text(rt, alloc, answer);
+        assert_eq!(rt; answer.as_str(), expected, "{by} of {text}");
+    }
 }
 
 /// Expects what is read of a text by items of version 1.

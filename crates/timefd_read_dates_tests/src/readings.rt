@@ -1,6 +1,6 @@
 //! Readings: the description, the text, and what is read of it.
 
-use super::answers::{expect_items, expect_read};
+use super::answers::{expect_by_leaves, expect_items, expect_read};
 
 const ROWS: &[(&str, &str, &str)] = &[
     (
@@ -11,6 +11,18 @@ const ROWS: &[(&str, &str, &str)] = &[
     ("[year]-[month]-[day]", "2026-11-32", " unread at 8"),
     ("[year]-[month]-[day]", "2026/11-23", " literal at 4"),
     ("[year]-[month]-[day]", "2026-11-23 ", " trailing at 10"),
+    ("[day]/[month]/[year]", "00/11/2026", " unread at 0"),
+    ("[day]/[month]/[year]", "3/11/2026", " unread at 0"),
+    ("[day]/[month]/[year]", "03/11/202", " unread at 6"),
+    ("[day]/[month]/[year]", "03/11/20 6", " unread at 6"),
+    ("[hour]:[minute]", "24:00", " unread at 0"),
+    ("[hour]:[minute]", "23:6a", " unread at 3"),
+    ("[day] [day]", "03 03", " day 3"),
+    ("[day] [day]", "03 04", " contradiction at 3"),
+    ("[year] [year]", "2026 2027", " contradiction at 5"),
+    ("[year sign:mandatory]", "2026", " unread at 0"),
+    ("[day]--[month]", "03-11", " literal at 2"),
+    ("[day]--[month]", "03--11", " month 11 day 3"),
     ("[year]", "12345", " trailing at 4"),
     ("[year range:extended]", "+12345", " year 12345"),
     ("[year range:standard]", "+12345", " trailing at 5"),
@@ -111,6 +123,13 @@ const ROWS: &[(&str, &str, &str)] = &[
 fn readings(rt: HostRuntime) {
     for (by, text, expected) in ROWS {
         expect_read(&rt, rt.alloc(), by, text, expected);
+    }
+}
+
+#[test]
+fn readings_by_leaves(rt: HostRuntime) {
+    for (by, text, expected) in ROWS {
+        expect_by_leaves(&rt, rt.alloc(), by, text, expected);
     }
 }
 

@@ -1,0 +1,100 @@
+//! Numbers as most are, which are taken at once: two digits, or the four of a year. All else goes by its rule.
+
+ghost use Rattle.std.specs.Prelude.{false};
+ghost use Rattle.timefd_component.specs.Modern.{modern};
+ghost use Rattle.timefd_read_dates.specs.Inputs.{as_amount, as_count, input};
+ghost use Rattle.timefd_read_dates.specs.Numbers.{digits, signed, within};
+ghost use Rattle.timefd_read_dates.specs.Reads.{TakesFront};
+ghost use Rattle.timefd_read_dates.specs.Rules as spec;
+ghost use Rattle.timefd_read_dates.specs.Rules.{IsFour};
+
+use crate::digits::{four_digits, two_digits};
+use crate::fields::{Amount, Count, Fields, Signed};
+use crate::reading::{take_amount, take_count};
+use crate::rule::{Form, Rule, rule_of};
+use timefd_component::Component;
+use timefd_modifier::Padding;
+
+/// How many bytes a component takes at the front, where these are a number of two digits or of four that
+/// agrees with the fields. `None` says nothing of the text, and leaves the fields as they are.
+#[inline(always)]
+#[tactic(auto, using(crate::proofs::QuickLemmas::by_number, crate::proofs::QuickLemmas::by_sign))]
+pub(crate) fn take_quickly(component: Component, text: &[u8], fields: &mut Fields) -> Option<usize>
+    ensures { TakesFront (input (spec.rule_of (modern component)) text.now) text.now fields.old
+        fields.new result }
+{
+    match rule_of(component) {
+        Rule::Number {
+            field,
+            padding: Padding::Zero,
+            width: 2,
+            lowest,
+            highest,
+        } => take_two(field, lowest, highest, text, fields),
+        Rule::Signed {
+            field,
+            is_mandatory: false,
+            form,
+        } => take_year(field, form, text, fields),
+        _ => None,
+    }
+}
+
+/// Takes a number of two digits that is in the range.
+#[inline(always)]
+#[tactic(auto, using(crate::proofs::QuickLemmas::two_taken))]
+fn take_two(
+    field: Count,
+    lowest: u16,
+    highest: u16,
+    text: &[u8],
+    fields: &mut Fields,
+) -> Option<usize>
+    ensures { TakesFront (as_count field (within lowest highest (digits 2 2 text.now))) text.now
+        fields.old fields.new result }
+{
+    let number = two_digits(text)?;
+    if lowest <= number && number <= highest && take_count(fields, field, number) {
+        Some(2)
+    } else {
+        None
+    }
+}
+
+/// Takes the four digits of a year that has no sign.
+#[inline(always)]
+fn take_year(field: Amount, form: Form, text: &[u8], fields: &mut Fields) -> Option<usize>
+    ensures { TakesFront (as_amount field (signed false form text.now)) text.now fields.old fields.new
+        result }
+{
+    if let Form {
+        padding: Padding::Zero,
+        width: 4,
+        most: 4,
+        ..
+    } = form
+    {
+        take_four(field, form, text, fields)
+    } else {
+        None
+    }
+}
+
+#[inline(always)]
+#[tactic(auto, using(crate::proofs::QuickLemmas::four_taken))]
+fn take_four(field: Amount, form: Form, text: &[u8], fields: &mut Fields) -> Option<usize>
+    requires { IsFour form }
+    ensures { TakesFront (as_amount field (signed false form text.now)) text.now fields.old fields.new
+        result }
+{
+    let magnitude = four_digits(text)? as u128;
+    let number = Signed {
+        is_negative: false,
+        magnitude,
+    };
+    if magnitude <= form.greatest && take_amount(fields, field, number) {
+        Some(4)
+    } else {
+        None
+    }
+}
