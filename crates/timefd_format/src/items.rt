@@ -4,13 +4,10 @@ ghost use Rattle.std.specs.Prelude.{length};
 ghost use Rattle.timefd_component.specs.Tree.{trees};
 ghost use Rattle.timefd_format_item.specs.Meaning.{item_tree, item_trees};
 ghost use Rattle.timefd_format.specs.Writes.{IsIn, Writes};
-ghost use Rattle.timefd_format.specs.Written.{shown, written, written_all};
+ghost use Rattle.timefd_format.specs.Written.{written, written_all};
 
+use crate::component::write_component;
 use crate::place::{Place, put_on};
-use crate::put_field::put_field;
-use crate::shown::field;
-use crate::unshown::Unshown;
-use timefd_component::Component;
 use timefd_format_item::BorrowedFormatItem;
 use timefd_moment::Moment;
 
@@ -54,27 +51,4 @@ pub(crate) fn write_all(
         at = write(moment, &items[left], buffer, at);
     }
     at
-}
-
-/// Writes what a component shows of the moment in front of a place.
-pub(crate) fn write_component(
-    moment: Moment,
-    component: Component,
-    buffer: &mut [u8],
-    place: Place,
-) -> Place
-    requires { IsIn (length buffer.old) place }
-    ensures { Writes (shown moment component) buffer.old place buffer.new result }
-{
-    let component = component.modern();
-    match field(moment, component) {
-        Ok(field) => match place {
-            Place::At(end) => match put_field(buffer, end, field) {
-                Some(at) => Place::At(at),
-                None => Place::NoRoom,
-            },
-            Place::NoRoom | Place::Unshown(_) => place,
-        },
-        Err(lack) => Place::Unshown(Unshown { component, lack }),
-    }
 }

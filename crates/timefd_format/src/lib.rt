@@ -2,6 +2,7 @@
 #![tactic(auto)]
 
 mod clock;
+mod component;
 mod digits;
 mod field;
 mod instant;

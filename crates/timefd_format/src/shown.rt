@@ -14,6 +14,7 @@ use timefd_modifier::Padding;
 use timefd_moment::{Date, Moment, UnixTime};
 
 /// What a modern component shows of a moment.
+#[inline(always)]
 pub fn field(moment: Moment, component: Component) -> Result<Field, Lack>
     ensures table { result ≡ spec.field moment component }
     ensures field { IfOk result IsField }
@@ -90,6 +91,7 @@ fn kind(component: Component) -> Kind
     }
 }
 
+#[inline(always)]
 fn date_field(date: Date, component: Component) -> Result<Field, Lack>
     ensures table { result ≡ spec.date_field date component }
     ensures field { IfOk result IsField }

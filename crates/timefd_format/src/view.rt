@@ -6,7 +6,7 @@ ghost use Rattle.timefd_format.specs.Written.{written};
 ghost use Rattle.timefd_node_list.specs.LeafMeaning.{leaf_tree};
 ghost use Rattle.timefd_node_list.specs.Views.{view_tree};
 
-use crate::items::write_component;
+use crate::component::write_component;
 use crate::place::{Place, put_on};
 use timefd_moment::Moment;
 use timefd_node_list::{Leaf, View};
@@ -29,6 +29,7 @@ pub(crate) fn write_view(moment: Moment, view: View<'_, '_>, buffer: &mut [u8]) 
 
 /// Writes what a component or literal shows of the moment in front of a place.
 #[tactic(auto, using(crate::proofs::Utf8Lemmas::shown_utf8))]
+#[inline(always)]
 pub(crate) fn write_leaf(moment: Moment, leaf: Leaf<'_>, buffer: &mut [u8], place: Place) -> Place
     requires { IsIn (length buffer.old) place }
     ensures writes { Writes (written moment (leaf_tree leaf.entry)) buffer.old place buffer.new
