@@ -81,6 +81,11 @@ IsOne source o word before behind (came.Unshown m u) =
 IsOne source o word before behind (came.Unread e) = IsMomentIn source word (Err e) × (behind ≡ before)
 IsOne source o word before behind came.NotText = (¬ IsUtf8 word) × (behind ≡ before)
 
+-- what a word adds to the tally
+abbrev pub IsTallyOf : Source → BorrowedOutput → Text → Option Text → Option Text → Tally → Type 0
+IsTallyOf source o word before behind tally =
+    (outcome : Outcome) × IsOne source o word before behind outcome × (tally ≡ tally_of outcome)
+
 -- What comes of each word in turn, and of the end behind them, where a read has failed or not.
 abbrev pub Runs : Bool → Source → BorrowedOutput → List Text → Option Text → Option Text
     → Tally → Type 0

@@ -4,11 +4,11 @@ ghost use Rattle.std.specs.Prelude.{IfOk, OnOk};
 ghost use Rattle.std.specs.Io.KnownBytes.{Appends};
 ghost use Rattle.timefd_write.specs.ReadBack.{AreLeavesOf};
 ghost use Rattle.timefd_write.specs.Sources.{AreLeavesIn};
-ghost use Rattle.timefd_write.specs.Written.{EndsWith, EndsWithLine, IsLine, IsOne, IsOneOfMoment, written_of};
+ghost use Rattle.timefd_write.specs.Written.{EndsWith, EndsWithLine, IsLine, IsOne, IsOneOfMoment, IsTallyOf, written_of};
 ghost use Rattle.timefd_format.specs.Answers.{AreBytes};
 
 use crate::message::{NOT_TEXT, tell, unread_message, unshown_message};
-use crate::outcome::{Outcome, RunError};
+use crate::outcome::{Outcome, RunError, Tally};
 use crate::source::{Source, moment_in};
 use std::alloc::{AllocError, Global};
 use std::io::Write;
@@ -162,10 +162,46 @@ fn write_long<W: Write, E: Write>(
     }
 }
 
+/// What one word adds to a tally: its line is written, or why there is none is told, with the number of its
+/// line. The leaves are those of the source and of the description, and the room holds the text where it has
+/// room for it. An `Err` says why that wasn't done.
+pub fn tally_one<W: Write, E: Write>(
+    alloc: Global,
+    source: &Source<'_>,
+    source_leaves: Option<&[Leaf<'_>]>,
+    description: &BorrowedOutput<'_>,
+    leaves: Option<&[Leaf<'_>]>,
+    line: Option<u64>,
+    word: &[u8],
+    room: &mut [u8],
+    output: &mut W,
+    errors: &mut E,
+) -> Result<Tally, RunError>
+    requires source { AreLeavesIn source.now source_leaves }
+    requires written { AreLeavesOf description.now leaves }
+    ensures { IfOk result (IsTallyOf source.now description.now word.now (W.contents output.old)
+        (W.contents output.new)) }
+{
+    let outcome = write_one(
+        alloc,
+        source,
+        source_leaves,
+        description,
+        leaves,
+        line,
+        word,
+        room,
+        output,
+        errors,
+    )?;
+    Ok(Tally::of(outcome))
+}
+
 /// Writes the line of the moment that a word names or shows, or tells why there is none, with the
 /// number of its line. The leaves are those of the source and of the description, and the room holds
 /// the text where it has room for it. An `Err` says why that wasn't done.
-pub fn write_one<W: Write, E: Write>(
+#[inline(always)]
+fn write_one<W: Write, E: Write>(
     alloc: Global,
     source: &Source<'_>,
     source_leaves: Option<&[Leaf<'_>]>,

@@ -5,7 +5,7 @@ ghost use Rattle.timefd_write.specs.ReadBack.{AreLeavesOf};
 ghost use Rattle.timefd_write.specs.Sources.{AreLeavesIn};
 ghost use Rattle.timefd_write.specs.Written.{IsRead, RunsOver};
 
-use crate::line::write_one;
+use crate::line::tally_one;
 use crate::outcome::{RunError, Tally};
 use crate::read_back::leaves_of;
 use crate::source::{Source, source_leaves};
@@ -119,7 +119,7 @@ fn write_by<R: BufRead, W: Write, E: Write>(
         match read_line(reader, &mut bytes)? {
             LineRead::Line => {
                 let word = without_newline(&bytes);
-                let outcome = write_one(
+                let one = tally_one(
                     alloc,
                     source,
                     source_leaves,
@@ -131,7 +131,7 @@ fn write_by<R: BufRead, W: Write, E: Write>(
                     output,
                     errors,
                 )?;
-                tally = tally.and(Tally::of(outcome));
+                tally = tally.and(one);
             }
             LineRead::End => return Ok(tally),
             LineRead::Failed => return Ok(tally.and(Tally::at_end(true))),

@@ -4,7 +4,7 @@ ghost use Rattle.std.specs.Prelude.{false, IfOk};
 ghost use Rattle.timefd_diagnosis.specs.Words.{texts};
 ghost use Rattle.timefd_write.specs.Written.{Runs};
 
-use crate::line::write_one;
+use crate::line::tally_one;
 use crate::outcome::{RunError, Tally};
 use crate::source::Source;
 use std::alloc::Global;
@@ -28,7 +28,7 @@ pub fn write_words<W: Write, E: Write>(
     let mut tally = Tally::at_end(false);
     let mut rest = words;
     'words: while let [word, behind @ ..] = rest {
-        let outcome = write_one(
+        let one = tally_one(
             alloc,
             source,
             None,
@@ -40,7 +40,7 @@ pub fn write_words<W: Write, E: Write>(
             output,
             errors,
         )?;
-        tally = tally.and(Tally::of(outcome));
+        tally = tally.and(one);
         rest = behind;
     }
     Ok(tally)

@@ -24,11 +24,11 @@ lines-preserved g c =
     (g.R.Read.remaining c.lines.reader) (g.R.Read.remaining c.read_line.new.reader)
     c.read_line.new.bytes.items c.without_newline-word.result.now
     (g.W.Write.contents c.args.output.now) (g.W.Write.contents c.lines.output)
-    (g.W.Write.contents c.write_one.new.output) c.lines.tally c.of.result c.and-tally.result
-    c.in_ok-outcome-in-Line.outcome c.in_ok-read_line.field-0 c.in-Line.is c.lines.invariant
+    (g.W.Write.contents c.tally_one.new.output) c.lines.tally c.in_ok-one-in-Line.one c.and-tally.result
+    c.in_ok-one-in-Line.ensures.0 c.in_ok-read_line.field-0 c.in-Line.is c.lines.invariant
     c.in_ok-read_line.ensures
     (c.without_newline-word.ensures ∙ ap without_newline c.deref.ensures.value)
-    c.in_ok-outcome-in-Line.ensures c.of.ensures c.and-tally.ensures
+    c.in_ok-one-in-Line.ensures.1 c.in_ok-one-in-Line.ensures.2 c.and-tally.ensures
 
 pub returns : goal.returns
 returns g c =

@@ -7,8 +7,8 @@ pub words-preserved : goal.words-preserved
 words-preserved g c =
     goes_on c.args.source.now c.args.description.now (texts c.args.words.now) (texts c.words.rest.now) _
     c.as_bytes.result.now (g.W.Write.contents c.args.output.now)
-    (g.W.Write.contents c.words.output) (g.W.Write.contents c.write_one.new.output) c.words.tally
-    c.of.result c.and-tally.result c.in_ok-outcome.outcome
+    (g.W.Write.contents c.words.output) (g.W.Write.contents c.tally_one.new.output) c.words.tally
+    c.in_ok-one.one c.and-tally.result c.in_ok-one.ensures.0
     (split_texts c.words.rest.now _ _ c.as_bytes.result.now (search rules) c.in-len1-up.len_at_least
     c.as_bytes.ensures.value)
-    c.words.invariant c.in_ok-outcome.ensures c.of.ensures c.and-tally.ensures
+    c.words.invariant c.in_ok-one.ensures.1 c.in_ok-one.ensures.2 c.and-tally.ensures
