@@ -80,25 +80,25 @@ range_of None = None
 range_of (Some first) = range_from first.byte first.rest
 
 -- whether a colon stands in front of the next closing bracket
-abbrev pub closes_name : Bool → Text → Bool
-closes_name is_colon [] = false
-closes_name is_colon (byte ∷ bytes) = if byte == closing then is_colon else closes_name (byte == colon) bytes
+abbrev pub ends_in_colon : Bool → Text → Bool
+ends_in_colon is_colon [] = false
+ends_in_colon is_colon (byte ∷ bytes) = if byte == closing then is_colon else ends_in_colon (byte == colon) bytes
 
 -- Behind a bracket: the name of a class between colons, as in `[:alpha:]`.
 abbrev pub is_name : Text → Bool
 is_name [] = false
-is_name (byte ∷ bytes) = (byte == colon) && closes_name false bytes
+is_name (byte ∷ bytes) = (byte == colon) && ends_in_colon false bytes
 
 -- whether no range begins with this byte: a bracket that closes the class, or that a name stands behind
-abbrev pub is_none : Bool → ℕ → Text → Bool
-is_none is_first byte behind =
+abbrev pub begins_no_range : Bool → ℕ → Text → Bool
+begins_no_range is_first byte behind =
     ((byte == closing) && not is_first) || ((byte == bracket) && is_name behind)
 
 -- At the beginning of a class a closing bracket stands for itself.
 abbrev pub first_range : Bool → Text → Option OneRange
 first_range is_first [] = None
 first_range is_first (byte ∷ bytes) =
-    if is_none is_first byte bytes then None else range_of (first_byte (byte ∷ bytes))
+    if begins_no_range is_first byte bytes then None else range_of (first_byte (byte ∷ bytes))
 
 -- behind the bracket that closes a class; none where there is no bracket
 abbrev pub behind_closing : Text → Option Text

@@ -85,8 +85,8 @@ fn range_from(first: u8, behind: &[u8]) -> Option<RangeStep<'_>>
 }
 
 /// Whether a colon stands in front of the next closing bracket.
-fn closes_name(text: &[u8]) -> bool
-    ensures { result ≡ spec.closes_name false text.now }
+fn ends_in_colon(text: &[u8]) -> bool
+    ensures { result ≡ spec.ends_in_colon false text.now }
 {
     let mut is_colon = false;
     for byte in text {
@@ -103,14 +103,14 @@ fn is_name(text: &[u8]) -> bool
     ensures { result ≡ spec.is_name text.now }
 {
     match text {
-        [b':', behind @ ..] => closes_name(behind),
+        [b':', behind @ ..] => ends_in_colon(behind),
         _ => false,
     }
 }
 
 /// Whether no range begins with this byte.
-fn is_none(is_first: bool, byte: u8, behind: &[u8]) -> bool
-    ensures { result ≡ spec.is_none is_first byte behind.now }
+fn begins_no_range(is_first: bool, byte: u8, behind: &[u8]) -> bool
+    ensures { result ≡ spec.begins_no_range is_first byte behind.now }
 {
     match byte {
         b']' => !is_first,
@@ -125,7 +125,7 @@ fn first_range(is_first: bool, text: &[u8]) -> Option<RangeStep<'_>>
     ensures within { MatchOption result ⊤ (λ step. length step.rest.now < length text.now) }
 {
     match text {
-        [byte, behind @ ..] if !is_none(is_first, *byte, behind) => {
+        [byte, behind @ ..] if !begins_no_range(is_first, *byte, behind) => {
             let first = first_byte(text)?;
             range_from(first.byte, first.rest)
         }
