@@ -93,7 +93,7 @@ abbrev pub note_in : Format → Bool → Origin → Text → Text → Text
 note_in Human colored origin code message =
     human_note colored origin.file.now origin.line 1 code message
 note_in Json colored origin code message =
-    note_object code origin.file.now origin.line 1 message
+    note_object code origin.file.now origin.line 1 message (codes "error")
 note_in Short colored origin code message = short_line origin.file.now origin.line 1 message
 note_in Github colored origin code message =
     annotation Error code origin.file.now origin.line 1 message

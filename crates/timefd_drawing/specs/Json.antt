@@ -53,21 +53,23 @@ object code file line column message start end help replacement =
     ++ number_field (codes ",\"end\":") end ++ text_field (codes ",\"file\":") file
     ++ text_field (codes ",\"help\":") help ++ number_field (codes ",\"line\":") line
     ++ text_field (codes ",\"message\":") message ++ replacement_field replacement
-    ++ number_field (codes ",\"start\":") start ++ codes "}\n"
+    ++ text_field (codes ",\"severity\":") (codes "error") ++ number_field (codes ",\"start\":") start ++ codes "}\n"
 
-abbrev pub note_object : Text → Text → ℕ → ℕ → Text → Text
-note_object code file line column message =
+abbrev pub note_object : Text → Text → ℕ → ℕ → Text → Text → Text
+note_object code file line column message severity =
     [] ++ text_field (codes "{\"code\":") code ++ number_field (codes ",\"column\":") column
     ++ text_field (codes ",\"file\":") file ++ number_field (codes ",\"line\":") line
-    ++ text_field (codes ",\"message\":") message ++ codes "}\n"
+    ++ text_field (codes ",\"message\":") message ++ text_field (codes ",\"severity\":") severity
+    ++ codes "}\n"
 
 abbrev pub object_of : Entry → Detail → Text
 object_of e d =
     object e.code.now e.file.now e.line e.column e.message.now d.start d.end d.help.now
     (option_map (λ word. word.now) d.replacement)
 
-abbrev pub note_object_of : Entry → Text
-note_object_of e = note_object e.code.now e.file.now e.line e.column e.message.now
+abbrev pub note_object_of : Entry → Text → Text
+note_object_of e severity =
+    note_object e.code.now e.file.now e.line e.column e.message.now severity
 
 -- No character of a text is hidden in quotes.
 abbrev pub NoneIsHiddenInJson : Type 0

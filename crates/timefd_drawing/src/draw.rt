@@ -157,7 +157,7 @@ pub fn note(
             let line = short_line(alloc, origin.file, place, message)?;
             Ok(line.into_bytes())
         }
-        Format::Json => note_object(alloc, entry),
+        Format::Json => note_object(alloc, entry, "error"),
         Format::Github => annotation(alloc, Command::Error, entry),
     }
 }

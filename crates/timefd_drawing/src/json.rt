@@ -1,6 +1,6 @@
 //! Objects of JSON.
 
-ghost use Rattle.std.specs.Prelude.{◌≡◌, ◌<◌, ◌++◌, decimal, flat_map, option_map, IfOk, OnOk};
+ghost use Rattle.std.specs.Prelude.{◌≡◌, ◌≢◌, [], ◌<◌, ◌++◌, decimal, flat_map, option_map, IfOk, OnOk};
 ghost use Rattle.timefd_drawing.specs.Json as spec;
 
 use crate::shown::is_hidden;
@@ -44,6 +44,7 @@ pub fn object(alloc: Global, entry: Entry<'_>, detail: Detail<'_>) -> Result<Vec
     push_number(alloc, &mut out, ",\"line\":", entry.line)?;
     push_text(&mut out, ",\"message\":", entry.message)?;
     push_replacement(&mut out, detail.replacement)?;
+    push_text(&mut out, ",\"severity\":", "error")?;
     push_number(alloc, &mut out, ",\"start\":", detail.start)?;
     out.extend_from_slice(b"}\n")?;
     Ok(out)
@@ -59,9 +60,11 @@ fn push_replacement(out: &mut Vec<u8>, replacement: Option<&str>) -> Result<(), 
     }
 }
 
-/// An object on a line, where no text was looked at.
-pub fn note_object(alloc: Global, entry: Entry<'_>) -> Result<Vec<u8>, AllocError>
-    ensures { IfOk result (λ line. line.items ≡ spec.note_object_of entry.entry) }
+/// An object on a line, where no text was looked at. The severity is `error` or `warning`.
+pub fn note_object(alloc: Global, entry: Entry<'_>, severity: &str) -> Result<Vec<u8>, AllocError>
+    ensures exact { IfOk result (λ line. line.items
+        ≡ spec.note_object_of entry.entry severity.now) }
+    ensures some { IfOk result (λ line. line.items ≢ []) }
 {
     let mut out = Vec::new(alloc);
     push_text(&mut out, "{\"code\":", entry.code)?;
@@ -69,6 +72,7 @@ pub fn note_object(alloc: Global, entry: Entry<'_>) -> Result<Vec<u8>, AllocErro
     push_text(&mut out, ",\"file\":", entry.file)?;
     push_number(alloc, &mut out, ",\"line\":", entry.line)?;
     push_text(&mut out, ",\"message\":", entry.message)?;
+    push_text(&mut out, ",\"severity\":", severity)?;
     out.extend_from_slice(b"}\n")?;
     Ok(out)
 }

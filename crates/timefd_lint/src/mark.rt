@@ -8,7 +8,7 @@ use crate::options::Options;
 use std::alloc::{AllocError, Global};
 use std::io::Write;
 use timefd_drawing::github::{Command, annotation};
-use timefd_drawing::json::Entry;
+use timefd_drawing::json::{Entry, note_object};
 use timefd_drawing::shown::safe;
 use timefd_drawing::{Format, Origin, Style, note};
 
@@ -49,22 +49,20 @@ fn warning(alloc: Global, style: Style, origin: Origin<'_>) -> Result<Vec<u8>, A
 {
     match style.format {
         Format::Human => drawn_warning(alloc, style.is_colored, origin),
-        Format::Github => annotated_warning(alloc, origin),
-        Format::Json | Format::Short => note(alloc, style, origin, CODE, SENTENCE),
+        Format::Github => annotation(alloc, Command::Warning, entry_at(origin)),
+        Format::Json => note_object(alloc, entry_at(origin), "warning"),
+        Format::Short => note(alloc, style, origin, CODE, SENTENCE),
     }
 }
 
-fn annotated_warning(alloc: Global, origin: Origin<'_>) -> Result<Vec<u8>, AllocError>
-    ensures { IfOk result (λ message. message.items ≢ []) }
-{
-    let entry = Entry {
+fn entry_at<'a>(origin: Origin<'a>) -> Entry<'a> {
+    Entry {
         code: CODE,
         file: origin.file,
         line: origin.line,
         column: 1,
         message: SENTENCE,
-    };
-    annotation(alloc, Command::Warning, entry)
+    }
 }
 
 fn drawn_warning(alloc: Global, is_colored: bool, origin: Origin<'_>) -> Result<Vec<u8>, AllocError>
