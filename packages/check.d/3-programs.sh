@@ -31,7 +31,31 @@ hooked() {
 }
 same 'errors that the steps of a CI show' "$(steps)" 4
 same 'errors that the hook shows' "$(hooked)" 4
+# The same errors as a SARIF log: the level, the rule, the place, the bytes and the word to write.
+cat > "$room/results.py" << 'END'
+import json, sys
+log = json.load(sys.stdin)
+print(log["version"])
+for told in log["runs"][0]["results"]:
+    place = told["locations"][0]["physicalLocation"]
+    at = place["region"]
+    words = [told["level"], told["ruleId"], place["artifactLocation"]["uri"]]
+    words += [at[name] for name in ("startLine", "startColumn", "byteOffset", "byteLength")]
+    for fix in told.get("fixes", []):
+        words.append(fix["artifactChanges"][0]["replacements"][0]["insertedContent"]["text"])
+    print(*words)
+END
+logged() {
+    (cd "$project" && clean "$prefix/bin/timefd_lint" --format json src/source.rs 2> /dev/null || true) |
+        "$top/examples/ci/sarif.py" | python3 "$room/results.py"
+}
+same 'the errors in a SARIF log' "$(logged)" '2.1.0
+error unknown-name src/source.rs 7 34 259 4 month
+error invalid-modifier src/source.rs 12 38 459 3 zero
+error unknown-name src/source.rs 14 37 509 1
+error unclosed-bracket src/source.rs 16 21 551 1'
 printf 'fn main() {}\n' > "$project/src/source.rs"
+same 'no error in a SARIF log' "$(logged)" '2.1.0'
 same 'the steps of a CI where there are none' "$(steps)" 1
 same 'the hook where there are none' "$(hooked)" 1
 
