@@ -19,7 +19,7 @@ use Rattle.timefd_read_laws.specs.Again.{IsWrittenAgain, parts}
 use Rattle.timefd_read_laws.specs.Shown.{IsOf, fields_shown, shows, with_tree, with_trees}
 use Rattle.timefd_read_laws.specs.Written.{ComesBack, HasText, IsKept, IsReadWritten, ReadsAllWritten, ReadsWritten}
 use Rattle.timefd_read_laws.proofs.AgainLemmas.{fields_again, shows_back}
-use Rattle.timefd_read_laws.proofs.ComponentStepLemmas.{component_step}
+use Rattle.timefd_read_laws.proofs.ComponentReadLemmas.{component_step}
 use Rattle.timefd_read_laws.proofs.WrittenLemmas.{writes_again}
 
 -- Of a settled description all is read that is written, and nothing else.

@@ -13,7 +13,7 @@ use Rattle.timefd_read_moment.proofs.ShownLemmas.{clash}
 use Rattle.timefd_read_moment.proofs.YearLemmas.{both}
 use Rattle.timefd_read_laws.specs.Again.{PartsRead, are_plain, is_plain, parts}
 use Rattle.timefd_read_laws.specs.Shown.{with_tree, with_trees}
-use Rattle.timefd_read_laws.proofs.ComponentStepLemmas.{component_step}
+use Rattle.timefd_read_laws.proofs.ComponentReadLemmas.{component_step}
 use Rattle.timefd_read_laws.proofs.StepLemmas.{IsWhole, in_ok, is_ok}
 
 -- What was read of the whole text was read up to its end.

@@ -1,27 +1,28 @@
 -- What is known of the fields behind a component that was read.
-use Rattle.std.proofs.Common.{ℕ, ◌≡◌, ◌≤◌, ◌&&◌, ◌==◌, Bool, true, false, nat_le, drop, if◌then◌else◌, Option, Some, None}
-use Rattle.std.proofs.Common.{Result, Ok, refl, sym, ap, subst}
+use Rattle.std.proofs.Common.{ℕ, ◌≡◌, ◌∙◌, ◌≤◌, ◌+◌, ◌&&◌, ◌==◌, Bool, true, false, nat_le, drop, if◌then◌else◌, Option, Some, None}
+use Rattle.std.proofs.Common.{Ok, refl, sym, ap, subst}
 use Rattle.std.specs.Prelude.{is_some, ⊤}
 use Rattle.std.proofs.lemmas.Bool.{eqb-true, leb-true}
 use Rattle.timefd_component.specs.declared.component.Component.{Component}
 use Rattle.timefd_component.specs.Tree.{Text}
 use Rattle.timefd_format.specs.declared.field.Kind.{Kind}
-use Rattle.timefd_format.specs.declared.field.Kind.TheVariants as of
 use Rattle.timefd_modifier.specs.declared.enums.Padding.{Padding}
 use Rattle.timefd_read_dates.specs.declared.fields.Fields.{Fields}
 use Rattle.timefd_read_dates.specs.declared.fields.Signed.{Signed}
+use Rattle.timefd_read_dates.specs.Fields.{amount as amount_of, count as count_of}
+use Rattle.timefd_read_dates.specs.Inputs.{as_amount, as_count, as_name}
 use Rattle.timefd_read_dates.specs.Numbers.{behind, padded, signed_by, within}
 use Rattle.timefd_read_dates.specs.Numbers as numbers
-use Rattle.timefd_read_dates.specs.Readings.{kept, same, same_signed}
-use Rattle.timefd_read_dates.specs.Reads.{Point, agreed}
+use Rattle.timefd_read_dates.specs.Readings.{amount_with, count_with, kept, same, same_signed}
+use Rattle.timefd_read_dates.specs.Reads.{Point, agreed, taken}
 use Rattle.timefd_read_moment.proofs.ShownLemmas.{clash}
 use Rattle.timefd_read_moment.proofs.YearLemmas.{both}
-use Rattle.timefd_read_laws.proofs.GrowLemmas.{Grows, InRange, IsAtMost, Knows, Range, any, but, kinds, more, same_grows}
-use Rattle.timefd_read_laws.proofs.GrowLemmas.{years}
-use Rattle.timefd_read_laws.proofs.GrowLemmas as grow
+use Rattle.timefd_read_laws.specs.Again.{parts}
+use Rattle.timefd_read_laws.proofs.GrowLemmas.{Grows, InRange, IsAtMost, Knows, Range, any, kind_more, same_grows, years}
 use Rattle.timefd_read_laws.proofs.KindLemmas.{has_kind}
-use Rattle.timefd_read_laws.proofs.RowLemmas.{merged}
-use Rattle.timefd_read_laws.proofs.StepLemmas.{agreed_is, is_ok, kept_is, no_some, same_some}
+use Rattle.timefd_read_laws.proofs.PlaceLemmas.{IsAt, Place}
+use Rattle.timefd_read_laws.proofs.RowLemmas.{equal, merged}
+use Rattle.timefd_read_laws.proofs.StepLemmas.{Step, agreed_is, is_ok, kept_is, merged_step, no_some, same_some}
 
 -- Of this kind and in this range something was read, and what was known stays so.
 pub record Leaves (k : Kind) (r : Range) (f g : Fields) : Type 0 where
@@ -45,50 +46,6 @@ module _ (k : Kind) (r : Range) (p q : Point) where
         grows = same_grows p.fields;
         knows = old a is (kept_true p.fields q.fields (is_same a n) e);
       })
-
--- a field that is no year
-pub field_row : {A : Type 0} (k : Kind) (c : Component) (p q : Point) (len : ℕ) (is_same : A → A → Bool)
-    (set : A → Fields) (n : A) (get : Fields → Option A) → ((g : Fields) → is_some (get g) ≡ true → has_kind k g ≡ true)
-    → is_some (get (set n)) ≡ true → but k (kinds p.fields) ≡ but k (kinds (set n)) → years p.fields ≡ years (set n)
-    → agreed c p len (merged is_same p.fields set n (get p.fields)) ≡ Ok q → Leaves k any p.fields q.fields
-field_row k c p q len is_same set n get known some same ys e =
-    by_merged k any p q is_same set n (get p.fields) (get p.fields)
-    (λ _. more k p.fields (set n) (known (set n) some) same ys)
-    (record { kind = known (set n) some; range = tt })
-    (λ a found _. record { kind = known p.fields (ap is_some found); range = tt }) refl
-    (agreed_is c p q len (merged is_same p.fields set n (get p.fields)) e)
-
--- a year, or a part of one
-
-if_true : (b c : Bool) → (if b then c else false) ≡ true → c ≡ true
-if_true true c e = e
-if_true false c e = absurd (clash true (sym e) refl)
-
-same_magnitude : (a b : Signed) → same_signed a b ≡ true → b.magnitude ≡ a.magnitude
-same_magnitude a b e =
-    sym (eqb-true a.magnitude b.magnitude
-    (if_true (same a.is_negative b.is_negative) (a.magnitude == b.magnitude) e))
-
-pub year_row : (r : Range) (greatest : ℕ) (c : Component) (p q : Point) (len : ℕ) (set : Signed → Fields) (n : Signed)
-    (get : Fields → Option Signed) → ((g : Fields) → is_some (get g) ≡ true → has_kind of.Date g ≡ true)
-    → ((g : Fields) → IsAtMost greatest (get g) → InRange r (years g)) → get (set n) ≡ Some n
-    → n.magnitude ≤ greatest → but of.Date (kinds p.fields) ≡ but of.Date (kinds (set n))
-    → (get p.fields ≡ None → (s : Range) → InRange s (years p.fields) → InRange s (years (set n)))
-    → agreed c p len (merged same_signed p.fields set n (get p.fields)) ≡ Ok q → Leaves of.Date r p.fields q.fields
-year_row r greatest c p q len set n get known into is small same ys e =
-    let date : has_kind of.Date (set n) ≡ true = known (set n) (ap is_some is) in
-    by_merged of.Date r p q same_signed set n (get p.fields) (get p.fields)
-    (λ none. record {
-      kind = grow.kind_more of.Date p.fields (set n) date same;
-      range = ys none;
-    })
-    (record { kind = date; range = into (set n) (subst (IsAtMost greatest) (sym is) small) })
-    (λ a found eq. record {
-      kind = known p.fields (ap is_some found);
-      range =
-          into p.fields (subst (IsAtMost greatest) (sym found)
-          (subst (λ (m : ℕ). m ≤ greatest) (same_magnitude a n eq) small));
-    }) refl (agreed_is c p q len (merged same_signed p.fields set n (get p.fields)) e)
 
 -- what was read is in the range
 
@@ -124,9 +81,78 @@ signed_within padding w m s greatest (Some negative) mandatory text =
 signed_within padding w m s greatest None true text = tt
 signed_within padding w m s greatest None false text = within_alone false greatest (padded padding w m text)
 
--- what was taken was found, and is as all that is found
-pub took_in : {A B F E : Type 0} (put : F → Option A → Option B) (field : F) (g : Option B → Result Point E)
-    (x : Option A) (q : Point) (Is : Option A → Type 0) → Is x → g (put field x) ≡ Ok q → (P : Type 0)
-    → is_ok (g (put field None)) ≡ false → ((a : A) → Is (Some a) → g (put field (Some a)) ≡ Ok q → P) → P
-took_in put field g None q Is is e P none k = absurd (clash (is_ok (g (put field None))) none (ap is_ok e))
-took_in put field g (Some a) q Is is e P none k = k a is e
+if_true : (b c : Bool) → (if b then c else false) ≡ true → c ≡ true
+if_true true c e = e
+if_true false c e = absurd (clash true (sym e) refl)
+
+-- a field that was read
+module _ {A : Type 0} (place : Place A) (p q : Point) where
+  -- With its part more, and something known of its kind and in this range.
+  abbrev pub Placed : Range → Type 0
+  Placed r = Step (place.put_in (parts p.fields) true) p q × Leaves place.kind r p.fields q.fields
+
+  pub placed : (c : Component) (is_same : A → A → Bool) (r : Range) (len : ℕ) (n : A)
+      → InRange r (years (place.set p.fields n))
+      → ((a : A) → place.get p.fields ≡ Some a → is_same a n ≡ true → InRange r (years p.fields))
+      → agreed c p len (merged is_same p.fields (place.set p.fields) n (place.get p.fields)) ≡ Ok q → Placed r
+  placed c is_same r len n new old e =
+      let g = place.set p.fields n in
+      let is = place.is_set p.fields n in
+      let here : has_kind place.kind g ≡ true = place.known g (ap is_some is.0) in (
+        merged_step c p q len is_same (place.set p.fields) n (place.get p.fields) (place.put_in (parts p.fields) true)
+            (λ a. (place.is_set p.fields a).2) (λ a. (place.is_set p.fields a).4)
+            (λ a found. is.3 ∙ ap (λ (x : Option A). place.put_in (parts p.fields) (is_some x)) found) e,
+        by_merged place.kind r p q is_same (place.set p.fields) n (place.get p.fields) (place.get p.fields)
+            (λ none. record {
+              kind = kind_more place.kind p.fields g here is.1;
+              range = place.range p.fields n none;
+            })
+            (record { kind = here; range = new })
+            (λ a found same. record {
+              kind = place.known p.fields (ap is_some found);
+              range = old a found same;
+            }) refl (agreed_is c p q len (merged is_same p.fields (place.set p.fields) n (place.get p.fields)) e),
+      )
+
+-- a number without a sign, and its name
+module _ (place : Place ℕ) (c : Component) (p q : Point) where
+  -- It is read as the number of a field.
+  pub count : (field : _) (x : Option (ℕ × ℕ)) → IsAt equal count_with count_of field place → taken c p (as_count field x) ≡ Ok q
+      → Placed place p q any
+  count field None is e = absurd (clash true (sym (ap is_ok e)) refl)
+  count field (Some r) is e =
+      placed place p q c equal any r.1 r.0 tt (λ a found same. tt) (sym (ap (agreed c p r.1) (is p.fields r.0)) ∙ e)
+
+  pub name : (field : _) (first : ℕ) (x : Option (ℕ × ℕ)) → IsAt equal count_with count_of field place
+      → taken c p (as_name field first x) ≡ Ok q → Placed place p q any
+  name field first None is e = absurd (clash true (sym (ap is_ok e)) refl)
+  name field first (Some r) is e =
+      placed place p q c equal any r.1 (first + r.0) tt (λ a found same. tt)
+      (sym (ap (agreed c p r.1) (is p.fields (first + r.0))) ∙ e)
+
+-- a number with a sign
+module _ (place : Place Signed) (c : Component) (p q : Point) where
+  same_magnitude : (a b : Signed) → same_signed a b ≡ true → b.magnitude ≡ a.magnitude
+  same_magnitude a b e =
+      sym (eqb-true a.magnitude b.magnitude
+      (if_true (same a.is_negative b.is_negative) (a.magnitude == b.magnitude) e))
+
+  pub amount : (field : _) (x : Option (Signed × ℕ)) → IsAt same_signed amount_with amount_of field place → taken c p (as_amount field x) ≡ Ok q
+      → Placed place p q any
+  amount field None is e = absurd (clash true (sym (ap is_ok e)) refl)
+  amount field (Some r) is e =
+      placed place p q c same_signed any r.1 r.0 tt (λ a found same. tt)
+      (sym (ap (agreed c p r.1) (is p.fields r.0)) ∙ e)
+
+  -- a year, or a part of one, which is no greater than this
+  pub year : (field : _) (r : Range) (greatest : ℕ) (x : Option (Signed × ℕ)) → IsWithin greatest x
+      → ((f : Fields) → IsAtMost greatest (place.get f) → InRange r (years f)) → IsAt same_signed amount_with amount_of field place
+      → taken c p (as_amount field x) ≡ Ok q → Placed place p q r
+  year field r greatest None within into is e = absurd (clash true (sym (ap is_ok e)) refl)
+  year field r greatest (Some x) within into is e =
+      placed place p q c same_signed r x.1 x.0
+      (into (place.set p.fields x.0)
+      (subst (IsAtMost greatest) (sym (place.is_set p.fields x.0).0) within))
+      (λ a found same. into p.fields (subst (IsAtMost greatest) (sym found)
+      (subst (λ (m : ℕ). m ≤ greatest) (same_magnitude a x.0 same) within)))
+      (sym (ap (agreed c p x.1) (is p.fields x.0)) ∙ e)
