@@ -7,12 +7,11 @@ pub mod DigitBackLemmas
 pub mod BoundLemmas
 pub mod RowLemmas
 pub mod PartRowLemmas
+pub mod KindLemmas
+pub mod GrowLemmas
+pub mod PlaceLemmas
 pub mod WidthRowLemmas
 pub mod SecondRowLemmas
-pub mod DateTableLemmas
-pub mod YearTableLemmas
-pub mod ClockTableLemmas
-pub mod StampTableLemmas
 pub mod TableLemmas
 pub mod BeginLemmas
 pub mod TreeLemmas
@@ -22,9 +21,6 @@ pub mod StepLemmas
 pub mod ShownPartLemmas
 pub mod KnownLemmas
 pub mod MoreLemmas
-pub mod KindLemmas
-pub mod GrowLemmas
-pub mod PlaceLemmas
 pub mod ReadRowLemmas
 pub mod FractionReadLemmas
 pub mod ComponentReadLemmas

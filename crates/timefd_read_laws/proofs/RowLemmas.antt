@@ -46,7 +46,7 @@ abbrev pub merged : {A : Type 0} → (A → A → Bool) → Fields → (A → Fi
 merged is_same f set n None = Some (set n)
 merged is_same f set n (Some before) = kept f (is_same before n)
 
-once_more : {A : Type 0} (is_same : A → A → Bool) (f h : Fields) (set : A → Fields) (b : Bool) (k n : A)
+pub once_more : {A : Type 0} (is_same : A → A → Bool) (f h : Fields) (set : A → Fields) (b : Bool) (k n : A)
     → k ≡ n → is_same n n ≡ true → set n ≡ h → (b ≡ true → f ≡ h)
     → merged is_same f set k (if_shown b n) ≡ Some h
 once_more {A = A} is_same f h set true k n e one first is =
@@ -57,41 +57,14 @@ once_more {A = A} is_same f h set false k n e one first is =
 abbrev pub equal : ℕ → ℕ → Bool
 equal a b = a == b
 
-pub counted : (c : Component) (d : Date) (t : Time) (o : UtcOffset) (s v : Shows) (text rest : Text)
-    (set : ℕ → Fields) (b : Bool) (k n : ℕ) → k ≡ n → set n ≡ fields_shown d t o v
-    → (b ≡ true → fields_shown d t o s ≡ fields_shown d t o v)
-    → agreed c (at d t o s (text ++ rest)) (length text) (merged equal (fields_shown d t o s) set k (if_shown b n))
-    ≡ Ok (at d t o v rest)
-counted c d t o s v text rest set b k n e first is =
-    behind c d t o s v text rest _
-    (once_more equal (fields_shown d t o s) (fields_shown d t o v) set b k n e (eq-eqb n n refl) first is)
-
 pub same_sign : (b : Bool) → same b b ≡ true
 same_sign true = refl
 same_sign false = refl
 
-same_number : (a : Signed) → same_signed a a ≡ true
+pub same_number : (a : Signed) → same_signed a a ≡ true
 same_number a =
     ap (λ b. if b then a.magnitude == a.magnitude else false) (same_sign a.is_negative)
     ∙ eq-eqb a.magnitude a.magnitude refl
-
-pub amounted : (c : Component) (d : Date) (t : Time) (o : UtcOffset) (s v : Shows) (text rest : Text)
-    (set : Signed → Fields) (b : Bool) (n : Signed) → set n ≡ fields_shown d t o v
-    → (b ≡ true → fields_shown d t o s ≡ fields_shown d t o v)
-    → agreed c (at d t o s (text ++ rest)) (length text) (merged same_signed (fields_shown d t o s) set n (if_shown b n))
-    ≡ Ok (at d t o v rest)
-amounted c d t o s v text rest set b n first is =
-    behind c d t o s v text rest _
-    (once_more same_signed (fields_shown d t o s) (fields_shown d t o v) set b n n refl (same_number n) first is)
-
-pub flagged : (c : Component) (d : Date) (t : Time) (o : UtcOffset) (s v : Shows) (text rest : Text)
-    (set : Bool → Fields) (b k n : Bool) → k ≡ n → set n ≡ fields_shown d t o v
-    → (b ≡ true → fields_shown d t o s ≡ fields_shown d t o v)
-    → agreed c (at d t o s (text ++ rest)) (length text) (merged same (fields_shown d t o s) set k (if_shown b n))
-    ≡ Ok (at d t o v rest)
-flagged c d t o s v text rest set b k n e first is =
-    behind c d t o s v text rest _
-    (once_more same (fields_shown d t o s) (fields_shown d t o v) set b k n e (same_sign n) first is)
 
 -- What a moment has is what these have.
 
