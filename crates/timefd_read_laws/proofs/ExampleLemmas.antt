@@ -1,5 +1,5 @@
 -- Worked examples.
-use Rattle.std.proofs.Common.{ℕ, ◌≡◌, ◌∙◌, ◌-◌, ◌++◌, false, codes, length, replicate, Some, Result, Ok, refl, sym, ap, arith}
+use Rattle.std.proofs.Common.{ℕ, ◌≡◌, ◌∙◌, ◌-◌, ◌++◌, false, true, codes, length, replicate, Some, Result, Ok, refl, sym, ap, arith}
 use Rattle.std.proofs.lemmas.Bool.{eq-eqb}
 use Rattle.std.specs.Fmt.{decimal}
 use Rattle.timefd_component.specs.declared.component.Component.TheVariants.{CalendarYearFullExtendedRange, Day, MonthNumerical}
@@ -17,15 +17,15 @@ use Rattle.timefd_read_moment.specs.Shown.{DateAgrees, is_year}
 use Rattle.timefd_read_laws.specs.Shown.{with_sign}
 use Rattle.timefd_read_laws.specs.Examples.{AgainExample, DateExample, OffsetExample, StampExample, TimeExample, date_fields}
 
--- what is written of these numbers
-abbrev of_numbers : ℕ → ℕ → ℕ → Result Text Unshown
-of_numbers y m d = followed
+-- what is written of these numbers, and behind them
+abbrev pub of_numbers : ℕ → ℕ → ℕ → Result Text Unshown → Result Text Unshown
+of_numbers y m d more = followed
     (text_of (CalendarYearFullExtendedRange (record { padding = Padding.Zero; sign_is_mandatory = false }))
     (year 999999 4 1 Padding.Zero false y))
     (followed (Ok (codes "-"))
     (followed (text_of (MonthNumerical (record { padding = Padding.Zero })) (Ok (plain Padding.Zero 2 m)))
     (followed (Ok (codes "-"))
-    (followed (text_of (Day (record { padding = Padding.Zero })) (Ok (plain Padding.Zero 2 d))) (Ok (codes ""))))))
+    (followed (text_of (Day (record { padding = Padding.Zero })) (Ok (plain Padding.Zero 2 d))) more))))
 
 abbrev of_texts : Text → Text → Text → Result Text Unshown
 of_texts y m d = followed (Ok y)
@@ -43,12 +43,12 @@ month = two_filled 11 (omega arith)
 day : filled Padding.Zero 2 23 ≡ pair 23
 day = two_filled 23 (omega arith)
 
-numbers : of_numbers 1002026 11 23 ≡ Ok (codes "2026-11-23")
+numbers : of_numbers 1002026 11 23 (Ok (codes "")) ≡ Ok (codes "2026-11-23")
 numbers = λ i. of_texts (four i) (month i) (day i)
 
 pub date_example : DateExample
 date_example = (
-  (λ d y m n. (λ i. of_numbers (y i) (m i) (n i)) ∙ numbers),
+  (λ d y m n. (λ i. of_numbers (y i) (m i) (n i) (Ok (codes ""))) ∙ numbers),
   refl,
   refl,
   refl,
@@ -69,21 +69,13 @@ offset_example = (refl, refl, tt)
 pub stamp_example : StampExample
 stamp_example = (refl, refl)
 
--- the date has what was read
-pub date_agrees : (d : Date) → d.years ≡ 1002026 → d.month ≡ 11 → d.day ≡ 23 → DateAgrees date_fields d
-date_agrees d y m n DatePart.Day = eq-eqb 23 d.day (sym n)
-date_agrees d y m n DatePart.Month = eq-eqb 11 d.month (sym m)
-date_agrees d y m n DatePart.Ordinal = refl
-date_agrees d y m n DatePart.Weekday = refl
-date_agrees d y m n DatePart.IsoWeek = refl
-date_agrees d y m n DatePart.SundayWeek = refl
-date_agrees d y m n DatePart.MondayWeek = refl
-date_agrees d y m n DatePart.YearLastTwo = refl
-date_agrees d y m n DatePart.Century = refl
-date_agrees d y m n DatePart.Year = ap (λ x. is_year (Some (with_sign false 2026)) x) y
-date_agrees d y m n DatePart.IsoYearLastTwo = refl
-date_agrees d y m n DatePart.IsoCentury = refl
-date_agrees d y m n DatePart.IsoYear = refl
+-- The date has what was read, of these years.
+pub date_agrees : (d : Date) (k years : ℕ) → is_year (Some (with_sign false k)) years ≡ true → d.years ≡ years
+    → d.month ≡ 11 → d.day ≡ 23 → DateAgrees (record date_fields { year = Some (with_sign false k) }) d
+date_agrees d k years is y m n DatePart.Day = eq-eqb 23 d.day (sym n)
+date_agrees d k years is y m n DatePart.Month = eq-eqb 11 d.month (sym m)
+date_agrees d k years is y m n DatePart.Year = ap (λ x. is_year (Some (with_sign false k)) x) y ∙ is
+date_agrees d k years is y m n _ = refl
 
 pub again_example : AgainExample
 again_example d t o y m n = record {
@@ -91,7 +83,7 @@ again_example d t o y m n = record {
   settles = refl;
   read = refl;
   same_parts = refl;
-  moment = ((date_agrees d y m n, tt), tt, tt);
+  moment = ((date_agrees d 2026 1002026 refl y m n, tt), tt, tt);
   is_of = (refl, tt, tt);
   wrote = date_example.0 d y m n;
 }

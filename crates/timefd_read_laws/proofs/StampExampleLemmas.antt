@@ -99,33 +99,13 @@ half_text = λ i. with_digits (one i) (nine i)
 -- the moment has what was read
 agrees : (d : Date) (t : Time) (o : UtcOffset) → IsHalfBefore d t o → MomentAgrees stamp_fields d t o
 agrees d t o h (part.Date DatePart.Day) = refl
-agrees d t o h (part.Date DatePart.Month) = refl
-agrees d t o h (part.Date DatePart.Ordinal) = refl
-agrees d t o h (part.Date DatePart.Weekday) = refl
-agrees d t o h (part.Date DatePart.IsoWeek) = refl
-agrees d t o h (part.Date DatePart.SundayWeek) = refl
-agrees d t o h (part.Date DatePart.MondayWeek) = refl
-agrees d t o h (part.Date DatePart.YearLastTwo) = refl
-agrees d t o h (part.Date DatePart.Century) = refl
-agrees d t o h (part.Date DatePart.Year) = refl
-agrees d t o h (part.Date DatePart.IsoYearLastTwo) = refl
-agrees d t o h (part.Date DatePart.IsoCentury) = refl
-agrees d t o h (part.Date DatePart.IsoYear) = refl
-agrees d t o h (part.Time TimePart.Hour) = refl
-agrees d t o h (part.Time TimePart.Hour12) = refl
-agrees d t o h (part.Time TimePart.Period) = refl
-agrees d t o h (part.Time TimePart.Minute) = refl
-agrees d t o h (part.Time TimePart.Second) = refl
 agrees d t o h (part.Time TimePart.Subsecond) = ap (has_digits stamp_fields.subsecond) h.6
-agrees d t o h (part.Offset OffsetPart.Hour) = refl
 agrees d t o h (part.Offset OffsetPart.Minute) = ap (λ (n : ℕ). n / 60 % 60 == 0) h.7
 agrees d t o h (part.Offset OffsetPart.Second) = ap (λ (n : ℕ). n % 60 == 0) h.7
 agrees d t o h (part.Instant InstantPart.Second) =
     ap (λ (u : UnixTime). stamp_has stamp_fields u InstantPart.Second)
     (instant d t o h)
-agrees d t o h (part.Instant InstantPart.Millisecond) = refl
-agrees d t o h (part.Instant InstantPart.Microsecond) = refl
-agrees d t o h (part.Instant InstantPart.Nanosecond) = refl
+agrees d t o h _ = refl
 
 in_utc : (o : UtcOffset) → o.seconds ≡ 0 → ShiftHas utc_shift o
 in_utc o e = (omega (arith, e), omega (arith, e), omega (arith, e), inl e)

@@ -1,24 +1,18 @@
 -- Worked examples of what was read and is written.
-use Rattle.std.proofs.Common.{ℕ, ◌≡◌, false, true, codes, Some, Result, Ok, Err, refl, sym, ap, arith}
-use Rattle.std.proofs.lemmas.Bool.{eq-eqb}
-use Rattle.timefd_component.specs.declared.component.Component.TheVariants.{CalendarYearFullExtendedRange, Day}
-use Rattle.timefd_component.specs.declared.component.Component.TheVariants.{MonthNumerical}
+use Rattle.std.proofs.Common.{ℕ, ◌≡◌, false, true, codes, Some, Result, Ok, Err, refl, ap, arith}
 use Rattle.timefd_component.specs.Tree.{Text, optional}
 use Rattle.timefd_format.specs.declared.field.Lack.{Lack}
 use Rattle.timefd_format.specs.declared.unshown.Unshown.{Unshown}
-use Rattle.timefd_format.specs.Fields.{plain, year}
+use Rattle.timefd_format.specs.Fields.{year}
 use Rattle.timefd_format.specs.Written.{followed, text_of, written}
 use Rattle.timefd_modifier.specs.declared.enums.Padding.{Padding}
 use Rattle.timefd_moment.specs.declared.date.Date.{Date}
-use Rattle.timefd_read_moment.specs.declared.part.DatePart.{DatePart}
-use Rattle.timefd_read_moment.specs.Shown.{DateAgrees, is_year}
 use Rattle.timefd_read_moment.proofs.ShownLemmas.{clash}
 use Rattle.timefd_read_laws.specs.Examples.{date_fields, iso_date, only}
-use Rattle.timefd_read_laws.specs.Shown.{with_sign}
 use Rattle.timefd_read_laws.specs.Written.{IsReadWritten}
 use Rattle.timefd_read_laws.specs.WrittenExamples.{LeftOutExample, LongYearExample, OptionalExample, WrittenExample, date_and}
 use Rattle.timefd_read_laws.specs.WrittenExamples.{NeedsAllRead, hour, long_year_fields, short_clock, standard_year, year_again}
-use Rattle.timefd_read_laws.proofs.ExampleLemmas.{date_agrees, date_example}
+use Rattle.timefd_read_laws.proofs.ExampleLemmas.{date_agrees, date_example, of_numbers}
 use Rattle.timefd_read_laws.proofs.StepLemmas.{is_ok}
 use Rattle.timefd_read_laws.proofs.WrittenLemmas.{plain_reads_written}
 
@@ -26,7 +20,7 @@ pub written_example : WrittenExample
 written_example d y m n = (
   refl,
   plain_reads_written iso_date (codes "+2026-11-23") date_fields refl refl,
-  ((date_agrees d y m n, tt), tt, tt),
+  ((date_agrees d 2026 1002026 refl y m n, tt), tt, tt),
   date_example.0 d y m n,
 )
 
@@ -37,38 +31,13 @@ optional_example =
     plain_reads_written (date_and short_clock) (codes "2026-11-23 05:36") fields refl refl in
     record { read = refl; end = h.end; fields = h.fields; reads = h.reads }
 
--- a date, and what is written behind it
-abbrev of_numbers : ℕ → ℕ → ℕ → Result Text Unshown → Result Text Unshown
-of_numbers y m d more = followed
-    (text_of (CalendarYearFullExtendedRange (record { padding = Padding.Zero; sign_is_mandatory = false }))
-    (year 999999 4 1 Padding.Zero false y))
-    (followed (Ok (codes "-"))
-    (followed (text_of (MonthNumerical (record { padding = Padding.Zero })) (Ok (plain Padding.Zero 2 m)))
-    (followed (Ok (codes "-"))
-    (followed (text_of (Day (record { padding = Padding.Zero })) (Ok (plain Padding.Zero 2 d)))
-    (followed more (Ok (codes "")))))))
-
 pub left_out_example : LeftOutExample
 left_out_example d y m n = (
   refl,
-  ((date_agrees d y m n, tt), tt, tt),
-  (λ i. of_numbers (y i) (m i) (n i) (Err (record { component = hour; lack = Lack.NoTime }))),
+  ((date_agrees d 2026 1002026 refl y m n, tt), tt, tt),
+  (λ i. of_numbers (y i) (m i) (n i)
+      (followed (Err (record { component = hour; lack = Lack.NoTime })) (Ok (codes "")))),
 )
-
-long_agrees : (d : Date) → d.years ≡ 1012026 → d.month ≡ 11 → d.day ≡ 23 → DateAgrees long_year_fields d
-long_agrees d y m n DatePart.Day = eq-eqb 23 d.day (sym n)
-long_agrees d y m n DatePart.Month = eq-eqb 11 d.month (sym m)
-long_agrees d y m n DatePart.Ordinal = refl
-long_agrees d y m n DatePart.Weekday = refl
-long_agrees d y m n DatePart.IsoWeek = refl
-long_agrees d y m n DatePart.SundayWeek = refl
-long_agrees d y m n DatePart.MondayWeek = refl
-long_agrees d y m n DatePart.YearLastTwo = refl
-long_agrees d y m n DatePart.Century = refl
-long_agrees d y m n DatePart.Year = ap (λ x. is_year (Some (with_sign false 12026)) x) y
-long_agrees d y m n DatePart.IsoYearLastTwo = refl
-long_agrees d y m n DatePart.IsoCentury = refl
-long_agrees d y m n DatePart.IsoYear = refl
 
 -- a space, and a year of the standard range
 abbrev again : ℕ → Result Text Unshown
@@ -78,8 +47,8 @@ pub long_year_example : LongYearExample
 long_year_example d y m n = (
   refl,
   refl,
-  ((long_agrees d y m n, tt), tt, tt),
-  (λ i. of_numbers (y i) (m i) (n i) (again (y i))),
+  ((date_agrees d 12026 1012026 refl y m n, tt), tt, tt),
+  (λ i. of_numbers (y i) (m i) (n i) (followed (again (y i)) (Ok (codes "")))),
 )
 
 long_date : Date
