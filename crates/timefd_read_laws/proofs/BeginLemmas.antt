@@ -125,22 +125,14 @@ each_instant P m c h =
 
 pub field_begins : (m : Moment) (known : Bound) (c : Component)
     → IfOk (field m c) (λ f. Begins known (component_begin c known) (field_text f))
-field_begins m known (of.Day p) = unknown known (field m (of.Day p))
 field_begins m known (of.MonthShort p) =
     each_date _ m.date _ (λ d rest h. name_begins short_months (d.month - 1) rest refl (omega (arith, d.exists)))
 field_begins m known (of.MonthLong p) =
     each_date _ m.date _ (λ d rest h. name_begins long_months (d.month - 1) rest refl (omega (arith, d.exists)))
-field_begins m known (of.MonthNumerical p) = unknown known (field m (of.MonthNumerical p))
-field_begins m known (of.Ordinal p) = unknown known (field m (of.Ordinal p))
 field_begins m known (of.WeekdayShort p) =
     each_date _ m.date _ (λ d rest h. name_begins short_weekdays (days_from_monday d) rest refl (omega arith))
 field_begins m known (of.WeekdayLong p) =
     each_date _ m.date _ (λ d rest h. name_begins long_weekdays (days_from_monday d) rest refl (omega arith))
-field_begins m known (of.WeekdaySunday p) = unknown known (field m (of.WeekdaySunday p))
-field_begins m known (of.WeekdayMonday p) = unknown known (field m (of.WeekdayMonday p))
-field_begins m known (of.WeekNumberIso p) = unknown known (field m (of.WeekNumberIso p))
-field_begins m known (of.WeekNumberSunday p) = unknown known (field m (of.WeekNumberSunday p))
-field_begins m known (of.WeekNumberMonday p) = unknown known (field m (of.WeekNumberMonday p))
 field_begins m known (of.CalendarYearFullExtendedRange p) =
     each_date (BeginsSigned known p.sign_is_mandatory) m.date _
     (λ d. year_begins known 999999 4 1 p.padding p.sign_is_mandatory d.years)
@@ -165,17 +157,8 @@ field_begins m known (of.IsoYearCenturyExtendedRange p) =
 field_begins m known (of.IsoYearCenturyStandardRange p) =
     each_date (BeginsSigned known p.sign_is_mandatory) m.date _
     (λ d. year_begins known 9999 2 100 p.padding p.sign_is_mandatory (iso_years d))
-field_begins m known (of.CalendarYearLastTwo p) = unknown known (field m (of.CalendarYearLastTwo p))
-field_begins m known (of.IsoYearLastTwo p) = unknown known (field m (of.IsoYearLastTwo p))
-field_begins m known (of.Hour12 p) = unknown known (field m (of.Hour12 p))
-field_begins m known (of.Hour24 p) = unknown known (field m (of.Hour24 p))
-field_begins m known (of.Minute p) = unknown known (field m (of.Minute p))
-field_begins m known (of.Second p) = unknown known (field m (of.Second p))
-field_begins m known (of.OffsetMinute p) = unknown known (field m (of.OffsetMinute p))
-field_begins m known (of.OffsetSecond p) = unknown known (field m (of.OffsetSecond p))
 field_begins m known (of.Period p) =
     each_time _ m.time _ (λ t rest h. period_begins p.is_uppercase (nat_le 12 t.hour) rest)
-field_begins m known (of.Subsecond p) = unknown known (field m (of.Subsecond p))
 field_begins m known (of.OffsetHour p) =
     each_offset _ m.offset _ (λ o. sign_begins known p.sign_is_mandatory o.is_negative p.sign_is_mandatory
     (filled p.padding 2 (o.seconds / 3600)) (λ e. e))
@@ -199,3 +182,4 @@ field_begins m known (of.WeekNumber p) = each_date _ m.date _ (λ d rest h. h)
 field_begins m known (of.Hour p) = each_date _ m.date _ (λ d rest h. h)
 field_begins m known (of.UnixTimestamp p) = each_date _ m.date _ (λ d rest h. h)
 field_begins m known (of.Year p) = each_date _ m.date _ (λ d rest h. h)
+field_begins m known c = unknown known (field m c)

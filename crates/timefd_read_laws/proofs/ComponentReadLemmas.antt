@@ -1,9 +1,11 @@
 -- What the reading of each component does to the fields, and to the parts that were read.
 use Rattle.std.proofs.Common.{ℕ, ◌≡◌, ◌-◌, ◌==◌, Bool, true, false, nat_le, length, Option, Some, None, Ok}
-use Rattle.std.proofs.Common.{refl, sym, ap}
+use Rattle.std.proofs.Common.{refl, sym, ap, subst}
 use Rattle.timefd_component.specs.declared.component.Component.{Component}
 use Rattle.timefd_component.specs.declared.component.Component.TheVariants as of
+use Rattle.timefd_format.specs.declared.field.Kind.TheVariants as kind
 use Rattle.timefd_format.specs.Fields.{kind as kind_of}
+use Rattle.timefd_read_dates.specs.declared.fields.Fields.{Fields}
 use Rattle.timefd_read_dates.specs.Inputs.{after_monday, as_period, as_weekday, first_number}
 use Rattle.timefd_read_dates.specs.Numbers.{sign_in}
 use Rattle.timefd_read_dates.specs.Readings.{same}
@@ -11,13 +13,13 @@ use Rattle.timefd_read_dates.specs.Reads.{Point, read_component, taken}
 use Rattle.timefd_read_moment.proofs.ShownLemmas.{clash}
 use Rattle.timefd_read_laws.specs.Again.{parts}
 use Rattle.timefd_read_laws.specs.Shown.{with_component}
-use Rattle.timefd_read_laws.proofs.FractionReadLemmas.{end_read, fraction_read, nothing_read}
-use Rattle.timefd_read_laws.proofs.GrowLemmas.{Range, any}
+use Rattle.timefd_read_laws.proofs.FractionReadLemmas.{fraction_read}
+use Rattle.timefd_read_laws.proofs.GrowLemmas.{Range, any, same_grows}
 use Rattle.timefd_read_laws.proofs.GrowLemmas as range
 use Rattle.timefd_read_laws.proofs.PlaceLemmas as place
 use Rattle.timefd_read_laws.proofs.ReadRowLemmas.{Leaves, Placed, amount, count, name, placed, signed_within, year}
 use Rattle.timefd_read_laws.proofs.RowLemmas.{equal}
-use Rattle.timefd_read_laws.proofs.StepLemmas.{Step, either_took, end_step, fraction_step, is_ok, nothing_step}
+use Rattle.timefd_read_laws.proofs.StepLemmas.{Step, either_took, end_kept, is_ok, nothing_kept, same_step}
 
 -- the range of the years that a component shows
 abbrev pub range_of : Component → Range
@@ -45,6 +47,13 @@ module _ (p q : Point) where
   period : (c : Component) (x : Option (ℕ × ℕ)) → taken c p (as_period x) ≡ Ok q → Placed place.is_afternoon p q any
   period c None e = absurd (clash true (sym (ap is_ok e)) refl)
   period c (Some r) e = placed place.is_afternoon p q c same any r.1 (r.0 == 1) tt (λ a found eq. tt) e
+
+  kept : p.fields ≡ q.fields → Step (parts p.fields) p q × Leaves kind.Nothing any p.fields q.fields
+  kept e = (
+    same_step p q (parts p.fields) e refl,
+    subst (λ (f : Fields). Leaves kind.Nothing any p.fields f) e
+        (record { grows = same_grows p.fields; knows = record { kind = refl; range = tt } }),
+  )
 
   component_taken : (c : Component) → read_component c p ≡ Ok q → Taken c
   component_taken (of.Day c) e = count place.day (of.Day c) p q _ _ (λ f n. refl) e
@@ -93,7 +102,7 @@ module _ (p q : Point) where
   component_taken (of.OffsetMinute c) e = count place.offset_minute (of.OffsetMinute c) p q _ _ (λ f n. refl) e
   component_taken (of.OffsetSecond c) e = count place.offset_second (of.OffsetSecond c) p q _ _ (λ f n. refl) e
   component_taken (of.Period c) e = period (of.Period c) _ e
-  component_taken (of.Subsecond c) e = (fraction_step c p q e, fraction_read c p q e)
+  component_taken (of.Subsecond c) e = fraction_read c p q e
   component_taken (of.OffsetHour c) e = amount place.offset_hour (of.OffsetHour c) p q _ _ (λ f n. refl) e
   component_taken (of.UnixTimestampSecond c) e = amount place.unix_second (of.UnixTimestampSecond c) p q _ _ (λ f n. refl) e
   component_taken (of.UnixTimestampMillisecond c) e =
@@ -103,15 +112,10 @@ module _ (p q : Point) where
   component_taken (of.UnixTimestampNanosecond c) e =
       amount place.unix_nanosecond (of.UnixTimestampNanosecond c) p q _ _ (λ f n. refl) e
   component_taken (of.Ignore c) e =
-      either_took (taken (of.Ignore c) p) _ (nat_le c.count.value (length p.rest)) q e (Taken (of.Ignore c)) refl
-      (λ h. (nothing_step (of.Ignore c) p q c.count.value h, nothing_read (of.Ignore c) p q c.count.value h))
-  component_taken (of.End c) e = (end_step (of.End c) p q c.trailing_input e, end_read (of.End c) p q c.trailing_input e)
-  component_taken (of.Month c) e = absurd (clash true (sym (ap is_ok e)) refl)
-  component_taken (of.Weekday c) e = absurd (clash true (sym (ap is_ok e)) refl)
-  component_taken (of.WeekNumber c) e = absurd (clash true (sym (ap is_ok e)) refl)
-  component_taken (of.Hour c) e = absurd (clash true (sym (ap is_ok e)) refl)
-  component_taken (of.UnixTimestamp c) e = absurd (clash true (sym (ap is_ok e)) refl)
-  component_taken (of.Year c) e = absurd (clash true (sym (ap is_ok e)) refl)
+      kept (either_took (taken (of.Ignore c) p) _ (nat_le c.count.value (length p.rest)) q e (p.fields ≡ q.fields) refl
+      (λ h. nothing_kept (of.Ignore c) p q c.count.value h))
+  component_taken (of.End c) e = kept (end_kept (of.End c) p q c.trailing_input e)
+  component_taken c e = absurd (clash true (sym (ap is_ok e)) refl)
 
   pub component_step : (c : Component) → read_component c p ≡ Ok q → Step (with_component c (parts p.fields)) p q
   component_step c e = (component_taken c e).0

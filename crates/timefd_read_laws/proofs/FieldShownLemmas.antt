@@ -89,18 +89,6 @@ century_shown greatest k padding mandatory x years most h e =
 module _ (m : Moment) (f : Fields) where
   pub component_shown : (c : Component) → Has (kind c) m f → InRange (range_of c) (years f)
       → is_ok (field m c) ≡ true
-  component_shown (of.Day c) h r = date_shown m f h (λ d. date_field d (of.Day c)) refl
-  component_shown (of.MonthShort c) h r = date_shown m f h (λ d. date_field d (of.MonthShort c)) refl
-  component_shown (of.MonthLong c) h r = date_shown m f h (λ d. date_field d (of.MonthLong c)) refl
-  component_shown (of.MonthNumerical c) h r = date_shown m f h (λ d. date_field d (of.MonthNumerical c)) refl
-  component_shown (of.Ordinal c) h r = date_shown m f h (λ d. date_field d (of.Ordinal c)) refl
-  component_shown (of.WeekdayShort c) h r = date_shown m f h (λ d. date_field d (of.WeekdayShort c)) refl
-  component_shown (of.WeekdayLong c) h r = date_shown m f h (λ d. date_field d (of.WeekdayLong c)) refl
-  component_shown (of.WeekdaySunday c) h r = date_shown m f h (λ d. date_field d (of.WeekdaySunday c)) refl
-  component_shown (of.WeekdayMonday c) h r = date_shown m f h (λ d. date_field d (of.WeekdayMonday c)) refl
-  component_shown (of.WeekNumberIso c) h r = date_shown m f h (λ d. date_field d (of.WeekNumberIso c)) refl
-  component_shown (of.WeekNumberSunday c) h r = date_shown m f h (λ d. date_field d (of.WeekNumberSunday c)) refl
-  component_shown (of.WeekNumberMonday c) h r = date_shown m f h (λ d. date_field d (of.WeekNumberMonday c)) refl
   component_shown (of.CalendarYearFullExtendedRange c) h r =
       date_shown m f h (λ d. date_field d (of.CalendarYearFullExtendedRange c))
       (full_shown 999999 4 c.padding c.sign_is_mandatory f.year h.date.years r
@@ -133,8 +121,6 @@ module _ (m : Moment) (f : Fields) where
       date_shown m f h (λ d. date_field d (of.IsoYearCenturyStandardRange c))
       (century_shown 9999 99 c.padding c.sign_is_mandatory f.iso_century (iso_years h.date) (omega arith) r
       (h.agrees DatePart.IsoCentury))
-  component_shown (of.CalendarYearLastTwo c) h r = date_shown m f h (λ d. date_field d (of.CalendarYearLastTwo c)) refl
-  component_shown (of.IsoYearLastTwo c) h r = date_shown m f h (λ d. date_field d (of.IsoYearLastTwo c)) refl
   component_shown (of.Hour12 c) h r = time_shown m h (λ t. time_field t (of.Hour12 c))
   component_shown (of.Hour24 c) h r = time_shown m h (λ t. time_field t (of.Hour24 c))
   component_shown (of.Minute c) h r = time_shown m h (λ t. time_field t (of.Minute c))
@@ -150,9 +136,4 @@ module _ (m : Moment) (f : Fields) where
   component_shown (of.UnixTimestampNanosecond c) h r = instant_shown m h (of.UnixTimestampNanosecond c)
   component_shown (of.Ignore c) h r = refl
   component_shown (of.End c) h r = refl
-  component_shown (of.Month c) h r = date_shown m f h (λ d. date_field d (of.Month c)) refl
-  component_shown (of.Weekday c) h r = date_shown m f h (λ d. date_field d (of.Weekday c)) refl
-  component_shown (of.WeekNumber c) h r = date_shown m f h (λ d. date_field d (of.WeekNumber c)) refl
-  component_shown (of.Hour c) h r = date_shown m f h (λ d. date_field d (of.Hour c)) refl
-  component_shown (of.UnixTimestamp c) h r = date_shown m f h (λ d. date_field d (of.UnixTimestamp c)) refl
-  component_shown (of.Year c) h r = date_shown m f h (λ d. date_field d (of.Year c)) refl
+  component_shown c h r = date_shown m f h (λ d. date_field d c) refl

@@ -1,67 +1,124 @@
--- What the reading of a fraction, and of what shows nothing, leaves.
-use Rattle.std.proofs.Common.{ℕ, ◌≡◌, ◌*◌, ◌==◌, Bool, true, false, length, Option, Some, None, Ok}
-use Rattle.std.proofs.Common.{if◌then◌else◌, refl, subst}
-use Rattle.timefd_component.specs.declared.component.Component.{Component}
-use Rattle.timefd_component.specs.declared.component.Component.TheVariants as of
+-- What the reading of a fraction leaves.
+use Rattle.std.proofs.Common.{ℕ, ◌≡◌, ◌∙◌, ◌*◌, ◌%◌, nat_le, min, Bool, true, false, if◌then◌else◌, take}
+use Rattle.std.proofs.Common.{Option, Some, None, Ok, refl, sym, ap, subst, arith}
+use Rattle.std.specs.Prelude.{⊤}
+use Rattle.std.proofs.Math.Nat.{mod-one, mul-mod_left}
+use Rattle.std.proofs.lemmas.Bool.{leb-true}
+use Rattle.std.specs.Char.{is_ascii_digit}
+use Rattle.std.specs.List.{prefix_len}
+use Rattle.std.specs.Str.Parse.{digits_value}
+use Rattle.timefd_component.specs.declared.component.Component.TheVariants.{Subsecond}
+use Rattle.timefd_component.specs.Tree.{Text}
 use Rattle.timefd_format.specs.declared.field.Kind.TheVariants as kind
 use Rattle.timefd_modifier.specs.declared.clock.Subsecond.{Subsecond as SubsecondFields}
-use Rattle.timefd_modifier.specs.declared.enums.TrailingInput.{TrailingInput}
+use Rattle.timefd_modifier.specs.declared.enums.SubsecondDigits.{SubsecondDigits}
 use Rattle.timefd_read_dates.specs.declared.fields.Fields.{Fields}
 use Rattle.timefd_read_dates.specs.declared.fields.Fraction.{Fraction}
-use Rattle.timefd_read_dates.specs.Inputs.{as_fraction}
-use Rattle.timefd_read_dates.specs.Inputs.{digits_shown, end, least_digits}
+use Rattle.timefd_read_dates.specs.Inputs.{as_fraction, digits_shown, fraction, least_digits}
 use Rattle.timefd_read_dates.specs.Numbers.{digits}
 use Rattle.timefd_read_dates.specs.Readings.{agree, finer, fraction_with, unit, with_fraction}
-use Rattle.timefd_read_dates.specs.Reads.{Point, agreed, taken}
+use Rattle.timefd_read_dates.specs.Reads.{Point, taken}
 use Rattle.timefd_read_moment.specs.Known.{has_time}
-use Rattle.timefd_read_laws.proofs.GrowLemmas.{any, more, same_grows}
+use Rattle.timefd_read_moment.proofs.ShownLemmas.{clash}
+use Rattle.timefd_read_laws.specs.Again.{digits_of, parts}
+use Rattle.timefd_read_laws.specs.Shown.{more_digits}
+use Rattle.timefd_read_laws.proofs.GrowLemmas.{any, more}
 use Rattle.timefd_read_laws.proofs.KindLemmas.{by_subsecond}
 use Rattle.timefd_read_laws.proofs.ReadRowLemmas.{Leaves}
-use Rattle.timefd_read_laws.proofs.StepLemmas.{agreed_is, either_took, no_some, same_some, took}
+use Rattle.timefd_read_laws.proofs.StepLemmas.{IsWhole, Step, agreed_is, is_ok, no_some, same_some}
 
--- a fraction
+-- the finer one of what is read and what was read before
+abbrev later : Fraction → Option Fraction → Fraction
+later read None = read
+later read (Some before) = finer before read
 
-with_leaves : (f g : Fields) (x : Fraction) → with_fraction f x ≡ g → Leaves kind.Time any f g
-with_leaves f g x e =
-    let known : has_time (with_fraction f x) ≡ true = by_subsecond (with_fraction f x) refl in
-    subst (λ (h : Fields). Leaves kind.Time any f h) e (record {
-      grows = more kind.Time f (with_fraction f x) known refl refl;
-      knows = record { kind = known; range = tt };
-    })
+later_set : (f g : Fields) (read : Fraction) (before : Option Fraction) → fraction_with f read before ≡ Some g
+    → with_fraction f (later read before) ≡ g
+later_set f g read None e = same_some (with_fraction f read) g e
+later_set f g read (Some before) e = by (agree before read) e
+  where
+    by : (b : Bool) → (if b then Some (with_fraction f (finer before read)) else None) ≡ Some g
+        → with_fraction f (finer before read) ≡ g
+    by true e = same_some (with_fraction f (finer before read)) g e
+    by false e = absurd (no_some g e)
 
-finer_leaves : (f g : Fields) (x : Fraction) (b : Bool) → (if b then Some (with_fraction f x) else None) ≡ Some g
-    → Leaves kind.Time any f g
-finer_leaves f g x true e = with_leaves f g x (same_some (with_fraction f x) g e)
-finer_leaves f g x false e = absurd (no_some g e)
+either_whole : (a b : Fraction) (t : Bool) → IsWhole (Some a) → IsWhole (Some b)
+    → IsWhole (Some (if t then b else a))
+either_whole a b true h k = k
+either_whole a b false h k = h
 
-fraction_leaves : (f g : Fields) (read : Fraction) (before : Option Fraction) → fraction_with f read before ≡ Some g
-    → Leaves kind.Time any f g
-fraction_leaves f g read None e = with_leaves f g read (same_some (with_fraction f read) g e)
-fraction_leaves f g read (Some before) e = finer_leaves f g (finer before read) (agree before read) e
+finer_digits : (a b : Fraction) (t : Bool) → (if t then b else a).digits ≡ (if t then b.digits else a.digits)
+finer_digits a b true = refl
+finer_digits a b false = refl
 
-pub fraction_read : (c : SubsecondFields) (p q : Point)
-    → taken (of.Subsecond c) p
-    (as_fraction (digits_shown c.digits) (digits (least_digits c.digits) (digits_shown c.digits) p.rest)) ≡ Ok q
-    → Leaves kind.Time any p.fields q.fields
+later_whole : (read : Fraction) (before : Option Fraction) → IsWhole (Some read) → IsWhole before
+    → IsWhole (Some (later read before))
+later_whole read None whole h = whole
+later_whole read (Some before) whole h = either_whole before read (nat_le before.digits read.digits) h whole
+
+later_digits : (read : Fraction) (before : Option Fraction)
+    → (later read before).digits ≡ more_digits (digits_of before) read.digits
+later_digits read None = refl
+later_digits read (Some before) = finer_digits before read (nat_le before.digits read.digits)
+
+-- with so many digits
+abbrev Timed : ℕ → Point → Point → Type 0
+Timed k p q = Step (record (parts p.fields) { subsecond = Some (more_digits (digits_of p.fields.subsecond) k) }) p q
+    × Leaves kind.Time any p.fields q.fields
+
+fraction_is : (p q : Point) (read : Fraction) → IsWhole (Some read)
+    → fraction_with p.fields read p.fields.subsecond ≡ Some q.fields → Timed read.digits p q
+fraction_is p q read whole e =
+    let x = later read p.fields.subsecond in
+    let answer : with_fraction p.fields x ≡ q.fields = later_set p.fields q.fields read p.fields.subsecond e in
+    let known : has_time (with_fraction p.fields x) ≡ true = by_subsecond (with_fraction p.fields x) refl in (
+      (
+        ap parts (sym answer)
+            ∙ ap (λ (n : ℕ). record (parts p.fields) { subsecond = Some n }) (later_digits read p.fields.subsecond),
+        λ h. subst (λ (f : Fields). IsWhole f.subsecond) answer (later_whole read p.fields.subsecond whole h),
+      ),
+      subst (λ (f : Fields). Leaves kind.Time any p.fields f) answer (record {
+        grows = more kind.Time p.fields (with_fraction p.fields x) known refl refl;
+        knows = record { kind = known; range = tt };
+      }),
+    )
+
+-- so many digits were found that a number of them has no more
+abbrev HasLen : ℕ → Option (ℕ × ℕ) → Type 0
+HasLen k None = ⊤
+HasLen k (Some r) = r.0 * unit r.1 % unit k ≡ 0
+
+exact_len : (k : ℕ) (text : Text) → HasLen k (digits k k text)
+exact_len k text = by (nat_le k (min k (prefix_len is_ascii_digit text))) refl
+  where
+    by : (b : Bool) → b ≡ nat_le k (min k (prefix_len is_ascii_digit text))
+        → HasLen k (if b
+        then Some (digits_value 10 (take (min k (prefix_len is_ascii_digit text)) text), min k (prefix_len is_ascii_digit text))
+        else None)
+    by true e =
+        let all : min k (prefix_len is_ascii_digit text) ≡ k = omega (arith, leb-true _ _ (sym e)) in
+        let value = digits_value 10 (take (min k (prefix_len is_ascii_digit text)) text) in
+        ap (λ (n : ℕ). value * unit n % unit k) all ∙ mul-mod_left value (unit k)
+    by false e = tt
+
+nine_len : (x : Option (ℕ × ℕ)) → HasLen 9 x
+nine_len None = tt
+nine_len (Some r) = mod-one (r.0 * unit r.1)
+
+digits_len : (shown : SubsecondDigits) (text : Text)
+    → HasLen (digits_shown shown) (digits (least_digits shown) (digits_shown shown) text)
+digits_len SubsecondDigits.OneOrMore text = nine_len (digits 1 9 text)
+digits_len shown text = exact_len (digits_shown shown) text
+
+fraction_by : (c : SubsecondFields) (p q : Point) (k : ℕ) (x : Option (ℕ × ℕ)) → HasLen k x
+    → taken (Subsecond c) p (as_fraction k x) ≡ Ok q → Timed k p q
+fraction_by c p q k None h e = absurd (clash true (sym (ap is_ok e)) refl)
+fraction_by c p q k (Some r) h e =
+    let read : Fraction = record { digits = k; nanosecond = r.0 * unit r.1 } in
+    fraction_is p q read h (agreed_is (Subsecond c) p q r.1 (fraction_with p.fields read p.fields.subsecond) e)
+
+pub fraction_read : (c : SubsecondFields) (p q : Point) → taken (Subsecond c) p (fraction c.digits p.rest) ≡ Ok q
+    → Timed (digits_shown c.digits) p q
 fraction_read c p q e =
-    took as_fraction (digits_shown c.digits) (taken (of.Subsecond c) p) _ q e (Leaves kind.Time any p.fields q.fields)
-    refl (λ r h.
-    fraction_leaves p.fields q.fields (record { digits = digits_shown c.digits; nanosecond = r.0 * unit r.1 })
-    p.fields.subsecond (agreed_is (of.Subsecond c) p q r.1
-    (fraction_with p.fields (record { digits = digits_shown c.digits; nanosecond = r.0 * unit r.1 }) p.fields.subsecond) h))
-
--- nothing
-
-pub nothing_read : (c : Component) (p q : Point) (len : ℕ) → agreed c p len (Some p.fields) ≡ Ok q
-    → Leaves kind.Nothing any p.fields q.fields
-nothing_read c p q len e =
-    subst (λ (g : Fields). Leaves kind.Nothing any p.fields g)
-    (same_some p.fields q.fields (agreed_is c p q len (Some p.fields) e))
-    (record { grows = same_grows p.fields; knows = record { kind = refl; range = tt } })
-
-pub end_read : (c : Component) (p q : Point) (trailing : TrailingInput) → taken c p (end trailing p.rest) ≡ Ok q
-    → Leaves kind.Nothing any p.fields q.fields
-end_read c p q TrailingInput.Prohibit e =
-    either_took (taken c p) _ (length p.rest == 0) q e (Leaves kind.Nothing any p.fields q.fields) refl
-    (λ h. nothing_read c p q 0 h)
-end_read c p q TrailingInput.Discard e = nothing_read c p q (length p.rest) e
+    fraction_by c p q (digits_shown c.digits) (digits (least_digits c.digits) (digits_shown c.digits) p.rest)
+    (digits_len c.digits p.rest) e

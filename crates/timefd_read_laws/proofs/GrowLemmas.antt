@@ -26,30 +26,22 @@ but of.Offset k = record k { offset = true }
 but of.Instant k = record k { stamp = true }
 but of.Nothing k = k
 
+abbrev is_known : Kind → Kinds → Bool
+is_known of.Date k = k.date
+is_known of.Time k = k.time
+is_known of.Offset k = k.offset
+is_known of.Instant k = k.stamp
+is_known of.Nothing k = true
+
 -- with one field more of a kind
 pub kind_more : (k : Kind) (f g : Fields) → has_kind k g ≡ true → but k (kinds f) ≡ but k (kinds g)
     → (j : Kind) → has_kind j f ≡ true → has_kind j g ≡ true
 kind_more of.Date f g e same of.Date h = e
-kind_more of.Date f g e same of.Time h = sym (ap (λ (k : Kinds). k.time) same) ∙ h
-kind_more of.Date f g e same of.Offset h = sym (ap (λ (k : Kinds). k.offset) same) ∙ h
-kind_more of.Date f g e same of.Instant h = sym (ap (λ (k : Kinds). k.stamp) same) ∙ h
-kind_more of.Time f g e same of.Date h = sym (ap (λ (k : Kinds). k.date) same) ∙ h
 kind_more of.Time f g e same of.Time h = e
-kind_more of.Time f g e same of.Offset h = sym (ap (λ (k : Kinds). k.offset) same) ∙ h
-kind_more of.Time f g e same of.Instant h = sym (ap (λ (k : Kinds). k.stamp) same) ∙ h
-kind_more of.Offset f g e same of.Date h = sym (ap (λ (k : Kinds). k.date) same) ∙ h
-kind_more of.Offset f g e same of.Time h = sym (ap (λ (k : Kinds). k.time) same) ∙ h
 kind_more of.Offset f g e same of.Offset h = e
-kind_more of.Offset f g e same of.Instant h = sym (ap (λ (k : Kinds). k.stamp) same) ∙ h
-kind_more of.Instant f g e same of.Date h = sym (ap (λ (k : Kinds). k.date) same) ∙ h
-kind_more of.Instant f g e same of.Time h = sym (ap (λ (k : Kinds). k.time) same) ∙ h
-kind_more of.Instant f g e same of.Offset h = sym (ap (λ (k : Kinds). k.offset) same) ∙ h
 kind_more of.Instant f g e same of.Instant h = e
-kind_more of.Nothing f g e same of.Date h = sym (ap (λ (k : Kinds). k.date) same) ∙ h
-kind_more of.Nothing f g e same of.Time h = sym (ap (λ (k : Kinds). k.time) same) ∙ h
-kind_more of.Nothing f g e same of.Offset h = sym (ap (λ (k : Kinds). k.offset) same) ∙ h
-kind_more of.Nothing f g e same of.Instant h = sym (ap (λ (k : Kinds). k.stamp) same) ∙ h
-kind_more k f g e same of.Nothing h = h
+kind_more of.Nothing f g e same of.Nothing h = h
+kind_more k f g e same j h = sym (ap (is_known j) same) ∙ h
 
 -- how great years are
 
@@ -88,35 +80,23 @@ none_at_most n x e h = subst (IsAtMost n) e h
 
 pub year_more : (y z : Years) → y.year ≡ None → record y { year = None } ≡ record z { year = None } → (r : Range)
     → InRange r y → InRange r z
-year_more y z e same any h = tt
 year_more y z e same (year n) h = absurd (none_at_most n y.year e h)
-year_more y z e same (century n) h = subst (λ (x : Years). IsAtMost n x.century) same h
-year_more y z e same (iso_year n) h = subst (λ (x : Years). IsAtMost n x.iso_year) same h
-year_more y z e same (iso_century n) h = subst (λ (x : Years). IsAtMost n x.iso_century) same h
+year_more y z e same r h = subst (InRange r) same h
 
 pub century_more : (y z : Years) → y.century ≡ None → record y { century = None } ≡ record z { century = None }
     → (r : Range) → InRange r y → InRange r z
-century_more y z e same any h = tt
-century_more y z e same (year n) h = subst (λ (x : Years). IsAtMost n x.year) same h
 century_more y z e same (century n) h = absurd (none_at_most n y.century e h)
-century_more y z e same (iso_year n) h = subst (λ (x : Years). IsAtMost n x.iso_year) same h
-century_more y z e same (iso_century n) h = subst (λ (x : Years). IsAtMost n x.iso_century) same h
+century_more y z e same r h = subst (InRange r) same h
 
 pub iso_year_more : (y z : Years) → y.iso_year ≡ None → record y { iso_year = None } ≡ record z { iso_year = None }
     → (r : Range) → InRange r y → InRange r z
-iso_year_more y z e same any h = tt
-iso_year_more y z e same (year n) h = subst (λ (x : Years). IsAtMost n x.year) same h
-iso_year_more y z e same (century n) h = subst (λ (x : Years). IsAtMost n x.century) same h
 iso_year_more y z e same (iso_year n) h = absurd (none_at_most n y.iso_year e h)
-iso_year_more y z e same (iso_century n) h = subst (λ (x : Years). IsAtMost n x.iso_century) same h
+iso_year_more y z e same r h = subst (InRange r) same h
 
 pub iso_century_more : (y z : Years) → y.iso_century ≡ None
     → record y { iso_century = None } ≡ record z { iso_century = None } → (r : Range) → InRange r y → InRange r z
-iso_century_more y z e same any h = tt
-iso_century_more y z e same (year n) h = subst (λ (x : Years). IsAtMost n x.year) same h
-iso_century_more y z e same (century n) h = subst (λ (x : Years). IsAtMost n x.century) same h
-iso_century_more y z e same (iso_year n) h = subst (λ (x : Years). IsAtMost n x.iso_year) same h
 iso_century_more y z e same (iso_century n) h = absurd (none_at_most n y.iso_century e h)
+iso_century_more y z e same r h = subst (InRange r) same h
 
 pub same_range : (y z : Years) → y ≡ z → (r : Range) → InRange r y → InRange r z
 same_range y z same r h = subst (λ (x : Years). InRange r x) same h

@@ -1,16 +1,17 @@
 -- What is read of a whole text. Of a plain description that is all that is written.
 use Rattle.std.proofs.Common.{◌≡◌, ◌∙◌, ◌-◌, ◌==◌, inl, inr, Bool, true, false, if◌then◌else◌, length, Result, Ok, Err}
 use Rattle.std.proofs.Common.{refl, sym, ap, subst}
+use Rattle.timefd_component.specs.declared.component.Component.{Component}
 use Rattle.timefd_component.specs.Modern.{modern}
 use Rattle.timefd_component.specs.Tree.{Text, Tree, component, literal, compound, optional, first, Trees, no_trees, more_trees}
 use Rattle.timefd_read_dates.specs.declared.fault.ReadError.{ReadError}
 use Rattle.timefd_read_dates.specs.declared.fault.Reason.TheVariants as for
 use Rattle.timefd_read_dates.specs.declared.fields.Fields.{Fields}
-use Rattle.timefd_read_dates.specs.Reads.{Point, fields_of, read, start, whole}
+use Rattle.timefd_read_dates.specs.Reads.{Point, fields_of, read, read_component, start, whole}
 use Rattle.timefd_read_dates.specs.Relations.{Reads, ReadsAll, ReadsFirst}
 use Rattle.timefd_read_dates.proofs.RelationLemmas.{reads_exactly}
 use Rattle.timefd_read_moment.proofs.ShownLemmas.{clash}
-use Rattle.timefd_read_moment.proofs.YearLemmas.{both}
+use Rattle.timefd_read_moment.proofs.YearLemmas.{both as both_true}
 use Rattle.timefd_read_laws.specs.Again.{PartsRead, are_plain, is_plain, parts}
 use Rattle.timefd_read_laws.specs.Shown.{with_tree, with_trees}
 use Rattle.timefd_read_laws.proofs.ComponentReadLemmas.{component_step}
@@ -58,7 +59,7 @@ mutual
       → parts q.fields ≡ with_trees ts (parts p.fields)
   trees_parts no_trees p q plain h = ap (λ (x : Point). parts x.fields) h
   trees_parts (more_trees t ts) p q plain (mid, one, more) =
-      let each = both (is_plain t) (are_plain ts) plain in
+      let each = both_true (is_plain t) (are_plain ts) plain in
       trees_parts ts mid q each.1 more ∙ ap (with_trees ts) (tree_parts t p mid each.0 one)
 
 pub parts_read : PartsRead
@@ -66,32 +67,40 @@ parts_read tree text f plain e =
     let h = read_whole tree text f e in
     ap parts (sym h.fields) ∙ tree_parts tree (start text) h.end plain h.reads
 
+-- What holds of the reading of each component, of none, and of one behind another, holds of the reading of a tree.
+module _ (R : Fields → Fields → Type 0) (none : (f : Fields) → R f f) (both : (f g h : Fields) → R f g → R g h → R f h)
+    (one : (c : Component) (p q : Point) → read_component c p ≡ Ok q → R p.fields q.fields) where
+  same_point : (p q : Point) → q ≡ p → R p.fields q.fields
+  same_point p q e = subst (λ (x : Point). R p.fields x.fields) (sym e) (none p.fields)
+
+  mutual
+    pub each_read : (t : Tree) (p q : Point) → Reads t p q → R p.fields q.fields
+    each_read (component c) p q h = one (modern c) p q ((reads_exactly (component c) p q).0 h)
+    each_read (literal bytes) p q h = subst (λ (f : Fields). R p.fields f) (sym h.1) (none p.fields)
+    each_read (compound ts) p q h = all_read ts p q h
+    each_read (optional format t) p q (inl h) = each_read t p q h
+    each_read (optional format t) p q (inr h) = same_point p q h.1
+    each_read (first no_trees) p q h = same_point p q h
+    each_read (first (more_trees t ts)) p q (inl h) = each_read t p q h
+    each_read (first (more_trees t ts)) p q (inr h) = first_read ts p q h.1
+
+    pub all_read : (ts : Trees) (p q : Point) → ReadsAll ts p q → R p.fields q.fields
+    all_read no_trees p q h = same_point p q h
+    all_read (more_trees t ts) p q (mid, h, rest) =
+        both p.fields mid.fields q.fields (each_read t p mid h) (all_read ts mid q rest)
+
+    first_read : (ts : Trees) (p q : Point) → ReadsFirst ts p q → R p.fields q.fields
+    first_read no_trees p q h = absurd h
+    first_read (more_trees t ts) p q (inl h) = each_read t p q h
+    first_read (more_trees t ts) p q (inr h) = first_read ts p q h.1
+
 -- the fraction of a second of any tree
 
-mutual
-  tree_whole : (t : Tree) (p q : Point) → Reads t p q → IsWhole p.fields.subsecond → IsWhole q.fields.subsecond
-  tree_whole (component c) p q r h = (component_step p q (modern c) ((reads_exactly (component c) p q).0 r)).1 h
-  tree_whole (literal bytes) p q r h = subst (λ (x : Fields). IsWhole x.subsecond) (sym r.1) h
-  tree_whole (compound ts) p q r h = trees_whole ts p q r h
-  tree_whole (optional format t) p q (inl r) h = tree_whole t p q r h
-  tree_whole (optional format t) p q (inr r) h = subst (λ (x : Point). IsWhole x.fields.subsecond) (sym r.1) h
-  tree_whole (first no_trees) p q r h = subst (λ (x : Point). IsWhole x.fields.subsecond) (sym r) h
-  tree_whole (first (more_trees t ts)) p q (inl r) h = tree_whole t p q r h
-  tree_whole (first (more_trees t ts)) p q (inr r) h = first_whole ts p q r.1 h
-
-  trees_whole : (ts : Trees) (p q : Point) → ReadsAll ts p q → IsWhole p.fields.subsecond
-      → IsWhole q.fields.subsecond
-  trees_whole no_trees p q r h = subst (λ (x : Point). IsWhole x.fields.subsecond) (sym r) h
-  trees_whole (more_trees t ts) p q (mid, one, more) h =
-      trees_whole ts mid q more (tree_whole t p mid one h)
-
-  first_whole : (ts : Trees) (p q : Point) → ReadsFirst ts p q → IsWhole p.fields.subsecond
-      → IsWhole q.fields.subsecond
-  first_whole no_trees p q r h = absurd r
-  first_whole (more_trees t ts) p q (inl r) h = tree_whole t p q r h
-  first_whole (more_trees t ts) p q (inr r) h = first_whole ts p q r.1 h
+abbrev StaysWhole : Fields → Fields → Type 0
+StaysWhole f g = IsWhole f.subsecond → IsWhole g.subsecond
 
 pub whole_read : (t : Tree) (text : Text) (f : Fields) → fields_of t text ≡ Ok f → IsWhole f.subsecond
 whole_read t text f e =
     let h = read_whole t text f e in
-    subst (λ (x : Fields). IsWhole x.subsecond) h.fields (tree_whole t (start text) h.end h.reads tt)
+    subst (λ (x : Fields). IsWhole x.subsecond) h.fields (each_read StaysWhole (λ f h. h)
+    (λ f g h a b x. b (a x)) (λ c p q e. (component_step p q c e).1) t (start text) h.end h.reads tt)

@@ -99,35 +99,23 @@ second_rest fraction s q n (e, h, few, whole, has) =
     fraction_rest fraction n few whole has
     (behind_rest s.is_negative (stamp_magnitude s) (fraction_read fraction) q n e h few (fraction_small fraction))
 
-microsecond_rest : (fraction : Option Fraction) (s : Signed) (q n : ℕ) → Ends fraction (by_unit fraction 6 1000 s) q n
-    → HasRest (is_finer fraction 6) fraction 1000 n
-microsecond_rest fraction s q n (e, h, few, whole, has) = by (is_finer fraction 6) e h
+-- by units of which there are more than seconds
+unit_rest : (fraction : Option Fraction) (k size : ℕ) (s : Signed) (q n : ℕ) → Ends fraction (by_unit fraction k size s) q n
+    → (q * 1000000000 + n ≡ counted s.is_negative (stamp_magnitude s * size)
+    → within s.is_negative (stamp_magnitude s * size) ≡ true → n % size ≡ 0)
+    → HasRest (is_finer fraction k) fraction size n
+unit_rest fraction k size s q n (e, h, few, whole, has) none = by (is_finer fraction k) e h
   where
     by : (finer : Bool)
         → q * 1000000000 + n
-        ≡ counted s.is_negative (in_second finer s.is_negative (stamp_magnitude s * 1000) (fraction_read fraction))
-        → within s.is_negative (in_second finer s.is_negative (stamp_magnitude s * 1000) (fraction_read fraction)) ≡ true
-        → HasRest finer fraction 1000 n
+        ≡ counted s.is_negative (in_second finer s.is_negative (stamp_magnitude s * size) (fraction_read fraction))
+        → within s.is_negative (in_second finer s.is_negative (stamp_magnitude s * size) (fraction_read fraction)) ≡ true
+        → HasRest finer fraction size n
     by true e h =
         fraction_rest fraction n few whole has
-        (within_rest s.is_negative (stamp_magnitude s * 1000) (fraction_read fraction) q n e h few
+        (within_rest s.is_negative (stamp_magnitude s * size) (fraction_read fraction) q n e h few
         (fraction_small fraction))
-    by false e h = no_thousandth s.is_negative (stamp_magnitude s) q n e h
-
-millisecond_rest : (fraction : Option Fraction) (s : Signed) (q n : ℕ)
-    → Ends fraction (by_unit fraction 3 1000000 s) q n → HasRest (is_finer fraction 3) fraction 1000000 n
-millisecond_rest fraction s q n (e, h, few, whole, has) = by (is_finer fraction 3) e h
-  where
-    by : (finer : Bool)
-        → q * 1000000000 + n
-        ≡ counted s.is_negative (in_second finer s.is_negative (stamp_magnitude s * 1000000) (fraction_read fraction))
-        → within s.is_negative (in_second finer s.is_negative (stamp_magnitude s * 1000000) (fraction_read fraction)) ≡ true
-        → HasRest finer fraction 1000000 n
-    by true e h =
-        fraction_rest fraction n few whole has
-        (within_rest s.is_negative (stamp_magnitude s * 1000000) (fraction_read fraction) q n e h few
-        (fraction_small fraction))
-    by false e h = no_millionth s.is_negative (stamp_magnitude s) q n e h
+    by false e h = none e h
 
 ends_of : (fraction : Option Fraction) (u v : UnixTime) (q n : ℕ) → Ends fraction u q n → Some v ≡ Some u
     → Ends fraction v q n
@@ -138,9 +126,11 @@ pub digits_kept : (fraction : Option Fraction) (ns us ms s : Option Signed) (u :
     → n ≤ 999999999 → IsWhole fraction → has_digits fraction n ≡ true → HasDigitsBy fraction ns us ms n
 digits_kept fraction (Some k) us ms s u q n e at h few whole has = tt
 digits_kept fraction None (Some k) ms s u q n e at h few whole has =
-    microsecond_rest fraction k q n (ends_of fraction u _ q n (at, h, few, whole, has) e)
+    unit_rest fraction 6 1000 k q n (ends_of fraction u _ q n (at, h, few, whole, has) e)
+    (no_thousandth k.is_negative (stamp_magnitude k) q n)
 digits_kept fraction None None (Some k) s u q n e at h few whole has =
-    millisecond_rest fraction k q n (ends_of fraction u _ q n (at, h, few, whole, has) e)
+    unit_rest fraction 3 1000000 k q n (ends_of fraction u _ q n (at, h, few, whole, has) e)
+    (no_millionth k.is_negative (stamp_magnitude k) q n)
 digits_kept fraction None None None (Some k) u q n e at h few whole has =
     second_rest fraction k q n (ends_of fraction u _ q n (at, h, few, whole, has) e)
 digits_kept fraction None None None None u q n e at h few whole has = absurd cc

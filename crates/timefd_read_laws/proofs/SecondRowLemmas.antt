@@ -57,18 +57,10 @@ module _ (d : Date) (t : Time) (o : UtcOffset) (s : Shows) where
       → taken (Subsecond p) (at d t o s (subsecond digits t.nanosecond ++ rest))
       (fraction digits (subsecond digits t.nanosecond ++ rest))
       ≡ Ok (at d t o (with_component (Subsecond p) s) rest)
-  fraction_row SubsecondDigits.One p is rest ends = digits_row p 1 (omega arith) (ap digits_shown is) rest
-  fraction_row SubsecondDigits.Two p is rest ends = digits_row p 2 (omega arith) (ap digits_shown is) rest
-  fraction_row SubsecondDigits.Three p is rest ends = digits_row p 3 (omega arith) (ap digits_shown is) rest
-  fraction_row SubsecondDigits.Four p is rest ends = digits_row p 4 (omega arith) (ap digits_shown is) rest
-  fraction_row SubsecondDigits.Five p is rest ends = digits_row p 5 (omega arith) (ap digits_shown is) rest
-  fraction_row SubsecondDigits.Six p is rest ends = digits_row p 6 (omega arith) (ap digits_shown is) rest
-  fraction_row SubsecondDigits.Seven p is rest ends = digits_row p 7 (omega arith) (ap digits_shown is) rest
-  fraction_row SubsecondDigits.Eight p is rest ends = digits_row p 8 (omega arith) (ap digits_shown is) rest
-  fraction_row SubsecondDigits.Nine p is rest ends = digits_row p 9 (omega arith) (ap digits_shown is) rest
   fraction_row SubsecondDigits.OneOrMore p is rest ends =
       fraction_by p 9 1 9 (at_least_one (trimmed (filled Padding.Zero 9 t.nanosecond))) rest _ (ap digits_shown is)
       (trimmed_back t.nanosecond rest t.nanoseconds ends) (trimmed_value t.nanosecond t.nanoseconds)
+  fraction_row digits p is rest ends = digits_row p (digits_shown digits) (omega arith) (ap digits_shown is) rest
 
 -- the end of the text
 

@@ -111,9 +111,4 @@ module _ (d : Date) (t : Time) (o : UtcOffset) where
   component_shows (of.UnixTimestampNanosecond c) is s = shown place.unix_nanosecond s
   component_shows (of.Ignore c) is s = record { grows = λ j h. h; here = refl }
   component_shows (of.End c) is s = record { grows = λ j h. h; here = refl }
-  component_shows (of.Month c) is s = absurd is
-  component_shows (of.Weekday c) is s = absurd is
-  component_shows (of.WeekNumber c) is s = absurd is
-  component_shows (of.Hour c) is s = absurd is
-  component_shows (of.UnixTimestamp c) is s = absurd is
-  component_shows (of.Year c) is s = absurd is
+  component_shows _ is s = absurd is

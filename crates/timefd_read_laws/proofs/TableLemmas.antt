@@ -194,12 +194,7 @@ module _ (m : Moment) (d : Date) (t : Time) (o : UtcOffset) (s : Shows) (is : Is
       (omega arith))
   back (of.Ignore p) = λ rest ends. absurd ends
   back (of.End p) = λ rest ends. end_row d t o s p rest ends
-  back (of.Month p) = by_date m d t o s is (of.Month p) (λ rest ends. absurd ends)
-  back (of.Weekday p) = by_date m d t o s is (of.Weekday p) (λ rest ends. absurd ends)
-  back (of.WeekNumber p) = by_date m d t o s is (of.WeekNumber p) (λ rest ends. absurd ends)
-  back (of.Hour p) = by_date m d t o s is (of.Hour p) (λ rest ends. absurd ends)
-  back (of.UnixTimestamp p) = by_date m d t o s is (of.UnixTimestamp p) (λ rest ends. absurd ends)
-  back (of.Year p) = by_date m d t o s is (of.Year p) (λ rest ends. absurd ends)
+  back c = by_date m d t o s is c (λ rest ends. absurd ends)
 
 abbrev text_in : Result Text Unshown → Text
 text_in (Ok text) = text

@@ -1,5 +1,5 @@
 -- What was read is written again.
-use Rattle.std.proofs.Common.{◌≡◌, inl, inr, true, false, Result, Ok, Err, refl, sym, subst}
+use Rattle.std.proofs.Common.{◌≡◌, true, false, Result, Ok, Err, refl, sym, subst}
 use Rattle.std.specs.Prelude.{⊤}
 use Rattle.timefd_component.specs.declared.component.Component.{Component}
 use Rattle.timefd_component.specs.Modern.{modern}
@@ -13,7 +13,7 @@ use Rattle.timefd_format.specs.Written.{followed, shown, text_of, written, writt
 use Rattle.timefd_moment.specs.declared.moment.Moment.{Moment}
 use Rattle.timefd_read_dates.specs.declared.fields.Fields.{Fields}
 use Rattle.timefd_read_dates.specs.Reads.{Point, start}
-use Rattle.timefd_read_dates.specs.Relations.{Reads, ReadsAll, ReadsFirst}
+use Rattle.timefd_read_dates.specs.Relations.{Reads, ReadsAll}
 use Rattle.timefd_read_dates.proofs.RelationLemmas.{reads_exactly}
 use Rattle.timefd_read_moment.proofs.ShownLemmas.{clash}
 use Rattle.timefd_read_moment.proofs.YearLemmas.{both}
@@ -26,7 +26,7 @@ use Rattle.timefd_read_laws.proofs.FieldShownLemmas.{component_shown}
 use Rattle.timefd_read_laws.proofs.GrowLemmas.{Grows, Knows, both_grow, knows_more, same_grows}
 use Rattle.timefd_read_laws.proofs.KindLemmas.{has_kind}
 use Rattle.timefd_read_laws.proofs.MomentKnownLemmas.{Has, moment_known}
-use Rattle.timefd_read_laws.proofs.PlainLemmas.{read_whole}
+use Rattle.timefd_read_laws.proofs.PlainLemmas.{all_read, each_read, read_whole}
 use Rattle.timefd_read_laws.proofs.ReadRowLemmas.{Leaves}
 use Rattle.timefd_read_laws.proofs.StepLemmas.{is_ok}
 
@@ -69,29 +69,11 @@ leaves : (c : Component) (p q : Point) → Reads (component c) p q
     → Leaves (kind (modern c)) (range_of (modern c)) p.fields q.fields
 leaves c p q h = component_read p q (modern c) ((reads_exactly (component c) p q).0 h)
 
-mutual
-  tree_grows : (t : Tree) (p q : Point) → Reads t p q → Grows p.fields q.fields
-  tree_grows (component c) p q h = (leaves c p q h).grows
-  tree_grows (literal bytes) p q h = subst (λ (f : Fields). Grows p.fields f) (sym h.1) (same_grows p.fields)
-  tree_grows (compound ts) p q h = trees_grow ts p q h
-  tree_grows (optional format t) p q (inl h) = tree_grows t p q h
-  tree_grows (optional format t) p q (inr h) =
-      subst (λ (x : Point). Grows p.fields x.fields) (sym h.1) (same_grows p.fields)
-  tree_grows (first no_trees) p q h =
-      subst (λ (x : Point). Grows p.fields x.fields) (sym h) (same_grows p.fields)
-  tree_grows (first (more_trees t ts)) p q (inl h) = tree_grows t p q h
-  tree_grows (first (more_trees t ts)) p q (inr h) = first_grows ts p q h.1
+tree_grows : (t : Tree) (p q : Point) → Reads t p q → Grows p.fields q.fields
+tree_grows = each_read Grows same_grows both_grow (λ c p q e. (component_read p q c e).grows)
 
-  trees_grow : (ts : Trees) (p q : Point) → ReadsAll ts p q → Grows p.fields q.fields
-  trees_grow no_trees p q h =
-      subst (λ (x : Point). Grows p.fields x.fields) (sym h) (same_grows p.fields)
-  trees_grow (more_trees t ts) p q (mid, one, rest) =
-      both_grow p.fields mid.fields q.fields (tree_grows t p mid one) (trees_grow ts mid q rest)
-
-  first_grows : (ts : Trees) (p q : Point) → ReadsFirst ts p q → Grows p.fields q.fields
-  first_grows no_trees p q h = absurd h
-  first_grows (more_trees t ts) p q (inl h) = tree_grows t p q h
-  first_grows (more_trees t ts) p q (inr h) = first_grows ts p q h.1
+trees_grow : (ts : Trees) (p q : Point) → ReadsAll ts p q → Grows p.fields q.fields
+trees_grow = all_read Grows same_grows both_grow (λ c p q e. (component_read p q c e).grows)
 
 mutual
   tree_known : (t : Tree) (p q : Point) → ReadsWritten t p q
