@@ -27,16 +27,16 @@ use Rattle.timefd_read_laws.proofs.GrowLemmas.{InRange, IsAtMost, years}
 use Rattle.timefd_read_laws.proofs.MomentKnownLemmas.{Has, HasDate, HasInstant, HasOffset, HasTime}
 use Rattle.timefd_read_laws.proofs.StepLemmas.{is_ok}
 
-pub date_shown : (m : Moment) (f : Fields) (h : HasDate m f) (g : Date → Result Field Lack) → is_ok (g h.date) ≡ true
-    → is_ok (on_date m.date g) ≡ true
-date_shown m f h g e = ap (λ (x : Option Date). is_ok (on_date x g)) h.is ∙ e
+pub date_shown : (m : Moment) (f : Fields) (h : HasDate m f) (c : Component) → is_ok (date_field h.date c) ≡ true
+    → is_ok (on_date m.date (λ d. date_field d c)) ≡ true
+date_shown m f h c e = ap (λ (x : Option Date). is_ok (on_date x (λ d. date_field d c))) h.is ∙ e
 
-time_shown : (m : Moment) → HasTime m → (g : Time → Field) → is_ok (on_time m.time (λ t. Ok (g t))) ≡ true
-time_shown m h g = ap (λ (x : Option Time). is_ok (on_time x (λ t. Ok (g t)))) h.is
+time_shown : (m : Moment) → HasTime m → (c : Component) → is_ok (on_time m.time (λ t. Ok (time_field t c))) ≡ true
+time_shown m h c = ap (λ (x : Option Time). is_ok (on_time x (λ t. Ok (time_field t c)))) h.is
 
-offset_shown : (m : Moment) → HasOffset m → (g : UtcOffset → Field)
-    → is_ok (on_offset m.offset (λ o. Ok (g o))) ≡ true
-offset_shown m h g = ap (λ (x : Option UtcOffset). is_ok (on_offset x (λ o. Ok (g o)))) h.is
+offset_shown : (m : Moment) → HasOffset m → (c : Component)
+    → is_ok (on_offset m.offset (λ o. Ok (offset_field o c))) ≡ true
+offset_shown m h c = ap (λ (x : Option UtcOffset). is_ok (on_offset x (λ o. Ok (offset_field o c)))) h.is
 
 abbrev instant_by : Option Date → Option Time → Option UtcOffset → Component → Result Field Lack
 instant_by x y z c =
@@ -45,9 +45,9 @@ instant_by x y z c =
 if_ok : {A E : Type 0} (b : Bool) (a : A) (e : E) → b ≡ true → is_ok (if b then Ok a else Err e) ≡ true
 if_ok b a e is = ap (λ x. is_ok (if x then Ok a else Err e)) is
 
-instant_shown : (m : Moment) → HasInstant m → (c : Component)
+instant_shown : (m : Moment) (f : Fields) → HasInstant m f → (c : Component)
     → is_ok (instant_by m.date m.time m.offset c) ≡ true
-instant_shown m h c =
+instant_shown m f h c =
     (λ i. is_ok (instant_by (h.is_date i) (h.is_time i) (h.is_offset i) c))
     ∙ if_ok (is_within (unix_time h.date h.time h.offset)) (stamp_field (unix_time h.date h.time h.offset) c)
     lack.InstantOutOfRange h.within
@@ -89,51 +89,38 @@ century_shown greatest k padding mandatory x years most h e =
 module _ (m : Moment) (f : Fields) where
   pub component_shown : (c : Component) → Has (kind c) m f → InRange (range_of c) (years f)
       → is_ok (field m c) ≡ true
-  component_shown (of.CalendarYearFullExtendedRange c) h r =
-      date_shown m f h (λ d. date_field d (of.CalendarYearFullExtendedRange c))
-      (full_shown 999999 4 c.padding c.sign_is_mandatory f.year h.date.years r
-      (h.agrees DatePart.Year))
-  component_shown (of.CalendarYearFullStandardRange c) h r =
-      date_shown m f h (λ d. date_field d (of.CalendarYearFullStandardRange c))
-      (full_shown 9999 4 c.padding c.sign_is_mandatory f.year h.date.years r
-      (h.agrees DatePart.Year))
-  component_shown (of.CalendarYearCenturyExtendedRange c) h r =
-      date_shown m f h (λ d. date_field d (of.CalendarYearCenturyExtendedRange c))
+  component_shown (of.CalendarYearFullExtendedRange c) h r = date_shown m f h (of.CalendarYearFullExtendedRange c)
+      (full_shown 999999 4 c.padding c.sign_is_mandatory f.year h.date.years r (h.agrees DatePart.Year))
+  component_shown (of.CalendarYearFullStandardRange c) h r = date_shown m f h (of.CalendarYearFullStandardRange c)
+      (full_shown 9999 4 c.padding c.sign_is_mandatory f.year h.date.years r (h.agrees DatePart.Year))
+  component_shown (of.CalendarYearCenturyExtendedRange c) h r = date_shown m f h (of.CalendarYearCenturyExtendedRange c)
       (century_shown 999999 9999 c.padding c.sign_is_mandatory f.century h.date.years (omega arith) r
       (h.agrees DatePart.Century))
-  component_shown (of.CalendarYearCenturyStandardRange c) h r =
-      date_shown m f h (λ d. date_field d (of.CalendarYearCenturyStandardRange c))
-      (century_shown 9999 99 c.padding c.sign_is_mandatory f.century h.date.years (omega arith) r
-      (h.agrees DatePart.Century))
-  component_shown (of.IsoYearFullExtendedRange c) h r =
-      date_shown m f h (λ d. date_field d (of.IsoYearFullExtendedRange c))
-      (full_shown 999999 4 c.padding c.sign_is_mandatory f.iso_year (iso_years h.date) r
-      (h.agrees DatePart.IsoYear))
-  component_shown (of.IsoYearFullStandardRange c) h r =
-      date_shown m f h (λ d. date_field d (of.IsoYearFullStandardRange c))
-      (full_shown 9999 4 c.padding c.sign_is_mandatory f.iso_year (iso_years h.date) r
-      (h.agrees DatePart.IsoYear))
-  component_shown (of.IsoYearCenturyExtendedRange c) h r =
-      date_shown m f h (λ d. date_field d (of.IsoYearCenturyExtendedRange c))
+  component_shown (of.CalendarYearCenturyStandardRange c) h r = date_shown m f h (of.CalendarYearCenturyStandardRange c)
+      (century_shown 9999 99 c.padding c.sign_is_mandatory f.century h.date.years (omega arith) r (h.agrees DatePart.Century))
+  component_shown (of.IsoYearFullExtendedRange c) h r = date_shown m f h (of.IsoYearFullExtendedRange c)
+      (full_shown 999999 4 c.padding c.sign_is_mandatory f.iso_year (iso_years h.date) r (h.agrees DatePart.IsoYear))
+  component_shown (of.IsoYearFullStandardRange c) h r = date_shown m f h (of.IsoYearFullStandardRange c)
+      (full_shown 9999 4 c.padding c.sign_is_mandatory f.iso_year (iso_years h.date) r (h.agrees DatePart.IsoYear))
+  component_shown (of.IsoYearCenturyExtendedRange c) h r = date_shown m f h (of.IsoYearCenturyExtendedRange c)
       (century_shown 999999 9999 c.padding c.sign_is_mandatory f.iso_century (iso_years h.date) (omega arith) r
       (h.agrees DatePart.IsoCentury))
-  component_shown (of.IsoYearCenturyStandardRange c) h r =
-      date_shown m f h (λ d. date_field d (of.IsoYearCenturyStandardRange c))
+  component_shown (of.IsoYearCenturyStandardRange c) h r = date_shown m f h (of.IsoYearCenturyStandardRange c)
       (century_shown 9999 99 c.padding c.sign_is_mandatory f.iso_century (iso_years h.date) (omega arith) r
       (h.agrees DatePart.IsoCentury))
-  component_shown (of.Hour12 c) h r = time_shown m h (λ t. time_field t (of.Hour12 c))
-  component_shown (of.Hour24 c) h r = time_shown m h (λ t. time_field t (of.Hour24 c))
-  component_shown (of.Minute c) h r = time_shown m h (λ t. time_field t (of.Minute c))
-  component_shown (of.Second c) h r = time_shown m h (λ t. time_field t (of.Second c))
-  component_shown (of.OffsetMinute c) h r = offset_shown m h (λ o. offset_field o (of.OffsetMinute c))
-  component_shown (of.OffsetSecond c) h r = offset_shown m h (λ o. offset_field o (of.OffsetSecond c))
-  component_shown (of.Period c) h r = time_shown m h (λ t. time_field t (of.Period c))
-  component_shown (of.Subsecond c) h r = time_shown m h (λ t. time_field t (of.Subsecond c))
-  component_shown (of.OffsetHour c) h r = offset_shown m h (λ o. offset_field o (of.OffsetHour c))
-  component_shown (of.UnixTimestampSecond c) h r = instant_shown m h (of.UnixTimestampSecond c)
-  component_shown (of.UnixTimestampMillisecond c) h r = instant_shown m h (of.UnixTimestampMillisecond c)
-  component_shown (of.UnixTimestampMicrosecond c) h r = instant_shown m h (of.UnixTimestampMicrosecond c)
-  component_shown (of.UnixTimestampNanosecond c) h r = instant_shown m h (of.UnixTimestampNanosecond c)
+  component_shown (of.Hour12 c) h r = time_shown m h (of.Hour12 c)
+  component_shown (of.Hour24 c) h r = time_shown m h (of.Hour24 c)
+  component_shown (of.Minute c) h r = time_shown m h (of.Minute c)
+  component_shown (of.Second c) h r = time_shown m h (of.Second c)
+  component_shown (of.OffsetMinute c) h r = offset_shown m h (of.OffsetMinute c)
+  component_shown (of.OffsetSecond c) h r = offset_shown m h (of.OffsetSecond c)
+  component_shown (of.Period c) h r = time_shown m h (of.Period c)
+  component_shown (of.Subsecond c) h r = time_shown m h (of.Subsecond c)
+  component_shown (of.OffsetHour c) h r = offset_shown m h (of.OffsetHour c)
+  component_shown (of.UnixTimestampSecond c) h r = instant_shown m f h (of.UnixTimestampSecond c)
+  component_shown (of.UnixTimestampMillisecond c) h r = instant_shown m f h (of.UnixTimestampMillisecond c)
+  component_shown (of.UnixTimestampMicrosecond c) h r = instant_shown m f h (of.UnixTimestampMicrosecond c)
+  component_shown (of.UnixTimestampNanosecond c) h r = instant_shown m f h (of.UnixTimestampNanosecond c)
   component_shown (of.Ignore c) h r = refl
   component_shown (of.End c) h r = refl
-  component_shown c h r = date_shown m f h (λ d. date_field d c) refl
+  component_shown c h r = date_shown m f h c refl

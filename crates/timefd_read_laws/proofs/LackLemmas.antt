@@ -54,36 +54,29 @@ year_lacks greatest width unit padding mandatory years =
     either_long (nat_le (magnitude years) greatest)
     (signed (is_before_zero years) (mandatory || nat_le 10000 (magnitude years)) padding width (magnitude years / unit))
 
-date_lacks : (m : Moment) (f : Fields) (h : HasDate m f) (c : Component) (g : Date → Result Field Lack)
-    → IsLong (g h.date) → LacksYear (text_of c (on_date m.date g))
-date_lacks m f h c g is =
-    subst (λ (x : Option Date). LacksYear (text_of c (on_date x g))) (sym h.is) (text_lacks c (g h.date) is)
+date_lacks : (m : Moment) (f : Fields) (h : HasDate m f) (c : Component) → IsLong (date_field h.date c)
+    → LacksYear (text_of c (on_date m.date (λ d. date_field d c)))
+date_lacks m f h c is =
+    subst (λ (x : Option Date). LacksYear (text_of c (on_date x (λ d. date_field d c)))) (sym h.is)
+    (text_lacks c (date_field h.date c) is)
 
 module _ (m : Moment) (f : Fields) where
   field_lacks : (c : Component) → Has (kind c) m f → LacksYear (text_of c (field m c))
-  field_lacks (of.CalendarYearFullExtendedRange c) h =
-      date_lacks m f h (of.CalendarYearFullExtendedRange c) (λ d. date_field d (of.CalendarYearFullExtendedRange c))
+  field_lacks (of.CalendarYearFullExtendedRange c) h = date_lacks m f h (of.CalendarYearFullExtendedRange c)
       (year_lacks 999999 4 1 c.padding c.sign_is_mandatory h.date.years)
-  field_lacks (of.CalendarYearFullStandardRange c) h =
-      date_lacks m f h (of.CalendarYearFullStandardRange c) (λ d. date_field d (of.CalendarYearFullStandardRange c))
+  field_lacks (of.CalendarYearFullStandardRange c) h = date_lacks m f h (of.CalendarYearFullStandardRange c)
       (year_lacks 9999 4 1 c.padding c.sign_is_mandatory h.date.years)
-  field_lacks (of.CalendarYearCenturyExtendedRange c) h =
-      date_lacks m f h (of.CalendarYearCenturyExtendedRange c) (λ d. date_field d (of.CalendarYearCenturyExtendedRange c))
+  field_lacks (of.CalendarYearCenturyExtendedRange c) h = date_lacks m f h (of.CalendarYearCenturyExtendedRange c)
       (year_lacks 999999 2 100 c.padding c.sign_is_mandatory h.date.years)
-  field_lacks (of.CalendarYearCenturyStandardRange c) h =
-      date_lacks m f h (of.CalendarYearCenturyStandardRange c) (λ d. date_field d (of.CalendarYearCenturyStandardRange c))
+  field_lacks (of.CalendarYearCenturyStandardRange c) h = date_lacks m f h (of.CalendarYearCenturyStandardRange c)
       (year_lacks 9999 2 100 c.padding c.sign_is_mandatory h.date.years)
-  field_lacks (of.IsoYearFullExtendedRange c) h =
-      date_lacks m f h (of.IsoYearFullExtendedRange c) (λ d. date_field d (of.IsoYearFullExtendedRange c))
+  field_lacks (of.IsoYearFullExtendedRange c) h = date_lacks m f h (of.IsoYearFullExtendedRange c)
       (year_lacks 999999 4 1 c.padding c.sign_is_mandatory (iso_years h.date))
-  field_lacks (of.IsoYearFullStandardRange c) h =
-      date_lacks m f h (of.IsoYearFullStandardRange c) (λ d. date_field d (of.IsoYearFullStandardRange c))
+  field_lacks (of.IsoYearFullStandardRange c) h = date_lacks m f h (of.IsoYearFullStandardRange c)
       (year_lacks 9999 4 1 c.padding c.sign_is_mandatory (iso_years h.date))
-  field_lacks (of.IsoYearCenturyExtendedRange c) h =
-      date_lacks m f h (of.IsoYearCenturyExtendedRange c) (λ d. date_field d (of.IsoYearCenturyExtendedRange c))
+  field_lacks (of.IsoYearCenturyExtendedRange c) h = date_lacks m f h (of.IsoYearCenturyExtendedRange c)
       (year_lacks 999999 2 100 c.padding c.sign_is_mandatory (iso_years h.date))
-  field_lacks (of.IsoYearCenturyStandardRange c) h =
-      date_lacks m f h (of.IsoYearCenturyStandardRange c) (λ d. date_field d (of.IsoYearCenturyStandardRange c))
+  field_lacks (of.IsoYearCenturyStandardRange c) h = date_lacks m f h (of.IsoYearCenturyStandardRange c)
       (year_lacks 9999 2 100 c.padding c.sign_is_mandatory (iso_years h.date))
   field_lacks c h = ok_lacks (text_of c (field m c)) (text_ok c (field m c) (component_shown m f c h tt))
 

@@ -1,5 +1,5 @@
 -- What is known of a moment that was read.
-use Rattle.std.proofs.Common.{◌≡◌, ◌∙◌, Bool, true, false, Option, Some, None, Result, Ok, refl, sym, ap}
+use Rattle.std.proofs.Common.{◌≡◌, ◌∙◌, Bool, true, false, Option, Some, None, Result, Ok, refl, sym, ap, subst}
 use Rattle.std.specs.Prelude.{is_some, ⊤}
 use Rattle.timefd_format.specs.declared.field.Kind.{Kind}
 use Rattle.timefd_format.specs.declared.field.Kind.TheVariants as of
@@ -13,15 +13,14 @@ use Rattle.timefd_moment.specs.Moments.{unix_time}
 use Rattle.timefd_read_dates.specs.declared.fields.Fields.{Fields}
 use Rattle.timefd_read_moment.specs.declared.error.ValueError.{ValueError}
 use Rattle.timefd_read_moment.specs.declared.part.Part.TheVariants as part
-use Rattle.timefd_read_moment.specs.Dates.{IsDateByParts}
 use Rattle.timefd_read_moment.specs.Known.{has_date, has_offset, has_time}
 use Rattle.timefd_read_moment.specs.Offsets.{IsOffsetOf}
 use Rattle.timefd_read_moment.specs.Shown.{DateAgrees}
 use Rattle.timefd_read_moment.specs.Stamps.{instant_read}
-use Rattle.timefd_read_moment.specs.Times.{IsTimeByParts}
-use Rattle.timefd_read_moment.specs.Values.{IsMomentBy, IsMomentOf, IsPart}
+use Rattle.timefd_read_moment.specs.Values.{IsDateBy, IsDateOf, IsMomentBy, IsMomentOf, IsPart, IsTimeBy, IsTimeOf}
 use Rattle.timefd_read_moment.proofs.ShownLemmas.{clash}
 use Rattle.timefd_read_moment.proofs.StampedLemmas.{unix_at}
+use Rattle.timefd_read_laws.specs.WrittenValues.{HasValuesBy, IsKnownIf}
 use Rattle.timefd_read_laws.proofs.KindLemmas.{has_kind}
 use Rattle.timefd_read_laws.proofs.KnownLemmas.{some_instant}
 use Rattle.timefd_read_laws.proofs.RestLemmas.{within_again}
@@ -41,12 +40,13 @@ pub record HasOffset (m : Moment) : Type 0 where
   pub is : m.offset ≡ Some offset
 
 -- all three, of an instant in the years of UTC
-pub record HasInstant (m : Moment) : Type 0 where
+pub record HasInstant (m : Moment) (f : Fields) : Type 0 where
   pub date : Date
-  pub time : Time
-  pub offset : UtcOffset
+  pub agrees : DateAgrees f date
   pub is_date : m.date ≡ Some date
+  pub time : Time
   pub is_time : m.time ≡ Some time
+  pub offset : UtcOffset
   pub is_offset : m.offset ≡ Some offset
   pub within : is_within (unix_time date time offset) ≡ true
 
@@ -54,61 +54,80 @@ abbrev pub Has : Kind → Moment → Fields → Type 0
 Has of.Date m f = HasDate m f
 Has of.Time m f = HasTime m
 Has of.Offset m f = HasOffset m
-Has of.Instant m f = HasInstant m
+Has of.Instant m f = HasInstant m f
 Has of.Nothing m f = ⊤
 
--- of a part something was read, so it is known
-part_known : {A : Type 0} (Is : Result A ValueError → Type 0) (b : Bool) (x : Option A) (P : Type 0) → b ≡ true
-    → IsPart b Is (Ok x) → ((a : A) → x ≡ Some a → Is (Ok a) → P) → P
-part_known Is true (Some a) P e h k = k a refl h
-part_known Is true None P e h k = absurd h
-part_known Is false x P e h k = absurd (clash true (sym e) refl)
+pub of_instant : (m : Moment) (f : Fields) (k : Kind) → HasInstant m f → Has k m f
+of_instant m f of.Date h = record { date = h.date; is = h.is_date; agrees = h.agrees }
+of_instant m f of.Time h = record { time = h.time; is = h.is_time }
+of_instant m f of.Offset h = record { offset = h.offset; is = h.is_offset }
+of_instant m f of.Instant h = h
+of_instant m f of.Nothing h = tt
 
-pub no_stamp : (x : Option UnixTime) → x ≡ None → is_some x ≡ true → ⊥
+-- Where a value is wanted, it is known.
+pub value_known : {A : Type 0} (Is : A → Type 0) (b : Bool) (x : Option A) (P : Type 0) → b ≡ true → IsKnownIf b Is x
+    → ((a : A) → x ≡ Some a → Is a → P) → P
+value_known Is true (Some a) P e h k = k a refl h
+value_known Is true None P e h k = absurd h
+value_known Is false x P e h k = absurd (clash true (sym e) refl)
+
+no_stamp : (x : Option UnixTime) → x ≡ None → is_some x ≡ true → ⊥
 no_stamp x none some = clash (is_some x) (ap is_some none) some
 
-by_parts : (m : Moment) (f : Fields) (k : Kind) → instant_read f ≡ None → IsMomentBy None f (Ok m)
-    → has_kind k f ≡ true → Has k m f
+-- Without a timestamp each part is known of which something was read.
+pub by_parts : (m : Moment) (f : Fields) (k : Kind) → instant_read f ≡ None → HasValuesBy None m f → has_kind k f ≡ true
+    → Has k m f
 by_parts m f of.Date none h e =
-    part_known (IsDateByParts f) (has_date f) m.date (HasDate m f) e h.0
-    (λ d is has. record { date = d; is = is; agrees = has.0 })
+    value_known (λ d. IsDateOf f (Ok d)) (has_date f) m.date (HasDate m f) e h.0
+    (λ d is has. record {
+      date = d;
+      is = is;
+      agrees = (subst (λ (x : Option UnixTime). IsDateBy x f (Ok d)) none has).0;
+    })
 by_parts m f of.Time none h e =
-    part_known (IsTimeByParts f) (has_time f) m.time (HasTime m) e h.1
+    value_known (λ t. IsTimeOf f (Ok t)) (has_time f) m.time (HasTime m) e h.1
     (λ t is has. record { time = t; is = is })
 by_parts m f of.Offset none h e =
-    part_known (IsOffsetOf f) (has_offset f) m.offset (HasOffset m) e h.2
+    value_known (λ o. IsOffsetOf f (Ok o)) (has_offset f) m.offset (HasOffset m) e h.2
     (λ o is has. record { offset = o; is = is })
 by_parts m f of.Instant none h e =
     absurd (no_stamp (instant_read f) none
     (some_instant f.subsecond f.unix_nanosecond f.unix_microsecond f.unix_millisecond f.unix_second ∙ e))
 by_parts m f of.Nothing none h e = tt
 
-by_instant : (m : Moment) (f : Fields) (u : UnixTime) (k : Kind) → IsMomentBy (Some u) f (Ok m) → Has k m f
-by_instant m f u of.Date (s, (agrees, at), known) = record {
+-- So it is with the parts of a moment that was answered.
+part_known : {A : Type 0} (Is : Result A ValueError → Type 0) (b : Bool) (x : Option A) → IsPart b Is (Ok x)
+    → IsKnownIf b (λ a. Is (Ok a)) x
+part_known Is false x h = tt
+part_known Is true (Some a) h = h
+part_known Is true None h = absurd h
+
+values_of : (m : Moment) (f : Fields) → instant_read f ≡ None → IsMomentBy None f (Ok m) → HasValuesBy None m f
+values_of m f none h = (
+  part_known (IsDateOf f) (has_date f) m.date
+      (subst (λ (x : Option UnixTime). IsPart (has_date f) (IsDateBy x f) (Ok (m.date))) (sym none) h.0),
+  part_known (IsTimeOf f) (has_time f) m.time
+      (subst (λ (x : Option UnixTime). IsPart (has_time f) (IsTimeBy x f) (Ok (m.time))) (sym none) h.1),
+  part_known (IsOffsetOf f) (has_offset f) m.offset h.2,
+)
+
+by_instant : (m : Moment) (f : Fields) (u : UnixTime) → IsMomentBy (Some u) f (Ok m) → HasInstant m f
+by_instant m f u (s, (agrees, at), known) = record {
   date = s.date;
-  is = ap (λ (x : Moment). x.date) known;
   agrees = λ p. agrees (part.Date p);
-}
-by_instant m f u of.Time (s, (agrees, at), known) =
-    record { time = s.time; is = ap (λ (x : Moment). x.time) known }
-by_instant m f u of.Offset (s, (agrees, at), known) =
-    record { offset = s.offset; is = ap (λ (x : Moment). x.offset) known }
-by_instant m f u of.Instant (s, (agrees, at), known) = record {
-  date = s.date;
-  time = s.time;
-  offset = s.offset;
   is_date = ap (λ (x : Moment). x.date) known;
+  time = s.time;
   is_time = ap (λ (x : Moment). x.time) known;
+  offset = s.offset;
   is_offset = ap (λ (x : Moment). x.offset) known;
   within =
       ap (λ n. is_within (unix_at n)) at.0.0 ∙ within_again u.is_negative u.nanoseconds at.0.1;
 }
-by_instant m f u of.Nothing h = tt
 
 -- A moment that was read has all that was read of it.
 pub moment_known : (m : Moment) (f : Fields) (k : Kind) → IsMomentOf f (Ok m) → has_kind k f ≡ true → Has k m f
 moment_known m f k h e = by (instant_read f) refl h
   where
     by : (x : Option UnixTime) → instant_read f ≡ x → IsMomentBy x f (Ok m) → Has k m f
-    by None none h = by_parts m f k none h e
-    by (Some u) is h = by_instant m f u k h
+    by None none h = by_parts m f k none (values_of m f none h) e
+    by (Some u) is h = of_instant m f k (by_instant m f u h)

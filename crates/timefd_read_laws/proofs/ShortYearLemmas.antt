@@ -7,7 +7,7 @@ use Rattle.timefd_component.specs.Modern.{modern}
 use Rattle.timefd_component.specs.Tree.{Tree, component, literal, compound, optional, first, Trees, no_trees, more_trees}
 use Rattle.timefd_format.specs.declared.field.Kind.{Kind}
 use Rattle.timefd_format.specs.declared.field.Kind.TheVariants as kind
-use Rattle.timefd_format.specs.Fields.{date_field, field}
+use Rattle.timefd_format.specs.Fields.{field}
 use Rattle.timefd_format.specs.Fields.{kind as kind_of}
 use Rattle.timefd_format.specs.Written.{shown, written}
 use Rattle.timefd_moment.specs.declared.date.Date.{Date}
@@ -81,29 +81,21 @@ module _ (m : Moment) (f : Fields) (short : IfSome m.date HasShortYears) where
   years_short h = subst (λ (x : Option Date). IfSome x HasShortYears) h.is short
 
   field_short : (c : Component) → Has (kind_of c) m f → is_ok (field m c) ≡ true
-  field_short (of.CalendarYearFullExtendedRange c) h =
-      date_shown m f h (λ d. date_field d (of.CalendarYearFullExtendedRange c))
+  field_short (of.CalendarYearFullExtendedRange c) h = date_shown m f h (of.CalendarYearFullExtendedRange c)
       (year_shown 999999 4 1 c.padding c.sign_is_mandatory h.date.years (omega (arith, (years_short h).0)))
-  field_short (of.CalendarYearFullStandardRange c) h =
-      date_shown m f h (λ d. date_field d (of.CalendarYearFullStandardRange c))
+  field_short (of.CalendarYearFullStandardRange c) h = date_shown m f h (of.CalendarYearFullStandardRange c)
       (year_shown 9999 4 1 c.padding c.sign_is_mandatory h.date.years (years_short h).0)
-  field_short (of.CalendarYearCenturyExtendedRange c) h =
-      date_shown m f h (λ d. date_field d (of.CalendarYearCenturyExtendedRange c))
+  field_short (of.CalendarYearCenturyExtendedRange c) h = date_shown m f h (of.CalendarYearCenturyExtendedRange c)
       (year_shown 999999 2 100 c.padding c.sign_is_mandatory h.date.years (omega (arith, (years_short h).0)))
-  field_short (of.CalendarYearCenturyStandardRange c) h =
-      date_shown m f h (λ d. date_field d (of.CalendarYearCenturyStandardRange c))
+  field_short (of.CalendarYearCenturyStandardRange c) h = date_shown m f h (of.CalendarYearCenturyStandardRange c)
       (year_shown 9999 2 100 c.padding c.sign_is_mandatory h.date.years (years_short h).0)
-  field_short (of.IsoYearFullExtendedRange c) h =
-      date_shown m f h (λ d. date_field d (of.IsoYearFullExtendedRange c))
+  field_short (of.IsoYearFullExtendedRange c) h = date_shown m f h (of.IsoYearFullExtendedRange c)
       (year_shown 999999 4 1 c.padding c.sign_is_mandatory (iso_years h.date) (omega (arith, (years_short h).1)))
-  field_short (of.IsoYearFullStandardRange c) h =
-      date_shown m f h (λ d. date_field d (of.IsoYearFullStandardRange c))
+  field_short (of.IsoYearFullStandardRange c) h = date_shown m f h (of.IsoYearFullStandardRange c)
       (year_shown 9999 4 1 c.padding c.sign_is_mandatory (iso_years h.date) (years_short h).1)
-  field_short (of.IsoYearCenturyExtendedRange c) h =
-      date_shown m f h (λ d. date_field d (of.IsoYearCenturyExtendedRange c))
+  field_short (of.IsoYearCenturyExtendedRange c) h = date_shown m f h (of.IsoYearCenturyExtendedRange c)
       (year_shown 999999 2 100 c.padding c.sign_is_mandatory (iso_years h.date) (omega (arith, (years_short h).1)))
-  field_short (of.IsoYearCenturyStandardRange c) h =
-      date_shown m f h (λ d. date_field d (of.IsoYearCenturyStandardRange c))
+  field_short (of.IsoYearCenturyStandardRange c) h = date_shown m f h (of.IsoYearCenturyStandardRange c)
       (year_shown 9999 2 100 c.padding c.sign_is_mandatory (iso_years h.date) (years_short h).1)
   field_short c h = component_shown m f c h tt
 

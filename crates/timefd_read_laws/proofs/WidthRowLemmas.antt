@@ -1,5 +1,5 @@
 -- Numbers, names and periods are read back as the values of their fields.
-use Rattle.std.proofs.Common.{ℕ, ◌≡◌, ◌∙◌, ◌≤◌, ◌<◌, ◌+◌, ◌-◌, ◌/◌, ◌^◌, ◌++◌, ◌==◌, inl, inr, ◌||◌, Bool, true, false, nat_le}
+use Rattle.std.proofs.Common.{ℕ, ◌≡◌, ◌∙◌, ◌≤◌, ◌<◌, ◌+◌, ◌-◌, ◌/◌, ◌^◌, ◌++◌, ◌==◌, inr, ◌||◌, Bool, true, false, nat_le}
 use Rattle.std.proofs.Common.{length, Option, Some, Ok, refl, sym, ap, arith}
 use Rattle.std.proofs.lemmas.Bool.{eq-eqb}
 use Rattle.timefd_component.specs.declared.component.Component.{Component}
