@@ -134,46 +134,34 @@ field_begins m known (of.WeekdayShort p) =
 field_begins m known (of.WeekdayLong p) =
     each_date _ m.date _ (λ d rest h. name_begins long_weekdays (days_from_monday d) rest refl (omega arith))
 field_begins m known (of.CalendarYearFullExtendedRange p) =
-    each_date (BeginsSigned known p.sign_is_mandatory) m.date _
-    (λ d. year_begins known 999999 4 1 p.padding p.sign_is_mandatory d.years)
+    each_date _ m.date _ (λ d. year_begins known 999999 4 1 p.padding p.sign_is_mandatory d.years)
 field_begins m known (of.CalendarYearFullStandardRange p) =
-    each_date (BeginsSigned known p.sign_is_mandatory) m.date _
-    (λ d. year_begins known 9999 4 1 p.padding p.sign_is_mandatory d.years)
+    each_date _ m.date _ (λ d. year_begins known 9999 4 1 p.padding p.sign_is_mandatory d.years)
 field_begins m known (of.CalendarYearCenturyExtendedRange p) =
-    each_date (BeginsSigned known p.sign_is_mandatory) m.date _
-    (λ d. year_begins known 999999 2 100 p.padding p.sign_is_mandatory d.years)
+    each_date _ m.date _ (λ d. year_begins known 999999 2 100 p.padding p.sign_is_mandatory d.years)
 field_begins m known (of.CalendarYearCenturyStandardRange p) =
-    each_date (BeginsSigned known p.sign_is_mandatory) m.date _
-    (λ d. year_begins known 9999 2 100 p.padding p.sign_is_mandatory d.years)
+    each_date _ m.date _ (λ d. year_begins known 9999 2 100 p.padding p.sign_is_mandatory d.years)
 field_begins m known (of.IsoYearFullExtendedRange p) =
-    each_date (BeginsSigned known p.sign_is_mandatory) m.date _
-    (λ d. year_begins known 999999 4 1 p.padding p.sign_is_mandatory (iso_years d))
+    each_date _ m.date _ (λ d. year_begins known 999999 4 1 p.padding p.sign_is_mandatory (iso_years d))
 field_begins m known (of.IsoYearFullStandardRange p) =
-    each_date (BeginsSigned known p.sign_is_mandatory) m.date _
-    (λ d. year_begins known 9999 4 1 p.padding p.sign_is_mandatory (iso_years d))
+    each_date _ m.date _ (λ d. year_begins known 9999 4 1 p.padding p.sign_is_mandatory (iso_years d))
 field_begins m known (of.IsoYearCenturyExtendedRange p) =
-    each_date (BeginsSigned known p.sign_is_mandatory) m.date _
-    (λ d. year_begins known 999999 2 100 p.padding p.sign_is_mandatory (iso_years d))
+    each_date _ m.date _ (λ d. year_begins known 999999 2 100 p.padding p.sign_is_mandatory (iso_years d))
 field_begins m known (of.IsoYearCenturyStandardRange p) =
-    each_date (BeginsSigned known p.sign_is_mandatory) m.date _
-    (λ d. year_begins known 9999 2 100 p.padding p.sign_is_mandatory (iso_years d))
+    each_date _ m.date _ (λ d. year_begins known 9999 2 100 p.padding p.sign_is_mandatory (iso_years d))
 field_begins m known (of.Period p) =
     each_time _ m.time _ (λ t rest h. period_begins p.is_uppercase (nat_le 12 t.hour) rest)
 field_begins m known (of.OffsetHour p) =
     each_offset _ m.offset _ (λ o. sign_begins known p.sign_is_mandatory o.is_negative p.sign_is_mandatory
     (filled p.padding 2 (o.seconds / 3600)) (λ e. e))
 field_begins m known (of.UnixTimestampSecond p) =
-    each_instant (BeginsSigned known p.sign_is_mandatory) m (of.UnixTimestampSecond p)
-    (λ u. stamp_begins known p.sign_is_mandatory u (whole_seconds u))
+    each_instant _ m (of.UnixTimestampSecond p) (λ u. stamp_begins known p.sign_is_mandatory u (whole_seconds u))
 field_begins m known (of.UnixTimestampMillisecond p) =
-    each_instant (BeginsSigned known p.sign_is_mandatory) m (of.UnixTimestampMillisecond p)
-    (λ u. stamp_begins known p.sign_is_mandatory u (u.nanoseconds / 1000000))
+    each_instant _ m (of.UnixTimestampMillisecond p) (λ u. stamp_begins known p.sign_is_mandatory u (u.nanoseconds / 1000000))
 field_begins m known (of.UnixTimestampMicrosecond p) =
-    each_instant (BeginsSigned known p.sign_is_mandatory) m (of.UnixTimestampMicrosecond p)
-    (λ u. stamp_begins known p.sign_is_mandatory u (u.nanoseconds / 1000))
+    each_instant _ m (of.UnixTimestampMicrosecond p) (λ u. stamp_begins known p.sign_is_mandatory u (u.nanoseconds / 1000))
 field_begins m known (of.UnixTimestampNanosecond p) =
-    each_instant (BeginsSigned known p.sign_is_mandatory) m (of.UnixTimestampNanosecond p)
-    (λ u. stamp_begins known p.sign_is_mandatory u u.nanoseconds)
+    each_instant _ m (of.UnixTimestampNanosecond p) (λ u. stamp_begins known p.sign_is_mandatory u u.nanoseconds)
 field_begins m known (of.Ignore p) = λ rest h. h
 field_begins m known (of.End p) = λ rest h. h
 field_begins m known (of.Month p) = each_date _ m.date _ (λ d rest h. h)

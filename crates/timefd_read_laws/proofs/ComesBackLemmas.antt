@@ -20,6 +20,7 @@ use Rattle.timefd_read_laws.specs.Shown.{IsOf, fields_shown, shows, with_tree, w
 use Rattle.timefd_read_laws.specs.Written.{ComesBack, HasText, IsKept, IsReadWritten, ReadsAllWritten, ReadsWritten}
 use Rattle.timefd_read_laws.proofs.AgainLemmas.{fields_again, shows_back}
 use Rattle.timefd_read_laws.proofs.ComponentReadLemmas.{component_step}
+use Rattle.timefd_read_laws.proofs.StepLemmas.{in_some}
 use Rattle.timefd_read_laws.proofs.WrittenLemmas.{writes_again}
 
 -- Of a settled description all is read that is written, and nothing else.
@@ -51,22 +52,16 @@ same_parts tree text f e h =
 
 -- a date, a time and an offset that are the moment's where it has them
 
-abbrev pub some_date : Option Date → Date
-some_date (Some d) = d
-some_date None = record {
+abbrev pub any_date : Date
+any_date = record {
   years = 1;
   month = 1;
   day = 1;
   exists = (omega arith, omega arith, omega arith, omega arith, omega arith, omega arith);
 }
 
-date_is : (x : Option Date) → IfSome x (λ e. e ≡ some_date x)
-date_is (Some d) = refl
-date_is None = tt
-
-abbrev pub some_time : Option Time → Time
-some_time (Some t) = t
-some_time None = record {
+abbrev pub any_time : Time
+any_time = record {
   hour = 0;
   minute = 0;
   second = 0;
@@ -77,22 +72,17 @@ some_time None = record {
   nanoseconds = omega arith;
 }
 
-time_is : (x : Option Time) → IfSome x (λ e. e ≡ some_time x)
-time_is (Some t) = refl
-time_is None = tt
-
-abbrev pub some_offset : Option UtcOffset → UtcOffset
-some_offset (Some o) = o
-some_offset None = record {
+abbrev pub any_offset : UtcOffset
+any_offset = record {
   seconds = 0;
   is_negative = false;
   within = omega arith;
   no_negative_zero = λ e. absurd (clash true (sym e) refl);
 }
 
-offset_is : (x : Option UtcOffset) → IfSome x (λ e. e ≡ some_offset x)
-offset_is (Some o) = refl
-offset_is None = tt
+is_in : {A : Type 0} (a : A) (x : Option A) → IfSome x (λ e. e ≡ in_some a x)
+is_in a (Some b) = refl
+is_in a None = tt
 
 kept : (m : Moment) (d : Date) (t : Time) (o : UtcOffset) (tree : Tree) (text : Text) (f : Fields)
     → is_settled tree ≡ true → IsReadWritten tree text f → IsMomentOf f (Ok m) → IsOf m d t o → HasText m tree
@@ -118,5 +108,5 @@ kept m d t o tree text f e h is of has =
 
 pub comes_back : ComesBack
 comes_back m tree text f e h is =
-    kept m (some_date m.date) (some_time m.time) (some_offset m.offset) tree text f e h is
-    (date_is m.date, time_is m.time, offset_is m.offset) (writes_again m tree text f h is)
+    kept m (in_some any_date m.date) (in_some any_time m.time) (in_some any_offset m.offset) tree text f e h is
+    (is_in any_date m.date, is_in any_time m.time, is_in any_offset m.offset) (writes_again m tree text f h is)

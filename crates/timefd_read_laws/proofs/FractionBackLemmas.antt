@@ -93,24 +93,28 @@ unit_is k = by (nat_lt k 9) refl
         let none : 0 ≡ 9 - k = omega (arith, ltb-false k 9 (sym e)) in
         ap (λ (j : ℕ). 10 ^ j) none
 
+first_len : (k n : ℕ) → k ≤ 9 → n ≤ 999999999 → length (take k (filled Padding.Zero 9 n)) ≡ k
+first_len k n h small =
+    let ds = filled Padding.Zero 9 n in
+    omega (
+      arith,
+      h,
+      (nine_digits n small).nine,
+      length-drop k ds,
+      ap length (take-append-drop k ds),
+      length-append (take k ds) (drop k ds),
+    )
+
 -- So many digits are read as the number that is cut behind them, whatever follows.
 pub first_digits : (k n : ℕ) (rest : Text) → k ≤ 9 → n ≤ 999999999
     → digits k k (take k (filled Padding.Zero 9 n) ++ rest)
     ≡ Some (digits_value 10 (take k (filled Padding.Zero 9 n)), length (take k (filled Padding.Zero 9 n)))
 first_digits k n rest h small =
     let ds = filled Padding.Zero 9 n in
-    let is = nine_digits n small in
-    let split : ds ≡ take k ds ++ drop k ds = sym (take-append-drop k ds) in
-    let len : length (take k ds) ≡ k = omega (
-      arith,
-      h,
-      is.nine,
-      length-drop k ds,
-      ap length split,
-      length-append (take k ds) (drop k ds),
-    ) in
+    let len = first_len k n h small in
     digits_back k k (take k ds) rest
-    (all_front (take k ds) (drop k ds) (subst (λ (xs : Text). AllDigits 10 xs) split is.all))
+    (all_front (take k ds) (drop k ds)
+    (subst (λ (xs : Text). AllDigits 10 xs) (sym (take-append-drop k ds)) (nine_digits n small).all))
     (omega (arith, len)) (omega (arith, len)) (inl (sym len))
 
 pub first_value : (k n : ℕ) → k ≤ 9 → n ≤ 999999999
@@ -119,19 +123,11 @@ pub first_value : (k n : ℕ) → k ≤ 9 → n ≤ 999999999
 first_value k n h small =
     let ds = filled Padding.Zero 9 n in
     let is = nine_digits n small in
-    let split : ds ≡ take k ds ++ drop k ds = sym (take-append-drop k ds) in
     let behind : length (drop k ds) ≡ 9 - k = omega (arith, is.nine, length-drop k ds) in
-    let len : length (take k ds) ≡ k = omega (
-      arith,
-      h,
-      is.nine,
-      behind,
-      ap length split,
-      length-append (take k ds) (drop k ds),
-    ) in
     let value : digits_value 10 (take k ds) ≡ n / unit k =
-    cut_by (take k ds) (drop k ds) ds n (9 - k) is split behind ∙ ap (λ (x : ℕ). n / x) (sym (unit_is k)) in
-    λ i. value i * unit (len i)
+    cut_by (take k ds) (drop k ds) ds n (9 - k) is (sym (take-append-drop k ds)) behind
+    ∙ ap (λ (x : ℕ). n / x) (sym (unit_is k)) in
+    λ i. value i * unit (first_len k n h small i)
 
 -- Zeros at the end are left out.
 

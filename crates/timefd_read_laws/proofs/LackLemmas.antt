@@ -4,12 +4,12 @@ use Rattle.std.proofs.Common.{refl, sym, subst}
 use Rattle.timefd_component.specs.declared.component.Component.{Component}
 use Rattle.timefd_component.specs.declared.component.Component.TheVariants as of
 use Rattle.timefd_component.specs.Modern.{modern}
-use Rattle.timefd_component.specs.Tree.{Text, Tree, component, literal, compound, optional, first, Trees, no_trees, more_trees}
+use Rattle.timefd_component.specs.Tree.{Text}
 use Rattle.timefd_format.specs.declared.field.Field.{Field}
 use Rattle.timefd_format.specs.declared.field.Lack.{Lack}
 use Rattle.timefd_format.specs.declared.unshown.Unshown.{Unshown}
 use Rattle.timefd_format.specs.Fields.{date_field, field, kind, on_date, signed, year}
-use Rattle.timefd_format.specs.Written.{followed, shown, text_of, written, written_all}
+use Rattle.timefd_format.specs.Written.{followed, shown, text_of}
 use Rattle.timefd_modifier.specs.declared.enums.Padding.{Padding}
 use Rattle.timefd_moment.specs.declared.date.Date.{Date}
 use Rattle.timefd_moment.specs.declared.moment.Moment.{Moment}
@@ -21,7 +21,7 @@ use Rattle.timefd_read_laws.proofs.FieldShownLemmas.{component_shown}
 use Rattle.timefd_read_laws.proofs.MomentKnownLemmas.{Has, HasDate}
 use Rattle.timefd_read_laws.proofs.ShortYearLemmas.{kinds_read}
 use Rattle.timefd_read_laws.proofs.StepLemmas.{is_ok}
-use Rattle.timefd_read_laws.proofs.WrittenLemmas.{Each, EachOf, each_more, text_ok}
+use Rattle.timefd_read_laws.proofs.WrittenLemmas.{each_more, each_written, text_ok}
 
 -- an error is that a year is too long
 
@@ -80,23 +80,8 @@ module _ (m : Moment) (f : Fields) where
       (year_lacks 9999 2 100 c.padding c.sign_is_mandatory (iso_years h.date))
   field_lacks c h = ok_lacks (text_of c (field m c)) (text_ok c (field m c) (component_shown m f c h tt))
 
-mutual
-  tree_lacks : (m : Moment) (t : Tree) → Each (λ c. LacksYear (shown m c)) t → LacksYear (written m t)
-  tree_lacks m (component c) h = h
-  tree_lacks m (literal bytes) h = tt
-  tree_lacks m (compound ts) h = trees_lack m ts h
-  tree_lacks m (optional true t) h = tree_lacks m t h
-  tree_lacks m (optional false t) h = tt
-  tree_lacks m (first no_trees) h = tt
-  tree_lacks m (first (more_trees t ts)) h = tree_lacks m t h
-
-  trees_lack : (m : Moment) (ts : Trees) → EachOf (λ c. LacksYear (shown m c)) ts → LacksYear (written_all m ts)
-  trees_lack m no_trees h = tt
-  trees_lack m (more_trees t ts) h =
-      followed_lacks (written m t) (written_all m ts) (tree_lacks m t h.0) (trees_lack m ts h.1)
-
 pub lacks_years_alone : LacksYearsAlone
 lacks_years_alone m tree text f read same is =
-    tree_lacks m tree
+    each_written LacksYear (λ text. tt) followed_lacks m tree
     (each_more (λ c. Has (kind (modern c)) m f) (λ c. LacksYear (shown m c)) (λ c h. field_lacks m f (modern c) h) tree
     (kinds_read m tree f same is))

@@ -15,7 +15,7 @@ use Rattle.timefd_read_moment.specs.Stamped.{whole_seconds}
 use Rattle.timefd_read_laws.specs.Again.{parts}
 use Rattle.timefd_read_laws.specs.Shown.{Shows, fields_shown, if_shown, with_sign, year_part}
 use Rattle.timefd_read_laws.proofs.GrowLemmas.{InRange, Range, but, century_more, iso_century_more, iso_year_more, kinds}
-use Rattle.timefd_read_laws.proofs.GrowLemmas.{same_range, year_more, years}
+use Rattle.timefd_read_laws.proofs.GrowLemmas.{year_more, years}
 use Rattle.timefd_read_laws.proofs.KindLemmas.{has_kind, in_clock, in_day, in_hour, in_iso_year, in_week, in_year, left, one}
 use Rattle.timefd_read_laws.proofs.KindLemmas.{right, three, two}
 use Rattle.timefd_read_laws.proofs.RowLemmas.{merged}
@@ -48,12 +48,12 @@ pub record Place (A : Type 0) : Type 0 where
   -- Years that were read stay as great.
   pub range : (f : Fields) (a : A) → get f ≡ None → (r : Range) → InRange r (years f) → InRange r (years (set f a))
 
--- one that is no year
-abbrev plain : {A : Type 0} (k : Kind) (get : Fields → Option A) (set : Fields → A → Fields) (is_in : Shows → Bool)
+abbrev place : {A : Type 0} (k : Kind) (get : Fields → Option A) (set : Fields → A → Fields) (is_in : Shows → Bool)
     (put_in : Shows → Bool → Shows) (value : Date → Time → UtcOffset → A)
     → ((f : Fields) → is_some (get f) ≡ true → has_kind k f ≡ true) → IsSet k get set put_in
-    → IsShown get set is_in put_in value → ((f : Fields) (a : A) → years f ≡ years (set f a)) → Place A
-plain k get set is_in put_in value known is_set is_shown same = record {
+    → IsShown get set is_in put_in value
+    → ((f : Fields) (a : A) → get f ≡ None → (r : Range) → InRange r (years f) → InRange r (years (set f a))) → Place A
+place k get set is_in put_in value known is_set is_shown range = record {
   kind = k;
   get = get;
   set = set;
@@ -63,183 +63,150 @@ plain k get set is_in put_in value known is_set is_shown same = record {
   known = known;
   is_set = is_set;
   is_shown = is_shown;
-  range = λ f a none r h. same_range (years f) (years (set f a)) (same f a) r h;
+  range = range;
 }
 
 abbrev pub year_last_two : Place ℕ
-year_last_two = plain of.Date (λ f. f.year_last_two) (λ f x. record f { year_last_two = Some x }) (λ s. s.year_last_two)
+year_last_two = place of.Date (λ f. f.year_last_two) (λ f x. record f { year_last_two = Some x }) (λ s. s.year_last_two)
     (λ s b. record s { year_last_two = b }) (λ d t o. magnitude d.years % 100)
     (λ f e. in_year f (three (is_some f.year) (is_some f.century) _ e)) (λ f a. (refl, refl, refl, refl, refl))
-    (λ d t o s. (refl, refl, refl)) (λ f a. refl)
+    (λ d t o s. (refl, refl, refl)) (λ f a none r h. h)
 
 abbrev pub iso_year_last_two : Place ℕ
-iso_year_last_two = plain of.Date (λ f. f.iso_year_last_two) (λ f x. record f { iso_year_last_two = Some x })
+iso_year_last_two = place of.Date (λ f. f.iso_year_last_two) (λ f x. record f { iso_year_last_two = Some x })
     (λ s. s.iso_year_last_two) (λ s b. record s { iso_year_last_two = b }) (λ d t o. magnitude (iso_years d) % 100)
     (λ f e. in_iso_year f (three (is_some f.iso_year) (is_some f.iso_century) _ e))
-    (λ f a. (refl, refl, refl, refl, refl)) (λ d t o s. (refl, refl, refl)) (λ f a. refl)
+    (λ f a. (refl, refl, refl, refl, refl)) (λ d t o s. (refl, refl, refl)) (λ f a none r h. h)
 
 abbrev pub month : Place ℕ
-month = plain of.Date (λ f. f.month) (λ f x. record f { month = Some x }) (λ s. s.month) (λ s b. record s { month = b })
+month = place of.Date (λ f. f.month) (λ f x. record f { month = Some x }) (λ s. s.month) (λ s b. record s { month = b })
     (λ d t o. d.month) (λ f e. in_day f (one _ _ _ e)) (λ f a. (refl, refl, refl, refl, refl))
-    (λ d t o s. (refl, refl, refl)) (λ f a. refl)
+    (λ d t o s. (refl, refl, refl)) (λ f a none r h. h)
 
 abbrev pub day : Place ℕ
-day = plain of.Date (λ f. f.day) (λ f x. record f { day = Some x }) (λ s. s.day) (λ s b. record s { day = b })
+day = place of.Date (λ f. f.day) (λ f x. record f { day = Some x }) (λ s. s.day) (λ s b. record s { day = b })
     (λ d t o. d.day) (λ f e. in_day f (two _ _ _ e)) (λ f a. (refl, refl, refl, refl, refl))
-    (λ d t o s. (refl, refl, refl)) (λ f a. refl)
+    (λ d t o s. (refl, refl, refl)) (λ f a none r h. h)
 
 abbrev pub ordinal : Place ℕ
-ordinal = plain of.Date (λ f. f.ordinal) (λ f x. record f { ordinal = Some x }) (λ s. s.ordinal)
+ordinal = place of.Date (λ f. f.ordinal) (λ f x. record f { ordinal = Some x }) (λ s. s.ordinal)
     (λ s b. record s { ordinal = b }) (λ d t o. date_ordinal d)
     (λ f e. in_day f (three (is_some f.month) (is_some f.day) _ e)) (λ f a. (refl, refl, refl, refl, refl))
-    (λ d t o s. (refl, refl, refl)) (λ f a. refl)
+    (λ d t o s. (refl, refl, refl)) (λ f a none r h. h)
 
 abbrev pub weekday : Place ℕ
-weekday = plain of.Date (λ f. f.weekday) (λ f x. record f { weekday = Some x }) (λ s. s.weekday)
+weekday = place of.Date (λ f. f.weekday) (λ f x. record f { weekday = Some x }) (λ s. s.weekday)
     (λ s b. record s { weekday = b }) (λ d t o. days_from_monday d) (λ f e. in_week f (left _ _ (one _ _ _ e)))
-    (λ f a. (refl, refl, refl, refl, refl)) (λ d t o s. (refl, refl, refl)) (λ f a. refl)
+    (λ f a. (refl, refl, refl, refl, refl)) (λ d t o s. (refl, refl, refl)) (λ f a none r h. h)
 
 abbrev pub iso_week : Place ℕ
-iso_week = plain of.Date (λ f. f.iso_week) (λ f x. record f { iso_week = Some x }) (λ s. s.iso_week)
+iso_week = place of.Date (λ f. f.iso_week) (λ f x. record f { iso_week = Some x }) (λ s. s.iso_week)
     (λ s b. record s { iso_week = b }) (λ d t o. moment.iso_week d) (λ f e. in_week f (left _ _ (two _ _ _ e)))
-    (λ f a. (refl, refl, refl, refl, refl)) (λ d t o s. (refl, refl, refl)) (λ f a. refl)
+    (λ f a. (refl, refl, refl, refl, refl)) (λ d t o s. (refl, refl, refl)) (λ f a none r h. h)
 
 abbrev pub sunday_week : Place ℕ
-sunday_week = plain of.Date (λ f. f.sunday_week) (λ f x. record f { sunday_week = Some x }) (λ s. s.sunday_week)
+sunday_week = place of.Date (λ f. f.sunday_week) (λ f x. record f { sunday_week = Some x }) (λ s. s.sunday_week)
     (λ s b. record s { sunday_week = b }) (λ d t o. moment.sunday_week d)
     (λ f e. in_week f (left _ (is_some f.monday_week) (three (is_some f.weekday) (is_some f.iso_week) _ e)))
-    (λ f a. (refl, refl, refl, refl, refl)) (λ d t o s. (refl, refl, refl)) (λ f a. refl)
+    (λ f a. (refl, refl, refl, refl, refl)) (λ d t o s. (refl, refl, refl)) (λ f a none r h. h)
 
 abbrev pub monday_week : Place ℕ
-monday_week = plain of.Date (λ f. f.monday_week) (λ f x. record f { monday_week = Some x }) (λ s. s.monday_week)
+monday_week = place of.Date (λ f. f.monday_week) (λ f x. record f { monday_week = Some x }) (λ s. s.monday_week)
     (λ s b. record s { monday_week = b }) (λ d t o. moment.monday_week d) (λ f e. in_week f (right _ _ e))
-    (λ f a. (refl, refl, refl, refl, refl)) (λ d t o s. (refl, refl, refl)) (λ f a. refl)
+    (λ f a. (refl, refl, refl, refl, refl)) (λ d t o s. (refl, refl, refl)) (λ f a none r h. h)
 
 abbrev pub hour : Place ℕ
-hour = plain of.Time (λ f. f.hour) (λ f x. record f { hour = Some x }) (λ s. s.hour) (λ s b. record s { hour = b })
+hour = place of.Time (λ f. f.hour) (λ f x. record f { hour = Some x }) (λ s. s.hour) (λ s b. record s { hour = b })
     (λ d t o. t.hour) (λ f e. in_hour f (one _ _ _ e)) (λ f a. (refl, refl, refl, refl, refl))
-    (λ d t o s. (refl, refl, refl)) (λ f a. refl)
+    (λ d t o s. (refl, refl, refl)) (λ f a none r h. h)
 
 abbrev pub hour_12 : Place ℕ
-hour_12 = plain of.Time (λ f. f.hour_12) (λ f x. record f { hour_12 = Some x }) (λ s. s.hour_12)
+hour_12 = place of.Time (λ f. f.hour_12) (λ f x. record f { hour_12 = Some x }) (λ s. s.hour_12)
     (λ s b. record s { hour_12 = b }) (λ d t o. hour_of_twelve t.hour) (λ f e. in_hour f (two _ _ _ e))
-    (λ f a. (refl, refl, refl, refl, refl)) (λ d t o s. (refl, refl, refl)) (λ f a. refl)
+    (λ f a. (refl, refl, refl, refl, refl)) (λ d t o s. (refl, refl, refl)) (λ f a none r h. h)
 
 abbrev pub is_afternoon : Place Bool
-is_afternoon = plain of.Time (λ f. f.is_afternoon) (λ f x. record f { is_afternoon = Some x }) (λ s. s.is_afternoon)
+is_afternoon = place of.Time (λ f. f.is_afternoon) (λ f x. record f { is_afternoon = Some x }) (λ s. s.is_afternoon)
     (λ s b. record s { is_afternoon = b }) (λ d t o. nat_le 12 t.hour)
     (λ f e. in_hour f (three (is_some f.hour) (is_some f.hour_12) _ e)) (λ f a. (refl, refl, refl, refl, refl))
-    (λ d t o s. (refl, refl, refl)) (λ f a. refl)
+    (λ d t o s. (refl, refl, refl)) (λ f a none r h. h)
 
 abbrev pub minute : Place ℕ
-minute = plain of.Time (λ f. f.minute) (λ f x. record f { minute = Some x }) (λ s. s.minute)
+minute = place of.Time (λ f. f.minute) (λ f x. record f { minute = Some x }) (λ s. s.minute)
     (λ s b. record s { minute = b }) (λ d t o. t.minute) (λ f e. in_clock f (two _ _ _ e))
-    (λ f a. (refl, refl, refl, refl, refl)) (λ d t o s. (refl, refl, refl)) (λ f a. refl)
+    (λ f a. (refl, refl, refl, refl, refl)) (λ d t o s. (refl, refl, refl)) (λ f a none r h. h)
 
 abbrev pub second : Place ℕ
-second = plain of.Time (λ f. f.second) (λ f x. record f { second = Some x }) (λ s. s.second)
+second = place of.Time (λ f. f.second) (λ f x. record f { second = Some x }) (λ s. s.second)
     (λ s b. record s { second = b }) (λ d t o. t.second) (λ f e. in_clock f (three (has_hour f) (is_some f.minute) _ e))
-    (λ f a. (refl, refl, refl, refl, refl)) (λ d t o s. (refl, refl, refl)) (λ f a. refl)
+    (λ f a. (refl, refl, refl, refl, refl)) (λ d t o s. (refl, refl, refl)) (λ f a none r h. h)
 
 abbrev pub offset_hour : Place Signed
-offset_hour = plain of.Offset (λ f. f.offset_hour) (λ f x. record f { offset_hour = Some x }) (λ s. s.offset_hour)
+offset_hour = place of.Offset (λ f. f.offset_hour) (λ f x. record f { offset_hour = Some x }) (λ s. s.offset_hour)
     (λ s b. record s { offset_hour = b }) (λ d t o. with_sign o.is_negative (o.seconds / 3600)) (λ f e. one _ _ _ e)
-    (λ f a. (refl, refl, refl, refl, refl)) (λ d t o s. (refl, refl, refl)) (λ f a. refl)
+    (λ f a. (refl, refl, refl, refl, refl)) (λ d t o s. (refl, refl, refl)) (λ f a none r h. h)
 
 abbrev pub offset_minute : Place ℕ
-offset_minute = plain of.Offset (λ f. f.offset_minute) (λ f x. record f { offset_minute = Some x }) (λ s. s.offset_minute)
+offset_minute = place of.Offset (λ f. f.offset_minute) (λ f x. record f { offset_minute = Some x }) (λ s. s.offset_minute)
     (λ s b. record s { offset_minute = b }) (λ d t o. o.seconds / 60 % 60) (λ f e. two _ _ _ e)
-    (λ f a. (refl, refl, refl, refl, refl)) (λ d t o s. (refl, refl, refl)) (λ f a. refl)
+    (λ f a. (refl, refl, refl, refl, refl)) (λ d t o s. (refl, refl, refl)) (λ f a none r h. h)
 
 abbrev pub offset_second : Place ℕ
-offset_second = plain of.Offset (λ f. f.offset_second) (λ f x. record f { offset_second = Some x }) (λ s. s.offset_second)
+offset_second = place of.Offset (λ f. f.offset_second) (λ f x. record f { offset_second = Some x }) (λ s. s.offset_second)
     (λ s b. record s { offset_second = b }) (λ d t o. o.seconds % 60)
     (λ f e. three (is_some f.offset_hour) (is_some f.offset_minute) _ e) (λ f a. (refl, refl, refl, refl, refl))
-    (λ d t o s. (refl, refl, refl)) (λ f a. refl)
+    (λ d t o s. (refl, refl, refl)) (λ f a none r h. h)
 
 abbrev pub unix_second : Place Signed
-unix_second = plain of.Instant (λ f. f.unix_second) (λ f x. record f { unix_second = Some x }) (λ s. s.unix_second)
+unix_second = place of.Instant (λ f. f.unix_second) (λ f x. record f { unix_second = Some x }) (λ s. s.unix_second)
     (λ s b. record s { unix_second = b })
     (λ d t o. with_sign (unix_time d t o).is_negative (whole_seconds (unix_time d t o)))
     (λ f e. right (is_some f.unix_nanosecond) _ (right (is_some f.unix_microsecond) _ (right (is_some f.unix_millisecond) _ e)))
-    (λ f a. (refl, refl, refl, refl, refl)) (λ d t o s. (refl, refl, refl)) (λ f a. refl)
+    (λ f a. (refl, refl, refl, refl, refl)) (λ d t o s. (refl, refl, refl)) (λ f a none r h. h)
 
 abbrev pub unix_millisecond : Place Signed
-unix_millisecond = plain of.Instant (λ f. f.unix_millisecond) (λ f x. record f { unix_millisecond = Some x })
+unix_millisecond = place of.Instant (λ f. f.unix_millisecond) (λ f x. record f { unix_millisecond = Some x })
     (λ s. s.unix_millisecond) (λ s b. record s { unix_millisecond = b })
     (λ d t o. with_sign (unix_time d t o).is_negative ((unix_time d t o).nanoseconds / 1000000))
     (λ f e. right _ _ (right _ _ (left _ _ e))) (λ f a. (refl, refl, refl, refl, refl)) (λ d t o s. (refl, refl, refl))
-    (λ f a. refl)
+    (λ f a none r h. h)
 
 abbrev pub unix_microsecond : Place Signed
-unix_microsecond = plain of.Instant (λ f. f.unix_microsecond) (λ f x. record f { unix_microsecond = Some x })
+unix_microsecond = place of.Instant (λ f. f.unix_microsecond) (λ f x. record f { unix_microsecond = Some x })
     (λ s. s.unix_microsecond) (λ s b. record s { unix_microsecond = b })
     (λ d t o. with_sign (unix_time d t o).is_negative ((unix_time d t o).nanoseconds / 1000))
-    (λ f e. right _ _ (left _ _ e)) (λ f a. (refl, refl, refl, refl, refl)) (λ d t o s. (refl, refl, refl)) (λ f a. refl)
+    (λ f e. right _ _ (left _ _ e)) (λ f a. (refl, refl, refl, refl, refl)) (λ d t o s. (refl, refl, refl)) (λ f a none r h. h)
 
 abbrev pub unix_nanosecond : Place Signed
-unix_nanosecond = plain of.Instant (λ f. f.unix_nanosecond) (λ f x. record f { unix_nanosecond = Some x })
+unix_nanosecond = place of.Instant (λ f. f.unix_nanosecond) (λ f x. record f { unix_nanosecond = Some x })
     (λ s. s.unix_nanosecond) (λ s b. record s { unix_nanosecond = b })
     (λ d t o. with_sign (unix_time d t o).is_negative (unix_time d t o).nanoseconds) (λ f e. left _ _ e)
-    (λ f a. (refl, refl, refl, refl, refl)) (λ d t o s. (refl, refl, refl)) (λ f a. refl)
+    (λ f a. (refl, refl, refl, refl, refl)) (λ d t o s. (refl, refl, refl)) (λ f a none r h. h)
 
 -- years, which have any value where none was read before
 
 abbrev pub year : Place Signed
-year = record {
-  kind = of.Date;
-  get = λ f. f.year;
-  set = λ f x. record f { year = Some x };
-  is_in = λ s. s.year;
-  put_in = λ s b. record s { year = b };
-  value = λ d t o. year_part d.years 1;
-  known = λ f e. in_year f (one _ _ _ e);
-  is_set = λ f a. (refl, refl, refl, refl, refl);
-  is_shown = λ d t o s. (refl, refl, refl);
-  range = λ f a none. year_more (years f) (years (record f { year = Some a })) none refl;
-}
+year = place of.Date (λ f. f.year) (λ f x. record f { year = Some x }) (λ s. s.year) (λ s b. record s { year = b })
+    (λ d t o. year_part d.years 1) (λ f e. in_year f (one _ _ _ e)) (λ f a. (refl, refl, refl, refl, refl))
+    (λ d t o s. (refl, refl, refl)) (λ f a none. year_more (years f) (years (record f { year = Some a })) none refl)
 
 abbrev pub century : Place Signed
-century = record {
-  kind = of.Date;
-  get = λ f. f.century;
-  set = λ f x. record f { century = Some x };
-  is_in = λ s. s.century;
-  put_in = λ s b. record s { century = b };
-  value = λ d t o. year_part d.years 100;
-  known = λ f e. in_year f (two _ _ _ e);
-  is_set = λ f a. (refl, refl, refl, refl, refl);
-  is_shown = λ d t o s. (refl, refl, refl);
-  range = λ f a none. century_more (years f) (years (record f { century = Some a })) none refl;
-}
+century = place of.Date (λ f. f.century) (λ f x. record f { century = Some x }) (λ s. s.century)
+    (λ s b. record s { century = b }) (λ d t o. year_part d.years 100) (λ f e. in_year f (two _ _ _ e))
+    (λ f a. (refl, refl, refl, refl, refl)) (λ d t o s. (refl, refl, refl))
+    (λ f a none. century_more (years f) (years (record f { century = Some a })) none refl)
 
 abbrev pub iso_year : Place Signed
-iso_year = record {
-  kind = of.Date;
-  get = λ f. f.iso_year;
-  set = λ f x. record f { iso_year = Some x };
-  is_in = λ s. s.iso_year;
-  put_in = λ s b. record s { iso_year = b };
-  value = λ d t o. year_part (iso_years d) 1;
-  known = λ f e. in_iso_year f (one _ _ _ e);
-  is_set = λ f a. (refl, refl, refl, refl, refl);
-  is_shown = λ d t o s. (refl, refl, refl);
-  range = λ f a none. iso_year_more (years f) (years (record f { iso_year = Some a })) none refl;
-}
+iso_year = place of.Date (λ f. f.iso_year) (λ f x. record f { iso_year = Some x }) (λ s. s.iso_year)
+    (λ s b. record s { iso_year = b }) (λ d t o. year_part (iso_years d) 1) (λ f e. in_iso_year f (one _ _ _ e))
+    (λ f a. (refl, refl, refl, refl, refl)) (λ d t o s. (refl, refl, refl))
+    (λ f a none. iso_year_more (years f) (years (record f { iso_year = Some a })) none refl)
 
 abbrev pub iso_century : Place Signed
-iso_century = record {
-  kind = of.Date;
-  get = λ f. f.iso_century;
-  set = λ f x. record f { iso_century = Some x };
-  is_in = λ s. s.iso_century;
-  put_in = λ s b. record s { iso_century = b };
-  value = λ d t o. year_part (iso_years d) 100;
-  known = λ f e. in_iso_year f (two _ _ _ e);
-  is_set = λ f a. (refl, refl, refl, refl, refl);
-  is_shown = λ d t o s. (refl, refl, refl);
-  range = λ f a none. iso_century_more (years f) (years (record f { iso_century = Some a })) none refl;
-}
+iso_century = place of.Date (λ f. f.iso_century) (λ f x. record f { iso_century = Some x }) (λ s. s.iso_century)
+    (λ s b. record s { iso_century = b }) (λ d t o. year_part (iso_years d) 100) (λ f e. in_iso_year f (two _ _ _ e))
+    (λ f a. (refl, refl, refl, refl, refl)) (λ d t o s. (refl, refl, refl))
+    (λ f a none. iso_century_more (years f) (years (record f { iso_century = Some a })) none refl)
 
 -- The fields of a reading, of which one has this place.
 abbrev pub IsAt : {A F : Type 0} → (A → A → Bool) → (Fields → F → A → Option A → Option Fields) → (Fields → F → Option A)

@@ -21,14 +21,14 @@ use Rattle.timefd_read_laws.specs.Again.{parts}
 use Rattle.timefd_read_laws.specs.ShortYears.{HasShortYears, WritesShortYears}
 use Rattle.timefd_read_laws.specs.Shown.{Shows, shows, shows_nothing, with_tree, with_trees}
 use Rattle.timefd_read_laws.proofs.AgainLemmas.{date_shown as shows_date}
-use Rattle.timefd_read_laws.proofs.ComesBackLemmas.{some_date, some_offset, some_time}
+use Rattle.timefd_read_laws.proofs.ComesBackLemmas.{any_date, any_offset, any_time}
 use Rattle.timefd_read_laws.proofs.FieldShownLemmas.{component_shown, date_shown, year_shown}
 use Rattle.timefd_read_laws.proofs.KindLemmas.{has_kind}
 use Rattle.timefd_read_laws.proofs.KnownLemmas.{same_has_time, stamp_known}
 use Rattle.timefd_read_laws.proofs.MomentKnownLemmas.{Has, HasDate, moment_known}
 use Rattle.timefd_read_laws.proofs.ShownKindLemmas.{as_fields, component_shows, modern_current}
 use Rattle.timefd_read_laws.proofs.ShownPartLemmas.{same_shown}
-use Rattle.timefd_read_laws.proofs.StepLemmas.{is_ok}
+use Rattle.timefd_read_laws.proofs.StepLemmas.{in_some, is_ok}
 use Rattle.timefd_read_laws.proofs.WrittenLemmas.{Each, EachOf, each_more, has_text, text_ok, tree_written}
 
 -- which kinds a description shows
@@ -103,9 +103,9 @@ module _ (m : Moment) (f : Fields) (short : IfSome m.date HasShortYears) where
 pub kinds_read : (m : Moment) (tree : Tree) (f : Fields) → parts f ≡ shows tree → IsMomentOf f (Ok m)
     → Each (λ c. Has (kind_of (modern c)) m f) tree
 kinds_read m tree f same is =
-    let d = some_date m.date in
-    let t = some_time m.time in
-    let o = some_offset m.offset in
+    let d = in_some any_date m.date in
+    let t = in_some any_time m.time in
+    let o = in_some any_offset m.offset in
     each_more (KindIn d t o (shows tree)) (λ c. Has (kind_of (modern c)) m f)
     (λ c h.
     moment_known m f (kind_of (modern c)) is

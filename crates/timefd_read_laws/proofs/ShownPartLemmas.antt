@@ -1,5 +1,5 @@
 -- The parts of what is shown.
-use Rattle.std.proofs.Common.{ℕ, ◌≡◌, ◌/◌, ◌%◌, ◌∙◌, Bool, true, false, nat_le, Option, Some, None, refl, sym, ap}
+use Rattle.std.proofs.Common.{ℕ, ◌≡◌, ◌/◌, ◌%◌, ◌∙◌, Bool, true, false, nat_le, Option, Some, None, refl, sym}
 use Rattle.std.specs.Prelude.{is_some}
 use Rattle.timefd_moment.specs.declared.date.Date.{Date}
 use Rattle.timefd_moment.specs.declared.time.Time.{Time}
@@ -19,37 +19,7 @@ digits_cut : (digits : Option ℕ) (n : ℕ) → digits_of (cut_where digits n) 
 digits_cut None n = refl
 digits_cut (Some k) n = refl
 
-abbrev pub spread : Shows → Shows
-spread s = record {
-  year = s.year;
-  century = s.century;
-  year_last_two = s.year_last_two;
-  iso_year = s.iso_year;
-  iso_century = s.iso_century;
-  iso_year_last_two = s.iso_year_last_two;
-  month = s.month;
-  day = s.day;
-  ordinal = s.ordinal;
-  weekday = s.weekday;
-  iso_week = s.iso_week;
-  sunday_week = s.sunday_week;
-  monday_week = s.monday_week;
-  hour = s.hour;
-  hour_12 = s.hour_12;
-  is_afternoon = s.is_afternoon;
-  minute = s.minute;
-  second = s.second;
-  subsecond = s.subsecond;
-  offset_hour = s.offset_hour;
-  offset_minute = s.offset_minute;
-  offset_second = s.offset_second;
-  unix_second = s.unix_second;
-  unix_millisecond = s.unix_millisecond;
-  unix_microsecond = s.unix_microsecond;
-  unix_nanosecond = s.unix_nanosecond;
-}
-
-pub parts_shown : (d : Date) (t : Time) (o : UtcOffset) (s : Shows) → parts (fields_shown d t o s) ≡ spread s
+pub parts_shown : (d : Date) (t : Time) (o : UtcOffset) (s : Shows) → parts (fields_shown d t o s) ≡ s
 parts_shown d t o s = λ i. record {
   year = some_shown s.year (year_part d.years 1) i;
   century = some_shown s.century (year_part d.years 100) i;
@@ -84,4 +54,4 @@ parts_shown d t o s = λ i. record {
 -- The parts that were read are those of what is shown of them.
 pub same_shown : (d : Date) (t : Time) (o : UtcOffset) (f : Fields) (s : Shows) → parts f ≡ s
     → parts f ≡ parts (fields_shown d t o s)
-same_shown d t o f s e = ap spread e ∙ sym (parts_shown d t o s)
+same_shown d t o f s e = e ∙ sym (parts_shown d t o s)

@@ -28,7 +28,7 @@ abbrev fields_in : {E : Type 0} → Fields → Result Point E → Fields
 fields_in f (Ok p) = p.fields
 fields_in f (Err e) = f
 
-abbrev in_some : {A : Type 0} → A → Option A → A
+abbrev pub in_some : {A : Type 0} → A → Option A → A
 in_some a None = a
 in_some a (Some b) = b
 

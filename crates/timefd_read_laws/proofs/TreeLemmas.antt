@@ -126,15 +126,11 @@ module _ (m : Moment) (d : Date) (t : Time) (o : UtcOffset) (is : IsOf m d t o) 
   both_read u us known mid s v w (Ok a) (Err e) f g k = tt
   both_read u us known mid s v w (Err e) y f g k = tt
 
-  perhaps_read : (u : Tree) (known : Bound) (s v : Shows) (x : Result Text Unshown)
-      → IfOk x (Back known (Reads u) s v) → IfOk x (Back known (Reads (optional true u)) s v)
-  perhaps_read u known s v (Ok a) f = λ rest h. inl (f rest h)
-  perhaps_read u known s v (Err e) f = tt
-
-  first_read : (u : Tree) (us : Trees) (known : Bound) (s v : Shows) (x : Result Text Unshown)
-      → IfOk x (Back known (Reads u) s v) → IfOk x (Back known (Reads (first (more_trees u us))) s v)
-  first_read u us known s v (Ok a) f = λ rest h. inl (f rest h)
-  first_read u us known s v (Err e) f = tt
+  -- and by all that this is a part of
+  also_read : (Read More : Point → Point → Type 0) → ((p q : Point) → Read p q → More p q) → (known : Bound) (s v : Shows)
+      (x : Result Text Unshown) → IfOk x (Back known Read s v) → IfOk x (Back known More s v)
+  also_read Read More more known s v (Ok a) f = λ rest h. more _ _ (f rest h)
+  also_read Read More more known s v (Err e) f = tt
 
   mutual
     reads_tree : (u : Tree) (known : Bound) (s : Shows) → settled u known ≡ true
@@ -145,11 +141,11 @@ module _ (m : Moment) (d : Date) (t : Time) (o : UtcOffset) (is : IsOf m d t o) 
     reads_tree (literal bytes) known s e = λ rest h. (refl, refl)
     reads_tree (compound us) known s e = reads_trees us known s e
     reads_tree (optional true u) known s e =
-        perhaps_read u known s (with_tree u s) (written m u) (reads_tree u known s e)
+        also_read (Reads u) (Reads (optional true u)) (λ p q r. inl r) known s (with_tree u s) (written m u) (reads_tree u known s e)
     reads_tree (optional false u) known s e = absurd (clash true (sym e) refl)
     reads_tree (first no_trees) known s e = λ rest h. refl
     reads_tree (first (more_trees u us)) known s e =
-        first_read u us known s (with_tree u s) (written m u) (reads_tree u known s e)
+        also_read (Reads u) (Reads (first (more_trees u us))) (λ p q r. inl r) known s (with_tree u s) (written m u) (reads_tree u known s e)
 
     reads_trees : (us : Trees) (known : Bound) (s : Shows) → settled_all us known ≡ true
         → IfOk (written_all m us) (Back known (ReadsAll us) s (with_trees us s))

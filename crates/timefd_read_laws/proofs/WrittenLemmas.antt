@@ -1,5 +1,5 @@
 -- What was read is written again.
-use Rattle.std.proofs.Common.{◌≡◌, true, false, Result, Ok, Err, refl, sym, subst}
+use Rattle.std.proofs.Common.{◌≡◌, true, false, [], Result, Ok, Err, refl, sym, subst}
 use Rattle.std.specs.Prelude.{⊤}
 use Rattle.timefd_component.specs.declared.component.Component.{Component}
 use Rattle.timefd_component.specs.Modern.{modern}
@@ -111,21 +111,26 @@ followed_ok (Ok a) (Ok b) e h = refl
 followed_ok (Ok a) (Err u) e h = absurd (clash true (sym h) refl)
 followed_ok (Err u) b e h = absurd (clash true (sym e) refl)
 
-mutual
-  pub tree_written : (m : Moment) (t : Tree) → Each (λ c. is_ok (shown m c) ≡ true) t → is_ok (written m t) ≡ true
-  tree_written m (component c) h = h
-  tree_written m (literal bytes) h = refl
-  tree_written m (compound ts) h = trees_written m ts h
-  tree_written m (optional true t) h = tree_written m t h
-  tree_written m (optional false t) h = refl
-  tree_written m (first no_trees) h = refl
-  tree_written m (first (more_trees t ts)) h = tree_written m t h
+-- What holds of the text of each component, of any other, and of one behind another, holds of the text of a tree.
+module _ (P : Result Text Unshown → Type 0) (any : (text : Text) → P (Ok text))
+    (both_texts : (a b : Result Text Unshown) → P a → P b → P (followed a b)) (m : Moment) where
+  mutual
+    pub each_written : (t : Tree) → Each (λ c. P (shown m c)) t → P (written m t)
+    each_written (component c) h = h
+    each_written (literal bytes) h = any bytes
+    each_written (compound ts) h = all_written ts h
+    each_written (optional true t) h = each_written t h
+    each_written (optional false t) h = any []
+    each_written (first no_trees) h = any []
+    each_written (first (more_trees t ts)) h = each_written t h
 
-  trees_written : (m : Moment) (ts : Trees) → EachOf (λ c. is_ok (shown m c) ≡ true) ts
-      → is_ok (written_all m ts) ≡ true
-  trees_written m no_trees h = refl
-  trees_written m (more_trees t ts) h =
-      followed_ok (written m t) (written_all m ts) (tree_written m t h.0) (trees_written m ts h.1)
+    all_written : (ts : Trees) → EachOf (λ c. P (shown m c)) ts → P (written_all m ts)
+    all_written no_trees h = any []
+    all_written (more_trees t ts) h =
+        both_texts (written m t) (written_all m ts) (each_written t h.0) (all_written ts h.1)
+
+pub tree_written : (m : Moment) (t : Tree) → Each (λ c. is_ok (shown m c) ≡ true) t → is_ok (written m t) ≡ true
+tree_written = each_written (λ r. is_ok r ≡ true) (λ text. refl) followed_ok
 
 pub has_text : (r : Result Text Unshown) → is_ok r ≡ true → (text : Text) × (r ≡ Ok text)
 has_text (Ok text) e = (text, refl)
