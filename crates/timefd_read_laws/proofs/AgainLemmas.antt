@@ -27,7 +27,7 @@ use Rattle.timefd_read_laws.specs.Again.{AnswersSame, BothKnown, FieldsAgain, Is
 use Rattle.timefd_read_laws.specs.Shown.{Shows, fields_shown, shows}
 use Rattle.timefd_read_laws.specs.Values.{HasNoMoreOffset, HasNoMoreTime, IsReadBack}
 use Rattle.timefd_read_laws.proofs.KnownLemmas.{same_date, same_has_time, same_offset, same_stamp, same_time}
-use Rattle.timefd_read_laws.proofs.MoreLemmas.{offset_again, time_again}
+use Rattle.timefd_read_laws.proofs.ValueBackLemmas.{offset_again, time_again}
 use Rattle.timefd_read_laws.proofs.PlainLemmas.{whole_read}
 use Rattle.timefd_read_laws.proofs.ShownPartLemmas.{same_shown}
 use Rattle.timefd_read_laws.proofs.StampedAgainLemmas.{stamped_again}

@@ -5,9 +5,11 @@ use Rattle.std.proofs.lemmas.Bool.{eqb-true, le-leb}
 use Rattle.timefd_component.specs.declared.component.Component.{Component}
 use Rattle.timefd_component.specs.declared.component.Component.TheVariants as of
 use Rattle.timefd_format.specs.declared.field.Field.{Field}
+use Rattle.timefd_format.specs.declared.field.Kind.{Kind}
+use Rattle.timefd_format.specs.declared.field.Kind.TheVariants as kinds
 use Rattle.timefd_format.specs.declared.field.Lack.{Lack}
 use Rattle.timefd_format.specs.declared.field.Lack.TheVariants as lack
-use Rattle.timefd_format.specs.Fields.{date_field, field, instant_field, kind, offset_field, on_date, on_offset, on_time}
+use Rattle.timefd_format.specs.Fields.{by_kind, date_field, field, instant_field, kind, offset_field, on_date, on_offset, on_time}
 use Rattle.timefd_format.specs.Fields.{signed, stamp_field, time_field, year}
 use Rattle.timefd_modifier.specs.declared.enums.Padding.{Padding}
 use Rattle.timefd_moment.specs.declared.date.Date.{Date}
@@ -87,6 +89,14 @@ century_shown greatest k padding mandatory x years most h e =
     (part_small x (is_before_zero years) (magnitude years) (magnitude years / 100) k h e))
 
 module _ (m : Moment) (f : Fields) where
+  by_kind_shown : (k : Kind) (c : Component) → Has k m f → ((d : Date) → is_ok (date_field d c) ≡ true)
+      → is_ok (by_kind k m c) ≡ true
+  by_kind_shown kinds.Date c h e = date_shown m f h c (e h.date)
+  by_kind_shown kinds.Time c h e = time_shown m h c
+  by_kind_shown kinds.Offset c h e = offset_shown m h c
+  by_kind_shown kinds.Instant c h e = instant_shown m f h c
+  by_kind_shown kinds.Nothing c h e = refl
+
   pub component_shown : (c : Component) → Has (kind c) m f → InRange (range_of c) (years f)
       → is_ok (field m c) ≡ true
   component_shown (of.CalendarYearFullExtendedRange c) h r = date_shown m f h (of.CalendarYearFullExtendedRange c)
@@ -108,19 +118,4 @@ module _ (m : Moment) (f : Fields) where
   component_shown (of.IsoYearCenturyStandardRange c) h r = date_shown m f h (of.IsoYearCenturyStandardRange c)
       (century_shown 9999 99 c.padding c.sign_is_mandatory f.iso_century (iso_years h.date) (omega arith) r
       (h.agrees DatePart.IsoCentury))
-  component_shown (of.Hour12 c) h r = time_shown m h (of.Hour12 c)
-  component_shown (of.Hour24 c) h r = time_shown m h (of.Hour24 c)
-  component_shown (of.Minute c) h r = time_shown m h (of.Minute c)
-  component_shown (of.Second c) h r = time_shown m h (of.Second c)
-  component_shown (of.OffsetMinute c) h r = offset_shown m h (of.OffsetMinute c)
-  component_shown (of.OffsetSecond c) h r = offset_shown m h (of.OffsetSecond c)
-  component_shown (of.Period c) h r = time_shown m h (of.Period c)
-  component_shown (of.Subsecond c) h r = time_shown m h (of.Subsecond c)
-  component_shown (of.OffsetHour c) h r = offset_shown m h (of.OffsetHour c)
-  component_shown (of.UnixTimestampSecond c) h r = instant_shown m f h (of.UnixTimestampSecond c)
-  component_shown (of.UnixTimestampMillisecond c) h r = instant_shown m f h (of.UnixTimestampMillisecond c)
-  component_shown (of.UnixTimestampMicrosecond c) h r = instant_shown m f h (of.UnixTimestampMicrosecond c)
-  component_shown (of.UnixTimestampNanosecond c) h r = instant_shown m f h (of.UnixTimestampNanosecond c)
-  component_shown (of.Ignore c) h r = refl
-  component_shown (of.End c) h r = refl
-  component_shown c h r = date_shown m f h c refl
+  component_shown c h r = by_kind_shown (kind c) c h (λ d. refl)

@@ -3,10 +3,8 @@ pub mod SignLemmas
 pub mod NameBackLemmas
 pub mod FractionBackLemmas
 pub mod FractionCutLemmas
-pub mod DigitBackLemmas
 pub mod BoundLemmas
 pub mod RowLemmas
-pub mod PartRowLemmas
 pub mod KindLemmas
 pub mod GrowLemmas
 pub mod PlaceLemmas
@@ -20,7 +18,6 @@ pub mod StampedBackLemmas
 pub mod StepLemmas
 pub mod ShownPartLemmas
 pub mod KnownLemmas
-pub mod MoreLemmas
 pub mod ReadRowLemmas
 pub mod FractionReadLemmas
 pub mod ComponentReadLemmas

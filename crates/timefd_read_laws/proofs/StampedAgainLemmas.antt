@@ -33,7 +33,7 @@ use Rattle.timefd_read_laws.specs.Again.{AnswersSame, BothKnown, IsWrittenAgain,
 use Rattle.timefd_read_laws.specs.Shown.{IsOf, Shows, fields_shown, shows}
 use Rattle.timefd_read_laws.specs.Values.{HasNoMoreOffset}
 use Rattle.timefd_read_laws.proofs.KnownLemmas.{same_offset, same_stamp}
-use Rattle.timefd_read_laws.proofs.MoreLemmas.{offset_again}
+use Rattle.timefd_read_laws.proofs.ValueBackLemmas.{offset_again}
 use Rattle.timefd_read_laws.proofs.PlainLemmas.{whole_read}
 use Rattle.timefd_read_laws.proofs.RestLemmas.{digits_again, digits_kept, within_again}
 use Rattle.timefd_read_laws.proofs.ShownPartLemmas.{same_shown}

@@ -22,10 +22,10 @@ use Rattle.timefd_read_moment.specs.Stamped.{whole_seconds}
 use Rattle.timefd_read_laws.specs.Laws.{ComponentBack}
 use Rattle.timefd_read_laws.specs.Shown.{IsOf, Shows}
 use Rattle.timefd_read_laws.proofs.BoundLemmas.{in_month, iso_week_in, nanoseconds_in, ordinal_first, ordinal_last, seconds_in}
-use Rattle.timefd_read_laws.proofs.DigitBackLemmas.{less_first, period_back, period_place, place_is, weekday_back}
+use Rattle.timefd_read_laws.proofs.NameBackLemmas.{less_first, period_back, period_place, place_is, weekday_back}
 use Rattle.timefd_read_laws.proofs.NameBackLemmas.{long_months_back, long_weekdays_back, short_months_back}
 use Rattle.timefd_read_laws.proofs.NameBackLemmas.{short_weekdays_back}
-use Rattle.timefd_read_laws.proofs.PartRowLemmas.{IsRow, by_date, by_instant, by_offset, by_time}
+use Rattle.timefd_read_laws.proofs.RowLemmas.{IsRow, by_date, by_instant, by_offset, by_time}
 use Rattle.timefd_read_laws.proofs.PlaceLemmas as place
 use Rattle.timefd_read_laws.proofs.RowLemmas.{Row, of_year}
 use Rattle.timefd_read_laws.proofs.SecondRowLemmas.{end_row, fraction_row}

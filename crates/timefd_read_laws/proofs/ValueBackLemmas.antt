@@ -2,16 +2,18 @@
 use Rattle.std.proofs.Common.{ℕ, ◌≡◌, ◌∙◌, ◌*◌, ◌/◌, ◌%◌, ◌==◌, ◌&&◌, ◌||◌, Bool, true, false, Option, Some, None, Result}
 use Rattle.std.proofs.Common.{Ok, Err, refl, sym, ap, subst, arith}
 use Rattle.std.proofs.Math.Nat.{div-mul-le_self, mod-eq-sub-div-mul}
-use Rattle.std.proofs.lemmas.Bool.{eq-eqb}
+use Rattle.std.proofs.lemmas.Bool.{eq-eqb, eqb-true}
+use Rattle.std.specs.Prelude.{is_some}
 use Rattle.timefd_component.specs.Tree.{Tree}
 use Rattle.timefd_moment.specs.declared.date.Date.{Date}
 use Rattle.timefd_moment.specs.declared.time.Time.{Time}
 use Rattle.timefd_moment.specs.declared.offset.UtcOffset.{UtcOffset}
-use Rattle.timefd_moment.specs.Moments.{date_ordinal, days_from_monday, hour_of_twelve, is_before_zero, iso_week, iso_years}
-use Rattle.timefd_moment.specs.Moments.{magnitude, monday_week, sunday_week}
+use Rattle.timefd_moment.specs.Moments.{date_ordinal, days_from_monday, hour_of_twelve, is_before_zero, iso_week}
+use Rattle.timefd_moment.specs.Moments.{iso_years, magnitude, monday_week, sunday_week}
 use Rattle.timefd_read_dates.specs.declared.fault.ReadError.{ReadError}
 use Rattle.timefd_read_dates.specs.declared.fields.Fields.{Fields}
 use Rattle.timefd_read_dates.specs.Readings.{same, unit}
+use Rattle.timefd_read_dates.specs.declared.fields.Fraction.{Fraction}
 use Rattle.timefd_read_moment.specs.declared.part.DatePart.{DatePart}
 use Rattle.timefd_read_moment.specs.declared.part.TimePart.{TimePart}
 use Rattle.timefd_read_moment.specs.declared.part.OffsetPart.{OffsetPart}
@@ -22,8 +24,10 @@ use Rattle.timefd_read_moment.proofs.StampLawLemmas.{instant_back, moment_back}
 use Rattle.timefd_read_laws.specs.Shown.{Shows, cut_where, fields_shown, if_shown, shows, with_sign}
 use Rattle.timefd_read_laws.specs.Values.{DateReadBack, EndsWith, HasNoMoreOffset, HasNoMoreTime, InstantReadBack}
 use Rattle.timefd_read_laws.specs.Values.{IsReadBack, IsZeroWithout, MomentReadBack, OffsetReadBack, TimeReadBack}
+use Rattle.timefd_read_laws.specs.Again.{digits_of, parts}
 use Rattle.timefd_read_laws.proofs.RowLemmas.{same_sign}
 use Rattle.timefd_read_laws.proofs.TreeLemmas.{reads_back}
+use Rattle.timefd_read_laws.proofs.StepLemmas.{IsWhole}
 
 -- Each field that is shown is the moment's.
 
@@ -148,3 +152,29 @@ moment_read_back d t o tree f r h none date time offset is =
     moment_back f d t o r none (λ e. (date e, of_date d t o tree f h))
     (λ e. ((time e).0, of_time d t o tree f h (time e).1))
     (λ e. ((offset e).0, of_offset d t o tree f h (offset e).1)) is
+
+zero_again : (read : Option ℕ) (n : ℕ) → is_count_or_zero read n ≡ true
+    → IsZeroWithout (if_shown (is_some read) n) n
+zero_again None n e = eqb-true n 0 e
+zero_again (Some k) n e = tt
+
+ends_again : (read : Option Fraction) (n : ℕ) → IsWhole read → is_fraction read n ≡ true
+    → EndsWith (cut_where (digits_of read) n) n
+ends_again None n h e = eqb-true n 0 e
+ends_again (Some read) n h e =
+    subst (λ (k : ℕ). k % unit read.digits ≡ 0) (eqb-true read.nanosecond n e) h
+
+pub time_again : (d : Date) (t : Time) (o : UtcOffset) (f : Fields) → IsWhole f.subsecond → TimeAgrees f t
+    → HasNoMoreTime (fields_shown d t o (parts f)) t
+time_again d t o f whole h = (
+  zero_again f.minute t.minute (h TimePart.Minute),
+  zero_again f.second t.second (h TimePart.Second),
+  ends_again f.subsecond t.nanosecond whole (h TimePart.Subsecond),
+)
+
+pub offset_again : (d : Date) (t : Time) (o : UtcOffset) (f : Fields) → OffsetAgrees f o
+    → HasNoMoreOffset (fields_shown d t o (parts f)) o
+offset_again d t o f h = (
+  zero_again f.offset_minute (o.seconds / 60 % 60) (h OffsetPart.Minute),
+  zero_again f.offset_second (o.seconds % 60) (h OffsetPart.Second),
+)
