@@ -23,7 +23,7 @@ use Rattle.timefd_read_moment.proofs.ShownLemmas.{clash}
 use Rattle.timefd_read_laws.specs.Again.{digits_of, parts}
 use Rattle.timefd_read_laws.specs.Shown.{more_digits}
 use Rattle.timefd_read_laws.proofs.GrowLemmas.{any, more}
-use Rattle.timefd_read_laws.proofs.KindLemmas.{by_subsecond}
+use Rattle.timefd_read_laws.proofs.GrowLemmas.{by_subsecond}
 use Rattle.timefd_read_laws.proofs.ReadRowLemmas.{Leaves}
 use Rattle.timefd_read_laws.proofs.StepLemmas.{IsWhole, Step, agreed_is, is_ok, no_some, same_some}
 

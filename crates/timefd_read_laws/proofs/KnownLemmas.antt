@@ -43,33 +43,24 @@ some_years None (Some c) None = refl
 some_years None (Some c) (Some n) = refl
 
 some_calendar : (y m d : Option ℕ) → is_some (calendar y m d) ≡ is_some y && (is_some m && is_some d)
-some_calendar None m d = refl
-some_calendar (Some y) None d = refl
-some_calendar (Some y) (Some m) None = refl
 some_calendar (Some y) (Some m) (Some d) = refl
+some_calendar y m d = refl
 
 some_ordinal : (y n : Option ℕ) → is_some (ordinal y n) ≡ is_some y && is_some n
-some_ordinal None n = refl
-some_ordinal (Some y) None = refl
 some_ordinal (Some y) (Some n) = refl
+some_ordinal y n = refl
 
 some_iso_week : (y w d : Option ℕ) → is_some (iso_week y w d) ≡ is_some y && (is_some w && is_some d)
-some_iso_week None w d = refl
-some_iso_week (Some y) None d = refl
-some_iso_week (Some y) (Some w) None = refl
 some_iso_week (Some y) (Some w) (Some d) = refl
+some_iso_week y w d = refl
 
 some_sunday_week : (y w d : Option ℕ) → is_some (sunday_week y w d) ≡ is_some y && (is_some w && is_some d)
-some_sunday_week None w d = refl
-some_sunday_week (Some y) None d = refl
-some_sunday_week (Some y) (Some w) None = refl
 some_sunday_week (Some y) (Some w) (Some d) = refl
+some_sunday_week y w d = refl
 
 some_monday_week : (y w d : Option ℕ) → is_some (monday_week y w d) ≡ is_some y && (is_some w && is_some d)
-some_monday_week None w d = refl
-some_monday_week (Some y) None d = refl
-some_monday_week (Some y) (Some w) None = refl
 some_monday_week (Some y) (Some w) (Some d) = refl
+some_monday_week y w d = refl
 
 -- of two ways
 either_way : {W : Type 0} (either : Option W → Option W → Option W) (a b : Option W)

@@ -5,7 +5,6 @@ pub mod FractionBackLemmas
 pub mod FractionCutLemmas
 pub mod BoundLemmas
 pub mod RowLemmas
-pub mod KindLemmas
 pub mod GrowLemmas
 pub mod PlaceLemmas
 pub mod WidthRowLemmas
@@ -29,10 +28,8 @@ pub mod ValuesWrittenLemmas
 pub mod ComesBackLemmas
 pub mod ShownKindLemmas
 pub mod ShortYearLemmas
-pub mod LackLemmas
 pub mod RestLemmas
 pub mod StampedAgainLemmas
 pub mod AgainLemmas
 pub mod ExampleLemmas
 pub mod StampExampleLemmas
-pub mod WrittenExampleLemmas

@@ -21,7 +21,7 @@ use Rattle.timefd_read_moment.specs.Values.{IsDateBy, IsDateOf, IsMomentBy, IsMo
 use Rattle.timefd_read_moment.proofs.ShownLemmas.{clash}
 use Rattle.timefd_read_moment.proofs.StampedLemmas.{unix_at}
 use Rattle.timefd_read_laws.specs.WrittenValues.{HasValuesBy, IsKnownIf}
-use Rattle.timefd_read_laws.proofs.KindLemmas.{has_kind}
+use Rattle.timefd_read_laws.proofs.GrowLemmas.{has_kind}
 use Rattle.timefd_read_laws.proofs.KnownLemmas.{some_instant}
 use Rattle.timefd_read_laws.proofs.RestLemmas.{within_again}
 

@@ -19,7 +19,7 @@ use Rattle.timefd_read_moment.proofs.ShownLemmas.{clash}
 use Rattle.timefd_read_moment.proofs.YearLemmas.{both}
 use Rattle.timefd_read_laws.specs.Again.{parts}
 use Rattle.timefd_read_laws.proofs.GrowLemmas.{Grows, InRange, IsAtMost, Knows, Range, any, kind_more, same_grows, years}
-use Rattle.timefd_read_laws.proofs.KindLemmas.{has_kind}
+use Rattle.timefd_read_laws.proofs.GrowLemmas.{has_kind}
 use Rattle.timefd_read_laws.proofs.PlaceLemmas.{IsAt, Place}
 use Rattle.timefd_read_laws.proofs.RowLemmas.{equal, merged}
 use Rattle.timefd_read_laws.proofs.StepLemmas.{Step, agreed_is, is_ok, kept_is, merged_step, no_some, same_some}
@@ -117,8 +117,8 @@ module _ {A : Type 0} (place : Place A) (p q : Point) where
 -- a number without a sign, and its name
 module _ (place : Place ℕ) (c : Component) (p q : Point) where
   -- It is read as the number of a field.
-  pub count : (field : _) (x : Option (ℕ × ℕ)) → IsAt equal count_with count_of field place → taken c p (as_count field x) ≡ Ok q
-      → Placed place p q any
+  pub count : (field : _) (x : Option (ℕ × ℕ)) → IsAt equal count_with count_of field place
+      → taken c p (as_count field x) ≡ Ok q → Placed place p q any
   count field None is e = absurd (clash true (sym (ap is_ok e)) refl)
   count field (Some r) is e =
       placed place p q c equal any r.1 r.0 tt (λ a found same. tt) (sym (ap (agreed c p r.1) (is p.fields r.0)) ∙ e)
@@ -137,8 +137,8 @@ module _ (place : Place Signed) (c : Component) (p q : Point) where
       sym (eqb-true a.magnitude b.magnitude
       (if_true (same a.is_negative b.is_negative) (a.magnitude == b.magnitude) e))
 
-  pub amount : (field : _) (x : Option (Signed × ℕ)) → IsAt same_signed amount_with amount_of field place → taken c p (as_amount field x) ≡ Ok q
-      → Placed place p q any
+  pub amount : (field : _) (x : Option (Signed × ℕ)) → IsAt same_signed amount_with amount_of field place
+      → taken c p (as_amount field x) ≡ Ok q → Placed place p q any
   amount field None is e = absurd (clash true (sym (ap is_ok e)) refl)
   amount field (Some r) is e =
       placed place p q c same_signed any r.1 r.0 tt (λ a found same. tt)
@@ -146,8 +146,8 @@ module _ (place : Place Signed) (c : Component) (p q : Point) where
 
   -- a year, or a part of one, which is no greater than this
   pub year : (field : _) (r : Range) (greatest : ℕ) (x : Option (Signed × ℕ)) → IsWithin greatest x
-      → ((f : Fields) → IsAtMost greatest (place.get f) → InRange r (years f)) → IsAt same_signed amount_with amount_of field place
-      → taken c p (as_amount field x) ≡ Ok q → Placed place p q r
+      → ((f : Fields) → IsAtMost greatest (place.get f) → InRange r (years f))
+      → IsAt same_signed amount_with amount_of field place → taken c p (as_amount field x) ≡ Ok q → Placed place p q r
   year field r greatest None within into is e = absurd (clash true (sym (ap is_ok e)) refl)
   year field r greatest (Some x) within into is e =
       placed place p q c same_signed r x.1 x.0

@@ -20,7 +20,7 @@ use Rattle.timefd_moment.specs.Instants.{is_within}
 use Rattle.timefd_read_dates.specs.declared.fields.Fields.{Fields}
 use Rattle.timefd_read_dates.specs.declared.fields.Signed.{Signed}
 use Rattle.timefd_read_dates.specs.Readings.{kept, same, same_signed}
-use Rattle.timefd_read_dates.specs.Reads.{Point, agreed, read_component}
+use Rattle.timefd_read_dates.specs.Reads.{agreed, read_component}
 use Rattle.timefd_read_moment.proofs.ShownLemmas.{clash}
 use Rattle.timefd_settled.specs.Bounds.{bound_of}
 use Rattle.timefd_read_laws.specs.Bounds.{IsBounded}
@@ -31,11 +31,6 @@ use Rattle.timefd_read_laws.specs.Shown.{IsOf, Shows, fields_shown, if_shown, wi
 abbrev pub Row : Date → Time → UtcOffset → Shows → Component → Text → Type 0
 Row d t o s c text = (rest : Text) → IsBounded (bound_of c) rest
     → read_component c (at d t o s (text ++ rest)) ≡ Ok (at d t o (with_component c s) rest)
-
--- What was found is taken. The reading is some function of it.
-pub found : {A B E F : Type 0} (put : F → Option A → Option B) (field : F) (g : Option B → Result Point E)
-    (r : Option A) (a : A) (q : Point) → r ≡ Some a → g (put field (Some a)) ≡ Ok q → g (put field r) ≡ Ok q
-found put field g r a q e h = ap (λ x. g (put field x)) e ∙ h
 
 -- Behind it is what follows the text.
 pub behind : (c : Component) (d : Date) (t : Time) (o : UtcOffset) (s v : Shows) (text rest : Text)

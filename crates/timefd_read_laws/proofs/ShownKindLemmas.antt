@@ -15,7 +15,7 @@ use Rattle.timefd_moment.specs.declared.offset.UtcOffset.{UtcOffset}
 use Rattle.timefd_read_dates.specs.declared.fields.Fields.{Fields}
 use Rattle.timefd_read_laws.specs.Shown.{Shows, fields_shown, with_component}
 use Rattle.timefd_read_laws.proofs.GrowLemmas.{kind_more}
-use Rattle.timefd_read_laws.proofs.KindLemmas.{by_subsecond, has_kind}
+use Rattle.timefd_read_laws.proofs.GrowLemmas.{by_subsecond, has_kind}
 use Rattle.timefd_read_laws.proofs.PlaceLemmas as place
 use Rattle.timefd_read_laws.proofs.PlaceLemmas.{Place}
 

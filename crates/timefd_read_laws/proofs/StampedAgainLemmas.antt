@@ -96,9 +96,7 @@ these_known : (d : Date) (t : Time) (o : UtcOffset) (x : Option Date) (y : Optio
     → AreThese d t o x y z → BothKnown of_date.IsSame (Some d) x × BothKnown of_time.IsSame (Some t) y
     × BothKnown of_offset.IsSame (Some o) z
 these_known d t o (Some e) (Some v) (Some p) h = h
-these_known d t o (Some e) (Some v) None h = absurd h
-these_known d t o (Some e) None z h = absurd h
-these_known d t o None y z h = absurd h
+these_known d t o x y z h = absurd h
 
 abbrev all_known : Date → Time → UtcOffset → Moment
 all_known d t o = record { date = Some d; time = Some t; offset = Some o }

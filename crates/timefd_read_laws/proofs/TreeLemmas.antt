@@ -86,15 +86,10 @@ no_digit_at_end rest e = ap (λ xs. prefix_len is_ascii_digit xs) e
 enough : (want known : Bound) (rest : Text) → is_enough want known ≡ true → IsBounded known rest
     → IsBounded want rest
 enough Bound.Anything known rest e h = tt
-enough Bound.NoDigit Bound.Anything rest e h = absurd (clash true (sym e) refl)
 enough Bound.NoDigit Bound.NoDigit rest e h = h
 enough Bound.NoDigit Bound.End rest e h = no_digit_at_end rest h
-enough Bound.NoDigit Bound.Never rest e h = absurd h
-enough Bound.End Bound.Anything rest e h = absurd (clash true (sym e) refl)
-enough Bound.End Bound.NoDigit rest e h = absurd (clash true (sym e) refl)
 enough Bound.End Bound.End rest e h = h
-enough Bound.End Bound.Never rest e h = absurd h
-enough Bound.Never known rest e h = absurd (clash true (sym e) refl)
+enough want known rest e h = absurd (clash true (sym e) refl)
 
 -- trees
 
@@ -141,11 +136,13 @@ module _ (m : Moment) (d : Date) (t : Time) (o : UtcOffset) (is : IsOf m d t o) 
     reads_tree (literal bytes) known s e = λ rest h. (refl, refl)
     reads_tree (compound us) known s e = reads_trees us known s e
     reads_tree (optional true u) known s e =
-        also_read (Reads u) (Reads (optional true u)) (λ p q r. inl r) known s (with_tree u s) (written m u) (reads_tree u known s e)
+        also_read (Reads u) (Reads (optional true u)) (λ p q r. inl r) known s (with_tree u s) (written m u)
+        (reads_tree u known s e)
     reads_tree (optional false u) known s e = absurd (clash true (sym e) refl)
     reads_tree (first no_trees) known s e = λ rest h. refl
     reads_tree (first (more_trees u us)) known s e =
-        also_read (Reads u) (Reads (first (more_trees u us))) (λ p q r. inl r) known s (with_tree u s) (written m u) (reads_tree u known s e)
+        also_read (Reads u) (Reads (first (more_trees u us))) (λ p q r. inl r) known s (with_tree u s) (written m u)
+        (reads_tree u known s e)
 
     reads_trees : (us : Trees) (known : Bound) (s : Shows) → settled_all us known ≡ true
         → IfOk (written_all m us) (Back known (ReadsAll us) s (with_trees us s))

@@ -20,7 +20,7 @@ use Rattle.timefd_read_moment.specs.Values.{IsDateBy, IsDateOf, IsTimeBy, IsTime
 use Rattle.timefd_read_moment.proofs.LawLemmas.{one_shift}
 use Rattle.timefd_read_moment.proofs.StampedLemmas.{one_local, unix_at}
 use Rattle.timefd_read_laws.specs.WrittenValues.{HasValues, HasValuesBy, WritesValues}
-use Rattle.timefd_read_laws.proofs.KindLemmas.{has_kind}
+use Rattle.timefd_read_laws.proofs.GrowLemmas.{has_kind}
 use Rattle.timefd_read_laws.proofs.MomentKnownLemmas.{Has, HasInstant, by_parts, of_instant, value_known}
 use Rattle.timefd_read_laws.proofs.RestLemmas.{within_again}
 use Rattle.timefd_read_laws.proofs.StampedAgainLemmas.{each_result}

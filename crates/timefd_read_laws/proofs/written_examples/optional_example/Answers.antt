@@ -1,4 +1,4 @@
-use Rattle.timefd_read_laws.proofs.WrittenExampleLemmas as lemmas
+use Rattle.timefd_read_laws.proofs.ExampleLemmas as lemmas
 use Rattle.timefd_read_laws.proofs.written_examples.optional_example.Goals as goal
 
 pub returns : goal.returns
