@@ -19,7 +19,7 @@ use Rattle.timefd_read_laws.specs.Again.{IsWrittenAgain, parts}
 use Rattle.timefd_read_laws.specs.Shown.{IsOf, fields_shown, shows, with_tree, with_trees}
 use Rattle.timefd_read_laws.specs.Written.{ComesBack, HasText, IsKept, IsReadWritten, ReadsAllWritten, ReadsWritten}
 use Rattle.timefd_read_laws.proofs.AgainLemmas.{fields_again, shows_back}
-use Rattle.timefd_read_laws.proofs.ComponentReadLemmas.{component_step}
+use Rattle.timefd_read_laws.proofs.ComponentReadLemmas.{component_read}
 use Rattle.timefd_read_laws.proofs.StepLemmas.{in_some}
 use Rattle.timefd_read_laws.proofs.WrittenLemmas.{writes_again}
 
@@ -29,7 +29,7 @@ mutual
   tree_parts : (t : Tree) (known : Bound) (p q : Point) → settled t known ≡ true → ReadsWritten t p q
       → parts q.fields ≡ with_tree t (parts p.fields)
   tree_parts (component c) known p q e h =
-      (component_step p q (modern c) ((reads_exactly (component c) p q).0 h)).0
+      (component_read p q (modern c) ((reads_exactly (component c) p q).0 h)).with_parts
   tree_parts (literal bytes) known p q e h = ap parts h.1
   tree_parts (compound ts) known p q e h = trees_parts ts known p q e h
   tree_parts (optional true t) known p q e h = tree_parts t known p q e h

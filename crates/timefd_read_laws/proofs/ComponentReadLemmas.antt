@@ -19,7 +19,7 @@ use Rattle.timefd_read_laws.proofs.GrowLemmas as range
 use Rattle.timefd_read_laws.proofs.PlaceLemmas as place
 use Rattle.timefd_read_laws.proofs.ReadRowLemmas.{Leaves, Placed, amount, count, name, placed, signed_within, year}
 use Rattle.timefd_read_laws.proofs.RowLemmas.{equal}
-use Rattle.timefd_read_laws.proofs.StepLemmas.{Step, either_took, end_kept, is_ok, nothing_kept, same_step}
+use Rattle.timefd_read_laws.proofs.StepLemmas.{either_took, end_kept, is_ok, nothing_kept}
 
 -- the range of the years that a component shows
 abbrev pub range_of : Component → Range
@@ -34,10 +34,6 @@ range_of (of.IsoYearCenturyStandardRange m) = range.iso_century 99
 range_of _ = any
 
 module _ (p q : Point) where
-  -- with the parts of the component
-  abbrev pub Taken : Component → Type 0
-  Taken c = Step (with_component c (parts p.fields)) p q × Leaves (kind_of c) (range_of c) p.fields q.fields
-
   weekday : (c : Component) (is_sunday_first : Bool) (first : ℕ) (x : Option (ℕ × ℕ))
       → taken c p (as_weekday is_sunday_first first x) ≡ Ok q → Placed place.weekday p q any
   weekday c b first None e = absurd (clash true (sym (ap is_ok e)) refl)
@@ -48,78 +44,73 @@ module _ (p q : Point) where
   period c None e = absurd (clash true (sym (ap is_ok e)) refl)
   period c (Some r) e = placed place.is_afternoon p q c same any r.1 (r.0 == 1) tt (λ a found eq. tt) e
 
-  kept : p.fields ≡ q.fields → Step (parts p.fields) p q × Leaves kind.Nothing any p.fields q.fields
-  kept e = (
-    same_step p q (parts p.fields) e refl,
-    subst (λ (f : Fields). Leaves kind.Nothing any p.fields f) e
-        (record { grows = same_grows p.fields; knows = record { kind = refl; range = tt } }),
-  )
-
-  component_taken : (c : Component) → read_component c p ≡ Ok q → Taken c
-  component_taken (of.Day c) e = count place.day (of.Day c) p q _ _ (λ f n. refl) e
-  component_taken (of.MonthShort c) e = name place.month (of.MonthShort c) p q _ 1 _ (λ f n. refl) e
-  component_taken (of.MonthLong c) e = name place.month (of.MonthLong c) p q _ 1 _ (λ f n. refl) e
-  component_taken (of.MonthNumerical c) e = count place.month (of.MonthNumerical c) p q _ _ (λ f n. refl) e
-  component_taken (of.Ordinal c) e = count place.ordinal (of.Ordinal c) p q _ _ (λ f n. refl) e
-  component_taken (of.WeekdayShort c) e = name place.weekday (of.WeekdayShort c) p q _ 0 _ (λ f n. refl) e
-  component_taken (of.WeekdayLong c) e = name place.weekday (of.WeekdayLong c) p q _ 0 _ (λ f n. refl) e
-  component_taken (of.WeekdaySunday c) e = weekday (of.WeekdaySunday c) true (first_number c.one_indexed) _ e
-  component_taken (of.WeekdayMonday c) e = weekday (of.WeekdayMonday c) false (first_number c.one_indexed) _ e
-  component_taken (of.WeekNumberIso c) e = count place.iso_week (of.WeekNumberIso c) p q _ _ (λ f n. refl) e
-  component_taken (of.WeekNumberSunday c) e = count place.sunday_week (of.WeekNumberSunday c) p q _ _ (λ f n. refl) e
-  component_taken (of.WeekNumberMonday c) e = count place.monday_week (of.WeekNumberMonday c) p q _ _ (λ f n. refl) e
-  component_taken (of.CalendarYearFullExtendedRange c) e =
-      year place.year (of.CalendarYearFullExtendedRange c) p q _ (range.year 999999) 999999 _
-      (signed_within c.padding 4 4 6 999999 (sign_in p.rest) c.sign_is_mandatory p.rest) (λ f h. h) (λ f n. refl) e
-  component_taken (of.CalendarYearFullStandardRange c) e =
-      year place.year (of.CalendarYearFullStandardRange c) p q _ (range.year 9999) 9999 _
-      (signed_within c.padding 4 4 4 9999 (sign_in p.rest) c.sign_is_mandatory p.rest) (λ f h. h) (λ f n. refl) e
-  component_taken (of.CalendarYearCenturyExtendedRange c) e =
-      year place.century (of.CalendarYearCenturyExtendedRange c) p q _ (range.century 9999) 9999 _
-      (signed_within c.padding 2 2 4 9999 (sign_in p.rest) c.sign_is_mandatory p.rest) (λ f h. h) (λ f n. refl) e
-  component_taken (of.CalendarYearCenturyStandardRange c) e =
-      year place.century (of.CalendarYearCenturyStandardRange c) p q _ (range.century 99) 99 _
-      (signed_within c.padding 2 2 2 99 (sign_in p.rest) c.sign_is_mandatory p.rest) (λ f h. h) (λ f n. refl) e
-  component_taken (of.IsoYearFullExtendedRange c) e =
-      year place.iso_year (of.IsoYearFullExtendedRange c) p q _ (range.iso_year 999999) 999999 _
-      (signed_within c.padding 4 4 6 999999 (sign_in p.rest) c.sign_is_mandatory p.rest) (λ f h. h) (λ f n. refl) e
-  component_taken (of.IsoYearFullStandardRange c) e =
-      year place.iso_year (of.IsoYearFullStandardRange c) p q _ (range.iso_year 9999) 9999 _
-      (signed_within c.padding 4 4 4 9999 (sign_in p.rest) c.sign_is_mandatory p.rest) (λ f h. h) (λ f n. refl) e
-  component_taken (of.IsoYearCenturyExtendedRange c) e =
-      year place.iso_century (of.IsoYearCenturyExtendedRange c) p q _ (range.iso_century 9999) 9999 _
-      (signed_within c.padding 2 2 4 9999 (sign_in p.rest) c.sign_is_mandatory p.rest) (λ f h. h) (λ f n. refl) e
-  component_taken (of.IsoYearCenturyStandardRange c) e =
-      year place.iso_century (of.IsoYearCenturyStandardRange c) p q _ (range.iso_century 99) 99 _
-      (signed_within c.padding 2 2 2 99 (sign_in p.rest) c.sign_is_mandatory p.rest) (λ f h. h) (λ f n. refl) e
-  component_taken (of.CalendarYearLastTwo c) e =
-      count place.year_last_two (of.CalendarYearLastTwo c) p q _ _ (λ f n. refl) e
-  component_taken (of.IsoYearLastTwo c) e = count place.iso_year_last_two (of.IsoYearLastTwo c) p q _ _ (λ f n. refl) e
-  component_taken (of.Hour12 c) e = count place.hour_12 (of.Hour12 c) p q _ _ (λ f n. refl) e
-  component_taken (of.Hour24 c) e = count place.hour (of.Hour24 c) p q _ _ (λ f n. refl) e
-  component_taken (of.Minute c) e = count place.minute (of.Minute c) p q _ _ (λ f n. refl) e
-  component_taken (of.Second c) e = count place.second (of.Second c) p q _ _ (λ f n. refl) e
-  component_taken (of.OffsetMinute c) e = count place.offset_minute (of.OffsetMinute c) p q _ _ (λ f n. refl) e
-  component_taken (of.OffsetSecond c) e = count place.offset_second (of.OffsetSecond c) p q _ _ (λ f n. refl) e
-  component_taken (of.Period c) e = period (of.Period c) _ e
-  component_taken (of.Subsecond c) e = fraction_read c p q e
-  component_taken (of.OffsetHour c) e = amount place.offset_hour (of.OffsetHour c) p q _ _ (λ f n. refl) e
-  component_taken (of.UnixTimestampSecond c) e = amount place.unix_second (of.UnixTimestampSecond c) p q _ _ (λ f n. refl) e
-  component_taken (of.UnixTimestampMillisecond c) e =
-      amount place.unix_millisecond (of.UnixTimestampMillisecond c) p q _ _ (λ f n. refl) e
-  component_taken (of.UnixTimestampMicrosecond c) e =
-      amount place.unix_microsecond (of.UnixTimestampMicrosecond c) p q _ _ (λ f n. refl) e
-  component_taken (of.UnixTimestampNanosecond c) e =
-      amount place.unix_nanosecond (of.UnixTimestampNanosecond c) p q _ _ (λ f n. refl) e
-  component_taken (of.Ignore c) e =
-      kept (either_took (taken (of.Ignore c) p) _ (nat_le c.count.value (length p.rest)) q e (p.fields ≡ q.fields) refl
-      (λ h. nothing_kept (of.Ignore c) p q c.count.value h))
-  component_taken (of.End c) e = kept (end_kept (of.End c) p q c.trailing_input e)
-  component_taken c e = absurd (clash true (sym (ap is_ok e)) refl)
-
-  pub component_step : (c : Component) → read_component c p ≡ Ok q → Step (with_component c (parts p.fields)) p q
-  component_step c e = (component_taken c e).0
+  kept : p.fields ≡ q.fields → Leaves (parts p.fields) kind.Nothing any p.fields q.fields
+  kept e = subst (λ (f : Fields). Leaves (parts p.fields) kind.Nothing any p.fields f) e (record {
+    with_parts = refl;
+    stays_whole = λ h. h;
+    grows = same_grows p.fields;
+    knows = record { kind = refl; range = tt };
+  })
 
   pub component_read : (c : Component) → read_component c p ≡ Ok q
-      → Leaves (kind_of c) (range_of c) p.fields q.fields
-  component_read c e = (component_taken c e).1
+      → Leaves (with_component c (parts p.fields)) (kind_of c) (range_of c) p.fields q.fields
+  component_read (of.Day c) e = count place.day (of.Day c) p q _ _ (λ f n. refl) e
+  component_read (of.MonthShort c) e = name place.month (of.MonthShort c) p q _ 1 _ (λ f n. refl) e
+  component_read (of.MonthLong c) e = name place.month (of.MonthLong c) p q _ 1 _ (λ f n. refl) e
+  component_read (of.MonthNumerical c) e = count place.month (of.MonthNumerical c) p q _ _ (λ f n. refl) e
+  component_read (of.Ordinal c) e = count place.ordinal (of.Ordinal c) p q _ _ (λ f n. refl) e
+  component_read (of.WeekdayShort c) e = name place.weekday (of.WeekdayShort c) p q _ 0 _ (λ f n. refl) e
+  component_read (of.WeekdayLong c) e = name place.weekday (of.WeekdayLong c) p q _ 0 _ (λ f n. refl) e
+  component_read (of.WeekdaySunday c) e = weekday (of.WeekdaySunday c) true (first_number c.one_indexed) _ e
+  component_read (of.WeekdayMonday c) e = weekday (of.WeekdayMonday c) false (first_number c.one_indexed) _ e
+  component_read (of.WeekNumberIso c) e = count place.iso_week (of.WeekNumberIso c) p q _ _ (λ f n. refl) e
+  component_read (of.WeekNumberSunday c) e = count place.sunday_week (of.WeekNumberSunday c) p q _ _ (λ f n. refl) e
+  component_read (of.WeekNumberMonday c) e = count place.monday_week (of.WeekNumberMonday c) p q _ _ (λ f n. refl) e
+  component_read (of.CalendarYearFullExtendedRange c) e =
+      year place.year (of.CalendarYearFullExtendedRange c) p q _ (range.year 999999) 999999 _
+      (signed_within c.padding 4 4 6 999999 (sign_in p.rest) c.sign_is_mandatory p.rest) (λ f h. h) (λ f n. refl) e
+  component_read (of.CalendarYearFullStandardRange c) e =
+      year place.year (of.CalendarYearFullStandardRange c) p q _ (range.year 9999) 9999 _
+      (signed_within c.padding 4 4 4 9999 (sign_in p.rest) c.sign_is_mandatory p.rest) (λ f h. h) (λ f n. refl) e
+  component_read (of.CalendarYearCenturyExtendedRange c) e =
+      year place.century (of.CalendarYearCenturyExtendedRange c) p q _ (range.century 9999) 9999 _
+      (signed_within c.padding 2 2 4 9999 (sign_in p.rest) c.sign_is_mandatory p.rest) (λ f h. h) (λ f n. refl) e
+  component_read (of.CalendarYearCenturyStandardRange c) e =
+      year place.century (of.CalendarYearCenturyStandardRange c) p q _ (range.century 99) 99 _
+      (signed_within c.padding 2 2 2 99 (sign_in p.rest) c.sign_is_mandatory p.rest) (λ f h. h) (λ f n. refl) e
+  component_read (of.IsoYearFullExtendedRange c) e =
+      year place.iso_year (of.IsoYearFullExtendedRange c) p q _ (range.iso_year 999999) 999999 _
+      (signed_within c.padding 4 4 6 999999 (sign_in p.rest) c.sign_is_mandatory p.rest) (λ f h. h) (λ f n. refl) e
+  component_read (of.IsoYearFullStandardRange c) e =
+      year place.iso_year (of.IsoYearFullStandardRange c) p q _ (range.iso_year 9999) 9999 _
+      (signed_within c.padding 4 4 4 9999 (sign_in p.rest) c.sign_is_mandatory p.rest) (λ f h. h) (λ f n. refl) e
+  component_read (of.IsoYearCenturyExtendedRange c) e =
+      year place.iso_century (of.IsoYearCenturyExtendedRange c) p q _ (range.iso_century 9999) 9999 _
+      (signed_within c.padding 2 2 4 9999 (sign_in p.rest) c.sign_is_mandatory p.rest) (λ f h. h) (λ f n. refl) e
+  component_read (of.IsoYearCenturyStandardRange c) e =
+      year place.iso_century (of.IsoYearCenturyStandardRange c) p q _ (range.iso_century 99) 99 _
+      (signed_within c.padding 2 2 2 99 (sign_in p.rest) c.sign_is_mandatory p.rest) (λ f h. h) (λ f n. refl) e
+  component_read (of.CalendarYearLastTwo c) e =
+      count place.year_last_two (of.CalendarYearLastTwo c) p q _ _ (λ f n. refl) e
+  component_read (of.IsoYearLastTwo c) e = count place.iso_year_last_two (of.IsoYearLastTwo c) p q _ _ (λ f n. refl) e
+  component_read (of.Hour12 c) e = count place.hour_12 (of.Hour12 c) p q _ _ (λ f n. refl) e
+  component_read (of.Hour24 c) e = count place.hour (of.Hour24 c) p q _ _ (λ f n. refl) e
+  component_read (of.Minute c) e = count place.minute (of.Minute c) p q _ _ (λ f n. refl) e
+  component_read (of.Second c) e = count place.second (of.Second c) p q _ _ (λ f n. refl) e
+  component_read (of.OffsetMinute c) e = count place.offset_minute (of.OffsetMinute c) p q _ _ (λ f n. refl) e
+  component_read (of.OffsetSecond c) e = count place.offset_second (of.OffsetSecond c) p q _ _ (λ f n. refl) e
+  component_read (of.Period c) e = period (of.Period c) _ e
+  component_read (of.Subsecond c) e = fraction_read c p q e
+  component_read (of.OffsetHour c) e = amount place.offset_hour (of.OffsetHour c) p q _ _ (λ f n. refl) e
+  component_read (of.UnixTimestampSecond c) e = amount place.unix_second (of.UnixTimestampSecond c) p q _ _ (λ f n. refl) e
+  component_read (of.UnixTimestampMillisecond c) e =
+      amount place.unix_millisecond (of.UnixTimestampMillisecond c) p q _ _ (λ f n. refl) e
+  component_read (of.UnixTimestampMicrosecond c) e =
+      amount place.unix_microsecond (of.UnixTimestampMicrosecond c) p q _ _ (λ f n. refl) e
+  component_read (of.UnixTimestampNanosecond c) e =
+      amount place.unix_nanosecond (of.UnixTimestampNanosecond c) p q _ _ (λ f n. refl) e
+  component_read (of.Ignore c) e =
+      kept (either_took (taken (of.Ignore c) p) _ (nat_le c.count.value (length p.rest)) q e (p.fields ≡ q.fields) refl
+      (λ h. nothing_kept (of.Ignore c) p q c.count.value h))
+  component_read (of.End c) e = kept (end_kept (of.End c) p q c.trailing_input e)
+  component_read c e = absurd (clash true (sym (ap is_ok e)) refl)

@@ -25,7 +25,7 @@ use Rattle.timefd_read_laws.specs.Shown.{more_digits}
 use Rattle.timefd_read_laws.proofs.GrowLemmas.{any, more}
 use Rattle.timefd_read_laws.proofs.GrowLemmas.{by_subsecond}
 use Rattle.timefd_read_laws.proofs.ReadRowLemmas.{Leaves}
-use Rattle.timefd_read_laws.proofs.StepLemmas.{IsWhole, Step, agreed_is, is_ok, no_some, same_some}
+use Rattle.timefd_read_laws.proofs.StepLemmas.{IsWhole, agreed_is, is_ok, no_some, same_some}
 
 -- the finer one of what is read and what was read before
 abbrev later : Fraction → Option Fraction → Fraction
@@ -63,25 +63,22 @@ later_digits read (Some before) = finer_digits before read (nat_le before.digits
 
 -- with so many digits
 abbrev Timed : ℕ → Point → Point → Type 0
-Timed k p q = Step (record (parts p.fields) { subsecond = Some (more_digits (digits_of p.fields.subsecond) k) }) p q
-    × Leaves kind.Time any p.fields q.fields
+Timed k p q = Leaves (record (parts p.fields) { subsecond = Some (more_digits (digits_of p.fields.subsecond) k) })
+    kind.Time any p.fields q.fields
 
 fraction_is : (p q : Point) (read : Fraction) → IsWhole (Some read)
     → fraction_with p.fields read p.fields.subsecond ≡ Some q.fields → Timed read.digits p q
 fraction_is p q read whole e =
-    let x = later read p.fields.subsecond in
-    let answer : with_fraction p.fields x ≡ q.fields = later_set p.fields q.fields read p.fields.subsecond e in
-    let known : has_time (with_fraction p.fields x) ≡ true = by_subsecond (with_fraction p.fields x) refl in (
-      (
-        ap parts (sym answer)
-            ∙ ap (λ (n : ℕ). record (parts p.fields) { subsecond = Some n }) (later_digits read p.fields.subsecond),
-        λ h. subst (λ (f : Fields). IsWhole f.subsecond) answer (later_whole read p.fields.subsecond whole h),
-      ),
-      subst (λ (f : Fields). Leaves kind.Time any p.fields f) answer (record {
-        grows = more kind.Time p.fields (with_fraction p.fields x) known refl refl;
-        knows = record { kind = known; range = tt };
-      }),
-    )
+    let before = p.fields.subsecond in
+    let g = with_fraction p.fields (later read before) in
+    let known : has_time g ≡ true = by_subsecond g refl in
+    subst (λ (f : Fields). Timed read.digits p (record q { fields = f })) (later_set p.fields q.fields read before e)
+    (record {
+      with_parts = ap (λ (n : ℕ). record (parts p.fields) { subsecond = Some n }) (later_digits read before);
+      stays_whole = λ h. later_whole read before whole h;
+      grows = more kind.Time p.fields g known refl refl;
+      knows = record { kind = known; range = tt };
+    })
 
 -- so many digits were found that a number of them has no more
 abbrev HasLen : ℕ → Option (ℕ × ℕ) → Type 0

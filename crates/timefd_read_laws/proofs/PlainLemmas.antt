@@ -14,7 +14,7 @@ use Rattle.timefd_read_moment.proofs.ShownLemmas.{clash}
 use Rattle.timefd_read_moment.proofs.YearLemmas.{both as both_true}
 use Rattle.timefd_read_laws.specs.Again.{PartsRead, are_plain, is_plain, parts}
 use Rattle.timefd_read_laws.specs.Shown.{with_tree, with_trees}
-use Rattle.timefd_read_laws.proofs.ComponentReadLemmas.{component_step}
+use Rattle.timefd_read_laws.proofs.ComponentReadLemmas.{component_read}
 use Rattle.timefd_read_laws.proofs.StepLemmas.{IsWhole, in_ok, is_ok}
 
 -- What was read of the whole text was read up to its end.
@@ -49,7 +49,7 @@ read_whole t text f e =
 mutual
   tree_parts : (t : Tree) (p q : Point) → is_plain t ≡ true → Reads t p q
       → parts q.fields ≡ with_tree t (parts p.fields)
-  tree_parts (component c) p q plain h = (component_step p q (modern c) ((reads_exactly (component c) p q).0 h)).0
+  tree_parts (component c) p q plain h = (component_read p q (modern c) ((reads_exactly (component c) p q).0 h)).with_parts
   tree_parts (literal bytes) p q plain h = ap parts h.1
   tree_parts (compound ts) p q plain h = trees_parts ts p q plain h
   tree_parts (optional format t) p q plain h = absurd (clash true (sym plain) refl)
@@ -103,4 +103,4 @@ pub whole_read : (t : Tree) (text : Text) (f : Fields) → fields_of t text ≡ 
 whole_read t text f e =
     let h = read_whole t text f e in
     subst (λ (x : Fields). IsWhole x.subsecond) h.fields (each_read StaysWhole (λ f h. h)
-    (λ f g h a b x. b (a x)) (λ c p q e. (component_step p q c e).1) t (start text) h.end h.reads tt)
+    (λ f g h a b x. b (a x)) (λ c p q e. (component_read p q c e).stays_whole) t (start text) h.end h.reads tt)

@@ -13,39 +13,25 @@ use Rattle.timefd_read_dates.specs.Fields.{amount as amount_of, count as count_o
 use Rattle.timefd_read_dates.specs.Inputs.{as_amount, as_count, as_name}
 use Rattle.timefd_read_dates.specs.Numbers.{behind, padded, signed_by, within}
 use Rattle.timefd_read_dates.specs.Numbers as numbers
-use Rattle.timefd_read_dates.specs.Readings.{amount_with, count_with, kept, same, same_signed}
+use Rattle.timefd_read_dates.specs.Readings.{amount_with, count_with, same, same_signed}
 use Rattle.timefd_read_dates.specs.Reads.{Point, agreed, taken}
 use Rattle.timefd_read_moment.proofs.ShownLemmas.{clash}
 use Rattle.timefd_read_moment.proofs.YearLemmas.{both}
 use Rattle.timefd_read_laws.specs.Again.{parts}
+use Rattle.timefd_read_laws.specs.Shown.{Shows}
 use Rattle.timefd_read_laws.proofs.GrowLemmas.{Grows, InRange, IsAtMost, Knows, Range, any, kind_more, same_grows, years}
 use Rattle.timefd_read_laws.proofs.GrowLemmas.{has_kind}
 use Rattle.timefd_read_laws.proofs.PlaceLemmas.{IsAt, Place}
 use Rattle.timefd_read_laws.proofs.RowLemmas.{equal, merged}
-use Rattle.timefd_read_laws.proofs.StepLemmas.{Step, agreed_is, is_ok, kept_is, merged_step, no_some, same_some}
+use Rattle.timefd_read_laws.proofs.StepLemmas.{IsWhole, agreed_is, is_ok, merged_is}
 
--- Of this kind and in this range something was read, and what was known stays so.
-pub record Leaves (k : Kind) (r : Range) (f g : Fields) : Type 0 where
+-- The parts are these, a fraction stays whole, and all stays known that was. Of this kind and in this range
+-- something was read.
+pub record Leaves (s : Shows) (k : Kind) (r : Range) (f g : Fields) : Type 0 where
+  pub with_parts : parts g ≡ s
+  pub stays_whole : IsWhole f.subsecond → IsWhole g.subsecond
   pub grows : Grows f g
   pub knows : Knows k r g
-
-kept_true : (f g : Fields) (b : Bool) → kept f b ≡ Some g → b ≡ true
-kept_true f g true e = refl
-kept_true f g false e = absurd (no_some g e)
-
-module _ (k : Kind) (r : Range) (p q : Point) where
-  by_merged : {A : Type 0} (is_same : A → A → Bool) (set : A → Fields) (n : A) (before found : Option A)
-      → (before ≡ None → Grows p.fields (set n)) → Knows k r (set n)
-      → ((a : A) → before ≡ Some a → is_same a n ≡ true → Knows k r p.fields) → before ≡ found
-      → merged is_same p.fields set n found ≡ Some q.fields → Leaves k r p.fields q.fields
-  by_merged is_same set n before None first new old is e =
-      subst (λ (g : Fields). Leaves k r p.fields g) (same_some (set n) q.fields e)
-      (record { grows = first is; knows = new })
-  by_merged is_same set n before (Some a) first new old is e =
-      subst (λ (g : Fields). Leaves k r p.fields g) (kept_is p.fields q.fields (is_same a n) e) (record {
-        grows = same_grows p.fields;
-        knows = old a is (kept_true p.fields q.fields (is_same a n) e);
-      })
 
 -- what was read is in the range
 
@@ -87,32 +73,35 @@ if_true false c e = absurd (clash true (sym e) refl)
 
 -- a field that was read
 module _ {A : Type 0} (place : Place A) (p q : Point) where
-  -- With its part more, and something known of its kind and in this range.
+  -- with its part more
   abbrev pub Placed : Range → Type 0
-  Placed r = Step (place.put_in (parts p.fields) true) p q × Leaves place.kind r p.fields q.fields
+  Placed r = Leaves (place.put_in (parts p.fields) true) place.kind r p.fields q.fields
 
   pub placed : (c : Component) (is_same : A → A → Bool) (r : Range) (len : ℕ) (n : A)
       → InRange r (years (place.set p.fields n))
       → ((a : A) → place.get p.fields ≡ Some a → is_same a n ≡ true → InRange r (years p.fields))
       → agreed c p len (merged is_same p.fields (place.set p.fields) n (place.get p.fields)) ≡ Ok q → Placed r
   placed c is_same r len n new old e =
-      let g = place.set p.fields n in
-      let is = place.is_set p.fields n in
-      let here : has_kind place.kind g ≡ true = place.known g (ap is_some is.0) in (
-        merged_step c p q len is_same (place.set p.fields) n (place.get p.fields) (place.put_in (parts p.fields) true)
-            (λ a. (place.is_set p.fields a).2) (λ a. (place.is_set p.fields a).4)
-            (λ a found. is.3 ∙ ap (λ (x : Option A). place.put_in (parts p.fields) (is_some x)) found) e,
-        by_merged place.kind r p q is_same (place.set p.fields) n (place.get p.fields) (place.get p.fields)
-            (λ none. record {
-              kind = kind_more place.kind p.fields g here is.1;
-              range = place.range p.fields n none;
-            })
-            (record { kind = here; range = new })
-            (λ a found same. record {
-              kind = place.known p.fields (ap is_some found);
-              range = old a found same;
-            }) refl (agreed_is c p q len (merged is_same p.fields (place.set p.fields) n (place.get p.fields)) e),
-      )
+      let f = p.fields in
+      let is = place.is_set f n in
+      let here : has_kind place.kind (place.set f n) ≡ true = place.known (place.set f n) (ap is_some is.0) in
+      merged_is (λ (g : Fields). Leaves (place.put_in (parts f) true) place.kind r f g) is_same f q.fields
+      (place.set f) n (place.get f) (place.get f)
+      (λ none. record {
+        with_parts = is.2;
+        stays_whole = λ h. subst IsWhole (sym is.4) h;
+        grows = record {
+          kind = kind_more place.kind f (place.set f n) here is.1;
+          range = place.range f n none;
+        };
+        knows = record { kind = here; range = new };
+      })
+      (λ a found same. record {
+        with_parts = is.3 ∙ ap (λ (x : Option A). place.put_in (parts f) (is_some x)) found;
+        stays_whole = λ h. h;
+        grows = same_grows f;
+        knows = record { kind = place.known f (ap is_some found); range = old a found same };
+      }) refl (agreed_is c p q len (merged is_same f (place.set f) n (place.get f)) e)
 
 -- a number without a sign, and its name
 module _ (place : Place ℕ) (c : Component) (p q : Point) where

@@ -1,5 +1,5 @@
--- What the reading of one part does to the parts that were read.
-use Rattle.std.proofs.Common.{ℕ, ◌≡◌, ◌∙◌, ◌%◌, ◌==◌, Bool, true, false, if◌then◌else◌, length, Option, Some, None}
+-- What is known of an answer, and of the fields that are read with one part more.
+use Rattle.std.proofs.Common.{ℕ, ◌≡◌, ◌%◌, ◌==◌, Bool, true, false, if◌then◌else◌, length, Option, Some, None}
 use Rattle.std.proofs.Common.{Result, Ok, Err, refl, sym, ap, subst}
 use Rattle.std.specs.Prelude.{is_some, ⊤}
 use Rattle.timefd_component.specs.declared.component.Component.{Component}
@@ -10,8 +10,6 @@ use Rattle.timefd_read_dates.specs.Inputs.{end}
 use Rattle.timefd_read_dates.specs.Readings.{kept, unit}
 use Rattle.timefd_read_dates.specs.Reads.{Point, agreed, taken}
 use Rattle.timefd_read_moment.proofs.ShownLemmas.{clash}
-use Rattle.timefd_read_laws.specs.Again.{parts}
-use Rattle.timefd_read_laws.specs.Shown.{Shows}
 use Rattle.timefd_read_laws.proofs.RowLemmas.{merged}
 
 -- answers
@@ -43,10 +41,6 @@ abbrev pub IsWhole : Option Fraction → Type 0
 IsWhole None = ⊤
 IsWhole (Some f) = f.nanosecond % unit f.digits ≡ 0
 
--- The parts are those with one more, and a fraction stays whole.
-abbrev pub Step : Shows → Point → Point → Type 0
-Step s p q = (parts q.fields ≡ s) × (IsWhole p.fields.subsecond → IsWhole q.fields.subsecond)
-
 -- What was taken was found.
 pub either_took : {B E : Type 0} (g : Option B → Result Point E) (x : Option B) (b : Bool) (q : Point)
     → g (if b then x else None) ≡ Ok q → (P : Type 0) → is_ok (g None) ≡ false → (g x ≡ Ok q → P) → P
@@ -59,34 +53,16 @@ pub agreed_is : (c : Component) (p q : Point) (len : ℕ) (r : Option Fields) �
 agreed_is c p q len None e = absurd (clash true (sym (ap is_ok e)) refl)
 agreed_is c p q len (Some f) e = ap (λ r. Some (fields_in f r)) e
 
-pub same_step : (p q : Point) (s : Shows) → p.fields ≡ q.fields → parts p.fields ≡ s → Step s p q
-same_step p q s e same =
-    (ap parts (sym e) ∙ same, λ h. subst (λ (f : Fields). IsWhole f.subsecond) e h)
-
--- a part that is no fraction
-pub kept_is : (f g : Fields) (b : Bool) → kept f b ≡ Some g → f ≡ g
-kept_is f g true e = same_some f g e
-kept_is f g false e = absurd (no_some g e)
-
-merged_is : {A : Type 0} (p q : Point) (is_same : A → A → Bool) (set : A → Fields) (n : A) (before : Option A)
-    (s : Shows) → ((a : A) → parts (set a) ≡ s) → ((a : A) → (set a).subsecond ≡ p.fields.subsecond)
-    → ((a : A) → before ≡ Some a → parts p.fields ≡ s) → (found : Option A) → before ≡ found
-    → merged is_same p.fields set n found ≡ Some q.fields → Step s p q
-merged_is p q is_same set n before s first keeps again None is e =
-    let answer : set n ≡ q.fields = same_some (set n) q.fields e in (
-      ap parts (sym answer) ∙ first n,
-      λ h. subst IsWhole (sym (keeps n) ∙ ap (λ (f : Fields). f.subsecond) answer) h,
-    )
-merged_is p q is_same set n before s first keeps again (Some a) is e =
-    same_step p q s (kept_is p.fields q.fields (is_same a n) e) (again a is)
-
-pub merged_step : {A : Type 0} (c : Component) (p q : Point) (len : ℕ) (is_same : A → A → Bool) (set : A → Fields)
-    (n : A) (before : Option A) (s : Shows) → ((a : A) → parts (set a) ≡ s)
-    → ((a : A) → (set a).subsecond ≡ p.fields.subsecond) → ((a : A) → before ≡ Some a → parts p.fields ≡ s)
-    → agreed c p len (merged is_same p.fields set n before) ≡ Ok q → Step s p q
-merged_step c p q len is_same set n before s first keeps again e =
-    merged_is p q is_same set n before s first keeps again before refl
-    (agreed_is c p q len (merged is_same p.fields set n before) e)
+-- What is read once more is the same, so the fields stay; else they are those with it.
+pub merged_is : {A : Type 0} (P : Fields → Type 0) (is_same : A → A → Bool) (f g : Fields) (set : A → Fields) (n : A)
+    (before found : Option A) → (before ≡ None → P (set n)) → ((a : A) → before ≡ Some a → is_same a n ≡ true → P f)
+    → before ≡ found → merged is_same f set n found ≡ Some g → P g
+merged_is P is_same f g set n before None first again is e = subst P (same_some (set n) g e) (first is)
+merged_is P is_same f g set n before (Some a) first again is e = by (is_same a n) refl e
+  where
+    by : (b : Bool) → is_same a n ≡ b → kept f b ≡ Some g → P g
+    by true same e = subst P (same_some f g e) (again a is same)
+    by false same e = absurd (no_some g e)
 
 -- nothing: the fields stay
 

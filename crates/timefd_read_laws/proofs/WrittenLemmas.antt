@@ -17,7 +17,8 @@ use Rattle.timefd_read_dates.specs.Relations.{Reads, ReadsAll}
 use Rattle.timefd_read_dates.proofs.RelationLemmas.{reads_exactly}
 use Rattle.timefd_read_moment.proofs.ShownLemmas.{clash}
 use Rattle.timefd_read_moment.proofs.YearLemmas.{both}
-use Rattle.timefd_read_laws.specs.Again.{are_plain, is_plain}
+use Rattle.timefd_read_laws.specs.Again.{are_plain, is_plain, parts}
+use Rattle.timefd_read_laws.specs.Shown.{with_component}
 use Rattle.timefd_read_laws.specs.Written.{HasText, IsReadWritten, ReadsAllWritten, ReadsWritten, WritesAgain}
 use Rattle.timefd_read_laws.specs.Written.{PlainReadsWritten}
 use Rattle.timefd_read_laws.specs.Written.{WritesPlainAgain}
@@ -66,7 +67,7 @@ abbrev KnowsOf : Fields → Component → Type 0
 KnowsOf f c = Knows (kind (modern c)) (range_of (modern c)) f
 
 leaves : (c : Component) (p q : Point) → Reads (component c) p q
-    → Leaves (kind (modern c)) (range_of (modern c)) p.fields q.fields
+    → Leaves (with_component (modern c) (parts p.fields)) (kind (modern c)) (range_of (modern c)) p.fields q.fields
 leaves c p q h = component_read p q (modern c) ((reads_exactly (component c) p q).0 h)
 
 tree_grows : (t : Tree) (p q : Point) → Reads t p q → Grows p.fields q.fields
