@@ -128,8 +128,7 @@ module _ (m : Moment) (d : Date) (t : Time) (o : UtcOffset) (s : Shows) (is : Is
       (has 4 4 9999 (magnitude (iso_years d) / 1) (omega arith) (omega arith) (omega arith) (omega (arith, few))
       (omega arith)) (λ short. omega (arith, short)) rest (inl (refl, ends))))
   back (of.IsoYearCenturyExtendedRange p) = by_date m d t o s is (of.IsoYearCenturyExtendedRange p)
-      (
-      of_year (IsRow d t o s (of.IsoYearCenturyExtendedRange p)) 999999 2 100 p.padding p.sign_is_mandatory (iso_years d)
+      (of_year (IsRow d t o s (of.IsoYearCenturyExtendedRange p)) 999999 2 100 p.padding p.sign_is_mandatory (iso_years d)
       (λ few rest ends. year_row d t o s place.iso_century
       (of.IsoYearCenturyExtendedRange p) _ p.padding 2 4 9999 100 (iso_years d) p.sign_is_mandatory (λ f n. refl) refl
       (has 2 4 9999 (magnitude (iso_years d) / 100) (omega arith) (omega arith) (omega arith) (omega (arith, few))
