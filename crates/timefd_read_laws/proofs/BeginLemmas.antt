@@ -4,6 +4,7 @@ use Rattle.std.proofs.Common.{if◌then◌else◌, List, [], ◌∷◌, get_or, 
 use Rattle.std.proofs.Common.{sym, ap, arith}
 use Rattle.std.specs.Char.{is_ascii_digit}
 use Rattle.std.specs.List.{prefix_len}
+use Rattle.std.proofs.lemmas.Bool.{not-true, or_left}
 use Rattle.timefd_component.specs.declared.component.Component.{Component}
 use Rattle.timefd_component.specs.declared.component.Component.TheVariants as of
 use Rattle.timefd_component.specs.Texts.{filled, long_months, long_weekdays, short_months, short_weekdays}
@@ -43,14 +44,10 @@ abbrev begin_with_letters : List Text → Bool
 begin_with_letters [] = true
 begin_with_letters (name ∷ names) = begins_with_letter name && begin_with_letters names
 
-not_false : (b : Bool) → not b ≡ true → b ≡ false
-not_false true e = absurd (clash false refl e)
-not_false false e = refl
-
 letter : (name rest : Text) → begins_with_letter name ≡ true → HasNoDigit (name ++ rest)
 letter [] rest e = absurd cc
 letter (b ∷ name) rest e =
-    ap (λ t. if t then 1 + prefix_len is_ascii_digit (name ++ rest) else 0) (not_false (is_ascii_digit b) e)
+    ap (λ t. if t then 1 + prefix_len is_ascii_digit (name ++ rest) else 0) (not-true (is_ascii_digit b) e)
 
 name_begins : (names : List Text) (n : ℕ) (rest : Text) → begin_with_letters names ≡ true
     → n < length names → HasNoDigit (get_or names n [] ++ rest)
@@ -74,10 +71,6 @@ sign_begins known false negative plus xs e rest h = tt
 sign_begins known true true plus xs e rest h = refl
 sign_begins known true false true xs e rest h = refl
 sign_begins known true false false xs e rest h = absurd (clash true (sym (e refl)) refl)
-
-has_plus : (mandatory b : Bool) → mandatory ≡ true → mandatory || b ≡ true
-has_plus true b e = refl
-has_plus false b e = absurd (clash true (sym e) refl)
 
 -- fields
 
@@ -110,7 +103,7 @@ year_begins : (known : Bound) (greatest width unit : ℕ) (p : Padding) (mandato
 year_begins known greatest width unit p mandatory y =
     of_year (BeginsSigned known mandatory) greatest width unit p mandatory y
     (λ small. sign_begins known mandatory (is_before_zero y) (mandatory || nat_le 10000 (magnitude y))
-    (filled p width (magnitude y / unit)) (has_plus mandatory (nat_le 10000 (magnitude y))))
+    (filled p width (magnitude y / unit)) (or_left mandatory (nat_le 10000 (magnitude y))))
 
 stamp_begins : (known : Bound) (mandatory : Bool) (u : UnixTime) (n : ℕ)
     → BeginsSigned known mandatory (stamp_of mandatory u n)

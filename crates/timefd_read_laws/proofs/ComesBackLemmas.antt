@@ -1,6 +1,6 @@
 -- What was read by a settled description is written, and read as the same.
 use Rattle.std.proofs.Common.{◌≡◌, ◌∙◌, true, false, Option, Some, None, Ok, IfSome, refl, sym, ap}
-use Rattle.std.proofs.Common.{arith}
+use Rattle.std.proofs.Common.{arith, unwrap_or}
 use Rattle.timefd_component.specs.Modern.{modern}
 use Rattle.timefd_component.specs.Tree.{Text, Tree, component, literal, compound, optional, first, Trees, no_trees, more_trees}
 use Rattle.timefd_moment.specs.declared.date.Date.{Date}
@@ -20,7 +20,6 @@ use Rattle.timefd_read_laws.specs.Shown.{IsOf, fields_shown, shows, with_tree, w
 use Rattle.timefd_read_laws.specs.Written.{ComesBack, HasText, IsKept, IsReadWritten, ReadsAllWritten, ReadsWritten}
 use Rattle.timefd_read_laws.proofs.AgainLemmas.{fields_again, shows_back}
 use Rattle.timefd_read_laws.proofs.ComponentReadLemmas.{component_read}
-use Rattle.timefd_read_laws.proofs.StepLemmas.{in_some}
 use Rattle.timefd_read_laws.proofs.WrittenLemmas.{writes_again}
 
 -- Of a settled description all is read that is written, and nothing else.
@@ -80,7 +79,7 @@ any_offset = record {
   no_negative_zero = λ e. absurd (clash true (sym e) refl);
 }
 
-is_in : {A : Type 0} (a : A) (x : Option A) → IfSome x (λ e. e ≡ in_some a x)
+is_in : {A : Type 0} (a : A) (x : Option A) → IfSome x (λ e. e ≡ unwrap_or x a)
 is_in a (Some b) = refl
 is_in a None = tt
 
@@ -108,5 +107,5 @@ kept m d t o tree text f e h is of has =
 
 pub comes_back : ComesBack
 comes_back m tree text f e h is =
-    kept m (in_some any_date m.date) (in_some any_time m.time) (in_some any_offset m.offset) tree text f e h is
+    kept m (unwrap_or m.date any_date) (unwrap_or m.time any_time) (unwrap_or m.offset any_offset) tree text f e h is
     (is_in any_date m.date, is_in any_time m.time, is_in any_offset m.offset) (writes_again m tree text f h is)

@@ -1,6 +1,6 @@
 -- What the reading of each component does to the fields, and to the parts that were read.
 use Rattle.std.proofs.Common.{ℕ, ◌≡◌, ◌-◌, ◌==◌, Bool, true, false, nat_le, length, Option, Some, None, Ok}
-use Rattle.std.proofs.Common.{refl, sym, ap, subst}
+use Rattle.std.proofs.Common.{refl, subst}
 use Rattle.timefd_component.specs.declared.component.Component.{Component}
 use Rattle.timefd_component.specs.declared.component.Component.TheVariants as of
 use Rattle.timefd_format.specs.declared.field.Kind.TheVariants as kind
@@ -10,7 +10,6 @@ use Rattle.timefd_read_dates.specs.Inputs.{after_monday, as_period, as_weekday, 
 use Rattle.timefd_read_dates.specs.Numbers.{sign_in}
 use Rattle.timefd_read_dates.specs.Readings.{same}
 use Rattle.timefd_read_dates.specs.Reads.{Point, read_component, taken}
-use Rattle.timefd_read_moment.proofs.ShownLemmas.{clash}
 use Rattle.timefd_read_laws.specs.Again.{parts}
 use Rattle.timefd_read_laws.specs.Shown.{with_component}
 use Rattle.timefd_read_laws.proofs.FractionReadLemmas.{fraction_read}
@@ -19,7 +18,7 @@ use Rattle.timefd_read_laws.proofs.GrowLemmas as range
 use Rattle.timefd_read_laws.proofs.PlaceLemmas as place
 use Rattle.timefd_read_laws.proofs.ReadRowLemmas.{Leaves, Placed, amount, count, name, placed, signed_within, year}
 use Rattle.timefd_read_laws.proofs.RowLemmas.{equal}
-use Rattle.timefd_read_laws.proofs.StepLemmas.{either_took, end_kept, is_ok, nothing_kept}
+use Rattle.timefd_read_laws.proofs.StepLemmas.{either_took, end_kept, nothing_kept}
 
 -- the range of the years that a component shows
 abbrev pub range_of : Component → Range
@@ -36,12 +35,12 @@ range_of _ = any
 module _ (p q : Point) where
   weekday : (c : Component) (is_sunday_first : Bool) (first : ℕ) (x : Option (ℕ × ℕ))
       → taken c p (as_weekday is_sunday_first first x) ≡ Ok q → Placed place.weekday p q any
-  weekday c b first None e = absurd (clash true (sym (ap is_ok e)) refl)
+  weekday c b first None e = absurd cc
   weekday c b first (Some r) e =
       placed place.weekday p q c equal any r.1 (after_monday b (r.0 - first)) tt (λ a found same. tt) e
 
   period : (c : Component) (x : Option (ℕ × ℕ)) → taken c p (as_period x) ≡ Ok q → Placed place.is_afternoon p q any
-  period c None e = absurd (clash true (sym (ap is_ok e)) refl)
+  period c None e = absurd cc
   period c (Some r) e = placed place.is_afternoon p q c same any r.1 (r.0 == 1) tt (λ a found eq. tt) e
 
   kept : p.fields ≡ q.fields → Leaves (parts p.fields) kind.Nothing any p.fields q.fields
@@ -113,4 +112,4 @@ module _ (p q : Point) where
       kept (either_took (taken (of.Ignore c) p) _ (nat_le c.count.value (length p.rest)) q e (p.fields ≡ q.fields) refl
       (λ h. nothing_kept (of.Ignore c) p q c.count.value h))
   component_read (of.End c) e = kept (end_kept (of.End c) p q c.trailing_input e)
-  component_read c e = absurd (clash true (sym (ap is_ok e)) refl)
+  component_read c e = absurd cc

@@ -1,6 +1,6 @@
 -- Worked examples.
 use Rattle.std.proofs.Common.{ℕ, ◌≡◌, ◌∙◌, ◌-◌, ◌++◌, false, true, codes, length, replicate, Some, Result, Ok, refl, sym}
-use Rattle.std.proofs.Common.{ap, arith, Err}
+use Rattle.std.proofs.Common.{ap, arith, Err, is_ok}
 use Rattle.std.proofs.lemmas.Bool.{eq-eqb}
 use Rattle.std.specs.Fmt.{decimal}
 use Rattle.timefd_component.specs.declared.component.Component.TheVariants.{CalendarYearFullExtendedRange, Day}
@@ -25,7 +25,6 @@ use Rattle.timefd_read_laws.specs.Written.{IsReadWritten}
 use Rattle.timefd_read_laws.specs.WrittenExamples.{LeftOutExample, LongYearExample, NeedsAllRead, OptionalExample}
 use Rattle.timefd_read_laws.specs.WrittenExamples.{WrittenExample, date_and, hour, long_year_fields, short_clock}
 use Rattle.timefd_read_laws.specs.WrittenExamples.{standard_year, year_again}
-use Rattle.timefd_read_laws.proofs.StepLemmas.{is_ok}
 use Rattle.timefd_read_laws.proofs.WrittenLemmas.{plain_reads_written}
 
 -- what is written of these numbers, and behind them

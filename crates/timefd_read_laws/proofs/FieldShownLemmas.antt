@@ -1,6 +1,6 @@
 -- Each component shows something of a moment of which its field was read.
 use Rattle.std.proofs.Common.{ℕ, ◌≡◌, ◌∙◌, ◌≤◌, ◌+◌, ◌*◌, ◌/◌, ◌==◌, ◌||◌, Bool, true, nat_le, if◌then◌else◌}
-use Rattle.std.proofs.Common.{Option, Some, None, Result, Ok, Err, refl, ap, subst, arith}
+use Rattle.std.proofs.Common.{Option, Some, None, Result, Ok, Err, refl, ap, subst, arith, is_ok}
 use Rattle.std.proofs.lemmas.Bool.{eqb-true, le-leb}
 use Rattle.timefd_component.specs.declared.component.Component.{Component}
 use Rattle.timefd_component.specs.declared.component.Component.TheVariants as of
@@ -27,7 +27,6 @@ use Rattle.timefd_read_moment.proofs.YearLemmas.{both}
 use Rattle.timefd_read_laws.proofs.ComponentReadLemmas.{range_of}
 use Rattle.timefd_read_laws.proofs.GrowLemmas.{InRange, IsAtMost, years}
 use Rattle.timefd_read_laws.proofs.MomentKnownLemmas.{Has, HasDate, HasInstant, HasOffset, HasTime}
-use Rattle.timefd_read_laws.proofs.StepLemmas.{is_ok}
 
 pub date_shown : (m : Moment) (f : Fields) (h : HasDate m f) (c : Component) → is_ok (date_field h.date c) ≡ true
     → is_ok (on_date m.date (λ d. date_field d c)) ≡ true

@@ -4,6 +4,7 @@ use Rattle.std.proofs.Common.{Option, Some, None, Ok, refl, sym, ap, subst, arit
 use Rattle.std.specs.Prelude.{⊤}
 use Rattle.std.proofs.Math.Nat.{mod-one, mul-mod_left}
 use Rattle.std.proofs.lemmas.Bool.{leb-true}
+use Rattle.std.proofs.lemmas.Option.{cond_some, same_Some}
 use Rattle.std.specs.Char.{is_ascii_digit}
 use Rattle.std.specs.List.{prefix_len}
 use Rattle.std.specs.Str.Parse.{digits_value}
@@ -19,13 +20,12 @@ use Rattle.timefd_read_dates.specs.Numbers.{digits}
 use Rattle.timefd_read_dates.specs.Readings.{agree, finer, fraction_with, unit, with_fraction}
 use Rattle.timefd_read_dates.specs.Reads.{Point, taken}
 use Rattle.timefd_read_moment.specs.Known.{has_time}
-use Rattle.timefd_read_moment.proofs.ShownLemmas.{clash}
 use Rattle.timefd_read_laws.specs.Again.{digits_of, parts}
 use Rattle.timefd_read_laws.specs.Shown.{more_digits}
 use Rattle.timefd_read_laws.proofs.GrowLemmas.{any, more}
 use Rattle.timefd_read_laws.proofs.GrowLemmas.{by_subsecond}
 use Rattle.timefd_read_laws.proofs.ReadRowLemmas.{Leaves}
-use Rattle.timefd_read_laws.proofs.StepLemmas.{IsWhole, agreed_is, is_ok, no_some, same_some}
+use Rattle.timefd_read_laws.proofs.StepLemmas.{IsWhole, agreed_is}
 
 -- the finer one of what is read and what was read before
 abbrev later : Fraction → Option Fraction → Fraction
@@ -34,13 +34,9 @@ later read (Some before) = finer before read
 
 later_set : (f g : Fields) (read : Fraction) (before : Option Fraction) → fraction_with f read before ≡ Some g
     → with_fraction f (later read before) ≡ g
-later_set f g read None e = same_some (with_fraction f read) g e
-later_set f g read (Some before) e = by (agree before read) e
-  where
-    by : (b : Bool) → (if b then Some (with_fraction f (finer before read)) else None) ≡ Some g
-        → with_fraction f (finer before read) ≡ g
-    by true e = same_some (with_fraction f (finer before read)) g e
-    by false e = absurd (no_some g e)
+later_set f g read None e = same_Some (with_fraction f read) g e
+later_set f g read (Some before) e =
+    (cond_some (agree before read) (with_fraction f (finer before read)) g e).1
 
 either_whole : (a b : Fraction) (t : Bool) → IsWhole (Some a) → IsWhole (Some b)
     → IsWhole (Some (if t then b else a))
@@ -109,7 +105,7 @@ digits_len shown text = exact_len (digits_shown shown) text
 
 fraction_by : (c : SubsecondFields) (p q : Point) (k : ℕ) (x : Option (ℕ × ℕ)) → HasLen k x
     → taken (Subsecond c) p (as_fraction k x) ≡ Ok q → Timed k p q
-fraction_by c p q k None h e = absurd (clash true (sym (ap is_ok e)) refl)
+fraction_by c p q k None h e = absurd cc
 fraction_by c p q k (Some r) h e =
     let read : Fraction = record { digits = k; nanosecond = r.0 * unit r.1 } in
     fraction_is p q read h (agreed_is (Subsecond c) p q r.1 (fraction_with p.fields read p.fields.subsecond) e)

@@ -1,13 +1,13 @@
 -- Of what a field is known, and that it stays so with one field more, as does how great a year is.
-use Rattle.std.proofs.Common.{ℕ, ◌≡◌, ◌∙◌, ◌≤◌, Bool, true, Option, Some, None, sym, ap, subst, ◌||◌, false, refl}
+use Rattle.std.proofs.Common.{ℕ, ◌≡◌, ◌∙◌, ◌≤◌, Bool, true, Option, Some, None, sym, ap, subst, ◌||◌}
 use Rattle.std.specs.Prelude.{is_some, ⊤}
+use Rattle.std.proofs.lemmas.Bool.{or_left, or_right}
 use Rattle.timefd_format.specs.declared.field.Kind.{Kind}
 use Rattle.timefd_format.specs.declared.field.Kind.TheVariants as of
 use Rattle.timefd_read_dates.specs.declared.fields.Fields.{Fields}
 use Rattle.timefd_read_dates.specs.declared.fields.Signed.{Signed}
 use Rattle.timefd_read_moment.specs.Known.{has_date, has_day, has_hour, has_iso_year, has_offset, has_time, has_week}
 use Rattle.timefd_read_moment.specs.Known.{has_year}
-use Rattle.timefd_read_moment.proofs.ShownLemmas.{clash}
 
 -- which kinds are known
 
@@ -22,43 +22,35 @@ has_kind of.Offset f = has_offset f
 has_kind of.Instant f = has_stamp f
 has_kind of.Nothing f = true
 
-pub left : (a b : Bool) → a ≡ true → a || b ≡ true
-left true b e = refl
-left false b e = absurd (clash false refl e)
-
-pub right : (a b : Bool) → b ≡ true → a || b ≡ true
-right true b e = refl
-right false b e = e
-
 pub one : (a b c : Bool) → a ≡ true → (a || b) || c ≡ true
-one a b c e = left (a || b) c (left a b e)
+one a b c e = or_left (a || b) c (or_left a b e)
 
 pub two : (a b c : Bool) → b ≡ true → (a || b) || c ≡ true
-two a b c e = left (a || b) c (right a b e)
+two a b c e = or_left (a || b) c (or_right a b e)
 
 pub three : (a b c : Bool) → c ≡ true → (a || b) || c ≡ true
-three a b c e = right (a || b) c e
+three a b c e = or_right (a || b) c e
 
 pub in_year : (f : Fields) → has_year f ≡ true → has_date f ≡ true
-in_year f e = left _ (has_week f) (one (has_year f) (has_iso_year f) (has_day f) e)
+in_year f e = or_left _ (has_week f) (one (has_year f) (has_iso_year f) (has_day f) e)
 
 pub in_iso_year : (f : Fields) → has_iso_year f ≡ true → has_date f ≡ true
-in_iso_year f e = left _ (has_week f) (two (has_year f) (has_iso_year f) (has_day f) e)
+in_iso_year f e = or_left _ (has_week f) (two (has_year f) (has_iso_year f) (has_day f) e)
 
 pub in_day : (f : Fields) → has_day f ≡ true → has_date f ≡ true
-in_day f e = left _ (has_week f) (three (has_year f) (has_iso_year f) (has_day f) e)
+in_day f e = or_left _ (has_week f) (three (has_year f) (has_iso_year f) (has_day f) e)
 
 pub in_week : (f : Fields) → has_week f ≡ true → has_date f ≡ true
-in_week f e = right ((has_year f || has_iso_year f) || has_day f) (has_week f) e
+in_week f e = or_right ((has_year f || has_iso_year f) || has_day f) (has_week f) e
 
 pub in_clock : (f : Fields) → (has_hour f || is_some f.minute) || is_some f.second ≡ true → has_time f ≡ true
-in_clock f e = left ((has_hour f || is_some f.minute) || is_some f.second) (is_some f.subsecond) e
+in_clock f e = or_left ((has_hour f || is_some f.minute) || is_some f.second) (is_some f.subsecond) e
 
 pub in_hour : (f : Fields) → has_hour f ≡ true → has_time f ≡ true
 in_hour f e = in_clock f (one (has_hour f) (is_some f.minute) (is_some f.second) e)
 
 pub by_subsecond : (f : Fields) → is_some f.subsecond ≡ true → has_time f ≡ true
-by_subsecond f e = right ((has_hour f || is_some f.minute) || is_some f.second) (is_some f.subsecond) e
+by_subsecond f e = or_right ((has_hour f || is_some f.minute) || is_some f.second) (is_some f.subsecond) e
 
 -- all that is known
 

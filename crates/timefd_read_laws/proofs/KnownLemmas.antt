@@ -1,6 +1,6 @@
 -- What fields determine rests on which of them there are.
 use Rattle.std.proofs.Common.{ℕ, ◌≡◌, ◌∙◌, ◌&&◌, ◌||◌, not, Bool, true, false, if◌then◌else◌, Option, Some, None, Result}
-use Rattle.std.proofs.Common.{Ok, Err, refl, sym, ap}
+use Rattle.std.proofs.Common.{Ok, Err, refl, sym, ap, is_ok}
 use Rattle.std.specs.Prelude.{is_some}
 use Rattle.timefd_read_dates.specs.declared.fields.Fields.{Fields}
 use Rattle.timefd_read_dates.specs.declared.fields.Fraction.{Fraction}
@@ -17,7 +17,6 @@ use Rattle.timefd_read_moment.specs.Years.{years_read}
 use Rattle.timefd_read_moment.proofs.ShownLemmas.{clash}
 use Rattle.timefd_read_laws.specs.Again.{digits_of, parts}
 use Rattle.timefd_read_laws.specs.Shown.{Shows}
-use Rattle.timefd_read_laws.proofs.StepLemmas.{is_ok}
 
 some_digits : (x : Option Fraction) → is_some (digits_of x) ≡ is_some x
 some_digits None = refl

@@ -1,6 +1,7 @@
 -- The fields, each with what holds of it whatever else was read.
 use Rattle.std.proofs.Common.{ℕ, ◌≡◌, ◌/◌, ◌%◌, Bool, true, nat_le, Option, Some, None, refl}
 use Rattle.std.specs.Prelude.{is_some}
+use Rattle.std.proofs.lemmas.Bool.{or_left, or_right}
 use Rattle.timefd_format.specs.declared.field.Kind.{Kind}
 use Rattle.timefd_format.specs.declared.field.Kind.TheVariants as of
 use Rattle.timefd_moment.specs.declared.date.Date.{Date}
@@ -16,8 +17,8 @@ use Rattle.timefd_read_laws.specs.Again.{parts}
 use Rattle.timefd_read_laws.specs.Shown.{Shows, fields_shown, if_shown, with_sign, year_part}
 use Rattle.timefd_read_laws.proofs.GrowLemmas.{InRange, Range, but, century_more, iso_century_more, iso_year_more, kinds}
 use Rattle.timefd_read_laws.proofs.GrowLemmas.{year_more, years}
-use Rattle.timefd_read_laws.proofs.GrowLemmas.{has_kind, in_clock, in_day, in_hour, in_iso_year, in_week, in_year, left, one}
-use Rattle.timefd_read_laws.proofs.GrowLemmas.{right, three, two}
+use Rattle.timefd_read_laws.proofs.GrowLemmas.{has_kind, in_clock, in_day, in_hour, in_iso_year, in_week, in_year, one}
+use Rattle.timefd_read_laws.proofs.GrowLemmas.{three, two}
 use Rattle.timefd_read_laws.proofs.RowLemmas.{merged}
 
 -- With a value it is one part more, of its kind, and all else stays: whether other kinds are known, and the
@@ -96,23 +97,23 @@ ordinal = place of.Date (λ f. f.ordinal) (λ f x. record f { ordinal = Some x }
 
 abbrev pub weekday : Place ℕ
 weekday = place of.Date (λ f. f.weekday) (λ f x. record f { weekday = Some x }) (λ s. s.weekday)
-    (λ s b. record s { weekday = b }) (λ d t o. days_from_monday d) (λ f e. in_week f (left _ _ (one _ _ _ e)))
+    (λ s b. record s { weekday = b }) (λ d t o. days_from_monday d) (λ f e. in_week f (or_left _ _ (one _ _ _ e)))
     (λ f a. (refl, refl, refl, refl, refl)) (λ d t o s. (refl, refl, refl)) (λ f a none r h. h)
 
 abbrev pub iso_week : Place ℕ
 iso_week = place of.Date (λ f. f.iso_week) (λ f x. record f { iso_week = Some x }) (λ s. s.iso_week)
-    (λ s b. record s { iso_week = b }) (λ d t o. moment.iso_week d) (λ f e. in_week f (left _ _ (two _ _ _ e)))
+    (λ s b. record s { iso_week = b }) (λ d t o. moment.iso_week d) (λ f e. in_week f (or_left _ _ (two _ _ _ e)))
     (λ f a. (refl, refl, refl, refl, refl)) (λ d t o s. (refl, refl, refl)) (λ f a none r h. h)
 
 abbrev pub sunday_week : Place ℕ
 sunday_week = place of.Date (λ f. f.sunday_week) (λ f x. record f { sunday_week = Some x }) (λ s. s.sunday_week)
     (λ s b. record s { sunday_week = b }) (λ d t o. moment.sunday_week d)
-    (λ f e. in_week f (left _ (is_some f.monday_week) (three (is_some f.weekday) (is_some f.iso_week) _ e)))
+    (λ f e. in_week f (or_left _ (is_some f.monday_week) (three (is_some f.weekday) (is_some f.iso_week) _ e)))
     (λ f a. (refl, refl, refl, refl, refl)) (λ d t o s. (refl, refl, refl)) (λ f a none r h. h)
 
 abbrev pub monday_week : Place ℕ
 monday_week = place of.Date (λ f. f.monday_week) (λ f x. record f { monday_week = Some x }) (λ s. s.monday_week)
-    (λ s b. record s { monday_week = b }) (λ d t o. moment.monday_week d) (λ f e. in_week f (right _ _ e))
+    (λ s b. record s { monday_week = b }) (λ d t o. moment.monday_week d) (λ f e. in_week f (or_right _ _ e))
     (λ f a. (refl, refl, refl, refl, refl)) (λ d t o s. (refl, refl, refl)) (λ f a none r h. h)
 
 abbrev pub hour : Place ℕ
@@ -161,26 +162,27 @@ abbrev pub unix_second : Place Signed
 unix_second = place of.Instant (λ f. f.unix_second) (λ f x. record f { unix_second = Some x }) (λ s. s.unix_second)
     (λ s b. record s { unix_second = b })
     (λ d t o. with_sign (unix_time d t o).is_negative (whole_seconds (unix_time d t o)))
-    (λ f e. right (is_some f.unix_nanosecond) _ (right (is_some f.unix_microsecond) _ (right (is_some f.unix_millisecond) _ e)))
+    (λ f e. or_right (is_some f.unix_nanosecond) _ (or_right (is_some f.unix_microsecond) _ (or_right (is_some f.unix_millisecond) _ e)))
     (λ f a. (refl, refl, refl, refl, refl)) (λ d t o s. (refl, refl, refl)) (λ f a none r h. h)
 
 abbrev pub unix_millisecond : Place Signed
 unix_millisecond = place of.Instant (λ f. f.unix_millisecond) (λ f x. record f { unix_millisecond = Some x })
     (λ s. s.unix_millisecond) (λ s b. record s { unix_millisecond = b })
     (λ d t o. with_sign (unix_time d t o).is_negative ((unix_time d t o).nanoseconds / 1000000))
-    (λ f e. right _ _ (right _ _ (left _ _ e))) (λ f a. (refl, refl, refl, refl, refl)) (λ d t o s. (refl, refl, refl))
-    (λ f a none r h. h)
+    (λ f e. or_right _ _ (or_right _ _ (or_left _ _ e))) (λ f a. (refl, refl, refl, refl, refl))
+    (λ d t o s. (refl, refl, refl)) (λ f a none r h. h)
 
 abbrev pub unix_microsecond : Place Signed
 unix_microsecond = place of.Instant (λ f. f.unix_microsecond) (λ f x. record f { unix_microsecond = Some x })
     (λ s. s.unix_microsecond) (λ s b. record s { unix_microsecond = b })
     (λ d t o. with_sign (unix_time d t o).is_negative ((unix_time d t o).nanoseconds / 1000))
-    (λ f e. right _ _ (left _ _ e)) (λ f a. (refl, refl, refl, refl, refl)) (λ d t o s. (refl, refl, refl)) (λ f a none r h. h)
+    (λ f e. or_right _ _ (or_left _ _ e)) (λ f a. (refl, refl, refl, refl, refl)) (λ d t o s. (refl, refl, refl))
+    (λ f a none r h. h)
 
 abbrev pub unix_nanosecond : Place Signed
 unix_nanosecond = place of.Instant (λ f. f.unix_nanosecond) (λ f x. record f { unix_nanosecond = Some x })
     (λ s. s.unix_nanosecond) (λ s b. record s { unix_nanosecond = b })
-    (λ d t o. with_sign (unix_time d t o).is_negative (unix_time d t o).nanoseconds) (λ f e. left _ _ e)
+    (λ d t o. with_sign (unix_time d t o).is_negative (unix_time d t o).nanoseconds) (λ f e. or_left _ _ e)
     (λ f a. (refl, refl, refl, refl, refl)) (λ d t o s. (refl, refl, refl)) (λ f a none r h. h)
 
 -- years, which have any value where none was read before

@@ -1,6 +1,6 @@
 -- What is read of a whole text. Of a plain description that is all that is written.
 use Rattle.std.proofs.Common.{◌≡◌, ◌∙◌, ◌-◌, ◌==◌, inl, inr, Bool, true, false, if◌then◌else◌, length, Result, Ok, Err}
-use Rattle.std.proofs.Common.{refl, sym, ap, subst}
+use Rattle.std.proofs.Common.{refl, sym, ap, subst, is_ok}
 use Rattle.timefd_component.specs.declared.component.Component.{Component}
 use Rattle.timefd_component.specs.Modern.{modern}
 use Rattle.timefd_component.specs.Tree.{Text, Tree, component, literal, compound, optional, first, Trees, no_trees, more_trees}
@@ -15,13 +15,13 @@ use Rattle.timefd_read_moment.proofs.YearLemmas.{both as both_true}
 use Rattle.timefd_read_laws.specs.Again.{PartsRead, are_plain, is_plain, parts}
 use Rattle.timefd_read_laws.specs.Shown.{with_tree, with_trees}
 use Rattle.timefd_read_laws.proofs.ComponentReadLemmas.{component_read}
-use Rattle.timefd_read_laws.proofs.StepLemmas.{IsWhole, in_ok, is_ok}
+use Rattle.timefd_read_laws.proofs.StepLemmas.{IsWhole, in_ok}
 
 -- What was read of the whole text was read up to its end.
 
 ended_is : (f g : Fields) (error : ReadError) (b : Bool) → (if b then Ok f else Err error) ≡ Ok g → f ≡ g
 ended_is f g error true e = ap (in_ok f) e
-ended_is f g error false e = absurd (clash true (sym (ap is_ok e)) refl)
+ended_is f g error false e = absurd cc
 
 pub record IsReadWhole (t : Tree) (text : Text) (f : Fields) : Type 0 where
   pub end : Point

@@ -23,7 +23,7 @@ use Rattle.timefd_read_laws.proofs.GrowLemmas.{Grows, InRange, IsAtMost, Knows, 
 use Rattle.timefd_read_laws.proofs.GrowLemmas.{has_kind}
 use Rattle.timefd_read_laws.proofs.PlaceLemmas.{IsAt, Place}
 use Rattle.timefd_read_laws.proofs.RowLemmas.{equal, merged}
-use Rattle.timefd_read_laws.proofs.StepLemmas.{IsWhole, agreed_is, is_ok, merged_is}
+use Rattle.timefd_read_laws.proofs.StepLemmas.{IsWhole, agreed_is, merged_is}
 
 -- The parts are these, a fraction stays whole, and all stays known that was. Of this kind and in this range
 -- something was read.
@@ -108,13 +108,13 @@ module _ (place : Place ℕ) (c : Component) (p q : Point) where
   -- It is read as the number of a field.
   pub count : (field : _) (x : Option (ℕ × ℕ)) → IsAt equal count_with count_of field place
       → taken c p (as_count field x) ≡ Ok q → Placed place p q any
-  count field None is e = absurd (clash true (sym (ap is_ok e)) refl)
+  count field None is e = absurd cc
   count field (Some r) is e =
       placed place p q c equal any r.1 r.0 tt (λ a found same. tt) (sym (ap (agreed c p r.1) (is p.fields r.0)) ∙ e)
 
   pub name : (field : _) (first : ℕ) (x : Option (ℕ × ℕ)) → IsAt equal count_with count_of field place
       → taken c p (as_name field first x) ≡ Ok q → Placed place p q any
-  name field first None is e = absurd (clash true (sym (ap is_ok e)) refl)
+  name field first None is e = absurd cc
   name field first (Some r) is e =
       placed place p q c equal any r.1 (first + r.0) tt (λ a found same. tt)
       (sym (ap (agreed c p r.1) (is p.fields (first + r.0))) ∙ e)
@@ -128,7 +128,7 @@ module _ (place : Place Signed) (c : Component) (p q : Point) where
 
   pub amount : (field : _) (x : Option (Signed × ℕ)) → IsAt same_signed amount_with amount_of field place
       → taken c p (as_amount field x) ≡ Ok q → Placed place p q any
-  amount field None is e = absurd (clash true (sym (ap is_ok e)) refl)
+  amount field None is e = absurd cc
   amount field (Some r) is e =
       placed place p q c same_signed any r.1 r.0 tt (λ a found same. tt)
       (sym (ap (agreed c p r.1) (is p.fields r.0)) ∙ e)
@@ -137,7 +137,7 @@ module _ (place : Place Signed) (c : Component) (p q : Point) where
   pub year : (field : _) (r : Range) (greatest : ℕ) (x : Option (Signed × ℕ)) → IsWithin greatest x
       → ((f : Fields) → IsAtMost greatest (place.get f) → InRange r (years f))
       → IsAt same_signed amount_with amount_of field place → taken c p (as_amount field x) ≡ Ok q → Placed place p q r
-  year field r greatest None within into is e = absurd (clash true (sym (ap is_ok e)) refl)
+  year field r greatest None within into is e = absurd cc
   year field r greatest (Some x) within into is e =
       placed place p q c same_signed r x.1 x.0
       (into (place.set p.fields x.0)

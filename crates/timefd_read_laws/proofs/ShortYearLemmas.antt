@@ -1,6 +1,6 @@
 -- What can be written where the same fields were read as are written.
 use Rattle.std.proofs.Common.{◌≡◌, ◌∙◌, ◌||◌, true, false, Option, IfSome, Ok, refl, ap, subst, arith, ℕ, ◌/◌, Bool}
-use Rattle.std.proofs.Common.{nat_le, if◌then◌else◌, Result, Err, IfErr, sym}
+use Rattle.std.proofs.Common.{nat_le, if◌then◌else◌, Result, Err, IfErr, sym, is_ok, unwrap_or}
 use Rattle.timefd_component.specs.declared.component.Component.{Component}
 use Rattle.timefd_component.specs.declared.component.Component.TheVariants as of
 use Rattle.timefd_component.specs.Modern.{modern}
@@ -33,7 +33,6 @@ use Rattle.timefd_read_laws.proofs.KnownLemmas.{same_has_time, stamp_known}
 use Rattle.timefd_read_laws.proofs.MomentKnownLemmas.{Has, HasDate, moment_known}
 use Rattle.timefd_read_laws.proofs.ShownKindLemmas.{as_fields, component_shows, modern_current}
 use Rattle.timefd_read_laws.proofs.ShownPartLemmas.{same_shown}
-use Rattle.timefd_read_laws.proofs.StepLemmas.{in_some, is_ok}
 use Rattle.timefd_read_laws.proofs.WrittenLemmas.{Each, EachOf, each_more, each_written, has_text, text_ok, tree_written}
 
 -- which kinds a description shows
@@ -108,9 +107,9 @@ module _ (m : Moment) (f : Fields) (short : IfSome m.date HasShortYears) where
 pub kinds_read : (m : Moment) (tree : Tree) (f : Fields) → parts f ≡ shows tree → IsMomentOf f (Ok m)
     → Each (λ c. Has (kind_of (modern c)) m f) tree
 kinds_read m tree f same is =
-    let d = in_some any_date m.date in
-    let t = in_some any_time m.time in
-    let o = in_some any_offset m.offset in
+    let d = unwrap_or m.date any_date in
+    let t = unwrap_or m.time any_time in
+    let o = unwrap_or m.offset any_offset in
     each_more (KindIn d t o (shows tree)) (λ c. Has (kind_of (modern c)) m f)
     (λ c h.
     moment_known m f (kind_of (modern c)) is

@@ -1,7 +1,8 @@
 -- What is known of an answer, and of the fields that are read with one part more.
 use Rattle.std.proofs.Common.{ℕ, ◌≡◌, ◌%◌, ◌==◌, Bool, true, false, if◌then◌else◌, length, Option, Some, None}
-use Rattle.std.proofs.Common.{Result, Ok, Err, refl, sym, ap, subst}
-use Rattle.std.specs.Prelude.{is_some, ⊤}
+use Rattle.std.proofs.Common.{Result, Ok, Err, refl, ap, subst, is_ok}
+use Rattle.std.specs.Prelude.{⊤}
+use Rattle.std.proofs.lemmas.Option.{none-some, same_Some}
 use Rattle.timefd_component.specs.declared.component.Component.{Component}
 use Rattle.timefd_modifier.specs.declared.enums.TrailingInput.{TrailingInput}
 use Rattle.timefd_read_dates.specs.declared.fields.Fields.{Fields}
@@ -14,10 +15,6 @@ use Rattle.timefd_read_laws.proofs.RowLemmas.{merged}
 
 -- answers
 
-abbrev pub is_ok : {A E : Type 0} → Result A E → Bool
-is_ok (Ok a) = true
-is_ok (Err e) = false
-
 abbrev pub in_ok : {A E : Type 0} → A → Result A E → A
 in_ok a (Ok b) = b
 in_ok a (Err e) = a
@@ -25,16 +22,6 @@ in_ok a (Err e) = a
 abbrev fields_in : {E : Type 0} → Fields → Result Point E → Fields
 fields_in f (Ok p) = p.fields
 fields_in f (Err e) = f
-
-abbrev pub in_some : {A : Type 0} → A → Option A → A
-in_some a None = a
-in_some a (Some b) = b
-
-pub same_some : {A : Type 0} (a b : A) → Some a ≡ Some b → a ≡ b
-same_some a b e = ap (in_some a) e
-
-pub no_some : {A : Type 0} (a : A) → None ≡ Some a → ⊥
-no_some a e = clash true (sym (ap is_some e)) refl
 
 -- what is behind the digits of a second that are known is 0
 abbrev pub IsWhole : Option Fraction → Type 0
@@ -50,25 +37,25 @@ either_took g x false q e P none k = absurd (clash (is_ok (g None)) none (ap is_
 -- what is taken agrees with what was read before
 pub agreed_is : (c : Component) (p q : Point) (len : ℕ) (r : Option Fields) → agreed c p len r ≡ Ok q
     → r ≡ Some q.fields
-agreed_is c p q len None e = absurd (clash true (sym (ap is_ok e)) refl)
+agreed_is c p q len None e = absurd cc
 agreed_is c p q len (Some f) e = ap (λ r. Some (fields_in f r)) e
 
 -- What is read once more is the same, so the fields stay; else they are those with it.
 pub merged_is : {A : Type 0} (P : Fields → Type 0) (is_same : A → A → Bool) (f g : Fields) (set : A → Fields) (n : A)
     (before found : Option A) → (before ≡ None → P (set n)) → ((a : A) → before ≡ Some a → is_same a n ≡ true → P f)
     → before ≡ found → merged is_same f set n found ≡ Some g → P g
-merged_is P is_same f g set n before None first again is e = subst P (same_some (set n) g e) (first is)
+merged_is P is_same f g set n before None first again is e = subst P (same_Some (set n) g e) (first is)
 merged_is P is_same f g set n before (Some a) first again is e = by (is_same a n) refl e
   where
     by : (b : Bool) → is_same a n ≡ b → kept f b ≡ Some g → P g
-    by true same e = subst P (same_some f g e) (again a is same)
-    by false same e = absurd (no_some g e)
+    by true same e = subst P (same_Some f g e) (again a is same)
+    by false same e = absurd (none-some g e)
 
 -- nothing: the fields stay
 
 pub nothing_kept : (c : Component) (p q : Point) (len : ℕ) → agreed c p len (Some p.fields) ≡ Ok q
     → p.fields ≡ q.fields
-nothing_kept c p q len e = same_some p.fields q.fields (agreed_is c p q len (Some p.fields) e)
+nothing_kept c p q len e = same_Some p.fields q.fields (agreed_is c p q len (Some p.fields) e)
 
 pub end_kept : (c : Component) (p q : Point) (trailing : TrailingInput) → taken c p (end trailing p.rest) ≡ Ok q
     → p.fields ≡ q.fields

@@ -4,6 +4,7 @@ use Rattle.std.proofs.Common.{refl, sym, ap, subst}
 use Rattle.std.specs.Char.{is_ascii_digit}
 use Rattle.std.specs.List.{prefix_len}
 use Rattle.std.proofs.lemmas.List.{append-nil, append_assoc}
+use Rattle.std.proofs.lemmas.Result.{IfOk-at_ok}
 use Rattle.timefd_component.specs.declared.component.Component.{Component}
 use Rattle.timefd_component.specs.Modern.{modern}
 use Rattle.timefd_component.specs.Tree.{Text, Tree, component, literal, compound, optional, first, Trees, no_trees, more_trees}
@@ -155,13 +156,10 @@ module _ (m : Moment) (d : Date) (t : Time) (o : UtcOffset) (is : IsOf m d t o) 
 
 -- the whole text
 
-of_ok : {A : Type 0} (P : A → Type 0) (r : Result A Unshown) (a : A) → IfOk r P → r ≡ Ok a → P a
-of_ok {A = A} P r a h e = subst (λ (x : Result A Unshown). IfOk x P) e h
-
 pub reads_back : ReadsBack
 reads_back m d t o tree text is settled shown =
-    let read = of_ok (Back m d t o is Bound.End (Reads tree) (shows_nothing) (shows tree)) (written m tree) text
-    (reads_tree m d t o is tree Bound.End shows_nothing settled) shown [] refl in
+    let read = IfOk-at_ok (Back m d t o is Bound.End (Reads tree) shows_nothing (shows tree)) shown
+    (reads_tree m d t o is tree Bound.End shows_nothing settled) [] refl in
     ap (λ r. whole (length text) r)
     ((reads_exactly tree (at d t o shows_nothing text) (at d t o (shows tree) [])).0
     (subst (λ (xs : Text). Reads tree (at d t o shows_nothing xs) (at d t o (shows tree) [])) (append-nil text) read))

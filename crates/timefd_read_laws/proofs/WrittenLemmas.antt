@@ -1,5 +1,5 @@
 -- What was read is written again.
-use Rattle.std.proofs.Common.{◌≡◌, true, false, [], Result, Ok, Err, refl, sym, subst}
+use Rattle.std.proofs.Common.{◌≡◌, true, false, [], Result, Ok, Err, refl, sym, subst, is_ok}
 use Rattle.std.specs.Prelude.{⊤}
 use Rattle.timefd_component.specs.declared.component.Component.{Component}
 use Rattle.timefd_component.specs.Modern.{modern}
@@ -29,7 +29,6 @@ use Rattle.timefd_read_laws.proofs.GrowLemmas.{has_kind}
 use Rattle.timefd_read_laws.proofs.MomentKnownLemmas.{Has, moment_known}
 use Rattle.timefd_read_laws.proofs.PlainLemmas.{all_read, each_read, read_whole}
 use Rattle.timefd_read_laws.proofs.ReadRowLemmas.{Leaves}
-use Rattle.timefd_read_laws.proofs.StepLemmas.{is_ok}
 
 -- each component that is written
 abbrev mutual
