@@ -1,7 +1,7 @@
 -- What the parts of a moment are at most.
 use Rattle.std.proofs.Common.{ℕ, ◌≡◌, ◌+◌, ◌-◌, ◌*◌, ◌/◌, ◌≤◌, Bool, true, false, ◌||◌, ◌==◌, nat_le, nat_lt, if◌then◌else◌}
 use Rattle.std.proofs.Common.{sym, refl, arith}
-use Rattle.std.proofs.lemmas.Bool.{leb-true, ltb-false}
+use Rattle.std.proofs.lemmas.Bool.{cond_both, leb-true, ltb-false}
 use Rattle.timefd_moment.specs.declared.date.Date.{Date}
 use Rattle.timefd_moment.specs.declared.unix_time.UnixTime.{UnixTime}
 use Rattle.timefd_moment.specs.Instants.{is_within}
@@ -51,9 +51,6 @@ nanoseconds_in u h = by u.is_negative refl
     by false e = omega (arith, highest u h e)
 
 pub seconds_in : (u : UnixTime) → is_within u ≡ true → whole_seconds u ≤ 31619087596800
-seconds_in u h = by u.is_negative
-  where
-    by : (b : Bool)
-        → (if b then (u.nanoseconds + 999999999) / 1000000000 else u.nanoseconds / 1000000000) ≤ 31619087596800
-    by true = omega (arith, nanoseconds_in u h)
-    by false = omega (arith, nanoseconds_in u h)
+seconds_in u h =
+    cond_both u.is_negative ((u.nanoseconds + 999999999) / 1000000000) (u.nanoseconds / 1000000000)
+    (λ (n : ℕ). n ≤ 31619087596800) (λ e. omega (arith, nanoseconds_in u h)) (λ e. omega (arith, nanoseconds_in u h))

@@ -1,9 +1,9 @@
 -- The digits of a second are read back.
-use Rattle.std.proofs.Common.{ℕ, ◌≡◌, ◌∙◌, ◌≤◌, ◌<◌, ◌+◌, ◌-◌, ◌*◌, ◌/◌, ◌^◌, ◌++◌, ◌==◌, inl, inr, suc, Bool, true, false}
-use Rattle.std.proofs.Common.{nat_lt, if◌then◌else◌, [], ◌∷◌, drop, length, replicate, take, Some, refl, sym, ap, subst}
+use Rattle.std.proofs.Common.{ℕ, ◌≡◌, ◌∙◌, ◌≤◌, ◌<◌, ◌+◌, ◌-◌, ◌*◌, ◌/◌, ◌^◌, ◌++◌, ◌==◌, inl, inr, suc}
+use Rattle.std.proofs.Common.{nat_lt, [], ◌∷◌, drop, length, replicate, take, Some, refl, sym, ap, subst}
 use Rattle.std.proofs.Common.{arith, length-append, length-drop}
 use Rattle.std.proofs.Math.Nat.{add-mul, mul_assoc, pow-suc}
-use Rattle.std.proofs.lemmas.Bool.{eqb-true, ltb-false}
+use Rattle.std.proofs.lemmas.Bool.{cond_both, eqb-true, ltb-false}
 use Rattle.std.proofs.lemmas.Fmt.{decimal_is_IsNumeral_wide}
 use Rattle.std.proofs.lemmas.Int.Digits.{digits_value-lt}
 use Rattle.std.proofs.lemmas.List.{append-nil, length-replicate, take-append-drop}
@@ -85,13 +85,10 @@ cut_by a b ds n k h e is =
     ∙ ap (λ (x : ℕ). x / 10 ^ k) (sym whole)
 
 pub unit_is : (k : ℕ) → unit k ≡ 10 ^ (9 - k)
-unit_is k = by (nat_lt k 9) refl
-  where
-    by : (b : Bool) → b ≡ nat_lt k 9 → (if b then 10 ^ (9 - k) else 1) ≡ 10 ^ (9 - k)
-    by true e = refl
-    by false e =
-        let none : 0 ≡ 9 - k = omega (arith, ltb-false k 9 (sym e)) in
-        ap (λ (j : ℕ). 10 ^ j) none
+unit_is k =
+    cond_both (nat_lt k 9) (10 ^ (9 - k)) 1 (λ (x : ℕ). x ≡ 10 ^ (9 - k)) (λ e. refl) (λ e.
+    let none : 0 ≡ 9 - k = omega (arith, ltb-false k 9 e) in
+    ap (λ (j : ℕ). 10 ^ j) none)
 
 first_len : (k n : ℕ) → k ≤ 9 → n ≤ 999999999 → length (take k (filled Padding.Zero 9 n)) ≡ k
 first_len k n h small =
@@ -137,14 +134,10 @@ pub record Zeros (ds front : Text) : Type 0 where
 
 one_before : (b : ℕ) (bs front : Text) → Zeros bs front → Zeros (b ∷ bs) (before_trimmed b front)
 one_before b bs (c ∷ cs) z = record { count = z.count; split = ap (λ xs. b ∷ xs) z.split }
-one_before b bs [] z = by (b == 48) refl
-  where
-    by : (t : Bool) → (b == 48) ≡ t → Zeros (b ∷ bs) (if t then [] else b ∷ [])
-    by true e = record {
-      count = suc z.count;
-      split = (λ i. eqb-true b 48 e i ∷ z.split i);
-    }
-    by false e = record { count = z.count; split = ap (λ xs. b ∷ xs) z.split }
+one_before b bs [] z =
+    cond_both (b == 48) [] (b ∷ []) (λ xs. Zeros (b ∷ bs) xs)
+    (λ e. record { count = suc z.count; split = (λ i. eqb-true b 48 e i ∷ z.split i) })
+    (λ e. record { count = z.count; split = ap (λ xs. b ∷ xs) z.split })
 
 zeros_left : (ds : Text) → Zeros ds (trimmed ds)
 zeros_left [] = record { count = 0; split = refl }

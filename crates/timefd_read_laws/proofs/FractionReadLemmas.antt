@@ -1,9 +1,9 @@
 -- What the reading of a fraction leaves.
 use Rattle.std.proofs.Common.{ℕ, ◌≡◌, ◌∙◌, ◌*◌, ◌%◌, nat_le, min, Bool, true, false, if◌then◌else◌, take}
-use Rattle.std.proofs.Common.{Option, Some, None, Ok, refl, sym, ap, subst, arith}
+use Rattle.std.proofs.Common.{Option, Some, None, Ok, refl, ap, subst, arith}
 use Rattle.std.specs.Prelude.{⊤}
 use Rattle.std.proofs.Math.Nat.{mod-one, mul-mod_left}
-use Rattle.std.proofs.lemmas.Bool.{leb-true}
+use Rattle.std.proofs.lemmas.Bool.{cond_both, leb-true}
 use Rattle.std.proofs.lemmas.Option.{cond_some, same_Some}
 use Rattle.std.specs.Char.{is_ascii_digit}
 use Rattle.std.specs.List.{prefix_len}
@@ -82,17 +82,12 @@ HasLen k None = ⊤
 HasLen k (Some r) = r.0 * unit r.1 % unit k ≡ 0
 
 exact_len : (k : ℕ) (text : Text) → HasLen k (digits k k text)
-exact_len k text = by (nat_le k (min k (prefix_len is_ascii_digit text))) refl
-  where
-    by : (b : Bool) → b ≡ nat_le k (min k (prefix_len is_ascii_digit text))
-        → HasLen k (if b
-        then Some (digits_value 10 (take (min k (prefix_len is_ascii_digit text)) text), min k (prefix_len is_ascii_digit text))
-        else None)
-    by true e =
-        let all : min k (prefix_len is_ascii_digit text) ≡ k = omega (arith, leb-true _ _ (sym e)) in
-        let value = digits_value 10 (take (min k (prefix_len is_ascii_digit text)) text) in
-        ap (λ (n : ℕ). value * unit n % unit k) all ∙ mul-mod_left value (unit k)
-    by false e = tt
+exact_len k text =
+    let found = min k (prefix_len is_ascii_digit text) in
+    let value = digits_value 10 (take found text) in
+    cond_both (nat_le k found) (Some (value, found)) None (λ x. HasLen k x) (λ e.
+    let all : found ≡ k = omega (arith, leb-true _ _ e) in
+    ap (λ (n : ℕ). value * unit n % unit k) all ∙ mul-mod_left value (unit k)) (λ e. tt)
 
 nine_len : (x : Option (ℕ × ℕ)) → HasLen 9 x
 nine_len None = tt

@@ -2,7 +2,7 @@
 use Rattle.std.proofs.Common.{ℕ, ◌≡◌, ◌∙◌, ◌≤◌, ◌+◌, ◌&&◌, ◌==◌, Bool, true, false, nat_le, drop, if◌then◌else◌, Option, Some, None}
 use Rattle.std.proofs.Common.{Ok, refl, sym, ap, subst}
 use Rattle.std.specs.Prelude.{is_some, ⊤}
-use Rattle.std.proofs.lemmas.Bool.{eqb-true, leb-true}
+use Rattle.std.proofs.lemmas.Bool.{cond_both, eqb-true, leb-true}
 use Rattle.timefd_component.specs.declared.component.Component.{Component}
 use Rattle.timefd_component.specs.Tree.{Text}
 use Rattle.timefd_format.specs.declared.field.Kind.{Kind}
@@ -42,22 +42,18 @@ IsWithin greatest (Some r) = r.0.magnitude ≤ greatest
 within_greatest : (negative : Bool) (greatest k : ℕ) (r : Option (ℕ × ℕ))
     → IsWithin greatest (numbers.with_sign negative (behind k (within 0 greatest r)))
 within_greatest negative greatest k None = tt
-within_greatest negative greatest k (Some r) = by (nat_le 0 r.0 && nat_le r.0 greatest) refl
-  where
-    by : (b : Bool) → nat_le 0 r.0 && nat_le r.0 greatest ≡ b
-        → IsWithin greatest (numbers.with_sign negative (behind k (if b then Some r else None)))
-    by true e = leb-true r.0 greatest (both (nat_le 0 r.0) (nat_le r.0 greatest) e).1
-    by false e = tt
+within_greatest negative greatest k (Some r) =
+    cond_both (nat_le 0 r.0 && nat_le r.0 greatest) (Some r) None
+    (λ x. IsWithin greatest (numbers.with_sign negative (behind k x)))
+    (λ e. leb-true r.0 greatest (both (nat_le 0 r.0) (nat_le r.0 greatest) e).1) (λ e. tt)
 
 within_alone : (negative : Bool) (greatest : ℕ) (r : Option (ℕ × ℕ))
     → IsWithin greatest (numbers.with_sign negative (within 0 greatest r))
 within_alone negative greatest None = tt
-within_alone negative greatest (Some r) = by (nat_le 0 r.0 && nat_le r.0 greatest) refl
-  where
-    by : (b : Bool) → nat_le 0 r.0 && nat_le r.0 greatest ≡ b
-        → IsWithin greatest (numbers.with_sign negative (if b then Some r else None))
-    by true e = leb-true r.0 greatest (both (nat_le 0 r.0) (nat_le r.0 greatest) e).1
-    by false e = tt
+within_alone negative greatest (Some r) =
+    cond_both (nat_le 0 r.0 && nat_le r.0 greatest) (Some r) None
+    (λ x. IsWithin greatest (numbers.with_sign negative x))
+    (λ e. leb-true r.0 greatest (both (nat_le 0 r.0) (nat_le r.0 greatest) e).1) (λ e. tt)
 
 pub signed_within : (padding : Padding) (w m s greatest : ℕ) (sign : Option Bool) (mandatory : Bool) (text : Text)
     → IsWithin greatest (signed_by sign mandatory

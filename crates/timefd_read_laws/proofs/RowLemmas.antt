@@ -2,7 +2,7 @@
 use Rattle.std.proofs.Common.{ℕ, ◌≡◌, ◌∙◌, ◌≤◌, ◌<◌, ◌/◌, ◌++◌, ◌==◌, Bool, true, false, ◌||◌, nat_le, if◌then◌else◌}
 use Rattle.std.proofs.Common.{length, Option, Some, None, Result, Ok, Err, IfOk, IfSome, refl, sym, ap, subst}
 use Rattle.std.proofs.Math.Seq.{drop-append_seam}
-use Rattle.std.proofs.lemmas.Bool.{eq-eqb, leb-false, leb-true}
+use Rattle.std.proofs.lemmas.Bool.{cond_both, eq-eqb, leb-false, leb-true}
 use Rattle.timefd_component.specs.declared.component.Component.{Component}
 use Rattle.timefd_component.specs.Tree.{Text}
 use Rattle.timefd_format.specs.declared.field.Field.{Field}
@@ -87,13 +87,10 @@ pub of_year : (P : Field → Type 0) (greatest width unit : ℕ) (p : Padding) (
     → (magnitude y ≤ greatest
     → P (signed (is_before_zero y) (mandatory || nat_le 10000 (magnitude y)) p width (magnitude y / unit)))
     → IfOk (year greatest width unit p mandatory y) P
-of_year P greatest width unit p mandatory y h = by (nat_le (magnitude y) greatest) refl
-  where
-    by : (t : Bool) → t ≡ nat_le (magnitude y) greatest
-        → IfOk (if t then Ok (signed (is_before_zero y) (mandatory || nat_le 10000 (magnitude y)) p width
-        (magnitude y / unit)) else Err Lack.YearTooLong) P
-    by true e = h (leb-true _ _ (sym e))
-    by false e = tt
+of_year P greatest width unit p mandatory y h =
+    cond_both (nat_le (magnitude y) greatest)
+    (Ok (signed (is_before_zero y) (mandatory || nat_le 10000 (magnitude y)) p width (magnitude y / unit)))
+    (Err Lack.YearTooLong) (λ r. IfOk r P) (λ e. h (leb-true _ _ e)) (λ e. tt)
 
 -- without a plus
 pub no_plus : (mandatory : Bool) (n : ℕ) → (mandatory || nat_le 10000 n) ≡ false

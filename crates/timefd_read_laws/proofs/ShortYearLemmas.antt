@@ -1,6 +1,7 @@
 -- What can be written where the same fields were read as are written.
 use Rattle.std.proofs.Common.{◌≡◌, ◌∙◌, ◌||◌, true, false, Option, IfSome, Ok, refl, ap, subst, arith, ℕ, ◌/◌, Bool}
-use Rattle.std.proofs.Common.{nat_le, if◌then◌else◌, Result, Err, IfErr, sym, is_ok, unwrap_or}
+use Rattle.std.proofs.Common.{nat_le, Result, Err, IfErr, sym, is_ok, unwrap_or}
+use Rattle.std.proofs.lemmas.Bool.{cond_both}
 use Rattle.timefd_component.specs.declared.component.Component.{Component}
 use Rattle.timefd_component.specs.declared.component.Component.TheVariants as of
 use Rattle.timefd_component.specs.Modern.{modern}
@@ -144,15 +145,12 @@ followed_lacks (Ok a) (Ok b) e h = tt
 followed_lacks (Ok a) (Err u) e h = h
 followed_lacks (Err u) b e h = e
 
-either_long : (b : Bool) (f : Field) → IsLong (if b then Ok f else Err Lack.YearTooLong)
-either_long true f = tt
-either_long false f = refl
-
 year_lacks : (greatest width unit : ℕ) (padding : Padding) (mandatory : Bool) (years : ℕ)
     → IsLong (year greatest width unit padding mandatory years)
 year_lacks greatest width unit padding mandatory years =
-    either_long (nat_le (magnitude years) greatest)
-    (signed (is_before_zero years) (mandatory || nat_le 10000 (magnitude years)) padding width (magnitude years / unit))
+    cond_both (nat_le (magnitude years) greatest)
+    (Ok (signed (is_before_zero years) (mandatory || nat_le 10000 (magnitude years)) padding width
+    (magnitude years / unit))) (Err Lack.YearTooLong) IsLong (λ e. tt) (λ e. refl)
 
 date_lacks : (m : Moment) (f : Fields) (h : HasDate m f) (c : Component) → IsLong (date_field h.date c)
     → LacksYear (text_of c (on_date m.date (λ d. date_field d c)))

@@ -1,10 +1,11 @@
 -- What is written of a settled description is read back.
-use Rattle.std.proofs.Common.{◌≡◌, inl, ◌+◌, ◌++◌, Bool, true, false, if◌then◌else◌, [], ◌∷◌, length, Result, Ok, Err, IfOk}
+use Rattle.std.proofs.Common.{◌≡◌, inl, ◌+◌, ◌++◌, true, false, if◌then◌else◌, [], ◌∷◌, length, Result, Ok, Err, IfOk}
 use Rattle.std.proofs.Common.{refl, sym, ap, subst}
 use Rattle.std.specs.Char.{is_ascii_digit}
 use Rattle.std.specs.List.{prefix_len}
 use Rattle.std.proofs.lemmas.List.{append-nil, append_assoc}
 use Rattle.std.proofs.lemmas.Result.{IfOk-at_ok}
+use Rattle.std.proofs.lemmas.Bool.{cond_both}
 use Rattle.timefd_component.specs.declared.component.Component.{Component}
 use Rattle.timefd_component.specs.Modern.{modern}
 use Rattle.timefd_component.specs.Tree.{Text, Tree, component, literal, compound, optional, first, Trees, no_trees, more_trees}
@@ -42,12 +43,9 @@ of_shown P c (Err l) h = tt
 
 literal_begins : (known : Bound) (bytes : Text) → Begins known (literal_begin bytes known) bytes
 literal_begins known [] rest h = h
-literal_begins known (b ∷ bytes) rest h = by (is_ascii_digit b) refl
-  where
-    by : (t : Bool) → is_ascii_digit b ≡ t
-        → IsBounded (if t then Bound.Anything else Bound.NoDigit) (b ∷ (bytes ++ rest))
-    by true e = tt
-    by false e = ap (λ x. if x then 1 + prefix_len is_ascii_digit (bytes ++ rest) else 0) e
+literal_begins known (b ∷ bytes) rest h =
+    cond_both (is_ascii_digit b) Bound.Anything Bound.NoDigit (λ x. IsBounded x (b ∷ (bytes ++ rest))) (λ e. tt)
+    (λ e. ap (λ x. if x then 1 + prefix_len is_ascii_digit (bytes ++ rest) else 0) e)
 
 both_begin : (x y : Result Text Unshown) (known mid begin : Bound) → IfOk x (Begins mid begin)
     → IfOk y (Begins known mid) → IfOk (followed x y) (Begins known begin)
