@@ -210,7 +210,7 @@ iso_century = place of.Date (λ f. f.iso_century) (λ f x. record f { iso_centur
     (λ f a. (refl, refl, refl, refl, refl)) (λ d t o s. (refl, refl, refl))
     (λ f a none. iso_century_more (years f) (years (record f { iso_century = Some a })) none refl)
 
--- The fields of a reading, of which one has this place.
+-- The field that has this name when it is read is the one of this place.
 abbrev pub IsAt : {A F : Type 0} → (A → A → Bool) → (Fields → F → A → Option A → Option Fields) → (Fields → F → Option A)
     → F → Place A → Type 0
 IsAt {A = A} is_same with_field get field place = (f : Fields) (n : A)

@@ -99,9 +99,8 @@ module _ {A : Type 0} (place : Place A) (p q : Point) where
         knows = record { kind = place.known f (ap is_some found); range = old a found same };
       }) refl (agreed_is c p q len (merged is_same f (place.set f) n (place.get f)) e)
 
--- a number without a sign, and its name
+-- A number without a sign, and a name. The type of a field's name is private, so its use decides it.
 module _ (place : Place ℕ) (c : Component) (p q : Point) where
-  -- It is read as the number of a field.
   pub count : (field : _) (x : Option (ℕ × ℕ)) → IsAt equal count_with count_of field place
       → taken c p (as_count field x) ≡ Ok q → Placed place p q any
   count field None is e = absurd cc

@@ -4,6 +4,7 @@ use Rattle.std.proofs.Common.{if◌then◌else◌, Option, Some, None, min, refl
 use Rattle.std.specs.Prelude.{is_some}
 use Rattle.std.proofs.Math.Nat.{div-mul-le_self}
 use Rattle.std.proofs.lemmas.Bool.{eqb-true, le-leb, leb-false, leb-true, lt-ltb, ltb-true}
+use Rattle.std.proofs.lemmas.Option.{same_Some}
 use Rattle.timefd_moment.specs.declared.unix_time.UnixTime.{UnixTime}
 use Rattle.timefd_moment.specs.Instants.{count, is_within}
 use Rattle.timefd_moment.specs.Moments.{unix_start}
@@ -84,10 +85,6 @@ fraction_rest (Some x) n few whole h rest =
 
 -- timestamps
 
-abbrev value_of : UnixTime → Option UnixTime → UnixTime
-value_of u (Some v) = v
-value_of u None = u
-
 -- what an instant is that was read
 abbrev Ends : Option Fraction → UnixTime → ℕ → ℕ → Type 0
 Ends fraction u q n = (q * 1000000000 + n ≡ count u) × (is_within u ≡ true) × (n ≤ 999999999) × IsWhole fraction
@@ -99,7 +96,7 @@ second_rest fraction s q n (e, h, few, whole, has) =
     fraction_rest fraction n few whole has
     (behind_rest s.is_negative (stamp_magnitude s) (fraction_read fraction) q n e h few (fraction_small fraction))
 
--- by units of which there are more than seconds
+-- by a smaller unit than seconds
 unit_rest : (fraction : Option Fraction) (k size : ℕ) (s : Signed) (q n : ℕ) → Ends fraction (by_unit fraction k size s) q n
     → (q * 1000000000 + n ≡ counted s.is_negative (stamp_magnitude s * size)
     → within s.is_negative (stamp_magnitude s * size) ≡ true → n % size ≡ 0)
@@ -119,7 +116,7 @@ unit_rest fraction k size s q n (e, h, few, whole, has) none = by (is_finer frac
 
 ends_of : (fraction : Option Fraction) (u v : UnixTime) (q n : ℕ) → Ends fraction u q n → Some v ≡ Some u
     → Ends fraction v q n
-ends_of fraction u v q n h e = subst (λ (x : UnixTime). Ends fraction x q n) (sym (ap (value_of u) e)) h
+ends_of fraction u v q n h e = subst (λ (x : UnixTime). Ends fraction x q n) (sym (same_Some v u e)) h
 
 pub digits_kept : (fraction : Option Fraction) (ns us ms s : Option Signed) (u : UnixTime) (q n : ℕ)
     → instant_by fraction ns us ms s ≡ Some u → q * 1000000000 + n ≡ count u → is_within u ≡ true

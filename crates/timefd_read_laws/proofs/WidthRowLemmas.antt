@@ -56,7 +56,7 @@ module _ (d : Date) (t : Time) (o : UtcOffset) (s : Shows) where
       (λ shown. ap (λ (x : Shows). fields_shown d t o x) (sym is.2)
       ∙ ap (λ (b : Bool). fields_shown d t o (place.put_in s b)) shown)
 
-  -- without a sign
+  -- Without a sign. The type of a field's name is private, so its use decides it.
 
   count_row : (place : Place ℕ) (c : Component) (field : _) (text rest : Text) (x : Option (ℕ × ℕ)) (n : ℕ)
       → IsAt equal count_with count_of field place → n ≡ place.value d t o → x ≡ Some (n, length text)
