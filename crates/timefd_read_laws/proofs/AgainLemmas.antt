@@ -1,8 +1,10 @@
 -- What is written of what was read of a text is read as the same.
-use Rattle.std.proofs.Common.{◌≡◌, ◌∙◌, ◌||◌, Bool, true, false, Option, Some, None, Result, Ok, Err, IfSome, refl, sym, ap}
+use Rattle.std.proofs.Common.{◌≡◌, ◌∙◌, Bool, true, false, Option, Some, None, Result, Ok, Err, IfSome, refl, sym, ap}
 use Rattle.std.proofs.Common.{subst}
 use Rattle.std.specs.Prelude.{is_some}
 use Rattle.timefd_component.specs.Tree.{Text, Tree}
+use Rattle.timefd_format.specs.declared.field.Kind.{Kind}
+use Rattle.timefd_format.specs.declared.field.Kind.TheVariants as kind
 use Rattle.timefd_moment.specs.declared.date.Date.{Date}
 use Rattle.timefd_moment.specs.declared.time.Time.{Time}
 use Rattle.timefd_moment.specs.declared.offset.UtcOffset.{UtcOffset}
@@ -26,7 +28,8 @@ use Rattle.timefd_read_moment.proofs.ShownLemmas.{clash}
 use Rattle.timefd_read_laws.specs.Again.{AnswersSame, BothKnown, FieldsAgain, IsWrittenAgain, ShowsBack, parts}
 use Rattle.timefd_read_laws.specs.Shown.{Shows, fields_shown, shows}
 use Rattle.timefd_read_laws.specs.Values.{HasNoMoreOffset, HasNoMoreTime, IsReadBack}
-use Rattle.timefd_read_laws.proofs.KnownLemmas.{same_date, same_has_time, same_offset, same_stamp, same_time}
+use Rattle.timefd_read_laws.proofs.KnownLemmas.{same_date, same_kind, same_offset, same_stamp, same_time}
+use Rattle.timefd_read_laws.proofs.GrowLemmas.{has_kind}
 use Rattle.timefd_read_laws.proofs.ValueBackLemmas.{offset_again, time_again}
 use Rattle.timefd_read_laws.proofs.PlainLemmas.{whole_read}
 use Rattle.timefd_read_laws.proofs.ShownPartLemmas.{same_shown}
@@ -57,11 +60,6 @@ none_is : (x : Option UnixTime) → is_some x ≡ false → x ≡ None
 none_is None e = refl
 none_is (Some u) e = absurd (clash true e refl)
 
-abbrev pub date_shown : Shows → Bool
-date_shown s =
-    ((((s.year || s.century) || s.year_last_two) || ((s.iso_year || s.iso_century) || s.iso_year_last_two))
-    || ((s.month || s.day) || s.ordinal)) || (((s.weekday || s.iso_week) || s.sunday_week) || s.monday_week)
-
 -- The fields of the new text.
 
 pub fields_again : FieldsAgain
@@ -88,24 +86,18 @@ module _ (m : Moment) (d : Date) (t : Time) (o : UtcOffset) (tree : Tree) (f : F
     read = fields_again m d t o tree f again h;
   }
 
-  has_same_date : has_date anew ≡ has_date f
-  has_same_date = ap (λ (s : Shows). date_shown s) (sym parts_same)
-
-  has_same_offset : has_offset anew ≡ has_offset f
-  has_same_offset = ap (λ (s : Shows). (s.offset_hour || s.offset_minute) || s.offset_second) (sym parts_same)
-
-  has_same_time : has_time anew ≡ has_time f
-  has_same_time = same_has_time anew f (sym parts_same)
+  same : (k : Kind) → has_kind k anew ≡ has_kind k f
+  same k = same_kind k anew f (sym parts_same)
 
   date : has_date anew ≡ true → IsDetermined (date_way anew)
   date e =
       part_is (λ _. IsDetermined (date_way anew)) (IsDateByParts f) (has_date f) m.date d
-      (λ x is. same_date f anew parts_same is.1) (sym has_same_date ∙ e) was.0 h.is_of.0
+      (λ x is. same_date f anew parts_same is.1) (sym (same kind.Date) ∙ e) was.0 h.is_of.0
 
   time : has_time anew ≡ true → IsDetermined (clock_read anew) × HasNoMoreTime anew t
   time e =
       let agrees = part_is (λ x. IsDetermined (clock_read anew) × TimeAgrees f x) (IsTimeByParts f) (has_time f) m.time t
-      (λ x is. (same_time f anew parts_same is.1, is.0)) (sym has_same_time ∙ e) was.1 h.is_of.1 in (
+      (λ x is. (same_time f anew parts_same is.1, is.0)) (sym (same kind.Time) ∙ e) was.1 h.is_of.1 in (
         agrees.0,
         subst (λ (s : Shows). HasNoMoreTime (fields_shown d t o s) t) h.same_parts
             (time_again d t o f (whole_read tree h.text f h.read) agrees.1),
@@ -114,7 +106,7 @@ module _ (m : Moment) (d : Date) (t : Time) (o : UtcOffset) (tree : Tree) (f : F
   offset : has_offset anew ≡ true → IsDetermined (shift_read anew) × HasNoMoreOffset anew o
   offset e =
       let agrees = part_is (λ x. IsDetermined (shift_read anew) × OffsetAgrees f x) (IsOffsetOf f) (has_offset f) m.offset o
-      (λ x is. (same_offset f anew parts_same is.1, is.0)) (sym has_same_offset ∙ e) was.2 h.is_of.2 in (
+      (λ x is. (same_offset f anew parts_same is.1, is.0)) (sym (same kind.Offset) ∙ e) was.2 h.is_of.2 in (
         agrees.0,
         subst (λ (s : Shows). HasNoMoreOffset (fields_shown d t o s) o) h.same_parts
             (offset_again d t o f agrees.1),
@@ -123,11 +115,11 @@ module _ (m : Moment) (d : Date) (t : Time) (o : UtcOffset) (tree : Tree) (f : F
   same_moment : (r : Result Moment ValueError) → AnswersParts anew d t o r → AnswersSame m r
   same_moment (Ok n) k = (
     both_known (has_date f) of_date.IsSame (IsDateByParts f) m.date n.date d was.0 h.is_of.0
-        (subst (λ (b : Bool). IsKnown b of_date.IsSame d n.date) has_same_date k.0),
+        (subst (λ (b : Bool). IsKnown b of_date.IsSame d n.date) (same kind.Date) k.0),
     both_known (has_time f) of_time.IsSame (IsTimeByParts f) m.time n.time t was.1 h.is_of.1
-        (subst (λ (b : Bool). IsKnown b of_time.IsSame t n.time) has_same_time k.1),
+        (subst (λ (b : Bool). IsKnown b of_time.IsSame t n.time) (same kind.Time) k.1),
     both_known (has_offset f) of_offset.IsSame (IsOffsetOf f) m.offset n.offset o was.2 h.is_of.2
-        (subst (λ (b : Bool). IsKnown b of_offset.IsSame o n.offset) has_same_offset k.2),
+        (subst (λ (b : Bool). IsKnown b of_offset.IsSame o n.offset) (same kind.Offset) k.2),
   )
   same_moment (Err e) k = absurd k
 

@@ -2,6 +2,8 @@
 use Rattle.std.proofs.Common.{ℕ, ◌≡◌, ◌∙◌, ◌&&◌, ◌||◌, not, Bool, true, false, if◌then◌else◌, Option, Some, None, Result}
 use Rattle.std.proofs.Common.{Ok, Err, refl, sym, ap, is_ok}
 use Rattle.std.specs.Prelude.{is_some}
+use Rattle.timefd_format.specs.declared.field.Kind.{Kind}
+use Rattle.timefd_format.specs.declared.field.Kind.TheVariants as of
 use Rattle.timefd_read_dates.specs.declared.fields.Fields.{Fields}
 use Rattle.timefd_read_dates.specs.declared.fields.Fraction.{Fraction}
 use Rattle.timefd_read_dates.specs.declared.fields.Signed.{Signed}
@@ -17,6 +19,7 @@ use Rattle.timefd_read_moment.specs.Years.{years_read}
 use Rattle.timefd_read_moment.proofs.ShownLemmas.{clash}
 use Rattle.timefd_read_laws.specs.Again.{digits_of, parts}
 use Rattle.timefd_read_laws.specs.Shown.{Shows}
+use Rattle.timefd_read_laws.proofs.GrowLemmas.{has_kind}
 
 some_digits : (x : Option Fraction) → is_some (digits_of x) ≡ is_some x
 some_digits None = refl
@@ -173,7 +176,7 @@ time_with fraction s =
 time_known_is : (f : Fields) → has_time f ≡ time_with (is_some (parts f).subsecond) (parts f)
 time_known_is f = ap (λ b. time_with b (parts f)) (sym (some_digits f.subsecond))
 
-pub same_has_time : (f g : Fields) → parts f ≡ parts g → has_time f ≡ has_time g
+same_has_time : (f g : Fields) → parts f ≡ parts g → has_time f ≡ has_time g
 same_has_time f g e =
     time_known_is f ∙ ap (λ (s : Shows). time_with (is_some s.subsecond) s) e ∙ sym (time_known_is g)
 
@@ -211,7 +214,7 @@ some_instant fraction None None (Some n) s = refl
 some_instant fraction None None None (Some n) = refl
 some_instant fraction None None None None = refl
 
-abbrev pub stamp_known : Shows → Bool
+abbrev stamp_known : Shows → Bool
 stamp_known s = s.unix_nanosecond || (s.unix_microsecond || (s.unix_millisecond || s.unix_second))
 
 stamp_known_is : (f : Fields) → is_some (instant_read f) ≡ stamp_known (parts f)
@@ -220,3 +223,17 @@ stamp_known_is f =
 
 pub same_stamp : (f g : Fields) → parts f ≡ parts g → is_some (instant_read f) ≡ is_some (instant_read g)
 same_stamp f g e = stamp_known_is f ∙ ap stamp_known e ∙ sym (stamp_known_is g)
+
+-- So it is of which kinds something was read.
+
+abbrev date_shown : Shows → Bool
+date_shown s =
+    ((((s.year || s.century) || s.year_last_two) || ((s.iso_year || s.iso_century) || s.iso_year_last_two))
+    || ((s.month || s.day) || s.ordinal)) || (((s.weekday || s.iso_week) || s.sunday_week) || s.monday_week)
+
+pub same_kind : (k : Kind) (f g : Fields) → parts f ≡ parts g → has_kind k f ≡ has_kind k g
+same_kind of.Date f g e = ap date_shown e
+same_kind of.Time f g e = same_has_time f g e
+same_kind of.Offset f g e = ap (λ (s : Shows). (s.offset_hour || s.offset_minute) || s.offset_second) e
+same_kind of.Instant f g e = ap stamp_known e
+same_kind of.Nothing f g e = refl

@@ -1,5 +1,5 @@
 -- What can be written where the same fields were read as are written.
-use Rattle.std.proofs.Common.{◌≡◌, ◌∙◌, ◌||◌, true, false, Option, IfSome, Ok, refl, ap, subst, arith, ℕ, ◌/◌, Bool}
+use Rattle.std.proofs.Common.{◌≡◌, ◌∙◌, ◌||◌, true, false, Option, IfSome, Ok, refl, subst, arith, ℕ, ◌/◌, Bool}
 use Rattle.std.proofs.Common.{nat_le, Result, Err, IfErr, sym, is_ok, unwrap_or}
 use Rattle.std.proofs.lemmas.Bool.{cond_both}
 use Rattle.timefd_component.specs.declared.component.Component.{Component}
@@ -8,7 +8,6 @@ use Rattle.timefd_component.specs.Modern.{modern}
 use Rattle.timefd_component.specs.Tree.{Text, Tree, Trees, component, compound, first, literal, more_trees, no_trees}
 use Rattle.timefd_component.specs.Tree.{optional}
 use Rattle.timefd_format.specs.declared.field.Kind.{Kind}
-use Rattle.timefd_format.specs.declared.field.Kind.TheVariants as kind
 use Rattle.timefd_format.specs.Fields.{date_field, field, kind as kind_of, on_date, signed, year}
 use Rattle.timefd_format.specs.Written.{followed, shown, text_of, written}
 use Rattle.timefd_format.specs.declared.field.Field.{Field}
@@ -26,11 +25,10 @@ use Rattle.timefd_read_moment.proofs.ShownLemmas.{clash}
 use Rattle.timefd_read_laws.specs.Again.{parts}
 use Rattle.timefd_read_laws.specs.ShortYears.{HasShortYears, LacksYearsAlone, WritesShortYears}
 use Rattle.timefd_read_laws.specs.Shown.{Shows, shows, shows_nothing, with_tree, with_trees}
-use Rattle.timefd_read_laws.proofs.AgainLemmas.{date_shown as shows_date}
 use Rattle.timefd_read_laws.proofs.ComesBackLemmas.{any_date, any_offset, any_time}
 use Rattle.timefd_read_laws.proofs.FieldShownLemmas.{component_shown, date_shown, year_shown}
 use Rattle.timefd_read_laws.proofs.GrowLemmas.{has_kind}
-use Rattle.timefd_read_laws.proofs.KnownLemmas.{same_has_time, stamp_known}
+use Rattle.timefd_read_laws.proofs.KnownLemmas.{same_kind}
 use Rattle.timefd_read_laws.proofs.MomentKnownLemmas.{Has, HasDate, moment_known}
 use Rattle.timefd_read_laws.proofs.ShownKindLemmas.{as_fields, component_shows, modern_current}
 use Rattle.timefd_read_laws.proofs.ShownPartLemmas.{same_shown}
@@ -70,15 +68,6 @@ module _ (d : Date) (t : Time) (o : UtcOffset) where
           ),
         )
 
--- which kinds were read rests on which fields were
-
-kind_same : (k : Kind) (f g : Fields) → parts f ≡ parts g → has_kind k g ≡ true → has_kind k f ≡ true
-kind_same kind.Date f g e h = ap (λ (s : Shows). shows_date s) e ∙ h
-kind_same kind.Time f g e h = same_has_time f g e ∙ h
-kind_same kind.Offset f g e h = ap (λ (s : Shows). (s.offset_hour || s.offset_minute) || s.offset_second) e ∙ h
-kind_same kind.Instant f g e h = ap stamp_known e ∙ h
-kind_same kind.Nothing f g e h = refl
-
 -- What each component shows of short years.
 
 module _ (m : Moment) (f : Fields) (short : IfSome m.date HasShortYears) where
@@ -114,7 +103,7 @@ kinds_read m tree f same is =
     each_more (KindIn d t o (shows tree)) (λ c. Has (kind_of (modern c)) m f)
     (λ c h.
     moment_known m f (kind_of (modern c)) is
-    (kind_same (kind_of (modern c)) f (as_fields d t o (shows tree)) (same_shown d t o f (shows tree) same) h)) tree
+    (same_kind (kind_of (modern c)) f (as_fields d t o (shows tree)) (same_shown d t o f (shows tree) same) ∙ h)) tree
     (tree_shows d t o tree shows_nothing).1
 
 pub writes_short_years : WritesShortYears

@@ -1,8 +1,9 @@
 -- What is written of a moment that was read with a timestamp is read as that moment.
-use Rattle.std.proofs.Common.{ℕ, ◌≡◌, ◌∙◌, ◌||◌, Bool, true, false, Option, Some, None, Result, Ok, Err, refl, sym, ap}
+use Rattle.std.proofs.Common.{ℕ, ◌≡◌, ◌∙◌, Bool, true, false, Option, Some, None, Result, Ok, Err, refl, sym, ap}
 use Rattle.std.proofs.Common.{subst}
 use Rattle.std.specs.Prelude.{is_some}
 use Rattle.timefd_component.specs.Tree.{Text, Tree}
+use Rattle.timefd_format.specs.declared.field.Kind.TheVariants as kind
 use Rattle.timefd_moment.specs.declared.date.Date.{Date}
 use Rattle.timefd_moment.specs.declared.time.Time.{Time}
 use Rattle.timefd_moment.specs.declared.offset.UtcOffset.{UtcOffset}
@@ -32,7 +33,7 @@ use Rattle.timefd_read_moment.proofs.StampedLemmas.{unix_at}
 use Rattle.timefd_read_laws.specs.Again.{AnswersSame, BothKnown, IsWrittenAgain, parts}
 use Rattle.timefd_read_laws.specs.Shown.{IsOf, Shows, fields_shown, shows}
 use Rattle.timefd_read_laws.specs.Values.{HasNoMoreOffset}
-use Rattle.timefd_read_laws.proofs.KnownLemmas.{same_offset, same_stamp}
+use Rattle.timefd_read_laws.proofs.KnownLemmas.{same_kind, same_offset, same_stamp}
 use Rattle.timefd_read_laws.proofs.ValueBackLemmas.{offset_again}
 use Rattle.timefd_read_laws.proofs.PlainLemmas.{whole_read}
 use Rattle.timefd_read_laws.proofs.RestLemmas.{digits_again, digits_kept, within_again}
@@ -81,8 +82,7 @@ shown_again : (f : Fields) (d : Date) (t : Time) (o : UtcOffset) → IsWhole f.s
 shown_again f d t o whole is same =
     let anew = fields_shown d t o (parts f) in
     let more : HasNoMoreOffset anew o = offset_again d t o f (λ p. is.0 (part.Offset p)) in
-    let known : has_offset f ≡ has_offset anew =
-    ap (λ (s : Shows). (s.offset_hour || s.offset_minute) || s.offset_second) same in (
+    let known : has_offset f ≡ has_offset anew = same_kind kind.Offset f anew same in (
       moment_is d t o (parts f) more,
       subst (λ (b : Bool). HasShift (zone_if b anew) o) known
           (zone_again f anew o (has_offset f) same (offset_agrees d t o (parts f) more) is.1),
