@@ -1,6 +1,5 @@
 -- What is written of what was read of a text is read as the same.
-use Rattle.std.proofs.Common.{◌≡◌, ◌∙◌, Bool, true, false, Option, Some, None, Result, Ok, Err, IfSome, refl, sym, ap}
-use Rattle.std.proofs.Common.{subst}
+use Rattle.std.proofs.Common.{◌≡◌, ◌∙◌, Bool, true, false, Option, Some, None, Result, Ok, Err, IfSome, refl, sym, ap, subst}
 use Rattle.std.specs.Prelude.{is_some}
 use Rattle.timefd_component.specs.Tree.{Text, Tree}
 use Rattle.timefd_format.specs.declared.field.Kind.{Kind}
@@ -30,13 +29,12 @@ use Rattle.timefd_read_laws.specs.Shown.{Shows, fields_shown, shows}
 use Rattle.timefd_read_laws.specs.Values.{HasNoMoreOffset, HasNoMoreTime, IsReadBack}
 use Rattle.timefd_read_laws.proofs.KnownLemmas.{same_date, same_kind, same_offset, same_stamp, same_time}
 use Rattle.timefd_read_laws.proofs.GrowLemmas.{has_kind}
-use Rattle.timefd_read_laws.proofs.ValueBackLemmas.{offset_again, time_again}
+use Rattle.timefd_read_laws.proofs.ValueBackLemmas.{offset_again, time_again, moment_read_back}
 use Rattle.timefd_read_laws.proofs.PlainLemmas.{whole_read}
 use Rattle.timefd_read_laws.proofs.ShownPartLemmas.{same_shown}
 use Rattle.timefd_read_laws.proofs.StampedAgainLemmas.{stamped_again}
 use Rattle.timefd_read_laws.proofs.StepLemmas.{in_ok}
 use Rattle.timefd_read_laws.proofs.TreeLemmas.{reads_back}
-use Rattle.timefd_read_laws.proofs.ValueBackLemmas.{moment_read_back}
 
 -- A part that was read is known, and is this one.
 part_is : {A : Type 0} (P : A → Type 0) (Is : Result A ValueError → Type 0) (b : Bool) (x : Option A) (a : A)

@@ -1,6 +1,5 @@
 -- What was read by a settled description is written, and read as the same.
-use Rattle.std.proofs.Common.{◌≡◌, ◌∙◌, true, false, Option, Some, None, Ok, IfSome, refl, sym, ap}
-use Rattle.std.proofs.Common.{arith, unwrap_or}
+use Rattle.std.proofs.Common.{◌≡◌, ◌∙◌, true, false, Option, Some, None, Ok, IfSome, refl, sym, ap, arith, unwrap_or}
 use Rattle.timefd_component.specs.Modern.{modern}
 use Rattle.timefd_component.specs.Tree.{Text, Tree, component, literal, compound, optional, first, Trees, no_trees, more_trees}
 use Rattle.timefd_moment.specs.declared.date.Date.{Date}

@@ -1,7 +1,6 @@
 -- The digits of a second are read back.
-use Rattle.std.proofs.Common.{ℕ, ◌≡◌, ◌∙◌, ◌≤◌, ◌<◌, ◌+◌, ◌-◌, ◌*◌, ◌/◌, ◌^◌, ◌++◌, ◌==◌, inl, inr, suc}
-use Rattle.std.proofs.Common.{nat_lt, [], ◌∷◌, drop, length, replicate, take, Some, refl, sym, ap, subst}
-use Rattle.std.proofs.Common.{arith, length-append, length-drop}
+use Rattle.std.proofs.Common.{ℕ, ◌≡◌, ◌∙◌, ◌≤◌, ◌<◌, ◌+◌, ◌-◌, ◌*◌, ◌/◌, ◌^◌, ◌++◌, ◌==◌, inl, inr, suc, nat_lt, [], ◌∷◌}
+use Rattle.std.proofs.Common.{drop, length, replicate, take, Some, refl, sym, ap, subst, arith, length-append, length-drop}
 use Rattle.std.proofs.Math.Nat.{add-mul, mul_assoc, pow-suc}
 use Rattle.std.proofs.lemmas.Bool.{cond_both, eqb-true, ltb-false}
 use Rattle.std.proofs.lemmas.Fmt.{decimal_is_IsNumeral_wide}

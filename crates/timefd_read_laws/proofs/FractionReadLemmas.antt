@@ -1,6 +1,6 @@
 -- What the reading of a fraction leaves.
-use Rattle.std.proofs.Common.{ℕ, ◌≡◌, ◌∙◌, ◌*◌, ◌%◌, nat_le, min, Bool, true, false, if◌then◌else◌, take}
-use Rattle.std.proofs.Common.{Option, Some, None, Ok, refl, ap, subst, arith}
+use Rattle.std.proofs.Common.{ℕ, ◌≡◌, ◌∙◌, ◌*◌, ◌%◌, nat_le, min, Bool, true, false, if◌then◌else◌, take, Option, Some, None}
+use Rattle.std.proofs.Common.{Ok, refl, ap, subst, arith}
 use Rattle.std.specs.Prelude.{⊤}
 use Rattle.std.proofs.Math.Nat.{mod-one, mul-mod_left}
 use Rattle.std.proofs.lemmas.Bool.{cond_both, leb-true}
@@ -22,8 +22,7 @@ use Rattle.timefd_read_dates.specs.Reads.{Point, taken}
 use Rattle.timefd_read_moment.specs.Known.{has_time}
 use Rattle.timefd_read_laws.specs.Again.{digits_of, parts}
 use Rattle.timefd_read_laws.specs.Shown.{more_digits}
-use Rattle.timefd_read_laws.proofs.GrowLemmas.{any, more}
-use Rattle.timefd_read_laws.proofs.GrowLemmas.{by_subsecond}
+use Rattle.timefd_read_laws.proofs.GrowLemmas.{any, by_subsecond, kind_more}
 use Rattle.timefd_read_laws.proofs.ReadRowLemmas.{Leaves}
 use Rattle.timefd_read_laws.proofs.StepLemmas.{IsWhole, agreed_is}
 
@@ -72,7 +71,7 @@ fraction_is p q read whole e =
     (record {
       with_parts = ap (λ (n : ℕ). record (parts p.fields) { subsecond = Some n }) (later_digits read before);
       stays_whole = λ h. later_whole read before whole h;
-      grows = more kind.Time p.fields g known refl refl;
+      grows = record { kind = kind_more kind.Time p.fields g known refl; range = λ r h. h };
       knows = record { kind = known; range = tt };
     })
 

@@ -142,9 +142,6 @@ pub iso_century_more : (y z : Years) → y.iso_century ≡ None
 iso_century_more y z e same (iso_century n) h = absurd (none_at_most n y.iso_century e h)
 iso_century_more y z e same r h = subst (InRange r) same h
 
-pub same_range : (y z : Years) → y ≡ z → (r : Range) → InRange r y → InRange r z
-same_range y z same r h = subst (λ (x : Years). InRange r x) same h
-
 -- What was known stays so.
 
 pub record Grows (f g : Fields) : Type 0 where
@@ -159,11 +156,6 @@ both_grow f g h a b = record {
   kind = λ k e. b.kind k (a.kind k e);
   range = λ r e. b.range r (a.range r e);
 }
-
--- by a field that is no year
-pub more : (k : Kind) (f g : Fields) → has_kind k g ≡ true → but k (kinds f) ≡ but k (kinds g) → years f ≡ years g
-    → Grows f g
-more k f g e same ys = record { kind = kind_more k f g e same; range = same_range (years f) (years g) ys }
 
 -- Of a kind, and in a range of years.
 pub record Knows (k : Kind) (r : Range) (f : Fields) : Type 0 where

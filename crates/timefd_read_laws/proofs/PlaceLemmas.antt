@@ -16,9 +16,8 @@ use Rattle.timefd_read_moment.specs.Stamped.{whole_seconds}
 use Rattle.timefd_read_laws.specs.Again.{parts}
 use Rattle.timefd_read_laws.specs.Shown.{Shows, fields_shown, if_shown, with_sign, year_part}
 use Rattle.timefd_read_laws.proofs.GrowLemmas.{InRange, Range, but, century_more, iso_century_more, iso_year_more, kinds}
-use Rattle.timefd_read_laws.proofs.GrowLemmas.{year_more, years}
-use Rattle.timefd_read_laws.proofs.GrowLemmas.{has_kind, in_clock, in_day, in_hour, in_iso_year, in_week, in_year, one}
-use Rattle.timefd_read_laws.proofs.GrowLemmas.{three, two}
+use Rattle.timefd_read_laws.proofs.GrowLemmas.{year_more, years, has_kind, in_clock, in_day, in_hour, in_iso_year, in_week}
+use Rattle.timefd_read_laws.proofs.GrowLemmas.{in_year, one, three, two}
 use Rattle.timefd_read_laws.proofs.RowLemmas.{merged}
 
 -- With a value it is one part more, of its kind, and all else stays: whether other kinds are known, and the

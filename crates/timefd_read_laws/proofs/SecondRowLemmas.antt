@@ -1,6 +1,5 @@
 -- The digits of a second are read back, and the end of a text.
-use Rattle.std.proofs.Common.{ℕ, ◌≡◌, ◌∙◌, ◌≤◌, ◌*◌, ◌/◌, ◌++◌, [], length, take, Some, Ok, refl, sym, ap, subst}
-use Rattle.std.proofs.Common.{arith}
+use Rattle.std.proofs.Common.{ℕ, ◌≡◌, ◌∙◌, ◌≤◌, ◌*◌, ◌/◌, ◌++◌, [], length, take, Some, Ok, refl, sym, ap, subst, arith}
 use Rattle.timefd_component.specs.declared.component.Component.{Component}
 use Rattle.timefd_component.specs.declared.component.Component.TheVariants.{End, Subsecond}
 use Rattle.timefd_component.specs.Reserved.{digits_shown}

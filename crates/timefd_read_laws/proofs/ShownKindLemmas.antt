@@ -4,8 +4,8 @@ use Rattle.std.specs.Prelude.{is_some, ⊤}
 use Rattle.timefd_component.specs.declared.component.Component.{Component}
 use Rattle.timefd_component.specs.declared.component.Component.TheVariants as of
 use Rattle.timefd_component.specs.Modern.{modern}
-use Rattle.timefd_component.proofs.ModernLemmas.{IsReplacement, hour_replaced, month_replaced, timestamp_replaced, week_replaced}
-use Rattle.timefd_component.proofs.ModernLemmas.{weekday_replaced, year_replaced}
+use Rattle.timefd_component.proofs.ModernLemmas.{IsReplacement, hour_replaced, month_replaced, timestamp_replaced}
+use Rattle.timefd_component.proofs.ModernLemmas.{week_replaced, weekday_replaced, year_replaced}
 use Rattle.timefd_format.specs.declared.field.Kind.{Kind}
 use Rattle.timefd_format.specs.declared.field.Kind.TheVariants as kind
 use Rattle.timefd_format.specs.Fields.{kind as kind_of}
@@ -14,8 +14,7 @@ use Rattle.timefd_moment.specs.declared.time.Time.{Time}
 use Rattle.timefd_moment.specs.declared.offset.UtcOffset.{UtcOffset}
 use Rattle.timefd_read_dates.specs.declared.fields.Fields.{Fields}
 use Rattle.timefd_read_laws.specs.Shown.{Shows, fields_shown, with_component}
-use Rattle.timefd_read_laws.proofs.GrowLemmas.{kind_more}
-use Rattle.timefd_read_laws.proofs.GrowLemmas.{by_subsecond, has_kind}
+use Rattle.timefd_read_laws.proofs.GrowLemmas.{kind_more, by_subsecond, has_kind}
 use Rattle.timefd_read_laws.proofs.PlaceLemmas as place
 use Rattle.timefd_read_laws.proofs.PlaceLemmas.{Place}
 

@@ -1,6 +1,5 @@
 -- What is written of a moment that was read with a timestamp is read as that moment.
-use Rattle.std.proofs.Common.{ℕ, ◌≡◌, ◌∙◌, Bool, true, false, Option, Some, None, Result, Ok, Err, refl, sym, ap}
-use Rattle.std.proofs.Common.{subst}
+use Rattle.std.proofs.Common.{ℕ, ◌≡◌, ◌∙◌, Bool, true, false, Option, Some, None, Result, Ok, Err, refl, sym, ap, subst}
 use Rattle.std.specs.Prelude.{is_some}
 use Rattle.timefd_component.specs.Tree.{Text, Tree}
 use Rattle.timefd_format.specs.declared.field.Kind.TheVariants as kind
@@ -34,13 +33,12 @@ use Rattle.timefd_read_laws.specs.Again.{AnswersSame, BothKnown, IsWrittenAgain,
 use Rattle.timefd_read_laws.specs.Shown.{IsOf, Shows, fields_shown, shows}
 use Rattle.timefd_read_laws.specs.Values.{HasNoMoreOffset}
 use Rattle.timefd_read_laws.proofs.KnownLemmas.{same_kind, same_offset, same_stamp}
-use Rattle.timefd_read_laws.proofs.ValueBackLemmas.{offset_again}
+use Rattle.timefd_read_laws.proofs.ValueBackLemmas.{offset_again, offset_agrees}
 use Rattle.timefd_read_laws.proofs.PlainLemmas.{whole_read}
 use Rattle.timefd_read_laws.proofs.RestLemmas.{digits_again, digits_kept, within_again}
 use Rattle.timefd_read_laws.proofs.ShownPartLemmas.{same_shown}
 use Rattle.timefd_read_laws.proofs.StampedBackLemmas.{moment_is}
 use Rattle.timefd_read_laws.proofs.StepLemmas.{IsWhole}
-use Rattle.timefd_read_laws.proofs.ValueBackLemmas.{offset_agrees}
 
 -- What was answered is what was read, with its offset and all digits of its second.
 is_read : (f : Fields) (u : UnixTime) (d : Date) (t : Time) (o : UtcOffset) → IsWhole f.subsecond

@@ -25,9 +25,8 @@ use Rattle.timefd_read_laws.proofs.BoundLemmas.{in_month, iso_week_in, nanosecon
 use Rattle.timefd_read_laws.proofs.NameBackLemmas.{less_first, period_back, period_place, place_is, weekday_back}
 use Rattle.timefd_read_laws.proofs.NameBackLemmas.{long_months_back, long_weekdays_back, short_months_back}
 use Rattle.timefd_read_laws.proofs.NameBackLemmas.{short_weekdays_back}
-use Rattle.timefd_read_laws.proofs.RowLemmas.{IsRow, by_date, by_instant, by_offset, by_time}
+use Rattle.timefd_read_laws.proofs.RowLemmas.{IsRow, by_date, by_instant, by_offset, by_time, Row, of_year}
 use Rattle.timefd_read_laws.proofs.PlaceLemmas as place
-use Rattle.timefd_read_laws.proofs.RowLemmas.{Row, of_year}
 use Rattle.timefd_read_laws.proofs.SecondRowLemmas.{end_row, fraction_row}
 use Rattle.timefd_read_laws.proofs.SignLemmas.{Has}
 use Rattle.timefd_read_laws.proofs.WidthRowLemmas.{name_row, number_row, period_row, signed_row, stamp_row, two_digits}

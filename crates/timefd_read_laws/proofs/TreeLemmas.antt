@@ -98,17 +98,12 @@ module _ (m : Moment) (d : Date) (t : Time) (o : UtcOffset) (is : IsOf m d t o) 
   Back known Read s v text = (rest : Text) → IsBounded known rest
       → Read (at d t o s (text ++ rest)) (at d t o v rest)
 
-  component_reads : (c : Component) (known : Bound) (s : Shows) → is_enough (bound_of (modern c)) known ≡ true
-      → (text : Text) → Row d t o s (modern c) text
-      → Back known (Reads (component c)) s (with_component (modern c) s) text
-  component_reads c known s e text row rest h =
-      (reads_exactly (component c) (at d t o s (text ++ rest)) (at d t o (with_component (modern c) s) rest)).1
-      (row rest (enough (bound_of (modern c)) known rest e h))
-
   of_row : (c : Component) (known : Bound) (s : Shows) (r : Result Text Unshown)
       → is_enough (bound_of (modern c)) known ≡ true → IfOk r (Row d t o s (modern c))
       → IfOk r (Back known (Reads (component c)) s (with_component (modern c) s))
-  of_row c known s (Ok text) e row = component_reads c known s e text row
+  of_row c known s (Ok text) e row = λ rest h.
+      (reads_exactly (component c) (at d t o s (text ++ rest)) (at d t o (with_component (modern c) s) rest)).1
+      (row rest (enough (bound_of (modern c)) known rest e h))
   of_row c known s (Err u) e row = tt
 
   both_read : (u : Tree) (us : Trees) (known mid : Bound) (s v w : Shows) (x y : Result Text Unshown)

@@ -20,12 +20,10 @@ use Rattle.timefd_read_moment.proofs.YearLemmas.{both}
 use Rattle.timefd_read_laws.specs.Again.{are_plain, is_plain, parts}
 use Rattle.timefd_read_laws.specs.Shown.{with_component}
 use Rattle.timefd_read_laws.specs.Written.{HasText, IsReadWritten, ReadsAllWritten, ReadsWritten, WritesAgain}
-use Rattle.timefd_read_laws.specs.Written.{PlainReadsWritten}
-use Rattle.timefd_read_laws.specs.Written.{WritesPlainAgain}
+use Rattle.timefd_read_laws.specs.Written.{PlainReadsWritten, WritesPlainAgain}
 use Rattle.timefd_read_laws.proofs.ComponentReadLemmas.{component_read, range_of}
 use Rattle.timefd_read_laws.proofs.FieldShownLemmas.{component_shown}
-use Rattle.timefd_read_laws.proofs.GrowLemmas.{Grows, Knows, both_grow, knows_more, same_grows}
-use Rattle.timefd_read_laws.proofs.GrowLemmas.{has_kind}
+use Rattle.timefd_read_laws.proofs.GrowLemmas.{Grows, Knows, both_grow, knows_more, same_grows, has_kind}
 use Rattle.timefd_read_laws.proofs.MomentKnownLemmas.{Has, moment_known}
 use Rattle.timefd_read_laws.proofs.PlainLemmas.{all_read, each_read, read_whole}
 use Rattle.timefd_read_laws.proofs.ReadRowLemmas.{Leaves}
