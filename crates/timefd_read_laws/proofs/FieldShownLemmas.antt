@@ -26,18 +26,11 @@ use Rattle.timefd_read_moment.specs.Shown.{is_century, is_shown, is_year}
 use Rattle.timefd_read_moment.proofs.YearLemmas.{both}
 use Rattle.timefd_read_laws.proofs.ComponentReadLemmas.{range_of}
 use Rattle.timefd_read_laws.proofs.GrowLemmas.{InRange, IsAtMost, years}
-use Rattle.timefd_read_laws.proofs.MomentKnownLemmas.{Has, HasDate, HasInstant, HasOffset, HasTime}
+use Rattle.timefd_read_laws.proofs.MomentKnownLemmas.{Has, HasDate}
 
 pub date_shown : (m : Moment) (f : Fields) (h : HasDate m f) (c : Component) → is_ok (date_field h.date c) ≡ true
     → is_ok (on_date m.date (λ d. date_field d c)) ≡ true
 date_shown m f h c e = ap (λ (x : Option Date). is_ok (on_date x (λ d. date_field d c))) h.is ∙ e
-
-time_shown : (m : Moment) → HasTime m → (c : Component) → is_ok (on_time m.time (λ t. Ok (time_field t c))) ≡ true
-time_shown m h c = ap (λ (x : Option Time). is_ok (on_time x (λ t. Ok (time_field t c)))) h.is
-
-offset_shown : (m : Moment) → HasOffset m → (c : Component)
-    → is_ok (on_offset m.offset (λ o. Ok (offset_field o c))) ≡ true
-offset_shown m h c = ap (λ (x : Option UtcOffset). is_ok (on_offset x (λ o. Ok (offset_field o c)))) h.is
 
 abbrev instant_by : Option Date → Option Time → Option UtcOffset → Component → Result Field Lack
 instant_by x y z c =
@@ -45,13 +38,6 @@ instant_by x y z c =
 
 if_ok : {A E : Type 0} (b : Bool) (a : A) (e : E) → b ≡ true → is_ok (if b then Ok a else Err e) ≡ true
 if_ok b a e is = ap (λ x. is_ok (if x then Ok a else Err e)) is
-
-instant_shown : (m : Moment) (f : Fields) → HasInstant m f → (c : Component)
-    → is_ok (instant_by m.date m.time m.offset c) ≡ true
-instant_shown m f h c =
-    (λ i. is_ok (instant_by (h.is_date i) (h.is_time i) (h.is_offset i) c))
-    ∙ if_ok (is_within (unix_time h.date h.time h.offset)) (stamp_field (unix_time h.date h.time h.offset) c)
-    lack.InstantOutOfRange h.within
 
 -- A year that was read is no greater than what was read.
 
@@ -91,9 +77,12 @@ module _ (m : Moment) (f : Fields) where
   by_kind_shown : (k : Kind) (c : Component) → Has k m f → ((d : Date) → is_ok (date_field d c) ≡ true)
       → is_ok (by_kind k m c) ≡ true
   by_kind_shown kinds.Date c h e = date_shown m f h c (e h.date)
-  by_kind_shown kinds.Time c h e = time_shown m h c
-  by_kind_shown kinds.Offset c h e = offset_shown m h c
-  by_kind_shown kinds.Instant c h e = instant_shown m f h c
+  by_kind_shown kinds.Time c h e = ap (λ (x : Option Time). is_ok (on_time x (λ t. Ok (time_field t c)))) h.is
+  by_kind_shown kinds.Offset c h e = ap (λ (x : Option UtcOffset). is_ok (on_offset x (λ o. Ok (offset_field o c)))) h.is
+  by_kind_shown kinds.Instant c h e =
+      (λ i. is_ok (instant_by (h.is_date i) (h.is_time i) (h.is_offset i) c))
+      ∙ if_ok (is_within (unix_time h.date h.time h.offset)) (stamp_field (unix_time h.date h.time h.offset) c)
+      lack.InstantOutOfRange h.within
   by_kind_shown kinds.Nothing c h e = refl
 
   pub component_shown : (c : Component) → Has (kind c) m f → InRange (range_of c) (years f)

@@ -79,14 +79,11 @@ mutual
 
 -- what is known is enough
 
-no_digit_at_end : (rest : Text) → rest ≡ [] → IsBounded Bound.NoDigit rest
-no_digit_at_end rest e = ap (λ xs. prefix_len is_ascii_digit xs) e
-
 enough : (want known : Bound) (rest : Text) → is_enough want known ≡ true → IsBounded known rest
     → IsBounded want rest
 enough Bound.Anything known rest e h = tt
 enough Bound.NoDigit Bound.NoDigit rest e h = h
-enough Bound.NoDigit Bound.End rest e h = no_digit_at_end rest h
+enough Bound.NoDigit Bound.End rest e h = ap (λ xs. prefix_len is_ascii_digit xs) h
 enough Bound.End Bound.End rest e h = h
 enough want known rest e h = absurd (clash true (sym e) refl)
 
