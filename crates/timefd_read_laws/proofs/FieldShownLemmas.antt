@@ -9,7 +9,8 @@ use Rattle.timefd_format.specs.declared.field.Kind.{Kind}
 use Rattle.timefd_format.specs.declared.field.Kind.TheVariants as kinds
 use Rattle.timefd_format.specs.declared.field.Lack.{Lack}
 use Rattle.timefd_format.specs.declared.field.Lack.TheVariants as lack
-use Rattle.timefd_format.specs.Fields.{by_kind, date_field, field, instant_field, kind, offset_field, on_date, on_offset, on_time}
+use Rattle.timefd_format.specs.Fields.{by_kind, date_field, field, instant_field, kind, offset_field, on_date, on_offset}
+use Rattle.timefd_format.specs.Fields.{on_time}
 use Rattle.timefd_format.specs.Fields.{signed, stamp_field, time_field, year}
 use Rattle.timefd_modifier.specs.declared.enums.Padding.{Padding}
 use Rattle.timefd_moment.specs.declared.date.Date.{Date}

@@ -161,7 +161,8 @@ abbrev pub unix_second : Place Signed
 unix_second = place of.Instant (λ f. f.unix_second) (λ f x. record f { unix_second = Some x }) (λ s. s.unix_second)
     (λ s b. record s { unix_second = b })
     (λ d t o. with_sign (unix_time d t o).is_negative (whole_seconds (unix_time d t o)))
-    (λ f e. or_right (is_some f.unix_nanosecond) _ (or_right (is_some f.unix_microsecond) _ (or_right (is_some f.unix_millisecond) _ e)))
+    (λ f e. or_right (is_some f.unix_nanosecond) _ (or_right (is_some f.unix_microsecond) _
+    (or_right (is_some f.unix_millisecond) _ e)))
     (λ f a. (refl, refl, refl, refl, refl)) (λ d t o s. (refl, refl, refl)) (λ f a none r h. h)
 
 abbrev pub unix_millisecond : Place Signed

@@ -1,5 +1,6 @@
 -- What is known of the fields behind a component that was read.
-use Rattle.std.proofs.Common.{ℕ, ◌≡◌, ◌∙◌, ◌≤◌, ◌+◌, ◌&&◌, ◌==◌, Bool, true, false, nat_le, drop, if◌then◌else◌, Option, Some, None}
+use Rattle.std.proofs.Common.{ℕ, ◌≡◌, ◌∙◌, ◌≤◌, ◌+◌, ◌&&◌, ◌==◌, Bool, true, false, nat_le, drop, if◌then◌else◌, Option}
+use Rattle.std.proofs.Common.{Some, None}
 use Rattle.std.proofs.Common.{Ok, refl, sym, ap, subst}
 use Rattle.std.specs.Prelude.{is_some, ⊤}
 use Rattle.std.proofs.lemmas.Bool.{cond_both, eqb-true, leb-true}

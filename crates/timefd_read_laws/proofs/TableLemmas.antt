@@ -1,5 +1,6 @@
 -- What is written of each component is read back.
-use Rattle.std.proofs.Common.{ℕ, ◌≡◌, ◌∙◌, ◌≤◌, ◌<◌, ◌^◌, ◌-◌, ◌/◌, ◌%◌, inl, inr, true, false, nat_le, [], Result, Ok, Err, IfOk, refl, ap, arith, subst}
+use Rattle.std.proofs.Common.{ℕ, ◌≡◌, ◌∙◌, ◌≤◌, ◌<◌, ◌^◌, ◌-◌, ◌/◌, ◌%◌, inl, inr, true, false, nat_le, [], Result, Ok}
+use Rattle.std.proofs.Common.{Err, IfOk, refl, ap, arith, subst}
 use Rattle.timefd_component.specs.declared.component.Component.{Component}
 use Rattle.timefd_component.specs.declared.component.Component.TheVariants as of
 use Rattle.timefd_component.specs.Modern.{modern}
@@ -21,7 +22,8 @@ use Rattle.timefd_read_dates.specs.Inputs.{after_monday, first_number}
 use Rattle.timefd_read_moment.specs.Stamped.{whole_seconds}
 use Rattle.timefd_read_laws.specs.Laws.{ComponentBack}
 use Rattle.timefd_read_laws.specs.Shown.{IsOf, Shows}
-use Rattle.timefd_read_laws.proofs.BoundLemmas.{in_month, iso_week_in, nanoseconds_in, ordinal_first, ordinal_last, seconds_in}
+use Rattle.timefd_read_laws.proofs.BoundLemmas.{in_month, iso_week_in, nanoseconds_in, ordinal_first, ordinal_last}
+use Rattle.timefd_read_laws.proofs.BoundLemmas.{seconds_in}
 use Rattle.timefd_read_laws.proofs.NameBackLemmas.{less_first, period_back, period_place, place_is, weekday_back}
 use Rattle.timefd_read_laws.proofs.NameBackLemmas.{long_months_back, long_weekdays_back, short_months_back}
 use Rattle.timefd_read_laws.proofs.NameBackLemmas.{short_weekdays_back}
