@@ -18,14 +18,16 @@ fn is_continuation(byte: u8) -> bool
 
 // A byte that begins a character stands between two.
 fn lies_between(source: &str, byte: u8, place: usize) -> bool
-    ensures { IsTrue result → spec.is_continuation byte ≡ false → IsCharBoundary source.now place }
+    ensures so { IsTrue result → spec.is_continuation byte ≡ false → IsCharBoundary source.now place }
+    ensures all { (spec.is_continuation byte ≡ false → IsCharBoundary source.now place) → IsTrue result }
 {
     is_continuation(byte) || source.is_char_boundary(place)
 }
 
 /// Whether each character of a text has its place between two characters of the source.
 fn lie_between(source: &str, text: &[u8], places: &[usize]) -> bool
-    ensures { IsTrue result → AllBetween source.now text.now places.now }
+    ensures so { IsTrue result → AllBetween source.now text.now places.now }
+    ensures all { AllBetween source.now text.now places.now → IsTrue result }
 {
     if text.len() != places.len() {
         return false;
@@ -40,14 +42,16 @@ fn lie_between(source: &str, text: &[u8], places: &[usize]) -> bool
 
 /// Whether a place is one of a token's, behind its first byte.
 fn is_inside(piece: Piece, place: usize) -> bool
-    ensures { IsTrue result → IsInside piece place }
+    ensures so { IsTrue result → IsInside piece place }
+    ensures all { IsInside piece place → IsTrue result }
 {
     piece.start < place && place < piece.end
 }
 
 /// Whether all places are so.
 fn are_inside(piece: Piece, places: &[usize]) -> bool
-    ensures { IsTrue result → AllInside piece places.now }
+    ensures so { IsTrue result → AllInside piece places.now }
+    ensures all { AllInside piece places.now → IsTrue result }
 {
     for at in 0..places.len() {
         if !is_inside(piece, places[at]) {
@@ -61,8 +65,10 @@ fn are_inside(piece: Piece, places: &[usize]) -> bool
 /// characters of the source, and all that it stands for inside of it. All that tokens and escapes give do:
 /// this is their test.
 pub fn is_between(source: &str, piece: Piece, kind: Kind, unescaped: &Unescaped) -> bool
-    ensures { IsTrue result
+    ensures so { IsTrue result
         → IsBetween source.now piece kind unescaped.now.text.items unescaped.now.places.items }
+    ensures all { IsBetween source.now piece kind unescaped.now.text.items unescaped.now.places.items
+        → IsTrue result }
 {
     let end = body_end(piece, kind);
     source.is_char_boundary(piece.start)
