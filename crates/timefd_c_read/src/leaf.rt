@@ -1,11 +1,11 @@
 //! Literals and components, each of one node.
 
-ghost use Rattle.std.specs.Prelude.{IfSome};
+ghost use Rattle.std.specs.Prelude.{◌≡◌, ◌+◌, ◌≤◌, ◌^◌, None, IfSome};
 ghost use Rattle.timefd_component.specs.Reserved.{reserve};
 ghost use Rattle.timefd_component.specs.Tree as spec;
 ghost use Rattle.timefd_component.specs.Tree.{Text, Tree};
 ghost use Rattle.timefd_node_list.specs.Views.{walked};
-ghost use Rattle.timefd_c_nodes.specs.Writing.{IsWritten};
+ghost use Rattle.timefd_c_nodes.specs.Writing.{IsPast, IsWritten};
 ghost use Rattle.timefd_parse.specs.Pieces.{IsLeaf, IsLeafTree};
 
 use timefd_c_nodes::{Node, Place, Written, component_node, put, put_literal};
@@ -16,8 +16,9 @@ use timefd_parse::Piece;
 /// `usize` doesn't count the nodes.
 #[inline(always)]
 pub fn write_component(component: Component, at: Place, nodes: &mut [Node]) -> Option<Written>
-    ensures { (literals : Text) → IfSome result (IsWritten (walked (spec.component component))
+    ensures some { (literals : Text) → IfSome result (IsWritten (walked (spec.component component))
         (reserve (spec.component component)) at nodes.old nodes.new literals literals) }
+    ensures none { result ≡ None → 2 ^ 64 ≤ at.nodes + 1 }
 {
     put(component_node(component, at.nodes), at, nodes)
 }
@@ -32,8 +33,10 @@ pub fn write_leaf(
     literals: &mut [u8],
 ) -> Option<Written>
     requires { IsLeaf piece }
-    ensures { (tree : Tree) → IsLeafTree piece.entry tree → IfSome result (IsWritten (walked tree)
+    ensures some { (tree : Tree) → IsLeafTree piece.entry tree → IfSome result (IsWritten (walked tree)
         (reserve tree) at nodes.old nodes.new literals.old literals.new) }
+    ensures none { (tree : Tree) → IsLeafTree piece.entry tree → result ≡ None
+        → IsPast (walked tree) at }
 {
     match piece {
         Piece::Literal(text) => put_literal(text.as_bytes(), at, nodes, literals),

@@ -1,13 +1,13 @@
 //! Texts of strftime.
 
-ghost use Rattle.std.specs.Prelude.{◌≡◌, ◌<◌, List, IfSome, MatchResult, length};
+ghost use Rattle.std.specs.Prelude.{◌≡◌, ◌<◌, List, None, IfSome, MatchResult, length};
 ghost use Rattle.std.specs.Result.{IfErr};
 ghost use Rattle.timefd_component.specs.Reserved.{reserve};
 ghost use Rattle.timefd_component.specs.Tree.{Tree, compound, trees};
 ghost use Rattle.timefd_language.specs.FaultMeaning.{MemoryOr};
 ghost use Rattle.timefd_language.specs.Strftime.{SpellsStrftime};
 ghost use Rattle.timefd_node_list.specs.Views.{walked};
-ghost use Rattle.timefd_c_nodes.specs.Writing.{IsWritten};
+ghost use Rattle.timefd_c_nodes.specs.Writing.{IsPast, IsWritten};
 ghost use Rattle.timefd_strftime.specs.LetterMeaning.{composite_list};
 ghost use Rattle.timefd_strftime.specs.PieceMeaning.{piece_tree};
 ghost use Rattle.timefd_strftime.specs.StrftimeReading.{IsStrftimeFaultIn};
@@ -80,8 +80,9 @@ fn write_piece(
     nodes: &mut [Node],
     literals: &mut [u8],
 ) -> Option<Written>
-    ensures { IfSome result (IsWritten (walked (piece_tree piece.entry)) (reserve
+    ensures some { IfSome result (IsWritten (walked (piece_tree piece.entry)) (reserve
         (piece_tree piece.entry)) at nodes.old nodes.new literals.old literals.new) }
+    ensures none { result ≡ None → IsPast (walked (piece_tree piece.entry)) at }
 {
     match piece {
         StrftimePiece::Literal(text) => put_literal(text.as_bytes(), at, nodes, literals),
@@ -98,8 +99,9 @@ fn write_composite(
     nodes: &mut [Node],
     literals: &mut [u8],
 ) -> Option<Written>
-    ensures { IfSome result (IsWritten (walked (compound (trees (composite_list composite)))) (reserve
+    ensures some { IfSome result (IsWritten (walked (compound (trees (composite_list composite)))) (reserve
         (compound (trees (composite_list composite)))) at nodes.old nodes.new literals.old literals.new) }
+    ensures none { result ≡ None → IsPast (walked (compound (trees (composite_list composite)))) at }
 {
     let tables = StrftimeTables::new();
     write_compound(tables.list(composite), at, nodes, literals)

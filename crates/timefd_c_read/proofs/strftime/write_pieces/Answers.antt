@@ -22,7 +22,7 @@ returns-in_default-clause-pieces c = (
 pub one_more-progress-requires : goal.one_more-progress-requires
 one_more-progress-requires c =
     counted_below c.pieces.invariant.2 (piece_tree c.in-Some.piece) _ _ _ _ _ _ _ _
-    c.pieces.invariant.4 c.in-Some-write_piece.ensures
+    c.pieces.invariant.4 c.in-Some-write_piece.ensures.some
 
 pub pieces-preserved : goal.pieces-preserved
 pieces-preserved c =
@@ -32,5 +32,5 @@ pieces-preserved c =
       c.pieces.invariant.2 ++ piece_tree c.in-Some.piece ∷ [],
       continues_more _ _ _ _ _ c.pieces.invariant.3 next.leads,
       written_more c.pieces.invariant.2 (piece_tree c.in-Some.piece) _ _ _ _ _ _ _ _ _
-          c.pieces.invariant.4 c.in-Some-write_piece.ensures c.one_more-progress.ensures,
+          c.pieces.invariant.4 c.in-Some-write_piece.ensures.some c.one_more-progress.ensures,
     )

@@ -42,7 +42,7 @@ one_more-progress-requires c =
     let leaf = is_leaf (is_version_three c.args.version) false (built c.pieces.builder)
     (built c.next_piece.new.builder) c.in-Some.piece next.0 c.requires next.2 in
     counted_below c.pieces.invariant.2 next.0 _ _ _ _ _ _ _ _ c.pieces.invariant.4
-    (c.in-Some-write_leaf.ensures next.0 (leaf_tree _ _ _ _ _ _ leaf next.2))
+    (c.in-Some-write_leaf.ensures.some next.0 (leaf_tree _ _ _ _ _ _ leaf next.2))
 
 pub pieces-preserved : goal.pieces-preserved
 pieces-preserved c =
@@ -56,6 +56,6 @@ pieces-preserved c =
       c.pieces.invariant.2 ++ next.0 ∷ [],
       continues_more _ _ _ _ _ _ _ _ c.pieces.invariant.3 next.1.leads,
       written_more c.pieces.invariant.2 next.0 _ _ _ _ _ _ _ _ _ c.pieces.invariant.4
-          (c.in-Some-write_leaf.ensures next.0 (leaf_tree _ _ _ _ _ _ leaf next.2))
+          (c.in-Some-write_leaf.ensures.some next.0 (leaf_tree _ _ _ _ _ _ leaf next.2))
           c.one_more-progress.ensures,
     )
