@@ -1,6 +1,6 @@
 //! The moments that the lines of a reader name, one after another.
 
-ghost use Rattle.std.specs.Prelude.{IfOk};
+ghost use Rattle.std.specs.Prelude.{◌≡◌, IfErr, IfOk};
 ghost use Rattle.timefd_write.specs.ReadBack.{AreLeavesOf};
 ghost use Rattle.timefd_write.specs.Sources.{AreLeavesIn};
 ghost use Rattle.timefd_write.specs.Written.{IsRead, RunsOver};
@@ -31,11 +31,12 @@ enum LineRead {
     Failed,
 }
 
-// Reads one more line into this room, with its newline.
+// Reads one more line into this room, with its newline. An `Err` says that memory ran out.
 #[tactic(auto, using(crate::proofs::RunLemmas::one_line))]
 fn read_line<R: BufRead>(reader: &mut R, bytes: &mut Vec<u8>) -> Result<LineRead, RunError>
-    ensures { IfOk result (IsRead (R.remaining reader.old) (R.remaining reader.new)
+    ensures read { IfOk result (IsRead (R.remaining reader.old) (R.remaining reader.new)
         bytes.new.items) }
+    ensures memory { IfErr result (λ error. error ≡ RunError.Memory) }
 {
     bytes.clear();
     match reader.read_until(b'\n', bytes) {

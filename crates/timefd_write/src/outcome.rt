@@ -18,6 +18,11 @@ pub enum RunError {
 }
 
 impl From<AllocError> for RunError {
+    ghost use Rattle.std.specs.Prelude.{◌≡◌};
+    ghost use Rattle.timefd_write.specs.declared.outcome.RunError.{RunError};
+
+    ghost from_gives = { λ _ e. e ≡ RunError.Memory };
+
     fn from(_: AllocError) -> RunError {
         RunError::Memory
     }

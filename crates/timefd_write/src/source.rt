@@ -1,6 +1,6 @@
 //! What words are: names of moments, or texts of a description.
 
-ghost use Rattle.std.specs.Prelude.{IfOk, IfSome};
+ghost use Rattle.std.specs.Prelude.{◌≡◌, IfErr, IfOk, IfSome};
 ghost use Rattle.timefd_write.specs.Sources.{AreLeavesIn, IsMomentIn, IsSourceOf, IsTextOf};
 
 use crate::description::{Reading, read};
@@ -27,7 +27,8 @@ pub enum Source<'a> {
 }
 
 /// What the words of a run are: texts of the description that `--read` has, or names. `None` where
-/// that description is refused; its fault is then drawn for the errors.
+/// that description is refused; its fault is then drawn for the errors. An `Err` says that memory
+/// ran out.
 pub fn source_of<'a, E: Write>(
     alloc: Global,
     now: Option<Moment>,
@@ -37,7 +38,8 @@ pub fn source_of<'a, E: Write>(
     description: Option<&'a str>,
     errors: &mut E,
 ) -> Result<Option<Source<'a>>, RunError>
-    ensures { IfOk result (IsSourceOf now language description.entry) }
+    ensures source { IfOk result (IsSourceOf now language description.entry) }
+    ensures memory { IfErr result (λ error. error ≡ RunError.Memory) }
 {
     let Some(text) = description else {
         return Ok(Some(Source::Names(now)));

@@ -9,7 +9,7 @@ returns-in-End g c =
     (g.R.Read.remaining c.lines.reader) (g.R.Read.remaining c.read_line.new.reader)
     (g.W.Write.contents c.args.output.now) (g.W.Write.contents c.lines.output)
     c.read_line.new.bytes.items c.lines.tally c.in_ok-read_line.field-0 c.in-End.is
-    c.lines.invariant c.in_ok-read_line.ensures
+    c.lines.invariant c.in_ok-read_line.ensures.read
 
 pub returns-in-Failed : goal.returns-in-Failed
 returns-in-Failed g c =
@@ -26,7 +26,7 @@ lines-preserved g c =
     (g.W.Write.contents c.args.output.now) (g.W.Write.contents c.lines.output)
     (g.W.Write.contents c.tally_one.new.output) c.lines.tally c.in_ok-one-in-Line.one c.and-tally.result
     c.in_ok-one-in-Line.ensures.0 c.in_ok-read_line.field-0 c.in-Line.is c.lines.invariant
-    c.in_ok-read_line.ensures
+    c.in_ok-read_line.ensures.read
     (c.without_newline-word.ensures ∙ ap without_newline c.deref.ensures.value)
     c.in_ok-one-in-Line.ensures.1 c.in_ok-one-in-Line.ensures.2 c.and-tally.ensures
 
