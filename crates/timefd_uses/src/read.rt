@@ -1,6 +1,6 @@
 //! Reads a date by the items of a description of version 1.
 
-ghost use Rattle.std.specs.Prelude.{◌≡◌, ◌++◌, IfOk, IfSome, MatchResult};
+ghost use Rattle.std.specs.Prelude.{◌≡◌, ◌++◌, IfErr, IfOk, IfSome, MatchResult};
 ghost use Rattle.std.specs.Str.{IsUtf8};
 ghost use Rattle.timefd_component.specs.Tree.{Text};
 ghost use Rattle.timefd_uses.specs.Read.{IsNumberAhead};
@@ -58,6 +58,7 @@ pub fn read_date(items: &[BorrowedFormatItem<'_>], text: &str) -> Result<Date, R
 fn behind_literal<'a>(text: &'a str, literal: &str) -> Result<&'a str, ReadError>
     ensures rest { MatchResult result (λ rest. text.now ≡ literal.now ++ rest.now)
         (λ _. (rest : Text) → ¬ (text.now ≡ literal.now ++ rest)) }
+    ensures error { IfErr result (λ error. error ≡ ReadError.NoMatch) }
     ensures utf8 { IfOk result (λ rest. IsUtf8 rest.now) }
 {
     match text.strip_prefix(literal) {
