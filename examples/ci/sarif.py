@@ -31,6 +31,7 @@ def fixes(told, file, place):
 
 
 def result(told):
+    # The linter counts columns as a terminal shows them: behind a wide character a column is one more than in SARIF.
     file, place = {"uri": quote(told["file"])}, bytes_of(told)
     region = {"startLine": told["line"], "startColumn": told["column"], **place}
     where = {"artifactLocation": file, "region": region}
