@@ -7,3 +7,4 @@ pub mod RuleLemmas
 pub mod IgnoreFileLemmas
 pub mod WalkLemmas
 pub mod NameLemmas
+pub mod ErrorLemmas

@@ -1,4 +1,5 @@
 pub mod Matching
+pub mod Errors
 pub mod Lines
 pub mod Classes
 pub mod Tokens

@@ -1,8 +1,11 @@
 //! The names of the command line, each folder by the sources below it.
 
 ghost use Rattle.std.specs.Prelude.{◌≡◌, ◌++◌, ◌∷◌, [], List, string_bytes, IfOk, OnOk};
+ghost use Rattle.std.specs.Result.{IfErr};
+ghost use Rattle.timefd_lint_files.specs.Errors.{IsWalkError};
 ghost use Rattle.timefd_lint_files.specs.Matching.{Text};
 ghost use Rattle.timefd_lint_files.specs.Walks as spec;
+ghost use Rattle.timefd_lint_files.specs.declared.walk_error.WalkError.TheVariants as errors;
 ghost use Rattle.timefd_lint_files.specs.Walks.{AreExpanded, IsExpanded, IsWalk, texts};
 
 use crate::system::FileSystem;
@@ -36,6 +39,7 @@ fn push_name(alloc: Global, walk: &mut Walk, name: &str) -> Result<(), WalkError
     ensures names { OnOk result (texts walk.new.names.items
         ≡ texts walk.old.names.items ++ name.now ∷ []) }
     ensures ignores { walk.new.ignores.items ≡ walk.old.ignores.items }
+    ensures error { IfErr result (λ e. e ≡ errors.Memory) }
 {
     let name = String::from_str(alloc, name)?;
     match walk.names.push(name) {
@@ -45,7 +49,7 @@ fn push_name(alloc: Global, walk: &mut Walk, name: &str) -> Result<(), WalkError
 }
 
 /// Adds a name, or those of the sources below its folder.
-#[tactic(auto, using(crate::proofs::NameLemmas::as_input, crate::proofs::NameLemmas::as_file, crate::proofs::NameLemmas::as_walked))]
+#[tactic(auto, using(crate::proofs::NameLemmas::as_input, crate::proofs::NameLemmas::as_file, crate::proofs::NameLemmas::as_walked, crate::proofs::ErrorLemmas::below_named))]
 fn expand<S: FileSystem>(
     system: &S,
     alloc: Global,
@@ -58,6 +62,7 @@ fn expand<S: FileSystem>(
         × IsExpanded (IsWalk (S.lists system.now) (S.holds system.now) 255 [])
         (S.tells system.now) name.entry names) }
     ensures ignores { OnOk result (walk.new.ignores.items ≡ []) }
+    ensures error { IfErr result (IsWalkError (S.fails system.now) 255) }
 {
     if is_input(name) {
         return push_name(alloc, walk, name);
@@ -85,8 +90,11 @@ pub fn expanded<S: FileSystem>(
     alloc: Global,
     names: &[&str],
 ) -> Result<Vec<String>, WalkError>
-    ensures { IfOk result (λ all. AreExpanded (IsWalk (S.lists system.now) (S.holds system.now) 255 [])
+    ensures all { IfOk result (λ all. AreExpanded (IsWalk (S.lists system.now) (S.holds system.now) 255 [])
         (S.tells system.now) names.now (texts all.items)) }
+
+    // A path with fewer than 255 slashes isn't refused for its depth.
+    ensures error { IfErr result (IsWalkError (S.fails system.now) 255) }
 {
     let mut walk = Walk::new(alloc);
     for name in names {

@@ -1,6 +1,8 @@
 //! The files with patterns that a folder has: `.gitignore`, and the exclude file of its repository.
 
 ghost use Rattle.std.specs.Prelude.{IfOk, OnOk};
+ghost use Rattle.std.specs.Result.{IfErr};
+ghost use Rattle.timefd_lint_files.specs.Errors.{IsUnread};
 ghost use Rattle.timefd_lint_files.specs.Walks.{HasExclude, HasOwn, HasOwnIf, IsOwn, Tells};
 
 use crate::entry::{Entry, Kind, has_entry, joined};
@@ -17,7 +19,8 @@ fn tells<S: FileSystem>(
     kind: Kind,
     name: &str,
 ) -> Result<bool, WalkError>
-    ensures { IfOk result (λ has. Tells (S.lists system.now) folder.now kind name.now has) }
+    ensures told { IfOk result (λ has. Tells (S.lists system.now) folder.now kind name.now has) }
+    ensures error { IfErr result (IsUnread (S.fails system.now)) }
 {
     match system.entries(alloc, folder) {
         Ok(entries) => Ok(has_entry(&entries, kind, name)),
@@ -32,7 +35,8 @@ fn has_exclude<S: FileSystem>(
     folder: &str,
     entries: &[Entry],
 ) -> Result<bool, WalkError>
-    ensures { IfOk result (λ has. HasExclude (S.lists system.now) folder.now entries.now has) }
+    ensures told { IfOk result (λ has. HasExclude (S.lists system.now) folder.now entries.now has) }
+    ensures error { IfErr result (IsUnread (S.fails system.now)) }
 {
     if !has_entry(entries, Kind::Folder, ".git") {
         return Ok(false);
@@ -52,7 +56,8 @@ fn file_of<S: FileSystem>(
     folder: &str,
     name: &str,
 ) -> Result<IgnoreFile, WalkError>
-    ensures { IfOk result (λ file. IsOwn (S.holds system.now) folder.now name.now file) }
+    ensures read { IfOk result (λ file. IsOwn (S.holds system.now) folder.now name.now file) }
+    ensures error { IfErr result (IsUnread (S.fails system.now)) }
 {
     let path = joined(alloc, folder, name)?;
     match system.text(alloc, &path) {
@@ -71,8 +76,9 @@ fn add_if<S: FileSystem>(
     is: bool,
     ignores: &mut Vec<IgnoreFile>,
 ) -> Result<(), WalkError>
-    ensures { OnOk result (HasOwnIf is (S.holds system.now) folder.now name.now
+    ensures added { OnOk result (HasOwnIf is (S.holds system.now) folder.now name.now
         ignores.old.items ignores.new.items) }
+    ensures error { IfErr result (IsUnread (S.fails system.now)) }
 {
     if !is {
         return Ok(());
@@ -93,8 +99,9 @@ pub fn add_own<S: FileSystem>(
     entries: &[Entry],
     ignores: &mut Vec<IgnoreFile>,
 ) -> Result<(), WalkError>
-    ensures { OnOk result (HasOwn (S.lists system.now) (S.holds system.now) folder.now entries.now
+    ensures added { OnOk result (HasOwn (S.lists system.now) (S.holds system.now) folder.now entries.now
         ignores.old.items ignores.new.items) }
+    ensures error { IfErr result (IsUnread (S.fails system.now)) }
 {
     let excludes = has_exclude(system, alloc, folder, entries)?;
     let has_own = has_entry(entries, Kind::File, ".gitignore");

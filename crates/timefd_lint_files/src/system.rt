@@ -1,6 +1,9 @@
 //! What has files and folders.
 
 ghost use Rattle.std.specs.Prelude.{List, Bool, IfOk, ⊤};
+ghost use Rattle.std.specs.Result.{IfErr};
+ghost use Rattle.std.specs.declared.io.ErrorKind.{ErrorKind};
+ghost use Rattle.timefd_lint_files.specs.Errors.{IsReadError};
 ghost use Rattle.timefd_lint_files.specs.Matching.{Text};
 ghost use Rattle.timefd_lint_files.specs.declared.entry.Entry.{Entry};
 
@@ -28,16 +31,21 @@ pub trait FileSystem {
     // That this may be the text of a file.
     ghost holds: { Self → Text → Text → Type 0 };
 
+    // That a folder or a file may not be read, for this reason.
+    ghost fails: { Self → Text → ErrorKind → Type 0 };
+
     // That a name may stand for a folder, or for none.
     ghost tells: { Self → Text → Bool → Type 0 };
 
     /// The entries of a folder, in any order.
     fn entries(&self, alloc: Global, folder: &str) -> Result<Vec<Entry>, ReadError>
-        ensures { IfOk result (λ entries. lists self.now folder.now entries.items) };
+        ensures listed { IfOk result (λ entries. lists self.now folder.now entries.items) }
+        ensures error { IfErr result (IsReadError (fails self.now folder.now)) };
 
     /// All bytes of a file.
     fn text(&self, alloc: Global, file: &str) -> Result<Vec<u8>, ReadError>
-        ensures { IfOk result (λ text. holds self.now file.now text.items) };
+        ensures text { IfOk result (λ text. holds self.now file.now text.items) }
+        ensures error { IfErr result (IsReadError (fails self.now file.now)) };
 
     /// Whether a name stands for a folder, also through links.
     fn is_folder(&self, name: &str) -> bool
@@ -81,6 +89,8 @@ impl<R: Files + AllocGlobal + Clone + Drop> FileSystem for R {
     ghost lists = { λ _ _ _. ⊤ };
 
     ghost holds = { λ _ _ _. ⊤ };
+
+    ghost fails = { λ _ _ _. ⊤ };
 
     ghost tells = { λ _ _ _. ⊤ };
 

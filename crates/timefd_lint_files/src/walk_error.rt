@@ -1,5 +1,7 @@
 //! Why a walk didn't come to its end.
 
+ghost use Rattle.timefd_lint_files.specs.Errors.{IsFailureOf, IsUnreadOf};
+
 use crate::system::ReadError;
 use std::alloc::{AllocError, Global};
 use std::io::ErrorKind;
@@ -23,13 +25,20 @@ pub enum WalkError {
 }
 
 impl From<AllocError> for WalkError {
+    ghost use Rattle.std.specs.Prelude.{◌≡◌};
+    ghost use Rattle.timefd_lint_files.specs.declared.walk_error.WalkError.{WalkError};
+
+    ghost from_gives = { λ _ e. e ≡ WalkError.Memory };
+
     fn from(_: AllocError) -> Self {
         WalkError::Memory
     }
 }
 
-/// The error that this fails of a folder or a file.
-pub fn failed(alloc: Global, path: &str, reason: Reason) -> WalkError {
+/// The error that this fails of a folder or a file; `Memory` where there is none for its name.
+pub fn failed(alloc: Global, path: &str, reason: Reason) -> WalkError
+    ensures { IsFailureOf path.now reason result }
+{
     match String::from_str(alloc, path) {
         Ok(path) => WalkError::Failed { path, reason },
         Err(AllocError) => WalkError::Memory,
@@ -37,7 +46,9 @@ pub fn failed(alloc: Global, path: &str, reason: Reason) -> WalkError {
 }
 
 /// The error that a folder or a file can't be read.
-pub fn unread(alloc: Global, path: &str, error: ReadError) -> WalkError {
+pub fn unread(alloc: Global, path: &str, error: ReadError) -> WalkError
+    ensures { IsUnreadOf path.now error result }
+{
     match error {
         ReadError::Memory => WalkError::Memory,
         ReadError::Failed(kind) => failed(alloc, path, Reason::Unread(kind)),

@@ -84,6 +84,8 @@ impl FileSystem for Fake {
 
     ghost holds = { λ _ _ _. ⊤ };
 
+    ghost fails = { λ _ _ _. ⊤ };
+
     ghost tells = { λ _ _ _. ⊤ };
 
     fn entries(&self, alloc: Global, folder: &str) -> Result<Vec<Entry>, ReadError> {

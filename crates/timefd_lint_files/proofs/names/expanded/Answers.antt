@@ -15,8 +15,8 @@ loop-name-preserved g c =
           c.loop-name.invariant.so_far c.in_ok-expand.ensures.names;
     }
 
-pub returns : goal.returns
-returns g c =
+pub returns-clause-all : goal.returns-clause-all
+returns-clause-all g c =
     let end : c.loop-name.name-index ≡ length c.args.names.now = first_of (omega arith, search rules) in
     let same : texts c.into_names.result.items ≡ texts c.loop-name.walk.names.items =
     first_of (cc, search rules, grind (arith, common_steps)) in

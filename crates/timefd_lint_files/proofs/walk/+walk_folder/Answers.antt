@@ -1,6 +1,8 @@
 use Rattle.std.proofs.Common.{rules, arith, ◌≡◌, ◌<◌, ◌-◌, suc, length, get_or, refl, ap, ◌∙◌, string_bytes}
 use Rattle.std.proofs.lemmas.Grind.{common_steps}
 use Rattle.timefd_lint_files.specs.Walks.{Gives, IsWalk, text_any, texts}
+use Rattle.std.proofs.lemmas.Result.{err_from_is_err_and}
+use Rattle.timefd_lint_files.proofs.ErrorLemmas.{deeper}
 use Rattle.timefd_lint_files.proofs.WalkLemmas.{at_first, at_last, one_looked_at, one_walked, walked}
 use Rattle.timefd_lint_files.proofs.walk.+walk_folder.Goals as goal
 
@@ -62,6 +64,18 @@ returns-clause-found g t c =
       last.1,
       walked (g.S.FileSystem.lists c.args.system.now) (g.S.FileSystem.holds c.args.system.now) c.args.depth
           (c.args.depth - 1) c.args.walk.now.ignores.items c.add_own.new.ignores.items c.args.folder.now
-          c.in_ok-entries.entries.items c.deref.result.now last.0 deep c.in_ok-entries.ensures lent
-          c.in_ok-add_own.ensures last.2,
+          c.in_ok-entries.entries.items c.deref.result.now last.0 deep c.in_ok-entries.ensures.listed lent
+          c.in_ok-add_own.ensures.added last.2,
     )
+
+pub returns-in_err-walk_folder-clause-error : goal.returns-in_err-walk_folder-clause-error
+returns-in_err-walk_folder-clause-error g t c =
+    let named : c.deref-in-entries.result.now ≡ string_bytes c.in-Some.below =
+    first_of (search rules, cc, grind (arith, common_steps)) in
+    let p = err_from_is_err_and c.from_residual-in_err-walk_folder.result
+    c.from_residual-in_err-walk_folder.ensures.1 in
+    rw (p.1, p.2) (deeper (g.S.FileSystem.fails c.args.system.now) c.entries.walk.ignores.items c.args.folder.now
+    c.index.result.now (texts c.entries.walk.names.items) (texts c.look_at.new.walk.names.items)
+    (string_bytes c.in-Some.below) c.deref-in-entries.result.now (text_any c.in_ok-below.field-0) c.args.depth
+    c.in_err-walk_folder.field-0.0 (omega (arith, c.if-depth-eq0.false)) c.in_ok-below.ensures.looked
+    (ap text_any c.in-Some.is) named c.in_err-walk_folder.ensures.error)

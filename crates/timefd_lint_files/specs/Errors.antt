@@ -1,0 +1,44 @@
+-- Why a walk over folders doesn't come to its end.
+use Rattle.std.specs.Prelude.{ℕ, ◌≡◌, ◌≤◌, ⊤, nat_eq, string_bytes}
+use Rattle.std.specs.List.{count_by}
+use Rattle.std.specs.declared.io.ErrorKind.{ErrorKind}
+use Rattle.timefd_lint_files.specs.declared.system.ReadError.{ReadError}
+use Rattle.timefd_lint_files.specs.declared.system.ReadError.TheVariants as unread
+use Rattle.timefd_lint_files.specs.declared.walk_error.Reason.{Reason}
+use Rattle.timefd_lint_files.specs.declared.walk_error.Reason.TheVariants.{Unread, TooDeep}
+use Rattle.timefd_lint_files.specs.declared.walk_error.WalkError.{WalkError}
+use Rattle.timefd_lint_files.specs.declared.walk_error.WalkError.TheVariants.{Memory, Failed}
+use Rattle.timefd_lint_files.specs.Matching.{Text, slash}
+
+-- The system says that it fails for this reason, or memory ran out.
+abbrev pub IsReadError : (ErrorKind → Type 0) → ReadError → Type 0
+IsReadError fails unread.Memory = ⊤
+IsReadError fails (unread.Failed kind) = fails kind
+
+-- how many slashes a path has: at least as many as there are folders around what it names
+abbrev pub slashes : Text → ℕ
+slashes path = count_by (nat_eq slash) path
+
+-- A folder or a file can't be read, or stands in as many folders as this.
+abbrev pub IsReason : (Text → ErrorKind → Type 0) → ℕ → Text → Reason → Type 0
+IsReason fails depth path (Unread kind) = fails path kind
+IsReason fails depth path TooDeep = depth ≤ slashes path
+
+abbrev pub IsWalkError : (Text → ErrorKind → Type 0) → ℕ → WalkError → Type 0
+IsWalkError fails depth Memory = ⊤
+IsWalkError fails depth (Failed path reason) = IsReason fails depth (string_bytes path) reason
+
+-- A folder or a file can't be read.
+abbrev pub IsUnread : (Text → ErrorKind → Type 0) → WalkError → Type 0
+IsUnread fails Memory = ⊤
+IsUnread fails (Failed path (Unread kind)) = fails (string_bytes path) kind
+IsUnread fails (Failed path TooDeep) = ⊥
+
+-- What is told of a folder or a file is told of it by its name, unless there is no memory for that.
+abbrev pub IsFailureOf : Text → Reason → WalkError → Type 0
+IsFailureOf path reason Memory = ⊤
+IsFailureOf path reason (Failed named why) = (string_bytes named ≡ path) × (why ≡ reason)
+
+abbrev pub IsUnreadOf : Text → ReadError → WalkError → Type 0
+IsUnreadOf path unread.Memory error = error ≡ Memory
+IsUnreadOf path (unread.Failed kind) error = IsFailureOf path (Unread kind) error
