@@ -84,16 +84,18 @@ impl<'a> FormatDescription<'a> {
     /// The fault that the rules of the language assign to the text, or that memory ran out.
     pub fn parse_in(language: Language, text: &'a str) -> Result<Self, ParseError> {
         // Most texts have room on the stack. For a longer one there is room for all on the heap.
-        let mut nodes = [RawNode::default(); SHORT_NODES];
+        let mut nodes = sys::zeroed_nodes::<SHORT_NODES>();
         let mut literals = [0; SHORT_LITERALS];
-        let answer = accepted(language, text, &mut nodes, &mut literals)?;
+        let answer = sys::read(language.number(), text, &mut nodes, &mut literals);
+        expect_accepted(language, text, answer.status)?;
         if answer.written {
             return Self::built(language, text, &answer, &nodes, &literals);
         }
         let nodes = buffer::filled(answer.nodes, RawNode::default());
         let literals = buffer::filled(answer.literals, 0);
         let (mut nodes, mut literals) = nodes.zip(literals).ok_or(ParseError::OutOfMemory)?;
-        let answer = accepted(language, text, &mut nodes, &mut literals)?;
+        let answer = sys::read(language.number(), text, &mut nodes, &mut literals);
+        expect_accepted(language, text, answer.status)?;
         assert!(answer.written, "there was room for what the library told");
         Self::built(language, text, &answer, &nodes, &literals)
     }
@@ -232,20 +234,14 @@ impl fmt::Debug for FormatDescription<'_> {
 }
 
 /// Room on the stack for what most texts have.
-const SHORT_NODES: usize = 32;
-const SHORT_LITERALS: usize = 128;
+const SHORT_NODES: usize = 24;
+const SHORT_LITERALS: usize = 64;
 
-/// The library's answer where the text is accepted, else the error.
-fn accepted(
-    language: Language,
-    text: &str,
-    nodes: &mut [RawNode],
-    literals: &mut [u8],
-) -> Result<ReadAnswer, ParseError> {
-    let answer = sys::read(language.number(), text, nodes, literals);
-    if answer.status == sys::ACCEPTED {
-        Ok(answer)
-    } else {
-        Err(ParseError::of(language.number(), text, answer.status))
+/// The error of a text with this status, unless it is accepted.
+#[inline]
+fn expect_accepted(language: Language, text: &str, status: u32) -> Result<(), ParseError> {
+    match status {
+        sys::ACCEPTED => Ok(()),
+        _ => Err(ParseError::of(language.number(), text, status)),
     }
 }

@@ -52,6 +52,12 @@ pub(crate) struct RawNode {
     pub(crate) bytes: usize,
 }
 
+/// So many nodes that are 0, set by one `memset`.
+pub(crate) fn zeroed_nodes<const COUNT: usize>() -> [RawNode; COUNT] {
+    // SAFETY: each field is an integer, and 0 is a value of it.
+    unsafe { core::mem::zeroed() }
+}
+
 /// `timefd_answer` of the header.
 #[repr(C)]
 #[derive(Debug, Clone, Copy)]

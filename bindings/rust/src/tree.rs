@@ -97,21 +97,28 @@ impl<'a> Tree<'a> {
 
 /// The record of a node, followed by the next one in the list.
 fn record<'a>(index: u32, node: &RawNode, literals: &mut Literals<'a, '_>) -> Option<Record<'a>> {
-    let nested = |nesting| {
-        let count = u32::try_from(node.count).ok()?;
-        let begin = u32::try_from(node.start).ok().filter(|begin| *begin <= index)?;
-        Some((Content::Markup(Markup::Nested(nesting, count)), begin))
-    };
     let (content, begin) = match node.what {
         LITERAL => (Content::Literal(literals.lent(node.start, node.count)?), index),
         COMPONENT => (Content::Markup(Markup::Component(decode::component(node)?)), index),
-        COMPOUND => nested(Nesting::Compound)?,
-        OPTIONAL if boolean(node.format)? => nested(Nesting::Optional)?,
-        OPTIONAL => nested(Nesting::Unwritten)?,
-        FIRST => nested(Nesting::First)?,
-        _ => return None,
+        _ => nested(index, node)?,
     };
     Some(Record { content, bytes: node.bytes, begin, next: index + 1 })
+}
+
+/// What a node with members is, and the first of all nodes below it. It is no part of the loop over
+/// nodes, which most texts have none of.
+#[inline(never)]
+fn nested<'a>(index: u32, node: &RawNode) -> Option<(Content<'a>, u32)> {
+    let nesting = match node.what {
+        COMPOUND => Nesting::Compound,
+        OPTIONAL if boolean(node.format)? => Nesting::Optional,
+        OPTIONAL => Nesting::Unwritten,
+        FIRST => Nesting::First,
+        _ => return None,
+    };
+    let count = u32::try_from(node.count).ok()?;
+    let begin = u32::try_from(node.start).ok().filter(|begin| *begin <= index)?;
+    Some((Content::Markup(Markup::Nested(nesting, count)), begin))
 }
 
 /// Links the members of each node in a ring, and the items. It answers how many items there are, and

@@ -10,7 +10,7 @@ use crate::encode;
 use crate::format::{FormatError, NO_MEMORY, Pattern};
 use crate::moment::Moment;
 use crate::parts::Part;
-use crate::sys::RawNode;
+use crate::sys::{self, RawNode};
 
 impl FormatDescription<'_> {
     /// Writes the moment. The text of the description isn't read again.
@@ -112,7 +112,7 @@ impl FormatDescription<'_> {
     ) -> Result<T, E> {
         let (count, len) = (self.parts().len(), self.literals_len());
         if count <= SHORT_NODES && len <= SHORT_LITERALS {
-            let mut nodes = [RawNode::default(); SHORT_NODES];
+            let mut nodes = sys::zeroed_nodes::<SHORT_NODES>();
             let mut literals = [0; SHORT_LITERALS];
             call(self.pattern_in(&mut nodes[..count], &mut literals[..len]))
         } else {
