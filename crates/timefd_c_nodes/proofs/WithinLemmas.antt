@@ -1,5 +1,5 @@
 -- What is written as far as there is room, one part after another.
-use Rattle.std.proofs.Common.{◌≡◌, ◌∙◌, ℕ, ◌+◌, ◌≤◌, inl, inr, true, Option, Some, None, IfSome, List, [], ◌∷◌, ◌++◌, length, set, take, drop, refl, sym, ap, subst, arith, length-append, append-nil, append_assoc}
+use Rattle.std.proofs.Common.{◌≡◌, ◌∙◌, ℕ, ◌+◌, inl, inr, true, Option, Some, None, IfSome, List, [], ◌∷◌, ◌++◌, length, set, take, drop, refl, sym, ap, subst, arith, length-append, append-nil, append_assoc}
 use Rattle.std.proofs.lemmas.List.{take-append-drop}
 use Rattle.timefd_component.specs.declared.component.Component.{Component}
 use Rattle.timefd_component.specs.Reserved.{reserve, reserve_all}

@@ -1,5 +1,5 @@
 -- What is written, one part after another.
-use Rattle.std.proofs.Common.{◌≡◌, ◌∙◌, ℕ, ◌+◌, ◌<◌, ◌≤◌, List, [], ◌∷◌, ◌++◌, length, take, drop, set, refl, sym, ap, subst, append_assoc, arith, length-append}
+use Rattle.std.proofs.Common.{◌≡◌, ◌∙◌, ℕ, ◌+◌, ◌≤◌, get_or, List, [], ◌∷◌, ◌++◌, length, take, drop, set, refl, sym, ap, append_assoc, arith, length-append}
 use Rattle.std.proofs.lemmas.List.{take-append-drop, take_more_set, drop-set-lt, length-take-le, length-set, length-drop, append-nil, drop-drop}
 use Rattle.std.proofs.Math.Seq.{drop-append-add, take-append-add}
 use Rattle.timefd_component.specs.Tree.{Text, Tree}
@@ -102,6 +102,16 @@ overwritten-length at text bytes h =
     ) in
     length-append front (drop (at + length text) bytes) ∙
     omega (arith, h, long, length-drop (at + length text) bytes)
+
+-- one byte
+pub one_byte : (at : ℕ) (text bytes : Text) → length text ≡ 1 → at + length text ≤ length bytes
+    → set bytes at (get_or text 0 0) ≡ overwritten at text bytes
+one_byte at [] bytes one h = absurd (omega (arith, one))
+one_byte at (x ∷ []) bytes one h =
+    sym (take-append-drop (at + 1) (set bytes at x))
+    ∙ ap (λ l. l ++ drop (at + 1) (set bytes at x)) (take_more_set bytes at x (omega (arith, h)))
+    ∙ ap (λ l. (take at bytes ++ x ∷ []) ++ l) (drop-set-lt (at + 1) bytes at x (omega arith))
+one_byte at (x ∷ y ∷ text) bytes one h = absurd (omega (arith, one))
 
 overwritten-front : (at : ℕ) (text bytes : Text) → at + length text ≤ length bytes
     → take (at + length text) (overwritten at text bytes) ≡ take at bytes ++ text

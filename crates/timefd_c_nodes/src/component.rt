@@ -1,6 +1,7 @@
 //! The node of a component.
 
 ghost use Rattle.std.specs.Prelude.{◌≡◌};
+ghost use Rattle.timefd_component.specs.Reserved.{digits_shown};
 ghost use Rattle.timefd_c_nodes.specs.Encoding as spec;
 
 use crate::node::{COMPONENT, Node, flag_number};
@@ -8,192 +9,214 @@ use timefd_items::Component;
 use timefd_items::modifier::{Padding, SubsecondDigits, TrailingInput};
 
 /// The node of a component whose place is this index.
-#[inline(always)]
 pub fn component_node(component: Component, at: usize) -> Node
     ensures { result ≡ spec.component_node component at }
 {
-    Node {
-        start: at,
-        ..table(component)
-    }
+    let mut node = Node::blank(COMPONENT);
+    make_component(&mut node, component, at);
+    node
 }
 
-/// The number of a component, those of its modifiers, and the bytes that it reserves. A deprecated
-/// component has no number: no text has one.
-fn table(component: Component) -> Node
-    ensures { result ≡ spec.component_table component }
+/// The bytes that a component reserves. It is a call of its own for where no node is written, so that the others
+/// make none.
+#[inline(never)]
+pub fn component_bytes(component: Component) -> usize
+    ensures { result ≡ (spec.component_table component).bytes }
 {
+    component_node(component, 0).bytes
+}
+
+/// Makes a node that of a component whose place is this index: blank, and then with the number of the
+/// component, those of its modifiers, and the bytes that it reserves. A deprecated component has no number: no
+/// text has one.
+// Each arm writes the fields that its component has right into the node, which a copy would write anew.
+#[inline(always)]
+pub fn make_component(node: &mut Node, component: Component, at: usize)
+    ensures { node.new ≡ spec.component_node component at }
+{
+    *node = Node {
+        start: at,
+        ..Node::blank(COMPONENT)
+    };
     match component {
-        Component::Day(m) => padded(1, 2, m.padding),
-        Component::MonthShort(m) => cased(2, 3, m.case_sensitive),
-        Component::MonthLong(m) => cased(3, 9, m.case_sensitive),
-        Component::MonthNumerical(m) => padded(4, 2, m.padding),
-        Component::Ordinal(m) => padded(5, 3, m.padding),
-        Component::WeekdayShort(m) => cased(6, 3, m.case_sensitive),
-        Component::WeekdayLong(m) => cased(7, 9, m.case_sensitive),
-        Component::WeekdaySunday(m) => indexed(8, 1, m.one_indexed),
-        Component::WeekdayMonday(m) => indexed(9, 1, m.one_indexed),
-        Component::WeekNumberIso(m) => padded(10, 2, m.padding),
-        Component::WeekNumberSunday(m) => padded(11, 2, m.padding),
-        Component::WeekNumberMonday(m) => padded(12, 2, m.padding),
+        Component::Day(m) => padded(node, 1, 2, m.padding),
+        Component::MonthShort(m) => cased(node, 2, 3, m.case_sensitive),
+        Component::MonthLong(m) => cased(node, 3, 9, m.case_sensitive),
+        Component::MonthNumerical(m) => padded(node, 4, 2, m.padding),
+        Component::Ordinal(m) => padded(node, 5, 3, m.padding),
+        Component::WeekdayShort(m) => cased(node, 6, 3, m.case_sensitive),
+        Component::WeekdayLong(m) => cased(node, 7, 9, m.case_sensitive),
+        Component::WeekdaySunday(m) => indexed(node, 8, 1, m.one_indexed),
+        Component::WeekdayMonday(m) => indexed(node, 9, 1, m.one_indexed),
+        Component::WeekNumberIso(m) => padded(node, 10, 2, m.padding),
+        Component::WeekNumberSunday(m) => padded(node, 11, 2, m.padding),
+        Component::WeekNumberMonday(m) => padded(node, 12, 2, m.padding),
         Component::CalendarYearFullExtendedRange(m) => signed(
+            node,
             13,
             7,
             m.padding,
             m.sign_is_mandatory,
         ),
         Component::CalendarYearFullStandardRange(m) => signed(
+            node,
             14,
             5,
             m.padding,
             m.sign_is_mandatory,
         ),
         Component::CalendarYearCenturyExtendedRange(m) => signed(
+            node,
             15,
             5,
             m.padding,
             m.sign_is_mandatory,
         ),
         Component::CalendarYearCenturyStandardRange(m) => signed(
+            node,
             16,
             3,
             m.padding,
             m.sign_is_mandatory,
         ),
-        Component::IsoYearFullExtendedRange(m) => signed(17, 7, m.padding, m.sign_is_mandatory),
-        Component::IsoYearFullStandardRange(m) => signed(18, 5, m.padding, m.sign_is_mandatory),
-        Component::IsoYearCenturyExtendedRange(m) => signed(19, 5, m.padding, m.sign_is_mandatory),
-        Component::IsoYearCenturyStandardRange(m) => signed(20, 3, m.padding, m.sign_is_mandatory),
-        Component::CalendarYearLastTwo(m) => padded(21, 2, m.padding),
-        Component::IsoYearLastTwo(m) => padded(22, 2, m.padding),
-        Component::Hour12(m) => padded(23, 2, m.padding),
-        Component::Hour24(m) => padded(24, 2, m.padding),
-        Component::Minute(m) => padded(25, 2, m.padding),
-        Component::Period(m) => period(26, 2, m.is_uppercase, m.case_sensitive),
-        Component::Second(m) => padded(27, 2, m.padding),
-        Component::Subsecond(m) => subsecond(28, m.digits),
-        Component::OffsetHour(m) => signed(29, 3, m.padding, m.sign_is_mandatory),
-        Component::OffsetMinute(m) => padded(30, 2, m.padding),
-        Component::OffsetSecond(m) => padded(31, 2, m.padding),
-        Component::Ignore(m) => ignored(32, m.count.get()),
-        Component::UnixTimestampSecond(m) => timestamp(33, 15, m.sign_is_mandatory),
-        Component::UnixTimestampMillisecond(m) => timestamp(34, 18, m.sign_is_mandatory),
-        Component::UnixTimestampMicrosecond(m) => timestamp(35, 21, m.sign_is_mandatory),
-        Component::UnixTimestampNanosecond(m) => timestamp(36, 24, m.sign_is_mandatory),
-        Component::End(m) => end(37, m.trailing_input),
+        Component::IsoYearFullExtendedRange(m) => signed(
+            node,
+            17,
+            7,
+            m.padding,
+            m.sign_is_mandatory,
+        ),
+        Component::IsoYearFullStandardRange(m) => signed(
+            node,
+            18,
+            5,
+            m.padding,
+            m.sign_is_mandatory,
+        ),
+        Component::IsoYearCenturyExtendedRange(m) => signed(
+            node,
+            19,
+            5,
+            m.padding,
+            m.sign_is_mandatory,
+        ),
+        Component::IsoYearCenturyStandardRange(m) => signed(
+            node,
+            20,
+            3,
+            m.padding,
+            m.sign_is_mandatory,
+        ),
+        Component::CalendarYearLastTwo(m) => padded(node, 21, 2, m.padding),
+        Component::IsoYearLastTwo(m) => padded(node, 22, 2, m.padding),
+        Component::Hour12(m) => padded(node, 23, 2, m.padding),
+        Component::Hour24(m) => padded(node, 24, 2, m.padding),
+        Component::Minute(m) => padded(node, 25, 2, m.padding),
+        Component::Period(m) => period(node, 26, 2, m.is_uppercase, m.case_sensitive),
+        Component::Second(m) => padded(node, 27, 2, m.padding),
+        Component::Subsecond(m) => subsecond(node, 28, m.digits),
+        Component::OffsetHour(m) => signed(node, 29, 3, m.padding, m.sign_is_mandatory),
+        Component::OffsetMinute(m) => padded(node, 30, 2, m.padding),
+        Component::OffsetSecond(m) => padded(node, 31, 2, m.padding),
+        Component::Ignore(m) => ignored(node, 32, m.count.get()),
+        Component::UnixTimestampSecond(m) => timestamp(node, 33, 15, m.sign_is_mandatory),
+        Component::UnixTimestampMillisecond(m) => timestamp(node, 34, 18, m.sign_is_mandatory),
+        Component::UnixTimestampMicrosecond(m) => timestamp(node, 35, 21, m.sign_is_mandatory),
+        Component::UnixTimestampNanosecond(m) => timestamp(node, 36, 24, m.sign_is_mandatory),
+        Component::End(m) => end(node, 37, m.trailing_input),
         Component::Month(_)
         | Component::Weekday(_)
         | Component::WeekNumber(_)
         | Component::Hour(_)
         | Component::UnixTimestamp(_)
-        | Component::Year(_) => Node::blank(COMPONENT),
+        | Component::Year(_) => {},
     }
 }
 
 #[inline(always)]
-fn numbered(component: u32, bytes: usize) -> Node
-    ensures { result ≡ spec.numbered component bytes }
+fn numbered(node: &mut Node, component: u32, bytes: usize)
+    ensures { node.new ≡ record node.old { component = component; bytes = bytes } }
 {
-    Node {
-        component,
-        bytes,
-        ..Node::blank(COMPONENT)
-    }
+    node.component = component;
+    node.bytes = bytes;
 }
 
 #[inline(always)]
-fn padded(component: u32, bytes: usize, padding: Padding) -> Node
-    ensures { result ≡ spec.padded component bytes padding }
+fn padded(node: &mut Node, component: u32, bytes: usize, padding: Padding)
+    ensures { node.new ≡ record node.old { component = component; bytes = bytes; padding = spec.padding_number padding } }
 {
-    Node {
-        padding: padding_number(padding),
-        ..numbered(component, bytes)
-    }
+    node.padding = padding_number(padding);
+    numbered(node, component, bytes);
 }
 
 #[inline(always)]
-fn signed(component: u32, bytes: usize, padding: Padding, sign_is_mandatory: bool) -> Node
-    ensures { result ≡ spec.signed component bytes padding sign_is_mandatory }
+fn signed(node: &mut Node, component: u32, bytes: usize, padding: Padding, sign_is_mandatory: bool)
+    ensures { node.new ≡ record node.old { component = component; bytes = bytes; padding = spec.padding_number padding; sign_is_mandatory = spec.flag_number sign_is_mandatory } }
 {
-    Node {
-        padding: padding_number(padding),
-        sign_is_mandatory: flag_number(sign_is_mandatory),
-        ..numbered(component, bytes)
-    }
+    node.padding = padding_number(padding);
+    node.sign_is_mandatory = flag_number(sign_is_mandatory);
+    numbered(node, component, bytes);
 }
 
 #[inline(always)]
-fn timestamp(component: u32, bytes: usize, sign_is_mandatory: bool) -> Node
-    ensures { result ≡ spec.timestamp component bytes sign_is_mandatory }
+fn timestamp(node: &mut Node, component: u32, bytes: usize, sign_is_mandatory: bool)
+    ensures { node.new ≡ record node.old { component = component; bytes = bytes; sign_is_mandatory = spec.flag_number sign_is_mandatory } }
 {
-    Node {
-        sign_is_mandatory: flag_number(sign_is_mandatory),
-        ..numbered(component, bytes)
-    }
+    node.sign_is_mandatory = flag_number(sign_is_mandatory);
+    numbered(node, component, bytes);
 }
 
 #[inline(always)]
-fn cased(component: u32, bytes: usize, case_sensitive: bool) -> Node
-    ensures { result ≡ spec.cased component bytes case_sensitive }
+fn cased(node: &mut Node, component: u32, bytes: usize, case_sensitive: bool)
+    ensures { node.new ≡ record node.old { component = component; bytes = bytes; case_sensitive = spec.flag_number case_sensitive } }
 {
-    Node {
-        case_sensitive: flag_number(case_sensitive),
-        ..numbered(component, bytes)
-    }
+    node.case_sensitive = flag_number(case_sensitive);
+    numbered(node, component, bytes);
 }
 
 #[inline(always)]
-fn indexed(component: u32, bytes: usize, one_indexed: bool) -> Node
-    ensures { result ≡ spec.indexed component bytes one_indexed }
+fn indexed(node: &mut Node, component: u32, bytes: usize, one_indexed: bool)
+    ensures { node.new ≡ record node.old { component = component; bytes = bytes; one_indexed = spec.flag_number one_indexed } }
 {
-    Node {
-        one_indexed: flag_number(one_indexed),
-        ..numbered(component, bytes)
-    }
+    node.one_indexed = flag_number(one_indexed);
+    numbered(node, component, bytes);
 }
 
 #[inline(always)]
-fn period(component: u32, bytes: usize, is_uppercase: bool, case_sensitive: bool) -> Node
-    ensures { result ≡ spec.period component bytes is_uppercase case_sensitive }
+fn period(node: &mut Node, component: u32, bytes: usize, is_uppercase: bool, case_sensitive: bool)
+    ensures { node.new ≡ record node.old { component = component; bytes = bytes; is_uppercase = spec.flag_number is_uppercase; case_sensitive = spec.flag_number case_sensitive } }
 {
-    Node {
-        is_uppercase: flag_number(is_uppercase),
-        case_sensitive: flag_number(case_sensitive),
-        ..numbered(component, bytes)
-    }
+    node.is_uppercase = flag_number(is_uppercase);
+    node.case_sensitive = flag_number(case_sensitive);
+    numbered(node, component, bytes);
 }
 
 #[inline(always)]
-fn subsecond(component: u32, digits: SubsecondDigits) -> Node
-    ensures { result ≡ spec.subsecond component digits }
+fn subsecond(node: &mut Node, component: u32, digits: SubsecondDigits)
+    ensures { node.new ≡ record node.old { component = component; bytes = digits_shown digits; digits = spec.digits_number digits } }
 {
     let number = digits_number(digits);
-    Node {
-        digits: number,
-        ..numbered(component, usize::from(number.min(9)))
-    }
+    node.digits = number;
+    numbered(node, component, usize::from(number.min(9)));
 }
 
 #[inline(always)]
-fn ignored(component: u32, count: u16) -> Node
-    ensures { result ≡ spec.ignored component count }
+fn ignored(node: &mut Node, component: u32, count: u16)
+    ensures { node.new ≡ record node.old { component = component; bytes = 0; ignored = count } }
 {
-    Node {
-        ignored: u32::from(count),
-        ..numbered(component, 0)
-    }
+    node.ignored = u32::from(count);
+    numbered(node, component, 0);
 }
 
 #[inline(always)]
-fn end(component: u32, trailing_input: TrailingInput) -> Node
-    ensures { result ≡ spec.end component trailing_input }
+fn end(node: &mut Node, component: u32, trailing_input: TrailingInput)
+    ensures { node.new ≡ record node.old { component = component; bytes = 0; trailing_input = spec.trailing_input_number trailing_input } }
 {
-    Node {
-        trailing_input: trailing_input_number(trailing_input),
-        ..numbered(component, 0)
-    }
+    node.trailing_input = trailing_input_number(trailing_input);
+    numbered(node, component, 0);
 }
 
+#[inline(always)]
 fn padding_number(padding: Padding) -> u8
     ensures { result ≡ spec.padding_number padding }
 {
@@ -204,6 +227,7 @@ fn padding_number(padding: Padding) -> u8
     }
 }
 
+#[inline(always)]
 fn digits_number(digits: SubsecondDigits) -> u8
     ensures { result ≡ spec.digits_number digits }
 {
@@ -221,6 +245,7 @@ fn digits_number(digits: SubsecondDigits) -> u8
     }
 }
 
+#[inline(always)]
 fn trailing_input_number(trailing_input: TrailingInput) -> u8
     ensures { result ≡ spec.trailing_input_number trailing_input }
 {

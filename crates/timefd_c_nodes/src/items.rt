@@ -8,9 +8,9 @@ ghost use Rattle.timefd_component.specs.Tree.{compound, first, optional, trees};
 ghost use Rattle.timefd_node_list.specs.Views.{walked, walked_all};
 ghost use Rattle.timefd_c_nodes.specs.Writing.{IsPast, IsWritten};
 
-use crate::component::component_node;
+use crate::component::component_bytes;
 use crate::node::Node;
-use crate::place::{Place, Written, put, put_literal};
+use crate::place::{Place, Written, put, put_component, put_literal};
 use timefd_items::BorrowedFormatItem;
 
 /// Writes items in turn from a place on.
@@ -53,9 +53,7 @@ fn write_item(
         BorrowedFormatItem::StringLiteral(text) => {
             put_literal(text.as_bytes(), from, nodes, literals)
         }
-        BorrowedFormatItem::Component(component) => {
-            put(component_node(component, from.nodes), from, nodes)
-        }
+        BorrowedFormatItem::Component(component) => put_component(component, from, nodes),
         BorrowedFormatItem::Compound(members) => write_compound(members, from, nodes, literals),
         BorrowedFormatItem::Optional(member) => write_optional(member, from, nodes, literals),
         BorrowedFormatItem::First(members) => write_first(members, from, nodes, literals),
@@ -126,7 +124,7 @@ fn item_bytes(item: &BorrowedFormatItem<'_>) -> usize
     match *item {
         BorrowedFormatItem::Literal(bytes) => capped_sum(bytes.len(), 0),
         BorrowedFormatItem::StringLiteral(text) => capped_sum(text.len(), 0),
-        BorrowedFormatItem::Component(component) => component_node(component, 0).bytes,
+        BorrowedFormatItem::Component(component) => component_bytes(component),
         BorrowedFormatItem::Compound(members) => items_bytes(members),
         BorrowedFormatItem::Optional(member) => item_bytes(member),
         BorrowedFormatItem::First(members) => first_bytes(members),

@@ -13,5 +13,5 @@ mod view;
 pub use component::component_node;
 pub use items::write_compound;
 pub use node::Node;
-pub use place::{Place, START, Written, put, put_literal};
+pub use place::{Place, START, Written, put, put_component, put_literal};
 pub use view::write_view;

@@ -5,9 +5,8 @@ ghost use Rattle.timefd_component.specs.Reserved.{tree_count};
 ghost use Rattle.timefd_node_list.specs.Views.{view_tree};
 ghost use Rattle.timefd_c_nodes.specs.Writing.{IsPast, WritesWithin};
 
-use crate::component::component_node;
 use crate::node::Node;
-use crate::place::{Place, Written, put, put_literal};
+use crate::place::{Place, Written, put, put_component, put_literal};
 use timefd_items::{Shape, View};
 
 /// Writes its node and its bytes at a place, as far as there is room, where its members stand right
@@ -25,7 +24,7 @@ pub fn put_part(
 {
     match part.shape() {
         Shape::Literal(text) => put_literal(text.as_bytes(), at, nodes, literals),
-        Shape::Component(component) => put(component_node(component, at.nodes), at, nodes),
+        Shape::Component(component) => put_component(component, at, nodes),
         Shape::Compound(members) => {
             let bytes = part.max_bytes_needed();
             let node = Node::compound(first_inner(part, at), members.len(), bytes);

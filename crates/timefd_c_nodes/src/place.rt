@@ -4,9 +4,12 @@ ghost use Rattle.std.specs.Prelude.{◌≡◌, ◌+◌, ◌≤◌, ◌^◌, None
 ghost use Rattle.timefd_component.specs.Reserved.{reserve};
 ghost use Rattle.timefd_component.specs.Tree.{literal};
 ghost use Rattle.timefd_node_list.specs.Views.{walked};
-ghost use Rattle.timefd_c_nodes.specs.Writing.{IsPast, IsWritten, Puts};
+ghost use Rattle.timefd_c_nodes.specs.Encoding as spec;
+ghost use Rattle.timefd_c_nodes.specs.Writing.{IsPast, IsWritten, Puts, overwritten};
 
+use crate::component::{component_bytes, make_component};
 use crate::node::Node;
+use timefd_items::Component;
 
 /// The index of the next node, and that of the next byte of a literal: so many stand before it.
 #[derive(Clone, Copy)]
@@ -40,14 +43,35 @@ pub fn put(node: Node, at: Place, nodes: &mut [Node]) -> Option<Written>
     if at.nodes < nodes.len() {
         nodes[at.nodes] = node;
     }
+    behind_node(at, node.bytes)
+}
+
+/// The place behind a node that adds nothing to the literals and reserves so many bytes.
+#[inline(always)]
+fn behind_node(at: Place, bytes: usize) -> Option<Written>
+    ensures some { IfSome result (λ w. (w.end.nodes ≡ at.nodes + 1)
+        × (w.end.literals ≡ at.literals) × (w.bytes ≡ bytes)) }
+    ensures none { result ≡ None → 2 ^ 64 ≤ at.nodes + 1 }
+{
     let end = Place {
         nodes: at.nodes.checked_add(1)?,
         literals: at.literals,
     };
-    Some(Written {
-        end,
-        bytes: node.bytes,
-    })
+    Some(Written { end, bytes })
+}
+
+/// Writes the node of a component right into its place, if there is room for it. There is no answer where a
+/// `usize` doesn't count the nodes.
+#[inline(always)]
+pub fn put_component(component: Component, at: Place, nodes: &mut [Node]) -> Option<Written>
+    ensures some { IfSome result (Puts (spec.component_node component at.nodes) at nodes.old nodes.new) }
+    ensures none { result ≡ None → 2 ^ 64 ≤ at.nodes + 1 }
+{
+    if at.nodes >= nodes.len() {
+        return behind_node(at, component_bytes(component));
+    }
+    make_component(&mut nodes[at.nodes], component, at.nodes);
+    behind_node(at, nodes[at.nodes].bytes)
 }
 
 /// Writes the node of a literal, and its bytes, each where its buffer has room for it. There is no
@@ -66,7 +90,7 @@ pub fn put_literal(
     let written = put(Node::literal(at.literals, text.len()), at, nodes)?;
     let behind = at.literals.checked_add(text.len())?;
     if behind <= literals.len() {
-        literals[at.literals..behind].copy_from_slice(text);
+        copy_over(text, at.literals, literals);
     }
     let end = Place {
         nodes: written.end.nodes,
@@ -76,4 +100,19 @@ pub fn put_literal(
         end,
         bytes: text.len(),
     })
+}
+
+/// Copies bytes over those from an index on.
+#[tactic(auto, using(crate::proofs::WriteLemmas::one_byte))]
+#[inline(always)]
+fn copy_over(text: &[u8], at: usize, literals: &mut [u8])
+    requires { at + length text.now ≤ length literals.old }
+    ensures { literals.new ≡ overwritten at text.now literals.old }
+{
+    // Most literals are one byte, which is stored without a call.
+    if let [byte] = text {
+        literals[at] = *byte;
+    } else {
+        literals[at..at + text.len()].copy_from_slice(text);
+    }
 }

@@ -29,12 +29,12 @@ write_all-items-preserved t c = record {
 
 pub write_item-returns-in-Component-clause-some : goal.write_item-returns-in-Component-clause-some
 write_item-returns-in-Component-clause-some t c =
-    subst (λ x. IfSome c.put.result (IsWritten (walked x) (reserve x) c.args.from c.args.nodes.now
-    c.put.new.nodes c.args.literals.now c.args.literals.now))
+    subst (λ x. IfSome c.put_component.result (IsWritten (walked x) (reserve x) c.args.from
+    c.args.nodes.now c.put_component.new.nodes c.args.literals.now c.args.literals.now))
     (sym (ap item_tree c.in-Component.is ∙ component_tree c.in-Component.component))
-    (written_component c.in-Component.component c.args.from c.component_node.result c.put.result
-    c.args.nodes.now c.put.new.nodes c.args.literals.now c.component_node.ensures
-    c.put.ensures.some)
+    (written_component c.in-Component.component c.args.from _ c.put_component.result
+    c.args.nodes.now c.put_component.new.nodes c.args.literals.now refl
+    c.put_component.ensures.some)
 
 pub write_compound-returns-in_err-inner-clause-none : goal.write_compound-returns-in_err-inner-clause-none
 write_compound-returns-in_err-inner-clause-none t c = λ none.

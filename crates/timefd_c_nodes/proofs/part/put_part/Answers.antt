@@ -7,13 +7,13 @@ use Rattle.timefd_c_nodes.proofs.part.put_part.Goals as goal
 
 pub returns-in-Compound-clause-some : goal.returns-in-Compound-clause-some
 returns-in-Compound-clause-some c =
-    put_node (view_tree c.args.part) c.args.at c.compound-node.result c.put-in-Compound.result _ _ _
+    put_node (view_tree c.args.part) c.args.at c.compound-node.result c.put.result _ _ _
     (ap own_text (sym c.in-Compound.ensures))
     (compound_is (view_tree c.args.part) (member_trees c.in-Compound.members) c.args.at.nodes
     c.args.at.literals c.first_inner.result c.max_bytes_needed-bytes.result c.len.result
     c.compound-node.result c.in-Compound.ensures c.first_inner.ensures
     c.max_bytes_needed-bytes.ensures c.len.ensures c.compound-node.ensures)
-    c.put-in-Compound.ensures.some
+    c.put.ensures.some
 
 pub returns-in-First-clause-some : goal.returns-in-First-clause-some
 returns-in-First-clause-some c =
