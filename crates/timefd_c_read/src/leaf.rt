@@ -8,7 +8,7 @@ ghost use Rattle.timefd_node_list.specs.Views.{walked};
 ghost use Rattle.timefd_c_nodes.specs.Writing.{IsPast, IsWritten};
 ghost use Rattle.timefd_parse.specs.Pieces.{IsLeaf, IsLeafTree};
 
-use timefd_c_nodes::{Node, Place, Written, component_node, put, put_literal};
+use timefd_c_nodes::{Node, Place, Written, put_component, put_literal};
 use timefd_items::Component;
 use timefd_parse::Piece;
 
@@ -20,7 +20,7 @@ pub fn write_component(component: Component, at: Place, nodes: &mut [Node]) -> O
         (reserve (spec.component component)) at nodes.old nodes.new literals literals) }
     ensures none { result ≡ None → 2 ^ 64 ≤ at.nodes + 1 }
 {
-    put(component_node(component, at.nodes), at, nodes)
+    put_component(component, at, nodes)
 }
 
 /// Writes the node of a piece that has no nested descriptions at a place, and the bytes of a literal,

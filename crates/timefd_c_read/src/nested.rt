@@ -22,6 +22,7 @@ const FRONT: usize = 256;
 
 /// Reads a text of version 3. Where a long one nests descriptions, all is built together, which takes a
 /// few blocks of memory and not one for each.
+#[inline(always)]
 pub fn read_version_three<'a>(
     alloc: Global,
     limit: u8,

@@ -54,6 +54,7 @@ pub fn read<'a>(
 ///
 /// The error is `Invalid` with the fault of the text, or `Memory` where memory ran out. A text that
 /// has a fault is refused for it even then.
+#[inline(always)]
 pub fn read_within<'a>(
     alloc: Global,
     language: Language,

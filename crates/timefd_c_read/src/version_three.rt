@@ -28,7 +28,7 @@ use timefd_parse::{BorrowedParseError, DescriptionVersion, Language, Piece, erro
 
 /// Reads a text of version 3, and writes each piece as it is read. A piece with nested descriptions is
 /// built first.
-#[inline(never)]
+#[inline(always)]
 pub fn read_in_turn<'a>(
     alloc: Global,
     limit: u8,
