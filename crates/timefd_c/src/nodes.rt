@@ -37,7 +37,7 @@ pub extern "C" fn timefd_read(
     ensures reads { Reads (language_of kind) nesting_limit text.now nodes.old nodes.new literals.old
         literals.new result }
 {
-    read_bytes(alloc, kind, NESTING_LIMIT, text, nodes, literals)
+    read_bytes(alloc, kind, text, nodes, literals, NESTING_LIMIT)
 }
 
 /// Says and writes what `timefd_read` does, with at most `limit` nested descriptions around one another:
@@ -54,19 +54,20 @@ pub extern "C" fn timefd_read_within(
     ensures reads { Reads (language_of kind) (min limit nesting_limit) text.now nodes.old nodes.new
         literals.old literals.new result }
 {
-    read_bytes(alloc, kind, limit_from(limit), text, nodes, literals)
+    read_bytes(alloc, kind, text, nodes, literals, limit_from(limit))
 }
 
 /// Says what the bytes are in the language with this number, with at most `limit` nested descriptions
 /// around one another, and writes what they are.
-#[inline(always)]
+// It is one function for both calls, so that the readers have one caller, into which they are inlined.
+#[inline(never)]
 fn read_bytes(
     alloc: Global,
     kind: u32,
-    limit: u8,
     text: &[u8],
     nodes: &mut [Node],
     literals: &mut [u8],
+    limit: u8,
 ) -> ReadAnswer
     requires { limit ≤ nesting_limit }
     ensures { Reads (language_of kind) limit text.now nodes.old nodes.new literals.old literals.new

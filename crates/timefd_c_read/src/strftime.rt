@@ -25,7 +25,6 @@ use timefd_strftime::{
 };
 
 /// Reads a text of strftime. It takes no memory.
-#[inline(always)]
 pub fn read_strftime<'a>(
     text: &'a str,
     nodes: &mut [Node],

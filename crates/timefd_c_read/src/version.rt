@@ -33,8 +33,7 @@ pub fn read_version<'a>(
     ensures { IsRead (Language.Version version) limit text.now nodes.old nodes.new literals.old
         literals.new result }
 {
-    let mut builder = DescriptionBuilder::new(alloc);
-    match write_version(&mut builder, version, limit, text, nodes, literals) {
+    match write_pieces(alloc, version, limit, text, nodes, literals) {
         Ok(all) => Ok(report_of(
             all.count,
             all.bytes,
@@ -45,42 +44,10 @@ pub fn read_version<'a>(
     }
 }
 
-/// Writes the pieces of a text of version 1 or 2 as `write_pieces` does. Each version is a constant in its
-/// own loop over the pieces.
-#[inline(always)]
-fn write_version<'a>(
-    builder: &mut DescriptionBuilder<'a>,
-    version: DescriptionVersion,
-    limit: u8,
-    text: &'a str,
-    nodes: &mut [Node],
-    literals: &mut [u8],
-) -> Result<Progress, ReadError<'a>>
-    requires { IsFalse (is_version_three version) }
-    ensures pieces { MatchResult result (λ p. (list : List Tree)
-        × PiecesToEnd version limit 0 text.now list []
-        × HasWritten list nodes.old nodes.new literals.old literals.new p)
-        (MemoryOr (IsFaultIn version limit 0 text.now)) }
-    ensures some { IfErr result (λ _. 0 < length text.now) }
-{
-    match version {
-        DescriptionVersion::One => {
-            let version = DescriptionVersion::One;
-            write_pieces(builder, version, limit, text, nodes, literals)
-        }
-        DescriptionVersion::Two => {
-            let version = DescriptionVersion::Two;
-            write_pieces(builder, version, limit, text, nodes, literals)
-        }
-        DescriptionVersion::Three => unreachable!(),
-    }
-}
-
 /// Writes the pieces of a text, as far as there is room. The error is its fault, or `Memory` where a
 /// `usize` doesn't count what is written.
-#[inline(always)]
 fn write_pieces<'a>(
-    builder: &mut DescriptionBuilder<'a>,
+    alloc: Global,
     version: DescriptionVersion,
     limit: u8,
     text: &'a str,
@@ -94,10 +61,12 @@ fn write_pieces<'a>(
         (MemoryOr (IsFaultIn version limit 0 text.now)) }
     ensures some { IfErr result (λ _. 0 < length text.now) }
 {
+    let mut builder = DescriptionBuilder::new(alloc);
     let mut progress = NOTHING;
     let mut rest = text;
     'pieces: loop {
-        let Some((piece, after)) = next_piece::<false>(builder, version, rest, limit, 0)? else {
+        let Some((piece, after)) = next_piece::<false>(&mut builder, version, rest, limit, 0)?
+        else {
             return Ok(progress);
         };
         let Some(written) = write_leaf(piece, progress.end, nodes, literals) else {

@@ -81,7 +81,6 @@ fn write_whole(all: Progress, nodes: &mut [Node]) -> Option<Written>
 
 /// Writes the pieces of a text, as far as there is room. The error is its fault, or `Memory` where
 /// memory runs out or a `usize` doesn't count what is written.
-#[inline(always)]
 fn write_pieces<'a>(
     alloc: Global,
     limit: u8,

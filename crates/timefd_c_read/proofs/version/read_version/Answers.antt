@@ -12,8 +12,8 @@ returns-in-Ok c =
     (items_report m.0 c.in-Ok.all _ _ _ _ c.has_room.result c.report_of.result m.2
     c.has_room.ensures c.report_of.ensures))
 
-pub returns : goal.returns
-returns c =
+pub returns-in-Err : goal.returns-in-Err
+returns-in-Err c =
     not_read (Version c.args.version) c.args.limit c.args.text.now _ _ _ _ c.error_of.result
     c.error_of.ensures.fault c.error_of.ensures.spelled c.error_of.ensures.refused
     c.in-Err.ensures.some
