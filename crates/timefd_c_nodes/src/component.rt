@@ -9,6 +9,7 @@ use timefd_items::Component;
 use timefd_items::modifier::{Padding, SubsecondDigits, TrailingInput};
 
 /// The node of a component whose place is this index.
+#[inline(always)]
 pub fn component_node(component: Component, at: usize) -> Node
     ensures { result ≡ spec.component_node component at }
 {
@@ -17,9 +18,8 @@ pub fn component_node(component: Component, at: usize) -> Node
     node
 }
 
-/// The bytes that a component reserves. It is a call of its own for where no node is written, so that the others
-/// make none.
-#[inline(never)]
+/// The bytes that a component reserves.
+#[inline(always)]
 pub fn component_bytes(component: Component) -> usize
     ensures { result ≡ (spec.component_table component).bytes }
 {
