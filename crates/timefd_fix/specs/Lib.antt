@@ -1,0 +1,2 @@
+pub mod Cures
+pub mod Chains
