@@ -14,18 +14,16 @@ use denote.Ref.{Bor}
 use Rattle.timefd_component.specs.Tree.{Text}
 use Rattle.timefd_fault.specs.Faults.{fault_of}
 use Rattle.timefd_fault.specs.declared.invalid_format_description.InvalidFormatDescription.{InvalidFormatDescription}
-use Rattle.timefd_language.specs.Grammar.{nesting_limit}
 use Rattle.timefd_language.specs.declared.parse_error.ParseError.{ParseError}
 use Rattle.timefd_language.specs.declared.parse_error.ParseError.TheVariants.{Invalid}
-use Rattle.timefd_parse.specs.Language.{FaultIn, IsAssignedIn}
-use Rattle.timefd_convert.specs.Conversions.{language_of}
 use Rattle.timefd_rewrite.specs.declared.counts.Counts.{Counts}
 use Rattle.timefd_rewrite.specs.declared.counts.Outcome.{Outcome}
 use Rattle.timefd_rewrite.specs.declared.counts.Outcome.TheVariants.{PassedOver, Same, Rewritten, Refused, NotText, NotALine}
 use Rattle.timefd_rewrite.specs.declared.layout.Layout.{Layout}
+use Rattle.timefd_rewrite.specs.declared.layout.Layout.TheVariants.{Least, Normal, Fixed}
 use Rattle.timefd_rewrite.specs.declared.rewrite.RewriteError.{RewriteError}
 use Rattle.timefd_rewrite.specs.declared.rewrite.RewriteError.TheVariants.{Memory, Read, Write}
-use Rattle.timefd_rewrite.specs.Layouts.{IsConverted, conversion_of}
+use Rattle.timefd_rewrite.specs.Layouts.{IsConverted, IsRefusal, IsRefusedFor}
 use Rattle.timefd_rewrite.specs.Lines.{AreLinesUpTo, has_newline, is_passed_over, without_newline}
 use Rattle.timefd_rewrite.specs.Rewriting.{AreCutShort, AreFront, AreRewritten, AreWritten, IsNext, IsPlaced, IsUnwritten, Placed, Places, PlacesAnswer, counts_of, is_refusing, is_rewriting, lines_of, places_of, with_one}
 use Rattle.timefd_rewrite.proofs.LineLemmas.{all_lines, front_lines, no_line, up_to_more}
@@ -106,19 +104,25 @@ converted_placed layout comment line text string answer before behind (Ok o) is 
 converted_placed layout comment line text string answer before behind (Err e) is looked_at
     same_text means told = tt
 
+refused_for : (layout : Layout) (text : Text) (f : InvalidFormatDescription)
+    → IsRefusal layout text (Invalid f) → IsRefusedFor layout text (fault_of f)
+refused_for (Least conversion) text f is = is
+refused_for (Normal conversion) text f is = is
+refused_for (Fixed language fixes) text f is = is
+
 -- A line that is refused is in its own place.
 pub refused_placed : (layout : Layout) (comment : Option (Bor Text))
     (line text string : Text) (before behind : Option Text) (r : Result Outcome RewriteError)
     (e : ParseError) (f : InvalidFormatDescription)
     → text ≡ without_newline line → false ≡ is_passed_over comment text
     → string ≡ text → IsUtf8 text
-    → e ≡ Invalid f → IsAssignedIn (language_of (conversion_of layout)) nesting_limit string e
+    → e ≡ Invalid f → IsRefusal layout string e
     → IfOk r (λ o. o ≡ Refused) → OnOk r (Appends before behind line)
     → IfOk r (Places layout comment line before behind)
 refused_placed layout comment line text string before behind (Ok o) e f is looked_at same_text
-    utf8 which assigned outcome same =
-    let fault : FaultIn (language_of (conversion_of layout)) nesting_limit string (fault_of f) =
-    subst (λ x. IsAssignedIn (language_of (conversion_of layout)) nesting_limit string x) which assigned in
+    utf8 which refusal outcome same =
+    let fault : IsRefusedFor layout string (fault_of f) =
+    refused_for layout string f (subst (λ x. IsRefusal layout string x) which refusal) in
     subst (λ x. Places layout comment line before behind x) (sym outcome) (
       line,
       record {
@@ -127,8 +131,7 @@ refused_placed layout comment line text string before behind (Ok o) e f is looke
           subst (λ t. IsUtf8 t) is utf8,
           (
             fault_of f,
-            subst (λ t. FaultIn (language_of (conversion_of layout)) nesting_limit t (fault_of f))
-                (same_text ∙ is) fault,
+            subst (λ t. IsRefusedFor layout t (fault_of f)) (same_text ∙ is) fault,
           ),
           refl,
         );
@@ -136,7 +139,7 @@ refused_placed layout comment line text string before behind (Ok o) e f is looke
       same,
     )
 refused_placed layout comment line text string before behind (Err error) e f is looked_at
-    same_text utf8 which assigned outcome same = tt
+    same_text utf8 which refusal outcome same = tt
 
 -- A line that is no UTF-8 is in its own place.
 pub no_text_placed : (layout : Layout) (comment : Option (Bor Text)) (line text : Text)

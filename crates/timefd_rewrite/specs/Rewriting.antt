@@ -4,25 +4,21 @@ use Rattle.std.specs.Io.KnownBytes.{Appends, Keeps, IsAtEnd}
 use denote.Ref.{Bor}
 use Rattle.timefd_component.specs.Tree.{Text}
 use Rattle.timefd_fault.specs.Faults.{Fault}
-use Rattle.timefd_language.specs.Grammar.{nesting_limit}
-use Rattle.timefd_parse.specs.Language.{FaultIn}
-use Rattle.timefd_convert.specs.Conversions.{language_of}
 use Rattle.timefd_rewrite.specs.declared.counts.Counts.{Counts}
 use Rattle.timefd_rewrite.specs.declared.counts.Outcome.{Outcome}
 use Rattle.timefd_rewrite.specs.declared.counts.Outcome.TheVariants.{PassedOver, Same, Rewritten, Refused, NotText, NotALine}
 use Rattle.timefd_rewrite.specs.declared.layout.Layout.{Layout}
 use Rattle.timefd_rewrite.specs.declared.rewrite.RewriteError.{RewriteError}
 use Rattle.timefd_rewrite.specs.declared.rewrite.RewriteError.TheVariants.{Memory, Read, Write}
-use Rattle.timefd_rewrite.specs.Layouts.{IsConverted, conversion_of}
+use Rattle.timefd_rewrite.specs.Layouts.{IsConverted, IsRefusedFor}
 use Rattle.timefd_rewrite.specs.Lines.{AreLinesOf, IsNextLine, end_of, has_newline, is_passed_over, without_newline}
 
--- The rules of the language that is converted from assign a fault to the text.
+-- The text has a fault in the language that is converted from, or keeps one where it is mended.
 abbrev pub IsRefused : Layout → Text → Type 0
-IsRefused layout text =
-    (f : Fault) × FaultIn (language_of (conversion_of layout)) nesting_limit text f
+IsRefused layout text = (f : Fault) × IsRefusedFor layout text f
 
--- What stands in the place of a line: the text that it is converted to and the line's own end, where
--- it is a description and that text is a line; and else the line itself, byte by byte.
+-- What stands in the place of a line: the text that it is converted or mended to and the line's own
+-- end, where there is one and it is a line; and else the line itself, byte by byte.
 abbrev pub StandsFor : Layout → Text → Outcome → Text → Type 0
 StandsFor layout line PassedOver place = place ≡ line
 StandsFor layout line Same place =

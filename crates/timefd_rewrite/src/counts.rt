@@ -8,11 +8,11 @@ ghost use Rattle.timefd_rewrite.specs.Rewriting as spec;
 pub enum Outcome {
     /// It is empty or a comment, and stays as it is.
     PassedOver,
-    /// It is converted to itself.
+    /// It is converted to itself, or has nothing to mend.
     Same,
-    /// What it is converted to stands in its place.
+    /// What it is converted or mended to stands in its place.
     Rewritten,
-    /// The language that is converted from refuses it, and it stays as it is.
+    /// Its language refuses it, also mended as far as may be, and it stays as it is.
     Refused,
     /// It is no UTF-8, and stays as it is.
     NotText,

@@ -1,18 +1,19 @@
-//! How a text is laid out in the language that it is converted to.
+//! How a text is laid out in the language that it is converted to, or mended in its own.
 
 ghost use Rattle.std.specs.Prelude.{IfOk, string_bytes};
 ghost use Rattle.std.specs.Result.{IfErr};
 ghost use Rattle.timefd_language.specs.Grammar.{nesting_limit};
 ghost use Rattle.timefd_parse.specs.Language.{IsAssignedIn};
 ghost use Rattle.timefd_convert.specs.Conversions.{language_of};
-ghost use Rattle.timefd_rewrite.specs.Layouts.{IsAnew, IsConverted, IsLeast, conversion_of};
+ghost use Rattle.timefd_rewrite.specs.Layouts.{IsAnew, IsConverted, IsLeast, IsRefusal};
 
 use crate::nearest::nearest_to;
 use std::alloc::Global;
 use timefd_convert::{Conversion, convert_by};
-use timefd_parse::ParseError;
+use timefd_fix::{Fixes, fixed};
+use timefd_parse::{Language, ParseError};
 
-/// A conversion, and how much of a text it changes.
+/// What is made of a text: a conversion, and how much of it that changes, or its repair.
 #[derive(Clone, Copy)]
 pub enum Layout {
     /// What has to change: a bracket keeps its order, its white space and its defaults where the
@@ -20,20 +21,22 @@ pub enum Layout {
     Least(Conversion),
     /// All that is not what `convert_by` answers. That is the normal form of version 3.
     Normal(Conversion),
+    /// What is at fault in a text of this language, with such fixes.
+    Fixed(Language, Fixes),
 }
 
-/// Converts a text in this layout.
+/// Converts a text in this layout, or mends it.
 ///
 /// The error is that of `convert_by`: the fault of the text in the language that it is converted
-/// from, or `Memory` where memory ran out.
+/// from, or `Memory` where memory ran out. Of a text that is mended it is that of `fixed`.
 pub fn lay_out(alloc: Global, layout: Layout, text: &str) -> Result<String, ParseError>
     ensures converted { IfOk result (λ answer. IsConverted layout text.now (string_bytes answer)) }
-    ensures fault { IfErr result
-        (IsAssignedIn (language_of (conversion_of layout)) nesting_limit text.now) }
+    ensures fault { IfErr result (IsRefusal layout text.now) }
 {
     match layout {
         Layout::Least(conversion) => convert_least(alloc, conversion, text),
         Layout::Normal(conversion) => convert_anew(alloc, conversion, text),
+        Layout::Fixed(language, fixes) => fixed(alloc, language, fixes, text),
     }
 }
 

@@ -1,5 +1,5 @@
-//! Rewrites lines of descriptions in a later version of the language, or in their normal form. Each
-//! keeps its end, and those that are passed over or refused stay as they are.
+//! Rewrites lines of descriptions in a later version of the language, or in their normal form, or mends
+//! them. Each keeps its end, and those that are passed over or refused stay as they are.
 #![tactic(auto)]
 
 mod counts;

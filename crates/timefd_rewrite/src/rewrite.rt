@@ -25,9 +25,9 @@ pub enum RewriteError {
     Write,
 }
 
-/// Writes each line of a reader, and where it is a description, what that is converted to with the
-/// line's own end. Lines that are passed over, refused or no UTF-8, or that would be two lines, are
-/// written as they are.
+/// Writes each line of a reader, and where it is a description, what that is converted or mended to
+/// with the line's own end. Lines that are passed over, refused or no UTF-8, or that would be two
+/// lines, are written as they are.
 pub fn rewrite_lines<R: BufRead, W: Write>(
     alloc: Global,
     comment: Option<&str>,
