@@ -10,6 +10,8 @@ complete -c timefd_lint -l deny -x -a 'no-component other-language month-for-min
 complete -c timefd_lint -l allow -x -a 'no-component other-language month-for-minute minute-for-month hour-without-period period-with-24-hours subsecond-without-second week-with-calendar-year date-with-iso-year shown-twice undetermined-date unsettled-width unsettled-year deprecated-component' -d 'leave this warning out'
 complete -c timefd_lint -l to -x -a '2 3' -d 'show what has to change in a later version'
 complete -c timefd_lint -l normal -d 'show what would change in the normal form of version 3'
+complete -c timefd_lint -l fix -d 'show what mends refused lines'
+complete -c timefd_lint -l unsafe -d 'mend lines also by a guess'
 complete -c timefd_lint -l write -d 'write the named files back'
 complete -c timefd_lint -l partial -d 'write files back some of whose lines are refused'
 complete -c timefd_lint -s q -l quiet -d 'leave out the last line, on how much was looked at'

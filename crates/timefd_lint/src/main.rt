@@ -33,6 +33,7 @@ use std::process::ExitCode;
 use summary::summary;
 use tally::Tally;
 use timefd_convert::conversion_between;
+use timefd_fix::Fixes;
 use timefd_lint_files::{Reason, WalkError, expanded};
 use timefd_lint_options::{Asked, OptionError, Settings, options_of, target};
 use timefd_parse::Language;
@@ -130,8 +131,20 @@ fn files_status(rt: &HostRuntime, settings: Settings<'_>, files: &[&str]) -> u8 
     run_status(rt, settings, run_options(settings, colored, files))
 }
 
-// How descriptions are laid out, where they are rewritten.
+// What may be written against faults.
+fn fixes_of(settings: Settings<'_>) -> Fixes {
+    if settings.is_unsafe {
+        Fixes::All
+    } else {
+        Fixes::Sure
+    }
+}
+
+// How descriptions are laid out, where they are rewritten or mended.
 fn layout_of(settings: Settings<'_>) -> Option<Layout> {
+    if settings.fixes {
+        return Some(Layout::Fixed(settings.language, fixes_of(settings)));
+    }
     let to = Language::Version(target(settings)?);
     let conversion = conversion_between(settings.language, to)?;
     if settings.is_normal {

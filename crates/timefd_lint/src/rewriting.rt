@@ -1,5 +1,5 @@
-//! The named files in a later version of the language, or in the normal form of version 3: shown as
-//! changes, or written back.
+//! The named files in a later version of the language, in the normal form of version 3, or mended: shown
+//! as changes, or written back.
 
 ghost use Rattle.std.specs.Prelude.{Option, Some, [], IfOk};
 ghost use Rattle.timefd_component.specs.Tree.{Text};

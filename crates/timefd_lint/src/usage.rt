@@ -30,7 +30,9 @@ A folder stands for the sources below it, but hidden ones and those that .gitign
   --allow CODE                 the same, but for this warning
   --to 2|3                     shows what has to change in a later version; writes no file
   --normal                     shows what would change in the normal form of version 3
-  --write                      with --to or --normal: writes the named files back so
+  --fix                        shows what mends the refused lines, where that is sure
+  --unsafe                     with --fix: also by a guess, as the nearest word
+  --write                      with --to, --normal or --fix: writes the named files back so
   --partial                    with --write: also files some of whose lines are refused
   --quiet, -q                  leaves out the last line, which tells how much was looked at
   --help, -h                   writes this
@@ -45,10 +47,6 @@ memory ran out, 4 where a file can't be read or written, 5 where a line is no UT
 pub fn sentence(alloc: Global, error: OptionError<'_>) -> Result<String, AllocError> {
     match error {
         OptionError::Unknown(word) => unknown_sentence(alloc, word),
-        OptionError::Fix => String::from_str(
-            alloc,
-            "there is no option `--fix`: `--to 3` shows a diff, `--to 3 --write` writes the files",
-        ),
         OptionError::MissingValue(option) => {
             let name = name(option);
             let values = values(alloc, option)?;
@@ -120,8 +118,15 @@ fn warning_names(alloc: Global) -> Result<String, AllocError> {
 fn conflict_sentence(conflict: Conflict) -> &'static str {
     match conflict {
         Conflict::ExplainUndrawn => "`--explain` draws trees, and goes with `--format human` alone",
-        Conflict::WriteWithoutVersion => "`--write` wants `--to 2`, `--to 3` or `--normal`",
+        Conflict::WriteWithoutVersion =>
+            "`--write` wants `--to 2`, `--to 3`, `--normal` or `--fix`",
         Conflict::PartialWithoutWrite => "`--partial` goes with `--write` alone",
+        Conflict::UnsafeWithoutFix => "`--unsafe` goes with `--fix` alone",
+        Conflict::FixesRewritten => "`--fix` doesn't go with `--to` and `--normal`",
+        Conflict::FixesWhole => "`--fix` mends line by line, and doesn't go with `--whole`",
+        Conflict::FixesSource => "`--fix` mends lines, and doesn't go with `--source`",
+        Conflict::FixesNoFile => "`--fix` wants the name of a file",
+        Conflict::FixesInput => "`--fix` mends files, and `-` is the standard input",
         Conflict::NormalOfAnother => {
             "`--normal` is the form of version 3, and doesn't go with `--to 2`"
         }

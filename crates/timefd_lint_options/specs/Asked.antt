@@ -14,7 +14,7 @@ use Rattle.timefd_lint_options.specs.declared.names.Names.{Names}
 use Rattle.timefd_lint_options.specs.declared.settings.Settings.{Settings}
 use Rattle.timefd_lint_options.specs.declared.word.Valued.{Valued}
 use Rattle.timefd_lint_options.specs.declared.word.Word.{Word}
-use Rattle.timefd_lint_options.specs.declared.word.Word.TheVariants.{Flag, Valued as HasValue, Help, Version, Fix, End, Unknown, File}
+use Rattle.timefd_lint_options.specs.declared.word.Word.TheVariants.{Flag, Valued as HasValue, Help, Version, End, Unknown, File}
 use Rattle.timefd_lint_options.specs.Conflicts.{conflict}
 use Rattle.timefd_lint_options.specs.Names.{names_from, names_of}
 use Rattle.timefd_lint_options.specs.Settings.{initial, with_flag, with_value}
@@ -48,7 +48,6 @@ first_by (Flag flag) s word behind = Next (record { settings = with_flag s flag;
 first_by (HasValue option) s word behind = Next (record { settings = s; pending = Some option })
 first_by Help s word behind = Done (Ok asks.Help)
 first_by Version s word behind = Done (Ok asks.Version)
-first_by Fix s word behind = Done (Err errors.Fix)
 first_by End s word behind = Done (run s (names_of behind))
 first_by Unknown s word behind = Done (Err (errors.Unknown word))
 first_by File s word behind = Done (named s word.now behind)

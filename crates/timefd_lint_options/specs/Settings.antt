@@ -12,7 +12,7 @@ use Rattle.timefd_lint_options.specs.declared.error.OptionError.TheVariants.{Not
 use Rattle.timefd_lint_options.specs.declared.settings.Color.TheVariants as colors
 use Rattle.timefd_lint_options.specs.declared.settings.Settings.{Settings}
 use Rattle.timefd_lint_options.specs.declared.word.Flag.{Flag}
-use Rattle.timefd_lint_options.specs.declared.word.Flag.TheVariants.{Whole, Source, Explain, Normal, Write, Partial, Warn, Quiet}
+use Rattle.timefd_lint_options.specs.declared.word.Flag.TheVariants.{Whole, Source, Explain, Normal, Fix, Unsafe, Write, Partial, Warn, Quiet}
 use Rattle.timefd_lint_options.specs.declared.word.Valued.{Valued}
 use Rattle.timefd_lint_options.specs.declared.word.Valued.TheVariants.{Language, Format, Color, Comment, To, Deny, Allow}
 use Rattle.timefd_lint_options.specs.Values.{language_named, format_named, color_named, version_named}
@@ -32,6 +32,8 @@ initial = record {
   explains = false;
   to = None;
   is_normal = false;
+  fixes = false;
+  is_unsafe = false;
   writes = false;
   is_partial = false;
   warns = false;
@@ -52,6 +54,8 @@ with_flag s Whole = record s { is_whole = true }
 with_flag s Source = record s { is_source = true }
 with_flag s Explain = record s { explains = true }
 with_flag s Normal = record s { is_normal = true }
+with_flag s Fix = record s { fixes = true }
+with_flag s Unsafe = record s { is_unsafe = true }
 with_flag s Write = record s { writes = true }
 with_flag s Partial = record s { is_partial = true }
 with_flag s Warn = record s { warns = true }

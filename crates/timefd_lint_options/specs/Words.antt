@@ -2,10 +2,10 @@
 use Rattle.std.specs.Prelude.{Bool, true, false, codes, bytes_eq, nat_eq, if◌then◌else◌}
 use Rattle.std.specs.List.{starts_with}
 use Rattle.timefd_component.specs.Tree.{Text}
-use Rattle.timefd_lint_options.specs.declared.word.Flag.TheVariants.{Whole, Source, Explain, Normal, Write, Partial, Warn, Quiet}
+use Rattle.timefd_lint_options.specs.declared.word.Flag.TheVariants.{Whole, Source, Explain, Normal, Fix, Unsafe, Write, Partial, Warn, Quiet}
 use Rattle.timefd_lint_options.specs.declared.word.Valued.TheVariants.{Language, Format, Color, Comment, To, Deny, Allow}
 use Rattle.timefd_lint_options.specs.declared.word.Word.{Word}
-use Rattle.timefd_lint_options.specs.declared.word.Word.TheVariants.{Flag, Valued, Help, Version, Fix, End, Unknown, File}
+use Rattle.timefd_lint_options.specs.declared.word.Word.TheVariants.{Flag, Valued, Help, Version, End, Unknown, File}
 
 -- what begins with a dash looks like an option
 abbrev pub other_word : Text → Word
@@ -17,6 +17,8 @@ word_of word =
     else if bytes_eq word (codes "--source") then Flag Source
     else if bytes_eq word (codes "--explain") then Flag Explain
     else if bytes_eq word (codes "--normal") then Flag Normal
+    else if bytes_eq word (codes "--fix") then Flag Fix
+    else if bytes_eq word (codes "--unsafe") then Flag Unsafe
     else if bytes_eq word (codes "--write") then Flag Write
     else if bytes_eq word (codes "--partial") then Flag Partial
     else if bytes_eq word (codes "--warn") then Flag Warn
@@ -33,7 +35,6 @@ word_of word =
     else if bytes_eq word (codes "-h") then Help
     else if bytes_eq word (codes "--version") then Version
     else if bytes_eq word (codes "-V") then Version
-    else if bytes_eq word (codes "--fix") then Fix
     else if bytes_eq word (codes "--") then End
     else if bytes_eq word (codes "-") then File
     else other_word word
@@ -47,7 +48,6 @@ is_no_file (Flag flag) = true
 is_no_file (Valued option) = true
 is_no_file Help = true
 is_no_file Version = true
-is_no_file Fix = true
 is_no_file End = true
 is_no_file Unknown = true
 is_no_file File = false

@@ -110,7 +110,6 @@ fn first<'a>(settings: Settings<'a>, word: &'a str, behind: &'a [&'a str]) -> St
         }),
         Word::Help => Step::Done(Ok(Asked::Help)),
         Word::Version => Step::Done(Ok(Asked::Version)),
-        Word::Fix => Step::Done(Err(OptionError::Fix)),
         Word::Unknown => Step::Done(Err(OptionError::Unknown(word))),
         Word::End => Step::Done(run(settings, names_of(behind))),
         Word::File => Step::Done(named(settings, word, behind)),

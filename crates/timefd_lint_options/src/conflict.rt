@@ -19,10 +19,36 @@ pub fn conflict(settings: Settings<'_>, names: Names) -> Option<Conflict>
     if settings.is_partial && !settings.writes {
         return Some(Conflict::PartialWithoutWrite);
     }
+    if settings.is_unsafe && !settings.fixes {
+        return Some(Conflict::UnsafeWithoutFix);
+    }
+    if settings.fixes {
+        return fixing_conflict(settings, names);
+    }
     match target(settings) {
         Some(version) => rewriting_conflict(settings, version, names),
         None if settings.writes => Some(Conflict::WriteWithoutVersion),
         None => None,
+    }
+}
+
+// What is in the way of mending files.
+fn fixing_conflict(settings: Settings<'_>, names: Names) -> Option<Conflict>
+    ensures { result ≡ spec.fixing_conflict settings.entry names }
+{
+    if target(settings).is_some() {
+        return Some(Conflict::FixesRewritten);
+    }
+    if settings.is_whole {
+        return Some(Conflict::FixesWhole);
+    }
+    if settings.is_source {
+        return Some(Conflict::FixesSource);
+    }
+    match names.count {
+        0 => Some(Conflict::FixesNoFile),
+        _ if names.has_input => Some(Conflict::FixesInput),
+        _ => None,
     }
 }
 

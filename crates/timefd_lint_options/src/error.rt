@@ -7,8 +7,6 @@ use crate::word::Valued;
 pub enum OptionError<'a> {
     /// The word looks like an option, and is none.
     Unknown(&'a str),
-    /// `--fix`, in whose place `--to` and `--write` stand.
-    Fix,
     /// No word stands behind an option that has a value.
     MissingValue(Valued),
     /// The option doesn't take the word as its value.
@@ -24,10 +22,22 @@ pub enum OptionError<'a> {
 pub enum Conflict {
     /// Trees are drawn, and have no other form.
     ExplainUndrawn,
-    /// `--write` with neither `--to` nor `--normal`.
+    /// `--write` with none of `--to`, `--normal` and `--fix`.
     WriteWithoutVersion,
     /// `--partial` without `--write`.
     PartialWithoutWrite,
+    /// `--unsafe` without `--fix`.
+    UnsafeWithoutFix,
+    /// What is at fault is mended, or a good line converted: not both.
+    FixesRewritten,
+    /// A file is mended line by line.
+    FixesWhole,
+    /// A source isn't mended.
+    FixesSource,
+    /// No file is named that could be mended.
+    FixesNoFile,
+    /// The standard input is no file that could be mended.
+    FixesInput,
     /// The normal form is one of version 3, and another is asked for.
     NormalOfAnother,
     /// No rewriting leads from the language to the version.

@@ -40,6 +40,10 @@ pub struct Settings<'a> {
     pub to: Option<DescriptionVersion>,
     /// Whether they are laid out in the normal form of version 3.
     pub is_normal: bool,
+    /// Whether what is at fault is mended.
+    pub fixes: bool,
+    /// Whether that is also done by a guess.
+    pub is_unsafe: bool,
     /// Whether files are written back.
     pub writes: bool,
     /// Whether a file is also written back where some of its lines are refused.
@@ -67,6 +71,8 @@ impl Settings<'_> {
             explains: false,
             to: None,
             is_normal: false,
+            fixes: false,
+            is_unsafe: false,
             writes: false,
             is_partial: false,
             warns: false,
@@ -107,6 +113,14 @@ pub fn with_flag<'a>(settings: Settings<'a>, flag: Flag) -> Settings<'a>
         },
         Flag::Normal => Settings {
             is_normal: true,
+            ..settings
+        },
+        Flag::Fix => Settings {
+            fixes: true,
+            ..settings
+        },
+        Flag::Unsafe => Settings {
+            is_unsafe: true,
             ..settings
         },
         Flag::Write => Settings {

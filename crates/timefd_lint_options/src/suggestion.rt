@@ -23,6 +23,8 @@ fn long_names() -> &'static [&'static str]
         "--explain",
         "--to",
         "--normal",
+        "--fix",
+        "--unsafe",
         "--write",
         "--partial",
         "--warn",

@@ -10,6 +10,8 @@ pub enum Flag {
     Source,
     Explain,
     Normal,
+    Fix,
+    Unsafe,
     Write,
     Partial,
     Warn,
@@ -37,8 +39,6 @@ pub enum Word {
     Help,
     /// `--version` or `-V`.
     Version,
-    /// `--fix`, which was an option once.
-    Fix,
     /// `--`, behind which all words are names of files.
     End,
     /// What looks like an option and is none.
@@ -56,6 +56,8 @@ pub fn word_of(word: &str) -> Word
         "--source" => Word::Flag(Flag::Source),
         "--explain" => Word::Flag(Flag::Explain),
         "--normal" => Word::Flag(Flag::Normal),
+        "--fix" => Word::Flag(Flag::Fix),
+        "--unsafe" => Word::Flag(Flag::Unsafe),
         "--write" => Word::Flag(Flag::Write),
         "--partial" => Word::Flag(Flag::Partial),
         "--warn" => Word::Flag(Flag::Warn),
@@ -69,7 +71,6 @@ pub fn word_of(word: &str) -> Word
         "--allow" => Word::Valued(Valued::Allow),
         "--help" | "-h" => Word::Help,
         "--version" | "-V" => Word::Version,
-        "--fix" => Word::Fix,
         "--" => Word::End,
         "-" => Word::File,
         _ => other_word(word),
@@ -100,12 +101,7 @@ pub fn is_option(word: &str) -> bool
 {
     match word_of(word) {
         Word::File => false,
-        Word::Flag(_)
-        | Word::Valued(_)
-        | Word::Help
-        | Word::Version
-        | Word::Fix
-        | Word::End
-        | Word::Unknown => true,
+        Word::Flag(_) | Word::Valued(_) | Word::Help | Word::Version | Word::End | Word::Unknown =>
+            true,
     }
 }
