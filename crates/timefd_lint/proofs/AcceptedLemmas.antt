@@ -1,6 +1,6 @@
 -- What is told of a text that is accepted.
-use Rattle.std.proofs.Common.{◌≡◌, true, List, [], ◌++◌, Option, Result, ap, refl, sym, subst, ◌∙◌}
-use Rattle.std.specs.Prelude.{IfOk, IsUtf8}
+use Rattle.std.proofs.Common.{◌≡◌, true, List, [], ◌++◌, Option, ap, refl, sym, ◌∙◌}
+use Rattle.std.specs.Prelude.{IsUtf8}
 use Rattle.std.specs.Io.KnownBytes.{Appends}
 use Rattle.std.proofs.KnownBytes.{Appends-nil, Appends-trans}
 use Rattle.std.proofs.lemmas.Bool.{true≢false}
@@ -11,8 +11,6 @@ use Rattle.timefd_parse.specs.declared.language.Language.{Language}
 use Rattle.timefd_parse.specs.Language.{SpellsIn}
 use Rattle.timefd_warnings.specs.declared.levels.Levels.{Levels}
 use Rattle.timefd_lint_warnings.specs.Messages.{messages as warning_messages}
-use Rattle.timefd_lint.specs.declared.line.RunError.{RunError}
-use Rattle.timefd_lint.specs.declared.line.TextEnd.{TextEnd}
 use Rattle.timefd_lint.specs.declared.line.TextEnd.TheVariants.{Accepted}
 use Rattle.timefd_lint_sources.specs.declared.told.Telling.{Telling}
 use Rattle.timefd_lint_sources.specs.Judged.{found_by}
@@ -28,11 +26,12 @@ pub no_tree : (telling : Telling) (known : Option Text) → WritesTree telling k
 no_tree telling known = ([], λ _. refl, Appends-nil known)
 
 -- Behind the tree stand the warnings.
-pub tree_and_warnings : (telling : Telling) (origin : Origin) (found : Levels)
-    (before between behind : Option Text) (told : Text) → WritesTree telling before between
+pub tree_and_warnings : (language : Language) (telling : Telling) (origin : Origin) (text : Text)
+    (found : Levels) (before between behind : Option Text) (told : Text)
+    → WritesTree telling before between
     → told ≡ warning_messages telling.style origin found → Appends between behind told
-    → Says telling origin (Accepted found) before behind
-tree_and_warnings telling origin found before between behind told tree are written = (
+    → Says language telling origin text (Accepted found) before behind
+tree_and_warnings language telling origin text found before between behind told tree are written = (
   tree.0 ++ told,
   (tree.0, ap (λ t. tree.0 ++ t) are, tree.1),
   Appends-trans before between behind tree.0 told tree.2 written,
@@ -44,13 +43,3 @@ pub accepted_is : (language : Language) (telling : Telling) (text : Text) (list 
     → found ≡ found_by telling.levels language list
     → IsEndOf language telling text (Accepted found)
 accepted_is language telling text list found utf8 spelled is = (utf8, (list, spelled, is))
-
--- What comes of a text that spells a list comes of its bytes.
-pub end_of_bytes : (language : Language) (telling : Telling) (bytes text : Text)
-    (end : Result TextEnd RunError) → text ≡ bytes
-    → ((list : List Tree) × SpellsIn language nesting_limit text list)
-    → ((list : List Tree) → SpellsIn language nesting_limit text list
-    → IfOk end (IsEndOf language telling text))
-    → IfOk end (IsEndOf language telling bytes)
-end_of_bytes language telling bytes text end same spelled ended =
-    subst (λ t. IfOk end (IsEndOf language telling t)) same (ended spelled.0 spelled.1)

@@ -2,3 +2,5 @@ pub mod FilesLemmas
 pub mod SourcesLemmas
 pub mod ToldLemmas
 pub mod AcceptedLemmas
+pub mod TextLemmas
+pub mod MarkLemmas

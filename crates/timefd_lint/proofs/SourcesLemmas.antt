@@ -17,13 +17,13 @@ use Rattle.timefd_lint_sources.specs.declared.told.End.{End}
 use Rattle.timefd_lint_sources.specs.declared.told.Source.{Source}
 use Rattle.timefd_lint_sources.specs.declared.told.Telling.{Telling}
 use Rattle.timefd_lint_sources.specs.Judged.{text_of}
-use Rattle.timefd_lint_sources.specs.Told.{AreTold, IsSourceTold, origin_of}
+use Rattle.timefd_lint_sources.specs.Told.{AreTold, IsSourceTold, no_text_note, origin_of}
 use Rattle.timefd_lint.specs.declared.line.RunError.{RunError}
 use Rattle.timefd_lint.specs.declared.line.TextEnd.{TextEnd}
 use Rattle.timefd_lint.specs.declared.line.TextEnd.TheVariants.{NotText, Failed}
 use Rattle.timefd_lint.specs.declared.tally.Tally.{Tally}
-use Rattle.timefd_lint.specs.Sources.{IsNotText, IsOfLiteral, IsReported, IsRunOfAny, IsRunOfSource, IsRunWith, IsSaid, IsToldOfAny, no_text_note, tally_from, tally_of_ends, text_end}
-use Rattle.timefd_lint.specs.Told.{IsRun, IsRunOfAll, IsRunOver, Says, Told, both, messages, place, tally_of, tally_of_one}
+use Rattle.timefd_lint.specs.Sources.{IsNotText, IsOfLiteral, IsReported, IsRunOfAny, IsRunOfSource, IsRunWith, IsSaid, IsToldOfAny, tally_from, tally_of_ends, text_end}
+use Rattle.timefd_lint.specs.Told.{IsRun, IsRunOfAll, IsRunOver, SaysFailed, Told, both, messages, place, tally_of, tally_of_one}
 use Rattle.timefd_lint.proofs.ToldLemmas.{failed_run, lines_run, only, read_to_end, run_behind, tally_both, tally_one, whole_run, whole_text}
 
 -- What is found in the descriptions of a source, one after another.
@@ -93,13 +93,13 @@ source_read telling name bytes rest old read text before behind tally all left n
     inl (text, whole_text bytes old read text all none same, read_to_end bytes rest left, said)
 
 pub source_unread : (telling : Telling) (name : Bor Text) (bytes rest before behind : Option Text)
-    (end : TextEnd) (tally : Tally) → end ≡ Failed → Says telling (place name 1) end before behind
+    (end : TextEnd) (tally : Tally) → end ≡ Failed → SaysFailed telling.style name before behind
     → tally ≡ tally_of_one end → IsRunOfSource telling name.now bytes rest before behind tally
 source_unread telling name bytes rest before behind end tally failed said is =
     inr (
       name,
       refl,
-      subst (λ e. Says telling (place name 1) e before behind) failed said,
+      said,
       is ∙ ap tally_of_one failed,
     )
 
@@ -202,8 +202,7 @@ of_source is_whole language comment telling name bytes rest before behind tally
 of_source is_whole language comment telling name bytes rest before behind tally
     (inr (file, same, said, found)) =
     of_texts is_whole language comment telling before behind tally
-    (failed_run is_whole language comment telling (place file 1) before behind Failed tally refl said
-    found)
+    (failed_run is_whole language comment telling file before behind Failed tally refl said found)
 
 any_behind : (is_whole : Bool) (language : Language) (comment : Option (Bor Text)) (telling : Telling)
     (before between behind : Option Text) (a b : Tally)

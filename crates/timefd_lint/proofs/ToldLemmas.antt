@@ -11,6 +11,7 @@ use Rattle.std.proofs.lemmas.Grind.{flat_map-append}
 use Rattle.std.proofs.lemmas.Bool.{true≢false, false≢true}
 use denote.Ref.{Bor}
 use Rattle.timefd_component.specs.Tree.{Text}
+use Rattle.timefd_drawing.specs.declared.draw.Style.{Style}
 use Rattle.timefd_drawing.specs.declared.position.Origin.{Origin}
 use Rattle.timefd_parse.specs.declared.language.Language.{Language}
 use Rattle.timefd_lint.specs.declared.line.TextEnd.{TextEnd}
@@ -24,42 +25,34 @@ use Rattle.timefd_warnings.proofs.LevelLemmas.{count_within}
 use Rattle.timefd_rewrite.specs.Lines.{AreLinesUpTo, AreLinesOf, without_newline}
 use Rattle.timefd_rewrite.proofs.LineLemmas.{all_lines, front_lines, next_line, no_line, up_to_more}
 use Rattle.timefd_lint.specs.Lines.{IsEndOf, IsLineEnd}
+use Rattle.timefd_lint.specs.Failures.{note_of}
+use Rattle.timefd_lint.specs.declared.failure.Failure.{Failure}
 use Rattle.timefd_lint.specs.Marks.{Notes, has_mark}
-use Rattle.timefd_lint.specs.Told.{IsMessageOn, Says, SaysOf, AreMarked, Told, is_description, is_refused, is_not_text, is_failed, warnings_in, warnings_of, IsEndIn, IsTold, IsPlace, ArePlaced, place, one_if, count, tally_of_one, tally_of, both, messages, lines_in, lines_of, IsReadUp, IsRun, IsRunOver, IsRunOfAll, IsRunOn, IsNext}
-
--- Of a text that is passed over, or accepted, nothing is written.
-pub says_nothing : (telling : Telling) (origin : Origin) (end : TextEnd) (known : Option Text)
-    → IsMessageOn telling origin end [] → Says telling origin end known known
-says_nothing telling origin end known is = ([], is, Appends-nil known)
-
-pub says : (telling : Telling) (origin : Origin) (end : TextEnd) (before behind : Option Text)
-    (message : Text) → IsMessageOn telling origin end message
-    → Appends before behind message → Says telling origin end before behind
-says telling origin end before behind message is written = (message, is, written)
+use Rattle.timefd_lint.specs.Told.{Says, SaysFailed, SaysOf, AreMarked, Told, is_description, is_refused, is_not_text, is_failed, warnings_in, warnings_of, IsEndIn, IsTold, IsPlace, ArePlaced, place, one_if, count, tally_of_one, tally_of, text_in, both, messages, lines_in, lines_of, IsReadUp, IsRun, IsRunOver, IsRunOfAll, IsRunOn, IsNext}
 
 -- A note, and what is said behind it.
-pub notes_and_says : (is_marked : Bool) (telling : Telling) (origin : Origin) (end : TextEnd)
-    (before between behind : Option Text) → Notes is_marked before between
-    → Says telling origin end between behind → SaysOf is_marked telling origin end before behind
-notes_and_says is_marked telling origin end before between behind noted said = (
+pub notes_and_says : (is_marked : Bool) (language : Language) (telling : Telling) (origin : Origin)
+    (text : Text) (end : TextEnd) (before between behind : Option Text)
+    → Notes is_marked telling.style origin before between
+    → Says language telling origin text end between behind
+    → SaysOf is_marked language telling origin text end before behind
+notes_and_says is_marked language telling origin text end before between behind noted said = (
   noted.0 ++ said.0,
   (noted.0, said.0, refl, noted.1, said.1),
   Appends-trans before between behind noted.0 said.0 noted.2 said.2,
 )
 
-unmarked : (telling : Telling) (origin : Origin) (end : TextEnd) (before behind : Option Text)
-    → Says telling origin end before behind → SaysOf false telling origin end before behind
-unmarked telling origin end before behind said =
-    (said.0, ([], said.0, refl, refl, said.1), said.2)
+pub says_failed : (style : Style) (file : Bor Text) (failure : Failure) (before behind : Option Text)
+    → Appends before behind (note_of style file failure) → SaysFailed style file before behind
+says_failed style file failure before behind written = (failure, written)
 
--- What is said of a file that can't be read doesn't depend on the place.
-fails_at : (telling : Telling) (one other : Origin) (end : TextEnd) (before behind : Option Text)
-    → end ≡ Failed → Says telling one end before behind
-    → SaysOf false telling other Failed before behind
-fails_at telling one other end before behind failed said =
-    let said' : Says telling one Failed before behind =
-    subst (λ e. Says telling one e before behind) failed said in
-    unmarked telling other Failed before behind (said'.0, said'.1, said'.2)
+-- What is said of a file that can't be read is no text's, and depends on no line.
+fails_at : (language : Language) (telling : Telling) (origin : Origin) (text : Text)
+    (before behind : Option Text) → SaysFailed telling.style origin.file before behind
+    → SaysOf false language telling origin text Failed before behind
+fails_at language telling origin text before behind said =
+    let message : Text = note_of telling.style origin.file said.0 in
+    (message, ([], message, refl, refl, (said.0, refl)), said.1)
 
 and_false : (b : Bool) → (b && false) ≡ false
 and_false true = refl
@@ -71,15 +64,16 @@ and_right false true both = refl
 and_right false false both = both
 
 pub read_fails : (is_first : Bool) (language : Language) (comment : Option (Bor Text))
-    (telling : Telling) (origin one : Origin) (bytes rest before behind : Option Text)
-    (end : TextEnd) → end ≡ Failed → Says telling one end before behind
+    (telling : Telling) (origin : Origin) (bytes rest before behind : Option Text)
+    (end : TextEnd) → end ≡ Failed → SaysFailed telling.style origin.file before behind
     → IsNext is_first language comment telling origin bytes rest before behind (Some end)
-read_fails is_first language comment telling origin one bytes rest before behind end failed said = (
+read_fails is_first language comment telling origin bytes rest before behind end failed said = (
   [],
   λ works. absurd (true≢false (sym (ap is_failed failed) ∙ works)),
-  subst (λ m. SaysOf m telling origin end before behind) (sym (and_false is_first))
-      (subst (λ e. SaysOf false telling origin e before behind) (sym failed)
-      (fails_at telling one origin end before behind failed said)),
+  subst (λ m. SaysOf m language telling origin (text_in false []) end before behind)
+      (sym (and_false is_first))
+      (subst (λ e. SaysOf false language telling origin (text_in false []) e before behind) (sym failed)
+      (fails_at language telling origin (text_in false []) before behind said)),
 )
 
 -- One text is a run.
@@ -118,7 +112,7 @@ pub one_text : (is_whole : Bool) (language : Language) (comment : Option (Bor Te
     (before behind : Option Text)
     → (IsFalse (is_failed end) → IsEndIn is_whole language comment telling line end)
     → (IsTrue is_marked → IsTrue (has_mark line))
-    → SaysOf is_marked telling origin end before behind
+    → SaysOf is_marked language telling origin (text_in is_whole line) end before behind
     → IsRun is_whole language comment telling before behind (tally_of_one end)
 one_text is_whole language comment telling origin line is_marked end before behind ended marked said =
     let t : Told = record {
@@ -252,8 +246,8 @@ pub next_told : (is_first : Bool) (language : Language) (comment : Option (Bor T
     (old line text : Text) (end : TextEnd) → IsLineEnd language comment telling text end → text
     ≡ without_newline line
     → IfSome bytes (λ xs. line ≡ old ++ take_through 10 xs) → old ≡ [] → DropsThrough bytes rest 10
-    → 0 < length line → Notes (is_first && has_mark line) before between
-    → Says telling origin end between behind
+    → 0 < length line → Notes (is_first && has_mark line) telling.style origin before between
+    → Says language telling origin text end between behind
     → IsNext is_first language comment telling origin bytes rest before behind (Some end)
 next_told is_first language comment telling origin bytes rest before between behind old line text end ended
     is read none left some noted said = (
@@ -262,7 +256,9 @@ next_told is_first language comment telling origin bytes rest before between beh
         subst (λ t. IsLineEnd language comment telling t end) is ended,
         next_line bytes rest old line read none left some,
       ),
-      notes_and_says (is_first && has_mark line) telling origin end before between behind noted said,
+      notes_and_says (is_first && has_mark line) language telling origin (text_in false line) end
+          before between behind noted
+          (subst (λ t. Says language telling origin t end between behind) is said),
     )
 
 -- No line is told.
@@ -395,7 +391,8 @@ pub run_fails : (is_first : Bool) (language : Language) (comment : Option (Bor T
     (bytes rest left before between behind : Option Text) (tally : Tally)
     → IsPlace file number origin
     → IsRunUpTo is_first language comment telling file number bytes rest before between tally
-    → (line : Text) → SaysOf (is_first && has_mark line) telling origin Failed between behind
+    → (line : Text)
+    → SaysOf (is_first && has_mark line) language telling origin (text_in false line) Failed between behind
     → IsRunOver language comment telling file bytes left before behind
     (both tally (tally_of_one Failed))
 unfolding run_behind one_text
@@ -447,7 +444,8 @@ line_fails is_first language comment telling origin file line bytes rest next be
     (both tally (tally_of_one e))) (sym is)
     (run_fails is_first language comment telling origin file line bytes rest next before between behind
     tally at so_far more.0
-    (subst (λ e. SaysOf (is_first && has_mark more.0) telling origin e between behind) is more.2))
+    (subst (λ e. SaysOf (is_first && has_mark more.0) language telling origin (text_in false more.0) e
+    between behind) is more.2))
 
 -- One text, one file that can't be read, and a reader, as runs.
 pub whole_text : (bytes : Option Text) (old read text : Text) → IfSome bytes (λ all. read ≡ old ++ all)
@@ -465,7 +463,8 @@ pub text_of_all : (language : Language) (comment : Option (Bor Text)) (telling :
     (origin : Origin) (file : Text) (bytes rest : Option Text) (old read text : Text) (before behind : Option Text) (end : TextEnd)
     (tally : Tally)
     → IfSome bytes (λ all. read ≡ old ++ all) → IsAtEnd rest → old ≡ [] → text ≡ read
-    → IsEndOf language telling text end → SaysOf (has_mark text) telling origin end before behind
+    → IsEndOf language telling text end
+    → SaysOf (has_mark text) language telling origin text end before behind
     → tally ≡ tally_of_one end → IsPlace file 1 origin
     → IsRunOfAll language comment telling file bytes rest before behind tally
 text_of_all language comment telling origin file bytes rest old read text before behind end tally all
@@ -488,43 +487,43 @@ text_of_all language comment telling origin file bytes rest old read text before
 
 pub none_of_all : (language : Language) (comment : Option (Bor Text)) (telling : Telling)
     (name : Bor Text) (bytes rest before behind : Option Text) (end : TextEnd) (tally : Tally)
-    → end ≡ Failed → Says telling (place name 1) end before behind → tally ≡ tally_of_one end
+    → end ≡ Failed → SaysFailed telling.style name before behind → tally ≡ tally_of_one end
     → IsRunOfAll language comment telling name.now bytes rest before behind tally
 none_of_all language comment telling name bytes rest before behind end tally failed said is =
-    let says_failed : SaysOf false telling (place name 1) Failed before behind =
-    fails_at telling (place name 1) (place name 1) end before behind failed said in
+    let noted : SaysOf false language telling (place name 1) [] Failed before behind =
+    fails_at language telling (place name 1) [] before behind said in
     record {
       told = record {
         line = [];
         origin = place name 1;
         is_marked = false;
         end = Failed;
-        message = says_failed.0;
+        message = noted.0;
       };
       is_told = record {
         end = λ e. absurd (true≢false e);
         marked = λ e. absurd (false≢true e);
-        message = says_failed.1;
+        message = noted.1;
       };
       marked = refl;
       place = (refl, refl);
       whole = λ e. absurd (true≢false e);
       found = is ∙ ap tally_of_one failed;
-      written = says_failed.2;
+      written = noted.2;
       read = λ works. absurd (true≢false
           (sym (ap (λ t. t.failed) (is ∙ ap tally_of_one failed)) ∙ works));
     }
 
 pub failed_run : (is_whole : Bool) (language : Language) (comment : Option (Bor Text))
-    (telling : Telling) (origin : Origin) (before behind : Option Text) (end : TextEnd)
-    (tally : Tally) → end ≡ Failed → Says telling origin end before behind
+    (telling : Telling) (name : Bor Text) (before behind : Option Text) (end : TextEnd)
+    (tally : Tally) → end ≡ Failed → SaysFailed telling.style name before behind
     → tally ≡ tally_of_one end → IsRun is_whole language comment telling before behind tally
-failed_run is_whole language comment telling origin before behind end tally failed said is =
+failed_run is_whole language comment telling name before behind end tally failed said is =
     subst (λ t. IsRun is_whole language comment telling before behind t)
     (sym (is ∙ ap tally_of_one failed))
-    (one_text is_whole language comment telling origin [] false Failed before behind
+    (one_text is_whole language comment telling (place name 1) [] false Failed before behind
     (λ e. absurd (true≢false e)) (λ e. absurd (false≢true e))
-    (fails_at telling origin origin end before behind failed said))
+    (fails_at language telling (place name 1) (text_in is_whole []) before behind said))
 
 pub whole_run : (is_whole : Bool) (language : Language) (comment : Option (Bor Text))
     (telling : Telling) (file : Text) (bytes rest before behind : Option Text) (tally : Tally)
@@ -606,7 +605,7 @@ pub fails_last : (is_first : Bool) (language : Language) (comment : Option (Bor 
     (bytes rest left before between behind : Option Text) (tally one all : Tally) (end : TextEnd)
     → end ≡ Failed
     → IsRunUpTo is_first language comment telling name.now line bytes rest before between tally
-    → Says telling (place name 1) end between behind
+    → SaysFailed telling.style name between behind
     → one ≡ tally_of_one end → all ≡ both tally one
     → IsRunOver language comment telling name.now bytes left before behind all
 fails_last is_first language comment telling name line bytes rest left before between behind tally one
@@ -615,8 +614,9 @@ fails_last is_first language comment telling name line bytes rest left before be
     (sym (tally_is tally one all end is_one sum ∙ ap (λ e. both tally (tally_of_one e)) failed))
     (run_fails is_first language comment telling (place name line) name.now line bytes rest left before
     between behind tally (refl, refl) so_far []
-    (subst (λ m. SaysOf m telling (place name line) Failed between behind) (sym (and_false is_first))
-    (fails_at telling (place name 1) (place name line) end between behind failed said)))
+    (subst (λ m. SaysOf m language telling (place name line) (text_in false []) Failed between behind)
+    (sym (and_false is_first))
+    (fails_at language telling (place name line) (text_in false []) between behind said)))
 
 pub whole_on : (is_whole : Bool) (language : Language) (comment : Option (Bor Text))
     (telling : Telling) (file : Text) (bytes rest before behind : Option Text) (tally : Tally)

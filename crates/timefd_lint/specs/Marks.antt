@@ -1,17 +1,68 @@
 -- The byte-order mark at the front of a file.
-use Rattle.std.specs.Prelude.{◌≡◌, ◌≢◌, Bool, true, false, [], ◌∷◌, Option, nat_eq}
+use Rattle.std.specs.Prelude.{◌≡◌, Bool, true, false, [], ◌∷◌, ◌++◌, Option, codes, decimal, nat_eq}
 use Rattle.std.specs.Io.KnownBytes.{Appends}
 use Rattle.std.specs.List.{starts_with}
 use Rattle.timefd_component.specs.Tree.{Text}
+use Rattle.timefd_drawing.specs.declared.draw.Format.{Format}
+use Rattle.timefd_drawing.specs.declared.draw.Format.TheVariants.{Human, Json, Short, Github}
+use Rattle.timefd_drawing.specs.declared.draw.Style.{Style}
+use Rattle.timefd_drawing.specs.declared.github.Command.TheVariants.{Warning}
+use Rattle.timefd_drawing.specs.declared.position.Origin.{Origin}
+use Rattle.timefd_drawing.specs.Drawing.{note}
+use Rattle.timefd_drawing.specs.Github.{annotation}
+use Rattle.timefd_drawing.specs.Json.{note_object}
+use Rattle.timefd_drawing.specs.Lines.{blue, plain}
+use Rattle.timefd_drawing.specs.Shown.{safe}
 
 -- U+FEFF in UTF-8
 abbrev pub has_mark : Text → Bool
 has_mark text = starts_with nat_eq text (239 ∷ 187 ∷ 191 ∷ [])
 
-abbrev pub IsNote : Bool → Text → Type 0
-IsNote true note = note ≢ []
-IsNote false note = note ≡ []
+-- what the mark is called, and what it does
+abbrev pub code : Text
+code = codes "byte-order-mark"
+
+abbrev pub sentence : Text
+sentence =
+    codes "a byte-order mark is a literal of the first description, and hides a comment mark"
+
+-- what is put in front of what is yellow
+abbrev pub yellow : Bool → Text
+yellow true = 27 ∷ codes "[1;33m"
+yellow false = []
+
+-- `warning[CODE]: SENTENCE`
+abbrev pub head : Bool → Text → Text → Text
+head colored code sentence =
+    yellow colored ++ (codes "warning[" ++ (code ++ (codes "]" ++ (plain colored ++ (codes ": "
+    ++ (sentence ++ codes "\n"))))))
+
+-- `--> FILE:LINE:1`
+abbrev pub place : Bool → Origin → Text
+place colored origin =
+    codes " " ++ (blue colored ++ (codes "-->" ++ (plain colored ++ (codes " "
+    ++ (safe origin.file.now ++ (codes ":" ++ (decimal origin.line ++ codes ":1\n")))))))
+
+abbrev pub human_note : Bool → Origin → Text
+human_note colored origin = head colored code sentence ++ (place colored origin ++ codes "\n")
+
+-- What is noted of it stands in its line and is a warning, which editors read as any note.
+abbrev pub mark_note_in : Format → Style → Origin → Text
+mark_note_in Human style origin = human_note style.is_colored origin
+mark_note_in Json style origin =
+    note_object code origin.file.now origin.line 1 sentence (codes "warning")
+mark_note_in Short style origin = note style origin code sentence
+mark_note_in Github style origin =
+    annotation Warning code origin.file.now origin.line 1 sentence
+
+abbrev pub mark_note : Style → Origin → Text
+mark_note style origin = mark_note_in style.format style origin
+
+abbrev pub IsNote : Bool → Style → Origin → Text → Type 0
+IsNote true style origin note = note ≡ mark_note style origin
+IsNote false style origin note = note ≡ []
 
 -- A note is written where there is a mark to be noted, and nothing else is.
-abbrev pub Notes : Bool → Option Text → Option Text → Type 0
-Notes is_marked before behind = (note : Text) × IsNote is_marked note × Appends before behind note
+abbrev pub Notes : Bool → Style → Origin → Option Text → Option Text → Type 0
+Notes is_marked style origin before behind =
+    (note : Text) × IsNote is_marked style origin note × Appends before behind note

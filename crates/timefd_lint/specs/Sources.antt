@@ -4,9 +4,6 @@ use Rattle.std.specs.List.{ends_with}
 use Rattle.std.specs.Io.KnownBytes.{Appends}
 use denote.Ref.{Bor}
 use Rattle.timefd_component.specs.Tree.{Text}
-use Rattle.timefd_drawing.specs.declared.draw.Style.{Style}
-use Rattle.timefd_drawing.specs.declared.position.Origin.{Origin}
-use Rattle.timefd_drawing.specs.Drawing.{note}
 use Rattle.timefd_parse.specs.declared.language.Language.{Language}
 use Rattle.timefd_sources.specs.declared.description.Description.{Description}
 use Rattle.timefd_sources.specs.Found.{StandsIn}
@@ -16,13 +13,13 @@ use Rattle.timefd_lint_sources.specs.declared.told.End.TheVariants as sources
 use Rattle.timefd_lint_sources.specs.declared.told.Source.{Source}
 use Rattle.timefd_lint_sources.specs.declared.told.Telling.{Telling}
 use Rattle.timefd_lint_sources.specs.Judged.{text_of}
-use Rattle.timefd_lint_sources.specs.Told.{IsSourceTold, origin_of}
+use Rattle.timefd_lint_sources.specs.Told.{IsSourceTold, no_text_note, origin_of}
 use Rattle.timefd_lint_sources.specs.Told as literal
 use Rattle.timefd_lint.specs.declared.line.TextEnd.{TextEnd}
 use Rattle.timefd_lint.specs.declared.line.TextEnd.TheVariants.{PassedOver, Accepted, Refused, NotText, Failed}
 use Rattle.timefd_lint.specs.declared.options.Options.{Options}
 use Rattle.timefd_lint.specs.declared.tally.Tally.{Tally}
-use Rattle.timefd_lint.specs.Told.{IsReadUp, IsRun, IsTold, Says, Told, both, messages, place, tally_of, tally_of_one}
+use Rattle.timefd_lint.specs.Told.{IsReadUp, IsRun, IsTold, SaysFailed, Told, both, messages, place, tally_of, tally_of_one}
 
 -- whether the file of a name is read as a source
 abbrev pub is_source : Options → Text → Bool
@@ -55,11 +52,7 @@ IsReported telling name bytes before behind tally =
     × ((r : Report) × IsSourceTold telling s r
     × Appends before behind r.message.items × (tally ≡ tally_of_ends r.ends.items))
 
--- the note in the line of an origin that a source is no UTF-8
-abbrev pub no_text_note : Style → Origin → Text
-no_text_note style origin = note style origin (codes "not-text") (codes "the bytes are no UTF-8")
-
--- It is written, and nothing else.
+-- The note that a source is no UTF-8 is written, and nothing else.
 abbrev pub IsNotText : Telling → Text → Option Text → Option Text → Tally → Type 0
 IsNotText telling name before behind tally = (file : Bor Text) × (file.now ≡ name)
     × Appends before behind (no_text_note telling.style (place file 1)) × (tally ≡ tally_of_one NotText)
@@ -69,10 +62,10 @@ IsSaid telling name bytes before behind tally =
     (IsUtf8 bytes × IsReported telling name bytes before behind tally)
     ⊎ ((¬ IsUtf8 bytes) × IsNotText telling name before behind tally)
 
--- A message is written of a source that can't be read.
+-- Of a source that can't be read the note on what fails of it is written.
 abbrev pub IsUnread : Telling → Text → Option Text → Option Text → Tally → Type 0
 IsUnread telling name before behind tally = (file : Bor Text) × (file.now ≡ name)
-    × Says telling (place file 1) Failed before behind × (tally ≡ tally_of_one Failed)
+    × SaysFailed telling.style file before behind × (tally ≡ tally_of_one Failed)
 
 -- All bytes of a reader are the source, unless they can't be read.
 abbrev pub IsRunOfSource : Telling → Text → Option Text → Option Text → Option Text → Option Text

@@ -1,21 +1,27 @@
 -- What a run says of texts, each in turn.
-use Rattle.std.specs.Prelude.{◌≡◌, ◌≢◌, Bool, true, false, ◌||◌, ◌&&◌, IsTrue, List, [], ◌∷◌, ◌++◌, Option, Some, None, All, IfSome, IsFalse, ⊤, ℕ, ◌+◌, nat_lt, flat_map, if◌then◌else◌}
+use Rattle.std.specs.Prelude.{◌≡◌, Bool, true, false, ◌||◌, ◌&&◌, IsTrue, List, [], ◌∷◌, ◌++◌, Option, Some, None, All, IfSome, IsFalse, ⊤, ℕ, ◌+◌, nat_lt, flat_map, if◌then◌else◌}
 use Rattle.std.specs.List.{list_any}
 use Rattle.std.specs.Io.KnownBytes.{Appends, Keeps, IsAtEnd}
 use Rattle.std.specs.Io.Iter.{u64_saturate}
 use denote.Ref.{Bor}
 use Rattle.timefd_component.specs.Tree.{Text}
 use Rattle.timefd_parse.specs.declared.language.Language.{Language}
+use Rattle.timefd_diagnosis.specs.declared.diagnostic.Diagnostic.{Diagnostic}
+use Rattle.timefd_lint.specs.declared.failure.Failure.{Failure}
 use Rattle.timefd_lint.specs.declared.line.TextEnd.{TextEnd}
 use Rattle.timefd_lint.specs.declared.line.TextEnd.TheVariants.{PassedOver, Accepted, Refused, NotText, Failed}
 use Rattle.timefd_lint.specs.declared.tally.Tally.{Tally}
+use Rattle.timefd_drawing.specs.declared.draw.Style.{Style}
 use Rattle.timefd_drawing.specs.declared.position.Origin.{Origin}
+use Rattle.timefd_drawing.specs.Drawing.{drawn}
 use Rattle.timefd_warnings.specs.declared.levels.Level.TheVariants.{Warned, Denied}
 use Rattle.timefd_warnings.specs.declared.levels.Levels.{Levels}
 use Rattle.timefd_warnings.specs.Levels.{count as warning_count}
 use Rattle.timefd_lint_warnings.specs.Messages.{messages as warning_messages}
 use Rattle.timefd_lint_sources.specs.declared.told.Telling.{Telling}
+use Rattle.timefd_lint_sources.specs.Told.{IsDiagnosed, no_text_note}
 use Rattle.timefd_rewrite.specs.Lines.{AreLinesOf, IsNextLine, without_newline}
+use Rattle.timefd_lint.specs.Failures.{note_of}
 use Rattle.timefd_lint.specs.Lines.{IsEndOf, IsLineEnd}
 use Rattle.timefd_lint.specs.Marks.{IsNote, has_mark}
 
@@ -31,30 +37,49 @@ abbrev pub WritesTree : Telling → Option Text → Option Text → Type 0
 WritesTree telling before behind = (tree : Text) × (IsFalse telling.explains → tree ≡ [])
     × Appends before behind tree
 
--- A message is written of a text that is refused, of one that is no UTF-8, and of a file that can't
--- be read.
-abbrev pub IsMessageOn : Telling → Origin → TextEnd → Text → Type 0
-IsMessageOn telling origin PassedOver message = message ≡ []
-IsMessageOn telling origin (Accepted found) message = IsTreeAndWarnings telling origin found message
-IsMessageOn telling origin Refused message = message ≢ []
-IsMessageOn telling origin NotText message = message ≢ []
-IsMessageOn telling origin Failed message = message ≢ []
+-- What is written of a refused text is the drawing of what is wrong with it, at its place.
+abbrev pub IsDrawing : Language → Style → Origin → Text → Text → Type 0
+IsDrawing language style origin text message =
+    (g : Diagnostic) × IsDiagnosed language text g × (message ≡ drawn style origin text g)
+
+-- What is written of a file that can't be read is the note on what fails of it.
+abbrev pub IsFailureNote : Style → Bor Text → Text → Type 0
+IsFailureNote style file message = (failure : Failure) × (message ≡ note_of style file failure)
+
+-- What is written of a text that stands there, and nothing of one that is passed over.
+abbrev pub IsMessageOn : Language → Telling → Origin → Text → TextEnd → Text → Type 0
+IsMessageOn language telling origin text PassedOver message = message ≡ []
+IsMessageOn language telling origin text (Accepted found) message =
+    IsTreeAndWarnings telling origin found message
+IsMessageOn language telling origin text Refused message =
+    IsDrawing language telling.style origin text message
+IsMessageOn language telling origin text NotText message =
+    message ≡ no_text_note telling.style origin
+IsMessageOn language telling origin text Failed message =
+    IsFailureNote telling.style origin.file message
 
 -- The message on a text, and no other bytes, goes from what is written before to what is written
 -- behind.
-abbrev pub Says : Telling → Origin → TextEnd → Option Text → Option Text → Type 0
-Says telling origin end before behind = (message : Text) × IsMessageOn telling origin end message
-    × Appends before behind message
+abbrev pub Says : Language → Telling → Origin → Text → TextEnd → Option Text → Option Text → Type 0
+Says language telling origin text end before behind = (message : Text)
+    × IsMessageOn language telling origin text end message × Appends before behind message
+
+-- The note on what fails of a file, and no other bytes.
+abbrev pub SaysFailed : Style → Bor Text → Option Text → Option Text → Type 0
+SaysFailed style file before behind =
+    (failure : Failure) × Appends before behind (note_of style file failure)
 
 -- In front of the message stands the note on a byte-order mark, if there is one.
-abbrev pub IsMessageOf : Bool → Telling → Origin → TextEnd → Text → Type 0
-IsMessageOf is_marked telling origin end message =
-    (note : Text) × (rest : Text) × (message ≡ note ++ rest) × IsNote is_marked note
-    × IsMessageOn telling origin end rest
+abbrev pub IsMessageOf : Bool → Language → Telling → Origin → Text → TextEnd → Text → Type 0
+IsMessageOf is_marked language telling origin text end message =
+    (note : Text) × (rest : Text) × (message ≡ note ++ rest)
+    × IsNote is_marked telling.style origin note
+    × IsMessageOn language telling origin text end rest
 
-abbrev pub SaysOf : Bool → Telling → Origin → TextEnd → Option Text → Option Text → Type 0
-SaysOf is_marked telling origin end before behind = (message : Text)
-    × IsMessageOf is_marked telling origin end message × Appends before behind message
+abbrev pub SaysOf : Bool → Language → Telling → Origin → Text → TextEnd → Option Text → Option Text
+    → Type 0
+SaysOf is_marked language telling origin text end before behind = (message : Text)
+    × IsMessageOf is_marked language telling origin text end message × Appends before behind message
 
 -- a line of a file
 abbrev pub place : Bor Text → ℕ → Origin
@@ -111,6 +136,11 @@ warnings_in Refused = 0
 warnings_in NotText = 0
 warnings_in Failed = 0
 
+-- the text in these bytes: all of a whole file, and of a line what stands before its newline
+abbrev pub text_in : Bool → Text → Text
+text_in true bytes = bytes
+text_in false bytes = without_newline bytes
+
 -- What came of a text is what it is: of a whole file, or of a line.
 abbrev pub IsEndIn : Bool → Language → Option (Bor Text) → Telling → Text → TextEnd → Type 0
 IsEndIn true language comment telling line end = IsEndOf language telling line end
@@ -121,7 +151,8 @@ pub record IsTold (is_whole : Bool) (language : Language) (comment : Option (Bor
     (telling : Telling) (t : Told) : Type 0 where
   pub end : IsFalse (is_failed t.end) → IsEndIn is_whole language comment telling t.line t.end
   pub marked : IsTrue t.is_marked → IsTrue (has_mark t.line)
-  pub message : IsMessageOf t.is_marked telling t.origin t.end t.message
+  pub message : IsMessageOf t.is_marked language telling t.origin (text_in is_whole t.line) t.end
+      t.message
 
 abbrev pub one_if : Bool → ℕ
 one_if true = 1
@@ -246,4 +277,4 @@ IsNext is_first language comment telling origin bytes rest before behind (Some e
     (line : Text)
     × (IsFalse (is_failed end) → IsEndIn false language comment telling line end
     × IsNextLine bytes line rest)
-    × SaysOf (is_first && has_mark line) telling origin end before behind
+    × SaysOf (is_first && has_mark line) language telling origin (text_in false line) end before behind

@@ -3,9 +3,12 @@
 ghost use Rattle.std.specs.Prelude.{◌≡◌, List, IfOk, OnOk};
 ghost use Rattle.std.specs.Io.KnownBytes.{Appends};
 ghost use Rattle.timefd_component.specs.Tree.{Tree};
+ghost use Rattle.timefd_drawing.specs.Drawing as drawing;
 ghost use Rattle.timefd_language.specs.Grammar.{nesting_limit};
 ghost use Rattle.timefd_parse.specs.Language.{SpellsIn};
 ghost use Rattle.timefd_lint_sources.specs.Judged.{found_by};
+ghost use Rattle.timefd_lint_sources.specs.Told.{no_text_note};
+ghost use Rattle.timefd_lint.specs.declared.line.TextEnd.TheVariants as ends;
 ghost use Rattle.timefd_lint.specs.Lines.{IsEndOf, IsLineEnd};
 ghost use Rattle.timefd_lint.specs.Told.{Says, WritesTree};
 
@@ -13,7 +16,7 @@ use crate::options::Options;
 use std::alloc::{AllocError, Global};
 use std::io::Write;
 use std::str;
-use timefd_diagnosis::diagnose;
+use timefd_diagnosis::{Diagnostic, diagnose};
 use timefd_drawing::{Origin, drawn, note};
 use timefd_explain::explained;
 use timefd_lint_warnings::{found_in, messages};
@@ -62,8 +65,8 @@ pub fn lint_line<W: Write>(
 ) -> Result<TextEnd, RunError>
     ensures end { IfOk result (IsLineEnd options.entry.language options.entry.comment
         options.entry.telling line.now) }
-    ensures said { IfOk result (λ end.
-        Says options.entry.telling origin.entry end (W.contents writer.old) (W.contents writer.new)) }
+    ensures said { IfOk result (λ end. Says options.entry.language options.entry.telling origin.entry
+        line.now end (W.contents writer.old) (W.contents writer.new)) }
 {
     if is_passed_over(options.comment, line) {
         return Ok(TextEnd::PassedOver);
@@ -72,7 +75,7 @@ pub fn lint_line<W: Write>(
 }
 
 /// Looks at a text, and writes what is wrong with it. An `Err` says why that wasn't done.
-#[tactic(auto, using(crate::proofs::AcceptedLemmas::end_of_bytes))]
+#[tactic(auto, using(crate::proofs::TextLemmas::end_of_bytes, crate::proofs::TextLemmas::said_of_bytes, crate::proofs::TextLemmas::no_text_is, crate::proofs::TextLemmas::no_text_said))]
 pub fn lint_text<W: Write>(
     alloc: Global,
     options: Options<'_>,
@@ -81,28 +84,72 @@ pub fn lint_text<W: Write>(
     writer: &mut W,
 ) -> Result<TextEnd, RunError>
     ensures end { IfOk result (IsEndOf options.entry.language options.entry.telling bytes.now) }
-    ensures said { IfOk result (λ end.
-        Says options.entry.telling origin.entry end (W.contents writer.old) (W.contents writer.new)) }
+    ensures said { IfOk result (λ end. Says options.entry.language options.entry.telling origin.entry
+        bytes.now end (W.contents writer.old) (W.contents writer.new)) }
 {
-    let Ok(text) = str::from_utf8(bytes) else {
-        let message = note(
-            alloc,
-            options.telling.style,
-            origin,
-            "not-text",
-            "the bytes are no UTF-8",
-        )?;
-        write(writer, &message)?;
-        return Ok(TextEnd::NotText);
-    };
+    match str::from_utf8(bytes) {
+        Ok(text) => judged(alloc, options, origin, text, writer),
+        Err(_) => not_text(alloc, options, origin, writer),
+    }
+}
+
+// Looks at a text that is UTF-8.
+#[tactic(auto, using(crate::proofs::TextLemmas::with_list, crate::proofs::TextLemmas::with_fault, crate::proofs::TextLemmas::fault_said))]
+fn judged<W: Write>(
+    alloc: Global,
+    options: Options<'_>,
+    origin: Origin<'_>,
+    text: &str,
+    writer: &mut W,
+) -> Result<TextEnd, RunError>
+    ensures end { IfOk result (IsEndOf options.entry.language options.entry.telling text.now) }
+    ensures said { IfOk result (λ end. Says options.entry.language options.entry.telling origin.entry
+        text.now end (W.contents writer.old) (W.contents writer.new)) }
+{
     match diagnose(alloc, options.language, text)? {
         None => accepted(alloc, options, origin, text, writer),
-        Some(diagnostic) => {
-            let message = drawn(alloc, options.telling.style, origin, text, &diagnostic)?;
-            write(writer, &message)?;
-            Ok(TextEnd::Refused)
-        }
+        Some(diagnostic) => refused(alloc, options, origin, text, diagnostic, writer),
     }
+}
+
+// Writes what is wrong with a text that is refused.
+fn refused<W: Write>(
+    alloc: Global,
+    options: Options<'_>,
+    origin: Origin<'_>,
+    text: &str,
+    diagnostic: Diagnostic,
+    writer: &mut W,
+) -> Result<TextEnd, RunError>
+    ensures end { IfOk result (λ end. end ≡ ends.Refused) }
+    ensures written { OnOk result (Appends (W.contents writer.old) (W.contents writer.new)
+        (drawing.drawn options.entry.telling.style origin.entry text.now diagnostic)) }
+{
+    let message = drawn(alloc, options.telling.style, origin, text, &diagnostic)?;
+    write(writer, &message)?;
+    Ok(TextEnd::Refused)
+}
+
+// Notes that a text is no UTF-8.
+fn not_text<W: Write>(
+    alloc: Global,
+    options: Options<'_>,
+    origin: Origin<'_>,
+    writer: &mut W,
+) -> Result<TextEnd, RunError>
+    ensures end { IfOk result (λ end. end ≡ ends.NotText) }
+    ensures written { OnOk result (Appends (W.contents writer.old) (W.contents writer.new)
+        (no_text_note options.entry.telling.style origin.entry)) }
+{
+    let message = note(
+        alloc,
+        options.telling.style,
+        origin,
+        "not-text",
+        "the bytes are no UTF-8",
+    )?;
+    write(writer, &message)?;
+    Ok(TextEnd::NotText)
 }
 
 // Writes of a text that is accepted its tree, if it is asked for, and the warnings that are told.
@@ -115,8 +162,8 @@ fn accepted<W: Write>(
 ) -> Result<TextEnd, RunError>
     ensures end { (list : List Tree) → SpellsIn options.entry.language nesting_limit text.now list
         → IfOk result (IsEndOf options.entry.language options.entry.telling text.now) }
-    ensures said { IfOk result (λ end.
-        Says options.entry.telling origin.entry end (W.contents writer.old) (W.contents writer.new)) }
+    ensures said { IfOk result (λ end. Says options.entry.language options.entry.telling origin.entry
+        text.now end (W.contents writer.old) (W.contents writer.new)) }
 {
     write_tree(alloc, options, origin, text, writer)?;
     let found = warnings_of(alloc, options.telling.levels, options.language, text)?;

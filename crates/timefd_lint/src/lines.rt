@@ -3,7 +3,7 @@
 ghost use Rattle.std.specs.Prelude.{◌≡◌, IfOk, OnOk};
 ghost use Rattle.std.specs.Io.KnownBytes.{Appends};
 ghost use Rattle.timefd_lint.specs.Failures.{note_of};
-ghost use Rattle.timefd_lint.specs.Told.{IsNext, IsRunOfAll, IsRunOver, Says, place};
+ghost use Rattle.timefd_lint.specs.Told.{IsNext, IsRunOfAll, IsRunOver, SaysFailed};
 ghost use Rattle.timefd_lint.specs.declared.line.TextEnd.TheVariants as ends;
 
 use crate::failure::{Failure, unread};
@@ -109,6 +109,7 @@ pub fn lint_whole<R: Read, W: Write>(
 }
 
 /// Memory that runs out in a read ends the run; any other error is noted.
+#[tactic(auto, using(crate::proofs::ToldLemmas::says_failed))]
 pub fn read_error<W: Write>(
     alloc: Global,
     options: Options<'_>,
@@ -117,8 +118,8 @@ pub fn read_error<W: Write>(
     writer: &mut W,
 ) -> Result<TextEnd, RunError>
     ensures end { IfOk result (λ end. end ≡ ends.Failed) }
-    ensures said { IfOk result (λ end.
-        Says options.entry.telling (place name.entry 1) end (W.contents writer.old) (W.contents writer.new)) }
+    ensures said { OnOk result (SaysFailed options.entry.telling.style name.entry
+        (W.contents writer.old) (W.contents writer.new)) }
 {
     if error.kind() == ErrorKind::OutOfMemory {
         return Err(RunError::Memory);
@@ -135,8 +136,6 @@ pub fn failed<W: Write>(
     writer: &mut W,
 ) -> Result<TextEnd, RunError>
     ensures end { IfOk result (λ end. end ≡ ends.Failed) }
-    ensures said { IfOk result (λ end.
-        Says options.entry.telling (place name.entry 1) end (W.contents writer.old) (W.contents writer.new)) }
     ensures noted { OnOk result (Appends (W.contents writer.old) (W.contents writer.new)
         (note_of options.entry.telling.style name.entry failure)) }
 {

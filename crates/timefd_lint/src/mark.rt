@@ -1,7 +1,9 @@
 //! A byte-order mark at the front of a file.
 
-ghost use Rattle.std.specs.Prelude.{◌≡◌, ◌≢◌, ◌&&◌, [], IfOk, OnOk};
+ghost use Rattle.std.specs.Prelude.{◌≡◌, ◌&&◌, IfOk, OnOk, string_bytes};
+ghost use Rattle.timefd_drawing.specs.Lines as drawing;
 ghost use Rattle.timefd_lint.specs.Marks.{Notes, has_mark};
+ghost use Rattle.timefd_lint.specs.Marks as spec;
 
 use crate::line::{RunError, write};
 use crate::options::Options;
@@ -25,6 +27,7 @@ fn begins_with_mark(text: &[u8]) -> bool
 }
 
 /// Notes the mark at the front of a text, if it is the first of its file.
+#[tactic(auto, using(crate::proofs::MarkLemmas::noted, crate::proofs::MarkLemmas::not_noted))]
 pub fn note_mark<W: Write>(
     alloc: Global,
     options: Options<'_>,
@@ -33,8 +36,8 @@ pub fn note_mark<W: Write>(
     text: &[u8],
     writer: &mut W,
 ) -> Result<(), RunError>
-    ensures { OnOk result
-        (Notes (is_first && has_mark text.now) (W.contents writer.old) (W.contents writer.new)) }
+    ensures { OnOk result (Notes (is_first && has_mark text.now) options.entry.telling.style
+        origin.entry (W.contents writer.old) (W.contents writer.new)) }
 {
     if is_first && begins_with_mark(text) {
         let message = warning(alloc, options.telling.style, origin)?;
@@ -45,40 +48,70 @@ pub fn note_mark<W: Write>(
 
 // The note in the form that is asked for.
 fn warning(alloc: Global, style: Style, origin: Origin<'_>) -> Result<Vec<u8>, AllocError>
-    ensures { IfOk result (λ message. message.items ≢ []) }
+    ensures { IfOk result (λ message. message.items ≡ spec.mark_note style origin.entry) }
 {
-    match style.format {
-        Format::Human => drawn_warning(alloc, style.is_colored, origin),
-        Format::Github => annotation(alloc, Command::Warning, entry_at(origin)),
-        Format::Json => note_object(alloc, entry_at(origin), "warning"),
-        Format::Short => note(alloc, style, origin, CODE, SENTENCE),
-    }
-}
-
-fn entry_at<'a>(origin: Origin<'a>) -> Entry<'a> {
-    Entry {
+    let entry = Entry {
         code: CODE,
         file: origin.file,
         line: origin.line,
         column: 1,
         message: SENTENCE,
+    };
+    match style.format {
+        Format::Human => {
+            let drawing = human(alloc, style.is_colored, origin)?;
+            Ok(drawing.into_bytes())
+        }
+        Format::Github => annotation(alloc, Command::Warning, entry),
+        Format::Json => note_object(alloc, entry, "warning"),
+        Format::Short => note(alloc, style, origin, CODE, SENTENCE),
     }
 }
 
-fn drawn_warning(alloc: Global, is_colored: bool, origin: Origin<'_>) -> Result<Vec<u8>, AllocError>
-    ensures { IfOk result (λ message. message.items ≢ []) }
+fn human(alloc: Global, is_colored: bool, origin: Origin<'_>) -> Result<String, AllocError>
+    ensures { IfOk result (λ drawing. string_bytes drawing
+        ≡ spec.human_note is_colored origin.entry) }
 {
+    let head = head(alloc, is_colored, CODE, SENTENCE)?;
+    let place = place(alloc, is_colored, origin)?;
+    format!(in alloc; "{head}{place}\n")
+}
+
+// `warning[CODE]: SENTENCE`
+fn head(alloc: Global, is_colored: bool, code: &str, sentence: &str) -> Result<String, AllocError>
+    ensures { IfOk result (λ line. string_bytes line ≡ spec.head is_colored code.now sentence.now) }
+{
+    let (yellow, plain) = (yellow(is_colored), plain(is_colored));
+    format!(in alloc; "{yellow}warning[{code}]{plain}: {sentence}\n")
+}
+
+// `--> FILE:LINE:1`
+fn place(alloc: Global, is_colored: bool, origin: Origin<'_>) -> Result<String, AllocError>
+    ensures { IfOk result (λ line. string_bytes line ≡ spec.place is_colored origin.entry) }
+{
+    let (blue, plain) = (blue(is_colored), plain(is_colored));
     let file = safe(alloc, origin.file)?;
     let line = origin.line;
-    let (yellow, blue, plain) = if is_colored {
-        ("\x1b[1;33m", "\x1b[1;36m", "\x1b[0m")
-    } else {
-        ("", "", "")
-    };
-    let text = format!(in alloc;
-        "{yellow}warning[{CODE}]{plain}: {SENTENCE}\n {blue}-->{plain} {file}:{line}:1\n"
-    )?;
-    let mut bytes = text.into_bytes();
-    bytes.extend_from_slice(b"\n")?;
-    Ok(bytes)
+    format!(in alloc; " {blue}-->{plain} {file}:{line}:1\n")
+}
+
+// What is put in front of what is yellow.
+fn yellow(is_colored: bool) -> &'static str
+    ensures { result.now ≡ spec.yellow is_colored }
+{
+    if is_colored { "\u{1B}[1;33m" } else { "" }
+}
+
+// What is put in front of what is blue.
+fn blue(is_colored: bool) -> &'static str
+    ensures { result.now ≡ drawing.blue is_colored }
+{
+    if is_colored { "\u{1B}[1;36m" } else { "" }
+}
+
+// What is put behind both.
+fn plain(is_colored: bool) -> &'static str
+    ensures { result.now ≡ drawing.plain is_colored }
+{
+    if is_colored { "\u{1B}[0m" } else { "" }
 }

@@ -3,6 +3,7 @@ use Rattle.std.specs.Prelude.{ℕ, ◌≡◌, Bool, List, [], ◌∷◌, ◌++�
 use Rattle.timefd_component.specs.Tree.{Text}
 use Rattle.timefd_fault.specs.Faults.{fault_of}
 use Rattle.timefd_language.specs.Grammar.{nesting_limit}
+use Rattle.timefd_parse.specs.declared.language.Language.{Language}
 use Rattle.timefd_parse.specs.Language.{FaultIn}
 use Rattle.timefd_diagnosis.specs.declared.diagnostic.Diagnostic.{Diagnostic}
 use Rattle.timefd_diagnosis.specs.Diagnoses.{IsDiagnosis}
@@ -40,10 +41,10 @@ placed_in d g = record {
   help = g.help;
 }
 
--- of the description's one fault
-pub record IsDiagnosed (d : Description) (g : Diagnostic) : Type 0 where
-  pub fault : FaultIn (language_in d) nesting_limit (text_of d) (fault_of g.fault)
-  pub diagnosis : IsDiagnosis (language_in d) (text_of d) g
+-- of the one fault of a text
+pub record IsDiagnosed (language : Language) (text : Text) (g : Diagnostic) : Type 0 where
+  pub fault : FaultIn language nesting_limit text (fault_of g.fault)
+  pub diagnosis : IsDiagnosis language text g
 
 -- A tree where it is asked for, and else nothing.
 abbrev pub IsTree : Bool → Text → Type 0
@@ -60,11 +61,15 @@ abbrev pub drawing_of : Style → Source → Description → Diagnostic → Text
 drawing_of style s d g = drawn style (whole_origin s) s.text.now (placed_in d g)
 
 abbrev pub IsDrawing : Style → Source → Description → Text → Type 0
-IsDrawing style s d message = (g : Diagnostic) × IsDiagnosed d g × (message ≡ drawing_of style s d g)
+IsDrawing style s d message = (g : Diagnostic) × IsDiagnosed (language_in d) (text_of d) g
+    × (message ≡ drawing_of style s d g)
 
 -- and of one that is no UTF-8 a note in the line of its literal
+abbrev pub no_text_note : Style → Origin → Text
+no_text_note style origin = note style origin (codes "not-text") (codes "the bytes are no UTF-8")
+
 abbrev pub note_of : Style → Source → Description → Text
-note_of style s d = note style (origin_of s d) (codes "not-text") (codes "the bytes are no UTF-8")
+note_of style s d = no_text_note style (origin_of s d)
 
 abbrev pub IsMessageOn : Telling → Source → Description → End → Text → Type 0
 IsMessageOn telling s d PassedOver message = message ≡ []

@@ -9,7 +9,8 @@ returns-clause-end g c = λ list spelled.
 
 pub returns-clause-said : goal.returns-clause-said
 returns-clause-said g c =
-    tree_and_warnings c.args.options.telling c.args.origin c.in_ok-found.found
+    tree_and_warnings c.args.options.language c.args.options.telling c.args.origin c.args.text.now
+    c.in_ok-found.found
     (g.W.Write.contents c.args.writer.now) (g.W.Write.contents c.write_tree.new.writer)
     (g.W.Write.contents c.write.new.writer) c.deref.result.now c.in_ok-write_tree.ensures
     (c.deref.ensures.value ∙ c.in_ok-told.ensures) c.in_ok-write.ensures

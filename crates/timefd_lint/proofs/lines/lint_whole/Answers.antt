@@ -17,9 +17,9 @@ returns-in-Ok g c =
     c.new-bytes.result.items c.read_to_end.new.buf.items text before behind c.in_ok-end-in-Ok.end
     c.of.result c.in-Ok.ensures.bytes c.in-Ok.ensures.end c.new-bytes.ensures.items
     c.deref-in-Ok.ensures.value c.in_ok-end-in-Ok.ensures.end
-    (notes_and_says (has_mark text) c.args.options.telling origin c.in_ok-end-in-Ok.end before between
-    behind
-    (subst (λ t. Notes (has_mark t) before between)
+    (notes_and_says (has_mark text) c.args.options.language c.args.options.telling origin text
+    c.in_ok-end-in-Ok.end before between behind
+    (subst (λ t. Notes (has_mark t) c.args.options.telling.style origin before between)
     (c.deref.ensures.value ∙ sym c.deref-in-Ok.ensures.value) c.in_ok-note_mark-in-Ok.ensures)
     c.in_ok-end-in-Ok.ensures.said)
     c.of.ensures (refl, refl)
