@@ -1,5 +1,5 @@
 -- What is written against a fault.
-use Rattle.std.specs.Prelude.{ℕ, ◌≡◌, ◌++◌, codes, Option, Some, None, MatchOption, take, drop, ⊤}
+use Rattle.std.specs.Prelude.{ℕ, ◌≡◌, ◌++◌, codes, Option, Some, None, MatchOption, take, drop, nat_lt, ⊤, ◌⊎◌, if◌then◌else◌}
 use Rattle.std.specs.Str.{IsCharBoundary}
 use Rattle.timefd_component.specs.Tree.{Text}
 use Rattle.timefd_fault.specs.Faults.{fault_of}
@@ -51,10 +51,17 @@ word_instead All help = nearest_in help
 abbrev pub edited : Text → ℕ → ℕ → Text → Text
 edited text start end word = take start text ++ word ++ drop end text
 
--- the same of a diagnostic
+-- The edit can't be made, since the second index lies inside of a character, or it changes nothing.
+abbrev pub IsNoEdit : Text → ℕ → ℕ → Text → Type 0
+IsNoEdit text start end word = (¬ IsCharBoundary text end) ⊎ (edited text start end word ≡ text)
 
+-- what is written against a diagnostic
+
+-- No mark is written where nothing is at fault, as behind a flag of strftime that ends the text.
 abbrev pub mark_for : Language → Fixes → Diagnostic → Option Text
-mark_for language fixes d = mark_before language fixes (code_of (fault_of d.fault).kind)
+mark_for language fixes d =
+    if nat_lt d.span.start d.span.end
+    then mark_before language fixes (code_of (fault_of d.fault).kind) else None
 
 abbrev pub word_for : Fixes → Diagnostic → Option Text
 word_for fixes d = word_instead fixes d.help
@@ -66,9 +73,8 @@ IsCured language fixes text d after =
     (MatchOption (word_for fixes d) ⊥ (λ word. after ≡ edited text d.span.start d.span.end word))
     (λ mark. after ≡ edited text d.span.start d.span.start mark)
 
--- No cure may be written: there is neither mark nor word, or what is at fault ends inside of a
--- character.
+-- No cure may be written: there is neither mark nor word, or the word is no edit.
 abbrev pub IsIncurable : Language → Fixes → Text → Diagnostic → Type 0
 IsIncurable language fixes text d =
     (mark_for language fixes d ≡ None)
-    × MatchOption (word_for fixes d) ⊤ (λ word. ¬ IsCharBoundary text d.span.end)
+    × MatchOption (word_for fixes d) ⊤ (λ word. IsNoEdit text d.span.start d.span.end word)

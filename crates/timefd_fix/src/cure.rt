@@ -24,12 +24,24 @@ pub fn cured(
         (λ after. spec.IsCured language fixes text.now diagnostic.now (string_bytes after))) }
 {
     let span = diagnostic.span;
-    match mark_before(language, fixes, Code::of(&diagnostic.fault)) {
+    match mark_for(language, fixes, diagnostic) {
         Some(mark) => edited(alloc, text, span.start, span.start, mark),
         None => match word_instead(fixes, diagnostic.help) {
-            Some(word) => edited(alloc, text, span.start, span.end, word),
+            Some(word) => replaced(alloc, text, span.start, span.end, word),
             None => Ok(None),
         },
+    }
+}
+
+// What is written in front of what is at fault, if there is anything.
+fn mark_for(language: Language, fixes: Fixes, diagnostic: &Diagnostic) -> Option<&'static str>
+    ensures { option_map (λ mark. mark.now) result ≡ spec.mark_for language fixes diagnostic.now }
+{
+    let span = diagnostic.span;
+    if span.start < span.end {
+        mark_before(language, fixes, Code::of(&diagnostic.fault))
+    } else {
+        None
     }
 }
 
@@ -78,6 +90,31 @@ fn word_instead(fixes: Fixes, help: Help) -> Option<&'static str>
     match fixes {
         Fixes::Sure => None,
         Fixes::All => help.nearest(),
+    }
+}
+
+// A text with a word in the place of what is at fault: `None` also where it stands there already.
+#[tactic(auto, using(crate::proofs::CureLemmas::same_edit))]
+fn replaced(
+    alloc: Global,
+    text: &str,
+    start: usize,
+    end: usize,
+    word: &str,
+) -> Result<Option<String>, AllocError>
+    requires { IsCharBoundary text.now start }
+    ensures { IfOk result (λ found. MatchOption found (spec.IsNoEdit text.now start end word.now)
+        (λ after. string_bytes after ≡ spec.edited text.now start end word.now)) }
+{
+    match edited(alloc, text, start, end, word) {
+        Ok(Some(after)) => {
+            if after.as_str() == text {
+                return Ok(None);
+            }
+            Ok(Some(after))
+        }
+        Ok(None) => Ok(None),
+        Err(error) => Err(error),
     }
 }
 

@@ -59,6 +59,7 @@ const LEFT: &[(Language, Fixes, &str)] = &[
     (THREE, Fixes::Sure, "a] [day"),
     (Language::Strftime, Fixes::Sure, "%"),
     (Language::Strftime, Fixes::All, "%Q"),
+    (Language::Strftime, Fixes::All, "%-"),
     (Language::Strftime, Fixes::All, "%Od"),
     (THREE, Fixes::All, "[wxyz]"),
     (THREE, Fixes::All, "[optionl [day]]"),
@@ -66,6 +67,7 @@ const LEFT: &[(Language, Fixes, &str)] = &[
     (THREE, Fixes::All, "[optional [a] [b]]"),
     (THREE, Fixes::All, "[day padding:zero padding:none]"),
     (THREE, Fixes::All, "[ignore]"),
+    (THREE, Fixes::All, "[day padding]"),
 ];
 
 fn expect_mended(
