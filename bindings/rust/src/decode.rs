@@ -9,40 +9,36 @@ use crate::sys::RawNode;
 
 /// The component of a node. `None` where the numbers name none, which the library never answers.
 pub(crate) fn component(node: &RawNode) -> Option<Component> {
-    match node.component {
-        1 | 4 | 5 | 10..=12 | 21..=25 | 27 | 30 | 31 => padded(node),
-        13..=20 | 29 => padded_with_sign(node),
-        2 | 3 | 6 | 7 | 26 => named(node),
-        8 | 9 => numbered_weekday(node),
-        33..=36 => unix_timestamp(node),
-        _ => other(node),
-    }
+    if node.component <= 22 { of_date(node) } else { of_time(node) }
 }
 
-/// The components with no modifier but the padding.
-fn padded(node: &RawNode) -> Option<Component> {
-    let padding = Padding::from_number(node.padding)?;
+/// The parts of a date.
+fn of_date(node: &RawNode) -> Option<Component> {
+    let padding = || Padding::from_number(node.padding);
+    let case_sensitive = || boolean(node.case_sensitive);
+    let one_indexed = || boolean(node.one_indexed);
     Some(match node.component {
-        1 => Component::Day { padding },
-        4 => Component::MonthNumerical { padding },
-        5 => Component::Ordinal { padding },
-        10 => Component::WeekNumberIso { padding },
-        11 => Component::WeekNumberSunday { padding },
-        12 => Component::WeekNumberMonday { padding },
-        21 => Component::CalendarYearLastTwo { padding },
-        22 => Component::IsoYearLastTwo { padding },
-        23 => Component::Hour12 { padding },
-        24 => Component::Hour24 { padding },
-        25 => Component::Minute { padding },
-        27 => Component::Second { padding },
-        30 => Component::OffsetMinute { padding },
-        31 => Component::OffsetSecond { padding },
+        1 => Component::Day { padding: padding()? },
+        2 => Component::MonthShort { case_sensitive: case_sensitive()? },
+        3 => Component::MonthLong { case_sensitive: case_sensitive()? },
+        4 => Component::MonthNumerical { padding: padding()? },
+        5 => Component::Ordinal { padding: padding()? },
+        6 => Component::WeekdayShort { case_sensitive: case_sensitive()? },
+        7 => Component::WeekdayLong { case_sensitive: case_sensitive()? },
+        8 => Component::WeekdaySunday { one_indexed: one_indexed()? },
+        9 => Component::WeekdayMonday { one_indexed: one_indexed()? },
+        10 => Component::WeekNumberIso { padding: padding()? },
+        11 => Component::WeekNumberSunday { padding: padding()? },
+        12 => Component::WeekNumberMonday { padding: padding()? },
+        13..=20 => return year(node),
+        21 => Component::CalendarYearLastTwo { padding: padding()? },
+        22 => Component::IsoYearLastTwo { padding: padding()? },
         _ => return None,
     })
 }
 
-/// The years and the hours of the offset.
-fn padded_with_sign(node: &RawNode) -> Option<Component> {
+/// The years that may have a sign.
+fn year(node: &RawNode) -> Option<Component> {
     let padding = Padding::from_number(node.padding)?;
     let sign_is_mandatory = boolean(node.sign_is_mandatory)?;
     Some(match node.component {
@@ -54,53 +50,36 @@ fn padded_with_sign(node: &RawNode) -> Option<Component> {
         18 => Component::IsoYearFullStandardRange { padding, sign_is_mandatory },
         19 => Component::IsoYearCenturyExtendedRange { padding, sign_is_mandatory },
         20 => Component::IsoYearCenturyStandardRange { padding, sign_is_mandatory },
-        29 => Component::OffsetHour { sign_is_mandatory, padding },
         _ => return None,
     })
 }
 
-/// The names of months and days.
-fn named(node: &RawNode) -> Option<Component> {
-    let case_sensitive = boolean(node.case_sensitive)?;
+/// The parts of a time and of its offset, timestamps, and what stands for no part.
+fn of_time(node: &RawNode) -> Option<Component> {
+    let padding = || Padding::from_number(node.padding);
+    let sign_is_mandatory = || boolean(node.sign_is_mandatory);
     Some(match node.component {
-        2 => Component::MonthShort { case_sensitive },
-        3 => Component::MonthLong { case_sensitive },
-        6 => Component::WeekdayShort { case_sensitive },
-        7 => Component::WeekdayLong { case_sensitive },
-        26 => Component::Period { is_uppercase: boolean(node.is_uppercase)?, case_sensitive },
-        _ => return None,
-    })
-}
-
-/// The days of the week by their numbers.
-fn numbered_weekday(node: &RawNode) -> Option<Component> {
-    let one_indexed = boolean(node.one_indexed)?;
-    Some(match node.component {
-        8 => Component::WeekdaySunday { one_indexed },
-        9 => Component::WeekdayMonday { one_indexed },
-        _ => return None,
-    })
-}
-
-/// The Unix timestamps.
-fn unix_timestamp(node: &RawNode) -> Option<Component> {
-    let sign_is_mandatory = boolean(node.sign_is_mandatory)?;
-    Some(match node.component {
-        33 => Component::UnixTimestampSecond { sign_is_mandatory },
-        34 => Component::UnixTimestampMillisecond { sign_is_mandatory },
-        35 => Component::UnixTimestampMicrosecond { sign_is_mandatory },
-        36 => Component::UnixTimestampNanosecond { sign_is_mandatory },
-        _ => return None,
-    })
-}
-
-/// The components whose modifier no other has.
-fn other(node: &RawNode) -> Option<Component> {
-    Some(match node.component {
+        23 => Component::Hour12 { padding: padding()? },
+        24 => Component::Hour24 { padding: padding()? },
+        25 => Component::Minute { padding: padding()? },
+        26 => Component::Period {
+            is_uppercase: boolean(node.is_uppercase)?,
+            case_sensitive: boolean(node.case_sensitive)?,
+        },
+        27 => Component::Second { padding: padding()? },
         28 => Component::Subsecond { digits: SubsecondDigits::from_number(node.digits)? },
+        29 => {
+            Component::OffsetHour { sign_is_mandatory: sign_is_mandatory()?, padding: padding()? }
+        }
+        30 => Component::OffsetMinute { padding: padding()? },
+        31 => Component::OffsetSecond { padding: padding()? },
         32 => {
             Component::Ignore { count: u16::try_from(node.ignored).ok().and_then(NonZeroU16::new)? }
         }
+        33 => Component::UnixTimestampSecond { sign_is_mandatory: sign_is_mandatory()? },
+        34 => Component::UnixTimestampMillisecond { sign_is_mandatory: sign_is_mandatory()? },
+        35 => Component::UnixTimestampMicrosecond { sign_is_mandatory: sign_is_mandatory()? },
+        36 => Component::UnixTimestampNanosecond { sign_is_mandatory: sign_is_mandatory()? },
         37 => Component::End { trailing_input: TrailingInput::from_number(node.trailing_input)? },
         _ => return None,
     })

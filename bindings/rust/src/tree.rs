@@ -22,6 +22,11 @@ pub(crate) struct Record<'a> {
     pub(crate) next: u32,
 }
 
+impl Record<'_> {
+    /// What stands for a node that is none.
+    const NONE: Self = Self { content: Content::Literal(""), bytes: 0, begin: 0, next: 0 };
+}
+
 /// What a node is.
 #[derive(Debug, Clone, Copy, PartialEq, Eq, Hash)]
 pub(crate) enum Content<'a> {
@@ -76,11 +81,16 @@ impl<'a> Tree<'a> {
         let mut records = Vec::new();
         records.try_reserve_exact(nodes.len()).map_err(|_| BuildError::OutOfMemory)?;
         let mut literals = literals;
-        let mut is_flat = true;
-        for (index, node) in (0..).zip(nodes) {
-            let record = record(index, node, &mut literals).ok_or(BuildError::Malformed)?;
-            is_flat &= !matches!(record.content, Content::Markup(Markup::Nested(..)));
-            records.push(record);
+        let (mut is_flat, mut is_sound) = (true, true);
+        records.extend((0..).zip(nodes).map(|(index, node)| {
+            is_flat &= node.what == LITERAL || node.what == COMPONENT;
+            record(index, node, &mut literals).unwrap_or_else(|| {
+                is_sound = false;
+                Record::NONE
+            })
+        }));
+        if !is_sound {
+            return Err(BuildError::Malformed);
         }
         if is_flat {
             if let Some(last) = records.last_mut() {
