@@ -9,3 +9,4 @@ pub mod EditLemmas
 pub mod DistanceLemmas
 pub mod LackingLemmas
 pub mod ModifierPlaceLemmas
+pub mod FurtherLemmas

@@ -2,7 +2,9 @@
 use Rattle.std.specs.Prelude.{◌≡◌}
 use Rattle.timefd_component.specs.Tree.{Text}
 use Rattle.timefd_fault.specs.Faults.{Fault, fault_of, index}
+use Rattle.timefd_language.specs.Grammar.{nesting_limit}
 use Rattle.timefd_parse.specs.declared.language.Language.{Language}
+use Rattle.timefd_parse.specs.Language.{FaultIn}
 use Rattle.timefd_diagnosis.specs.declared.diagnostic.Diagnostic.{Diagnostic}
 use Rattle.timefd_diagnosis.specs.Helps.{IsHelpFor}
 use Rattle.timefd_diagnosis.specs.Spans.{end_of}
@@ -17,3 +19,8 @@ pub record IsDiagnosis (language : Language) (text : Text) (d : Diagnostic) : Ty
   pub start : d.span.start ≡ index d.fault
   pub end : d.span.end ≡ end_of language text (fault_of d.fault)
   pub help : IsHelpFor language text (fault_of d.fault) d.help
+
+-- It is of the one fault of a text.
+pub record IsDiagnosed (language : Language) (text : Text) (d : Diagnostic) : Type 0 where
+  pub fault : FaultIn language nesting_limit text (fault_of d.fault)
+  pub diagnosis : IsDiagnosis language text d

@@ -7,4 +7,5 @@ pub mod Codes
 pub mod Advice
 pub mod Helps
 pub mod Diagnoses
+pub mod Further
 pub mod Laws

@@ -5,6 +5,7 @@
 mod code;
 mod cure;
 mod diagnostic;
+mod further;
 mod help;
 pub mod laws;
 mod lent;
@@ -15,5 +16,6 @@ pub mod words;
 
 pub use code::{Code, code_of, names_differ};
 pub use diagnostic::{Diagnostic, diagnose};
+pub use further::{MOST_FURTHER, further_faults};
 pub use help::{Help, help_against};
 pub use span::{Extent, Span, borrowed_span_of, span_of};

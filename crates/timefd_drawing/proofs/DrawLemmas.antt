@@ -1,6 +1,6 @@
 -- A diagnostic as an object: its parts are those of the diagnostic.
 use Rattle.std.proofs.Common.{ℕ, ◌≡◌, refl}
-use Rattle.std.specs.Prelude.{Option}
+use Rattle.std.specs.Prelude.{Bool, Option}
 use Rattle.timefd_component.specs.Tree.{Text}
 use Rattle.timefd_fault.specs.Sentences.{error_sentence}
 use Rattle.timefd_diagnosis.specs.declared.diagnostic.Diagnostic.{Diagnostic}
@@ -11,10 +11,11 @@ use Rattle.timefd_drawing.specs.HelpText.{help_text}
 use Rattle.timefd_drawing.specs.Json.{object}
 use Rattle.timefd_drawing.specs.Positions.{line_number, column}
 
-pub drawn_json : (origin : Origin) (text : Text) (d : Diagnostic)
+pub drawn_json : (further : Bool) (origin : Origin) (text : Text) (d : Diagnostic)
     {name message help : Text} {line place : ℕ} {word : Option Text}
     → name ≡ code d → line ≡ line_number origin.line text d.span.start
     → place ≡ column text d.span.start → message ≡ error_sentence d.fault
     → help ≡ help_text d.help → word ≡ nearest_in d.help
-    → object name origin.file.now line place message d.span.start d.span.end help word ≡ json origin text d
-drawn_json origin text d c l k m h w = rw c (rw l (rw k (rw m (rw h (rw w refl)))))
+    → object further name origin.file.now line place message d.span.start d.span.end help word
+    ≡ json further origin text d
+drawn_json further origin text d c l k m h w = rw c (rw l (rw k (rw m (rw h (rw w refl)))))

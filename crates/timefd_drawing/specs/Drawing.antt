@@ -1,5 +1,5 @@
 -- A diagnostic as it is written.
-use Rattle.std.specs.Prelude.{ℕ, Bool, false, ◌++◌, chars, codes, decimal, length, max}
+use Rattle.std.specs.Prelude.{ℕ, Bool, true, false, List, ◌++◌, chars, codes, decimal, flat_map, length, max}
 use Rattle.std.specs.List.{repeat}
 use Rattle.unicode_width.specs.Width.{str_width}
 use Rattle.timefd_component.specs.Tree.{Text}
@@ -16,9 +16,9 @@ use Rattle.timefd_drawing.specs.declared.position.Origin.{Origin}
 use Rattle.timefd_drawing.specs.Github.{annotation}
 use Rattle.timefd_drawing.specs.HelpText.{help_text}
 use Rattle.timefd_drawing.specs.Json.{object, note_object}
-use Rattle.timefd_drawing.specs.Lines.{error_line, place_line, bar_line, text_line, caret_line, help_line, short_line}
+use Rattle.timefd_drawing.specs.Lines.{error_line, place_line, bar_line, text_line, caret_line, help_lines, short_line}
 use Rattle.timefd_drawing.specs.Positions.{line_number, column, before, spanned, after}
-use Rattle.timefd_drawing.specs.Sentence.{shown_sentence}
+use Rattle.timefd_drawing.specs.Sentence.{shown_sentence, told_sentence}
 use Rattle.timefd_drawing.specs.Shown.{cut_end, cut_start, most_shown, safe}
 
 -- as many spaces as the number of the line has digits
@@ -45,43 +45,54 @@ source colored line before at behind =
 abbrev pub code : Diagnostic → Text
 code d = name_of (code_of (fault_of d.fault).kind)
 
-abbrev pub human_at : Bool → Text → ℕ → Text → Diagnostic → Text
-human_at colored file line text d =
+abbrev pub human_at : Bool → Bool → Text → ℕ → Text → Diagnostic → Text
+human_at further colored file line text d =
     error_line colored (code d) (shown_sentence (fault_of d.fault))
     ++ (place_line colored (margin line) file line (column text d.span.start)
     ++ (source colored line (before d.span.start text) (spanned d.span text) (after d.span text)
-    ++ (help_line colored (margin line) (help_text d.help) ++ codes "\n")))
+    ++ (help_lines further colored (margin line) (help_text d.help) ++ codes "\n")))
 
-abbrev pub human : Bool → Origin → Text → Diagnostic → Text
-human colored origin text d =
-    human_at colored origin.file.now (line_number origin.line text d.span.start) text d
+abbrev pub human : Bool → Bool → Origin → Text → Diagnostic → Text
+human further colored origin text d =
+    human_at further colored origin.file.now (line_number origin.line text d.span.start) text d
 
-abbrev pub short : Origin → Text → Diagnostic → Text
-short origin text d =
+abbrev pub short : Bool → Origin → Text → Diagnostic → Text
+short further origin text d =
     short_line origin.file.now (line_number origin.line text d.span.start)
-    (column text d.span.start) (shown_sentence (fault_of d.fault))
+    (column text d.span.start) (told_sentence further (fault_of d.fault))
 
 -- The sentence is whole in an object.
-abbrev pub json : Origin → Text → Diagnostic → Text
-json origin text d =
-    object (code d) origin.file.now (line_number origin.line text d.span.start)
+abbrev pub json : Bool → Origin → Text → Diagnostic → Text
+json further origin text d =
+    object further (code d) origin.file.now (line_number origin.line text d.span.start)
     (column text d.span.start) (error_sentence d.fault) d.span.start d.span.end (help_text d.help)
     (nearest_in d.help)
 
 -- The same place and sentence as in a line for editors, as an error.
-abbrev pub github : Origin → Text → Diagnostic → Text
-github origin text d =
+abbrev pub github : Bool → Origin → Text → Diagnostic → Text
+github further origin text d =
     annotation Error (code d) origin.file.now (line_number origin.line text d.span.start)
-    (column text d.span.start) (shown_sentence (fault_of d.fault))
+    (column text d.span.start) (told_sentence further (fault_of d.fault))
 
-abbrev pub drawn_in : Format → Bool → Origin → Text → Diagnostic → Text
-drawn_in Human colored origin text d = human colored origin text d
-drawn_in Json colored origin text d = json origin text d
-drawn_in Short colored origin text d = short origin text d
-drawn_in Github colored origin text d = github origin text d
+abbrev pub drawn_in : Bool → Format → Bool → Origin → Text → Diagnostic → Text
+drawn_in further Human colored origin text d = human further colored origin text d
+drawn_in further Json colored origin text d = json further origin text d
+drawn_in further Short colored origin text d = short further origin text d
+drawn_in further Github colored origin text d = github further origin text d
 
+abbrev pub drawn_as : Bool → Style → Origin → Text → Diagnostic → Text
+drawn_as further style origin text d = drawn_in further style.format style.is_colored origin text d
+
+-- A first fault is written so, and a further one is marked as such.
 abbrev pub drawn : Style → Origin → Text → Diagnostic → Text
-drawn style origin text d = drawn_in style.format style.is_colored origin text d
+drawn style origin text d = drawn_as false style origin text d
+
+abbrev pub drawn_further : Style → Origin → Text → Diagnostic → Text
+drawn_further style origin text d = drawn_as true style origin text d
+
+abbrev pub drawn_all : Style → Origin → Text → Diagnostic → List Diagnostic → Text
+drawn_all style origin text d further =
+    drawn style origin text d ++ flat_map (drawn_further style origin text) further
 
 abbrev pub human_note : Bool → Text → ℕ → ℕ → Text → Text → Text
 human_note colored file line column code message =

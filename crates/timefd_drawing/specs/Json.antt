@@ -1,5 +1,5 @@
 -- Texts as JSON writes them.
-use Rattle.std.specs.Prelude.{ℕ, ◌+◌, ◌-◌, ◌/◌, ◌%◌, ◌||◌, ◌==◌, [], ◌∷◌, ◌++◌, Option, None, Some, chars, codes, decimal, encode_utf8, flat_map, nat_lt, option_map, if◌then◌else◌}
+use Rattle.std.specs.Prelude.{ℕ, ◌+◌, ◌-◌, ◌/◌, ◌%◌, Bool, true, false, ◌||◌, ◌==◌, [], ◌∷◌, ◌++◌, Option, None, Some, chars, codes, decimal, encode_utf8, flat_map, nat_lt, option_map, if◌then◌else◌}
 use Rattle.std.specs.Char.Escape.{encode_utf16}
 use Rattle.std.specs.Str.{IsUtf8, NonePass}
 use Rattle.timefd_component.specs.Tree.{Text}
@@ -46,11 +46,17 @@ abbrev pub replacement_field : Option Text → Text
 replacement_field None = []
 replacement_field (Some word) = text_field (codes ",\"replacement\":") word
 
+-- said of a further fault alone
+abbrev pub further_field : Bool → Text
+further_field true = codes ",\"further\":true"
+further_field false = []
+
 -- an object on a fault of a text, and one where no text was looked at
-abbrev pub object : Text → Text → ℕ → ℕ → Text → ℕ → ℕ → Text → Option Text → Text
-object code file line column message start end help replacement =
+abbrev pub object : Bool → Text → Text → ℕ → ℕ → Text → ℕ → ℕ → Text → Option Text → Text
+object further code file line column message start end help replacement =
     [] ++ text_field (codes "{\"code\":") code ++ number_field (codes ",\"column\":") column
     ++ number_field (codes ",\"end\":") end ++ text_field (codes ",\"file\":") file
+    ++ further_field further
     ++ text_field (codes ",\"help\":") help ++ number_field (codes ",\"line\":") line
     ++ text_field (codes ",\"message\":") message ++ replacement_field replacement
     ++ text_field (codes ",\"severity\":") (codes "error") ++ number_field (codes ",\"start\":") start ++ codes "}\n"
@@ -64,7 +70,7 @@ note_object code file line column message severity =
 
 abbrev pub object_of : Entry → Detail → Text
 object_of e d =
-    object e.code.now e.file.now e.line e.column e.message.now d.start d.end d.help.now
+    object d.is_further e.code.now e.file.now e.line e.column e.message.now d.start d.end d.help.now
     (option_map (λ word. word.now) d.replacement)
 
 abbrev pub note_object_of : Entry → Text → Text

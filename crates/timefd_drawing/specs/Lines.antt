@@ -51,6 +51,17 @@ help_line colored margin help =
     margin ++ (codes " " ++ (blue colored ++ (codes "=" ++ (plain colored ++ (codes " help: "
     ++ (help ++ codes "\n"))))))
 
+-- `= note: ..`
+abbrev pub note_line : Bool → Text → Text
+note_line colored margin =
+    margin ++ (codes " " ++ (blue colored ++ (codes "=" ++ (plain colored
+    ++ codes " note: found with the errors before it left out\n"))))
+
+-- Behind the help with a further fault stands what it was found without.
+abbrev pub help_lines : Bool → Bool → Text → Text → Text
+help_lines false colored margin help = help_line colored margin help
+help_lines true colored margin help = help_line colored margin help ++ note_line colored margin
+
 -- `FILE:LINE:COLUMN: SENTENCE`
 abbrev pub short_line : Text → ℕ → ℕ → Text → Text
 short_line file line column sentence =

@@ -1,6 +1,6 @@
 //! A diagnostic as it is written.
 
-ghost use Rattle.std.specs.Prelude.{◌≡◌, ◌≢◌, [], IfOk, string_bytes};
+ghost use Rattle.std.specs.Prelude.{◌≡◌, ◌≢◌, ◌++◌, [], flat_map, IfOk, OnOk, string_bytes};
 ghost use Rattle.timefd_drawing.specs.Drawing as spec;
 
 use crate::github::{Command, annotation};
@@ -9,7 +9,7 @@ use crate::human::human;
 use crate::json::{Detail, Entry, note_object, object};
 use crate::lines::{error_line, place_line, short_line};
 use crate::position::{Origin, Position, position_of};
-use crate::sentence::shown_sentence;
+use crate::sentence::told_sentence;
 use std::alloc::{AllocError, Global};
 use timefd_diagnosis::{Diagnostic, code_of};
 
@@ -47,45 +47,118 @@ pub fn drawn(
         ≡ spec.drawn style origin.entry text.now diagnostic.now) }
     ensures some { IfOk result (λ message. message.items ≢ []) }
 {
+    drawn_as(alloc, false, style, origin, text, diagnostic)
+}
+
+// The same of one that was found with the errors before it left out, and is marked as such.
+fn drawn_further(
+    alloc: Global,
+    style: Style,
+    origin: Origin<'_>,
+    text: &str,
+    diagnostic: &Diagnostic,
+) -> Result<Vec<u8>, AllocError>
+    ensures { IfOk result (λ message. message.items
+        ≡ spec.drawn_further style origin.entry text.now diagnostic.now) }
+{
+    drawn_as(alloc, true, style, origin, text, diagnostic)
+}
+
+/// The first diagnostic of a text, and behind it each further one.
+pub fn drawn_all(
+    alloc: Global,
+    style: Style,
+    origin: Origin<'_>,
+    text: &str,
+    diagnostic: &Diagnostic,
+    further: &[Diagnostic],
+) -> Result<Vec<u8>, AllocError>
+    ensures { IfOk result (λ message. message.items
+        ≡ spec.drawn_all style origin.entry text.now diagnostic.now further.now) }
+{
+    let mut message = drawn(alloc, style, origin, text, diagnostic)?;
+    push_further(alloc, style, origin, text, further, &mut message)?;
+    Ok(message)
+}
+
+fn push_further(
+    alloc: Global,
+    style: Style,
+    origin: Origin<'_>,
+    text: &str,
+    further: &[Diagnostic],
+    message: &mut Vec<u8>,
+) -> Result<(), AllocError>
+    ensures { OnOk result (message.new.items ≡ message.old.items
+        ++ flat_map (spec.drawn_further style origin.entry text.now) further.now) }
+{
+    for diagnostic in further {
+        let more = drawn_further(alloc, style, origin, text, diagnostic)?;
+        message.extend_from_slice(&more)?;
+    }
+    Ok(())
+}
+
+fn drawn_as(
+    alloc: Global,
+    is_further: bool,
+    style: Style,
+    origin: Origin<'_>,
+    text: &str,
+    diagnostic: &Diagnostic,
+) -> Result<Vec<u8>, AllocError>
+    ensures exact { IfOk result (λ message. message.items
+        ≡ spec.drawn_as is_further style origin.entry text.now diagnostic.now) }
+    ensures some { IfOk result (λ message. message.items ≢ []) }
+{
     match style.format {
         Format::Human => {
-            let drawing = human(alloc, style.is_colored, origin, text, diagnostic)?;
+            let drawing = human(
+                alloc,
+                is_further,
+                style.is_colored,
+                origin,
+                text,
+                diagnostic,
+            )?;
             Ok(drawing.into_bytes())
         }
         Format::Short => {
-            let line = short(alloc, origin, text, diagnostic)?;
+            let line = short(alloc, is_further, origin, text, diagnostic)?;
             Ok(line.into_bytes())
         }
-        Format::Json => json(alloc, origin, text, diagnostic),
-        Format::Github => github(alloc, origin, text, diagnostic),
+        Format::Json => json(alloc, is_further, origin, text, diagnostic),
+        Format::Github => github(alloc, is_further, origin, text, diagnostic),
     }
 }
 
 fn short(
     alloc: Global,
+    is_further: bool,
     origin: Origin<'_>,
     text: &str,
     diagnostic: &Diagnostic,
 ) -> Result<String, AllocError>
     ensures { IfOk result (λ line. string_bytes line
-        ≡ spec.short origin.entry text.now diagnostic.now) }
+        ≡ spec.short is_further origin.entry text.now diagnostic.now) }
 {
     let place = position_of(alloc, origin.line, text, diagnostic.span.start)?;
-    let sentence = shown_sentence(alloc, &diagnostic.fault)?;
+    let sentence = told_sentence(alloc, is_further, &diagnostic.fault)?;
     short_line(alloc, origin.file, place, &sentence)
 }
 
 fn github(
     alloc: Global,
+    is_further: bool,
     origin: Origin<'_>,
     text: &str,
     diagnostic: &Diagnostic,
 ) -> Result<Vec<u8>, AllocError>
     ensures { IfOk result (λ line. line.items
-        ≡ spec.github origin.entry text.now diagnostic.now) }
+        ≡ spec.github is_further origin.entry text.now diagnostic.now) }
 {
     let Position { line, column } = position_of(alloc, origin.line, text, diagnostic.span.start)?;
-    let sentence = shown_sentence(alloc, &diagnostic.fault)?;
+    let sentence = told_sentence(alloc, is_further, &diagnostic.fault)?;
     let entry = Entry {
         code: code_of(&diagnostic.fault),
         file: origin.file,
@@ -98,12 +171,13 @@ fn github(
 
 fn json(
     alloc: Global,
+    is_further: bool,
     origin: Origin<'_>,
     text: &str,
     diagnostic: &Diagnostic,
 ) -> Result<Vec<u8>, AllocError>
     ensures { IfOk result (λ object. object.items
-        ≡ spec.json origin.entry text.now diagnostic.now) }
+        ≡ spec.json is_further origin.entry text.now diagnostic.now) }
 {
     let Position { line, column } = position_of(alloc, origin.line, text, diagnostic.span.start)?;
     let message = format!(in alloc; "{}", diagnostic.fault)?;
@@ -120,6 +194,7 @@ fn json(
         end: diagnostic.span.end as u64,
         help: &help,
         replacement: diagnostic.help.nearest(),
+        is_further,
     };
     object(alloc, entry, detail)
 }

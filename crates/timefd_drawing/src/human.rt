@@ -4,7 +4,7 @@ ghost use Rattle.std.specs.Prelude.{◌≡◌, IfOk, string_bytes};
 ghost use Rattle.timefd_drawing.specs.Drawing as spec;
 
 use crate::help_text::help_text;
-use crate::lines::{bar_line, caret_line, error_line, help_line, place_line, text_line};
+use crate::lines::{bar_line, caret_line, error_line, help_lines, place_line, text_line};
 use crate::position::{Line, Origin, line_of, position_of};
 use crate::sentence::shown_sentence;
 use crate::shown::{cut_end, cut_start, safe};
@@ -18,13 +18,14 @@ const MOST_SHOWN: usize = 40;
 /// The drawing. An `Err` says that memory ran out.
 pub fn human(
     alloc: Global,
+    is_further: bool,
     is_colored: bool,
     origin: Origin<'_>,
     text: &str,
     diagnostic: &Diagnostic,
 ) -> Result<String, AllocError>
     ensures { IfOk result (λ drawing. string_bytes drawing
-        ≡ spec.human is_colored origin.entry text.now diagnostic.now) }
+        ≡ spec.human is_further is_colored origin.entry text.now diagnostic.now) }
 {
     let place = position_of(alloc, origin.line, text, diagnostic.span.start)?;
     let margin = margin(alloc, place.line)?;
@@ -38,7 +39,7 @@ pub fn human(
         line_of(text, diagnostic.span),
     )?;
     let words = help_text(alloc, diagnostic.help)?;
-    let help = help_line(alloc, is_colored, &margin, &words)?;
+    let help = help_lines(alloc, is_further, is_colored, &margin, &words)?;
     format!(in alloc; "{error}{arrow}{source}{help}\n")
 }
 

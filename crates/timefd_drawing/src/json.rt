@@ -29,6 +29,8 @@ pub struct Detail<'a> {
     pub help: &'a str,
     /// The word to write in the place of these bytes, where one is near.
     pub replacement: Option<&'a str>,
+    /// Whether the errors before it were left out when it was found.
+    pub is_further: bool,
 }
 
 /// An object on a line, on a fault of a text.
@@ -40,6 +42,7 @@ pub fn object(alloc: Global, entry: Entry<'_>, detail: Detail<'_>) -> Result<Vec
     push_number(alloc, &mut out, ",\"column\":", entry.column)?;
     push_number(alloc, &mut out, ",\"end\":", detail.end)?;
     push_text(&mut out, ",\"file\":", entry.file)?;
+    push_further(&mut out, detail.is_further)?;
     push_text(&mut out, ",\"help\":", detail.help)?;
     push_number(alloc, &mut out, ",\"line\":", entry.line)?;
     push_text(&mut out, ",\"message\":", entry.message)?;
@@ -48,6 +51,16 @@ pub fn object(alloc: Global, entry: Entry<'_>, detail: Detail<'_>) -> Result<Vec
     push_number(alloc, &mut out, ",\"start\":", detail.start)?;
     out.extend_from_slice(b"}\n")?;
     Ok(out)
+}
+
+fn push_further(out: &mut Vec<u8>, is_further: bool) -> Result<(), AllocError>
+    ensures { OnOk result (out.new.items ≡ out.old.items ++ spec.further_field is_further) }
+{
+    if is_further {
+        out.extend_from_slice(b",\"further\":true")
+    } else {
+        Ok(())
+    }
 }
 
 fn push_replacement(out: &mut Vec<u8>, replacement: Option<&str>) -> Result<(), AllocError>

@@ -12,5 +12,5 @@ mod position;
 mod sentence;
 pub mod shown;
 
-pub use draw::{Format, Style, drawn, note};
+pub use draw::{Format, Style, drawn, drawn_all, note};
 pub use position::Origin;

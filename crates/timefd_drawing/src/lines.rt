@@ -98,8 +98,8 @@ pub fn caret_line(
     format!(in alloc; "{margin} {blue}|{plain} {indent}{red}{carets}{plain}\n")
 }
 
-/// The line with the help.
-pub fn help_line(
+// The line with the help.
+fn help_line(
     alloc: Global,
     is_colored: bool,
     margin: &str,
@@ -110,6 +110,33 @@ pub fn help_line(
 {
     let (blue, plain) = (blue(is_colored), plain(is_colored));
     format!(in alloc; "{margin} {blue}={plain} help: {help}\n")
+}
+
+/// The same, and behind it what a further fault was found without.
+pub fn help_lines(
+    alloc: Global,
+    is_further: bool,
+    is_colored: bool,
+    margin: &str,
+    help: &str,
+) -> Result<String, AllocError>
+    ensures { IfOk result (λ lines. string_bytes lines
+        ≡ spec.help_lines is_further is_colored margin.now help.now) }
+{
+    let help = help_line(alloc, is_colored, margin, help)?;
+    if is_further {
+        let note = note_line(alloc, is_colored, margin)?;
+        format!(in alloc; "{help}{note}")
+    } else {
+        Ok(help)
+    }
+}
+
+fn note_line(alloc: Global, is_colored: bool, margin: &str) -> Result<String, AllocError>
+    ensures { IfOk result (λ line. string_bytes line ≡ spec.note_line is_colored margin.now) }
+{
+    let (blue, plain) = (blue(is_colored), plain(is_colored));
+    format!(in alloc; "{margin} {blue}={plain} note: found with the errors before it left out\n")
 }
 
 /// `FILE:LINE:COLUMN: SENTENCE`, as editors read it.

@@ -22,6 +22,23 @@ pub fn shown_sentence(alloc: Global, fault: &InvalidFormatDescription) -> Result
     safe(alloc, &sentence)
 }
 
+/// The same, and behind the sentence of a further fault what it was found without.
+pub fn told_sentence(
+    alloc: Global,
+    is_further: bool,
+    fault: &InvalidFormatDescription,
+) -> Result<String, AllocError>
+    ensures { IfOk result (λ sentence. string_bytes sentence
+        ≡ spec.told_sentence is_further (fault_of fault.now)) }
+{
+    let sentence = shown_sentence(alloc, fault)?;
+    if is_further {
+        format!(in alloc; "{sentence} (with the errors before it left out)")
+    } else {
+        Ok(sentence)
+    }
+}
+
 // The fault with no more of a word than a sentence shows.
 fn brief(
     alloc: Global,

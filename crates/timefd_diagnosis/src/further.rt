@@ -1,0 +1,192 @@
+//! What is wrong with a text besides its first fault.
+
+ghost use Rattle.std.specs.Prelude.{◌≡◌, ◌<◌, IfOk, option_map, string_bytes};
+ghost use Rattle.timefd_borrowed_fault.specs.Placed.{IsPlaced};
+ghost use Rattle.timefd_fault.specs.Faults.{fault_of};
+ghost use Rattle.std.specs.Str.{IsCharBoundary};
+ghost use Rattle.timefd_diagnosis.specs.Further.{AreFurther, sides_of};
+ghost use Rattle.timefd_diagnosis.specs.Further as spec;
+
+use crate::code::Code;
+use crate::diagnostic::{Diagnostic, diagnose};
+use std::alloc::{AllocError, Global};
+use timefd_language::text::{Class, cut};
+use timefd_parse::{InvalidFormatDescription, Language};
+
+/// How many faults of a text are told at most, besides its first one.
+pub const MOST_FURTHER: usize = 19;
+
+/// What a stretch begins with that is left out for a fault.
+#[derive(Clone, Copy)]
+pub enum Mark {
+    /// A bracket, which is left out up to its end.
+    Bracket,
+    /// The backslash of an escape.
+    Backslash,
+    /// A closing bracket.
+    Closing,
+    /// The percent sign of a directive.
+    Percent,
+}
+
+/// What stands on both sides of what is left out.
+#[derive(Clone, Copy)]
+pub struct Sides<'a> {
+    pub before: &'a str,
+    pub behind: &'a str,
+}
+
+/// What is wrong with a text besides this fault of it: what was at fault is left out, and the text is
+/// looked at again, up to so many times. Each diagnostic has its bytes in the text as it is. An `Err`
+/// says that memory ran out.
+#[tactic(auto, using(crate::proofs::FurtherLemmas::at_first, crate::proofs::FurtherLemmas::one_more, crate::proofs::FurtherLemmas::nothing_left, crate::proofs::FurtherLemmas::accepted, crate::proofs::FurtherLemmas::enough))]
+pub fn further_faults(
+    alloc: Global,
+    language: Language,
+    text: &str,
+    fault: &InvalidFormatDescription,
+    most: usize,
+) -> Result<Vec<Diagnostic>, AllocError>
+    requires { IsPlaced text.now (fault_of fault.now) }
+    ensures { IfOk result (λ found. AreFurther most language
+        (spec.without language text.now (fault_of fault.now)) found.items) }
+{
+    let mut found = Vec::new(alloc);
+    let mut rest = without(alloc, language, text, fault)?;
+    'faults: for count in 0..most {
+        let Some(left) = rest else {
+            return Ok(found);
+        };
+        let Some(diagnostic) = diagnose(alloc, language, &left)? else {
+            return Ok(found);
+        };
+        rest = without(alloc, language, &left, &diagnostic.fault)?;
+        found.push(diagnostic)?;
+    }
+    Ok(found)
+}
+
+// The text with spaces in the place of what is at fault, if that can be left out.
+fn without(
+    alloc: Global,
+    language: Language,
+    text: &str,
+    fault: &InvalidFormatDescription,
+) -> Result<Option<String>, AllocError>
+    requires { IsPlaced text.now (fault_of fault.now) }
+    ensures { IfOk result (λ left. option_map string_bytes left
+        ≡ spec.without language text.now (fault_of fault.now)) }
+{
+    let Some(mark) = mark_of(language, Code::of(fault)) else {
+        return Ok(None);
+    };
+    match sides_at(mark, text, fault.index()) {
+        Some(sides) => Ok(Some(with_spaces(alloc, text, sides)?)),
+        None => Ok(None),
+    }
+}
+
+fn with_spaces(alloc: Global, text: &str, sides: Sides<'_>) -> Result<String, AllocError>
+    ensures { IfOk result (λ left. string_bytes left ≡ spec.with_spaces text.now
+        (sides.entry.before.now, sides.entry.behind.now)) }
+{
+    let Sides { before, behind } = sides;
+    let len = text
+        .len()
+        .saturating_sub(before.len())
+        .saturating_sub(behind.len());
+    let spaces = " ".repeat(alloc, len)?;
+    format!(in alloc; "{before}{spaces}{behind}")
+}
+
+// What begins the stretch that is left out for a fault, if one is.
+fn mark_of(language: Language, code: Code) -> Option<Mark>
+    ensures { result ≡ spec.mark_of language code }
+{
+    match language {
+        Language::Version(_) => version_mark(code),
+        Language::Strftime => Some(Mark::Percent),
+    }
+}
+
+fn version_mark(code: Code) -> Option<Mark>
+    ensures { result ≡ spec.version_mark code }
+{
+    match code {
+        Code::UnknownName
+        | Code::InvalidModifier
+        | Code::MissingName
+        | Code::MissingModifier
+        | Code::DuplicateModifier
+        | Code::RefusedModifier => Some(Mark::Bracket),
+        Code::InvalidEscape => Some(Mark::Backslash),
+        Code::UnescapedBracket => Some(Mark::Closing),
+        Code::UnclosedBracket
+        | Code::MissingSpace
+        | Code::MissingDescription
+        | Code::MissingAlternative
+        | Code::NestedTooDeep
+        | Code::SeveralDescriptions
+        | Code::OptionalItem
+        | Code::FirstItem
+        | Code::UnsupportedFlag
+        | Code::UnsupportedLetter
+        | Code::NestedInComponent => None,
+    }
+}
+
+fn char_of(mark: Mark) -> char
+    ensures byte { result ≡ spec.byte_of mark }
+    ensures ascii { result < 128 }
+{
+    match mark {
+        Mark::Bracket => '[',
+        Mark::Backslash => '\\',
+        Mark::Closing => ']',
+        Mark::Percent => '%',
+    }
+}
+
+// What stands on both sides of what is left out for a fault at an index.
+fn sides_at(mark: Mark, text: &str, index: usize) -> Option<Sides<'_>>
+    requires { IsCharBoundary text.now index }
+    ensures { sides_of result ≡ spec.sides_at mark text.now index }
+{
+    let (front, rest) = text.split_at(index);
+    let opened = opened(char_of(mark), front, rest)?;
+    match mark {
+        Mark::Bracket => closed(opened),
+        Mark::Backslash | Mark::Closing | Mark::Percent => Some(opened),
+    }
+}
+
+// The same where only its beginning is known: a character at the index, or the last one in front of it.
+fn opened<'a>(mark: char, front: &'a str, rest: &'a str) -> Option<Sides<'a>>
+    requires { mark < 128 }
+    ensures { sides_of result ≡ spec.opened mark front.now rest.now }
+{
+    if let Some(behind) = rest.strip_prefix(mark) {
+        return Some(Sides {
+            before: front,
+            behind,
+        });
+    }
+    let at = front.rfind(mark)?;
+    let (before, _) = front.split_at(at);
+    Some(Sides {
+        before,
+        behind: rest,
+    })
+}
+
+// The same where it goes on up to the next closing bracket.
+fn closed<'a>(opened: Sides<'a>) -> Option<Sides<'a>>
+    ensures { sides_of result ≡ spec.closed (opened.entry.before.now, opened.entry.behind.now) }
+{
+    let (_, rest) = cut(opened.behind, Class::Run);
+    let behind = rest.strip_prefix(']')?;
+    Some(Sides {
+        before: opened.before,
+        behind,
+    })
+}
