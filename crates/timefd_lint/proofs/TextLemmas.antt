@@ -10,8 +10,9 @@ use Rattle.timefd_parse.specs.Language.{SpellsIn, FaultIn}
 use Rattle.timefd_diagnosis.specs.declared.diagnostic.Diagnostic.{Diagnostic}
 use Rattle.timefd_diagnosis.specs.Diagnoses.{IsDiagnosis}
 use Rattle.timefd_drawing.specs.declared.draw.Style.{Style}
+use Rattle.timefd_diagnosis.specs.Further.{AreFurther, most_further, without}
 use Rattle.timefd_drawing.specs.declared.position.Origin.{Origin}
-use Rattle.timefd_drawing.specs.Drawing.{drawn}
+use Rattle.timefd_drawing.specs.Drawing.{drawn_all}
 use Rattle.timefd_lint_sources.specs.declared.told.Telling.{Telling}
 use Rattle.timefd_lint_sources.specs.Told.{no_text_note}
 use Rattle.timefd_lint.specs.declared.line.RunError.{RunError}
@@ -75,15 +76,23 @@ with_fault language telling text g (Ok e) utf8 faulty is =
 with_fault language telling text g (Err e) utf8 faulty is = tt
 
 pub fault_said : (language : Language) (telling : Telling) (origin : Origin) (text : Text)
-    (g : Diagnostic) (before behind : Option Text) (end : Result TextEnd RunError)
+    (g : Diagnostic) (further : List Diagnostic) (before behind : Option Text)
+    (end : Result TextEnd RunError)
     → FaultIn language nesting_limit text (fault_of g.fault) → IsDiagnosis language text g
+    → AreFurther most_further language (without language text (fault_of g.fault)) further
     → IfOk end (λ e. e ≡ Refused)
-    → OnOk end (Appends before behind (drawn telling.style origin text g))
+    → OnOk end (Appends before behind (drawn_all telling.style origin text g further))
     → IfOk end (λ e. Says language telling origin text e before behind)
-fault_said language telling origin text g before behind (Ok e) faulty diagnosed is written =
+fault_said language telling origin text g further before behind (Ok e) faulty diagnosed others is written =
     subst (λ x. Says language telling origin text x before behind) (sym is) (
-      drawn telling.style origin text g,
-      (g, record { fault = faulty; diagnosis = diagnosed }, refl),
+      drawn_all telling.style origin text g further,
+      (
+        g,
+        further,
+        record { first = record { fault = faulty; diagnosis = diagnosed }; further = others },
+        refl,
+      ),
       written,
     )
-fault_said language telling origin text g before behind (Err e) faulty diagnosed is written = tt
+fault_said language telling origin text g further before behind (Err e) faulty diagnosed others is written =
+    tt

@@ -7,19 +7,20 @@ use denote.Ref.{Bor}
 use Rattle.timefd_component.specs.Tree.{Text}
 use Rattle.timefd_parse.specs.declared.language.Language.{Language}
 use Rattle.timefd_diagnosis.specs.declared.diagnostic.Diagnostic.{Diagnostic}
+use Rattle.timefd_diagnosis.specs.Further.{AreDiagnosed}
 use Rattle.timefd_lint.specs.declared.failure.Failure.{Failure}
 use Rattle.timefd_lint.specs.declared.line.TextEnd.{TextEnd}
 use Rattle.timefd_lint.specs.declared.line.TextEnd.TheVariants.{PassedOver, Accepted, Refused, NotText, Failed}
 use Rattle.timefd_lint.specs.declared.tally.Tally.{Tally}
 use Rattle.timefd_drawing.specs.declared.draw.Style.{Style}
 use Rattle.timefd_drawing.specs.declared.position.Origin.{Origin}
-use Rattle.timefd_drawing.specs.Drawing.{drawn}
+use Rattle.timefd_drawing.specs.Drawing.{drawn_all}
 use Rattle.timefd_warnings.specs.declared.levels.Level.TheVariants.{Warned, Denied}
 use Rattle.timefd_warnings.specs.declared.levels.Levels.{Levels}
 use Rattle.timefd_warnings.specs.Levels.{count as warning_count}
 use Rattle.timefd_lint_warnings.specs.Messages.{messages as warning_messages}
 use Rattle.timefd_lint_sources.specs.declared.told.Telling.{Telling}
-use Rattle.timefd_lint_sources.specs.Told.{IsDiagnosed, no_text_note}
+use Rattle.timefd_lint_sources.specs.Told.{no_text_note}
 use Rattle.timefd_rewrite.specs.Lines.{AreLinesOf, IsNextLine, without_newline}
 use Rattle.timefd_lint.specs.Failures.{note_of}
 use Rattle.timefd_lint.specs.Lines.{IsEndOf, IsLineEnd}
@@ -37,10 +38,11 @@ abbrev pub WritesTree : Telling → Option Text → Option Text → Type 0
 WritesTree telling before behind = (tree : Text) × (IsFalse telling.explains → tree ≡ [])
     × Appends before behind tree
 
--- What is written of a refused text is the drawing of what is wrong with it, at its place.
+-- What is written of a refused text is the drawing of what is wrong with it, and those of what
+-- further, each at its place.
 abbrev pub IsDrawing : Language → Style → Origin → Text → Text → Type 0
-IsDrawing language style origin text message =
-    (g : Diagnostic) × IsDiagnosed language text g × (message ≡ drawn style origin text g)
+IsDrawing language style origin text message = (g : Diagnostic) × (further : List Diagnostic)
+    × AreDiagnosed language text g further × (message ≡ drawn_all style origin text g further)
 
 -- What is written of a file that can't be read is the note on what fails of it.
 abbrev pub IsFailureNote : Style → Bor Text → Text → Type 0

@@ -16,8 +16,8 @@ use crate::options::Options;
 use std::alloc::{AllocError, Global};
 use std::io::Write;
 use std::str;
-use timefd_diagnosis::{Diagnostic, diagnose};
-use timefd_drawing::{Origin, drawn, note};
+use timefd_diagnosis::{Diagnostic, MOST_FURTHER, diagnose, further_faults};
+use timefd_drawing::{Origin, drawn_all, note};
 use timefd_explain::explained;
 use timefd_lint_warnings::{found_in, messages};
 use timefd_parse::Language;
@@ -108,24 +108,31 @@ fn judged<W: Write>(
 {
     match diagnose(alloc, options.language, text)? {
         None => accepted(alloc, options, origin, text, writer),
-        Some(diagnostic) => refused(alloc, options, origin, text, diagnostic, writer),
+        Some(diagnostic) => {
+            let fault = &diagnostic.fault;
+            let further = further_faults(alloc, options.language, text, fault, MOST_FURTHER)?;
+            refused(alloc, options, origin, text, &diagnostic, &further, writer)
+        }
     }
 }
 
-// Writes what is wrong with a text that is refused.
+// Writes all that is wrong with a text that is refused.
 fn refused<W: Write>(
     alloc: Global,
     options: Options<'_>,
     origin: Origin<'_>,
     text: &str,
-    diagnostic: Diagnostic,
+    diagnostic: &Diagnostic,
+    further: &[Diagnostic],
     writer: &mut W,
 ) -> Result<TextEnd, RunError>
     ensures end { IfOk result (λ end. end ≡ ends.Refused) }
     ensures written { OnOk result (Appends (W.contents writer.old) (W.contents writer.new)
-        (drawing.drawn options.entry.telling.style origin.entry text.now diagnostic)) }
+        (drawing.drawn_all options.entry.telling.style origin.entry text.now diagnostic.now
+        further.now)) }
 {
-    let message = drawn(alloc, options.telling.style, origin, text, &diagnostic)?;
+    let style = options.telling.style;
+    let message = drawn_all(alloc, style, origin, text, diagnostic, further)?;
     write(writer, &message)?;
     Ok(TextEnd::Refused)
 }

@@ -1,12 +1,14 @@
 -- What is told of one description.
-use Rattle.std.proofs.Common.{ℕ, ◌≡◌, true, false, List, [], ◌++◌, refl, sym, subst, ap, ◌∙◌}
-use Rattle.std.specs.Prelude.{IsUtf8}
+use Rattle.std.proofs.Common.{ℕ, ◌≡◌, true, false, Option, Some, List, [], ◌++◌, refl, sym, subst, ap, ◌∙◌}
+use Rattle.std.specs.Prelude.{IfOk, IfSome, IsUtf8, Result, Ok, Err}
 use Rattle.timefd_component.specs.Tree.{Text, Tree}
 use Rattle.timefd_fault.specs.Faults.{fault_of}
 use Rattle.timefd_language.specs.Grammar.{nesting_limit}
+use Rattle.timefd_parse.specs.declared.language.Language.{Language}
 use Rattle.timefd_parse.specs.Language.{SpellsIn, FaultIn}
 use Rattle.timefd_diagnosis.specs.declared.diagnostic.Diagnostic.{Diagnostic}
 use Rattle.timefd_diagnosis.specs.Diagnoses.{IsDiagnosis}
+use Rattle.timefd_diagnosis.specs.Further.{AreDiagnosed, AreFurther, most_further, without}
 use Rattle.timefd_drawing.specs.Positions.{column, line_number}
 use Rattle.timefd_sources.specs.declared.description.Description.{Description}
 use Rattle.timefd_warnings.specs.declared.levels.Level.TheVariants.{Allowed}
@@ -17,6 +19,7 @@ use Rattle.timefd_lint_sources.specs.declared.told.End.{End}
 use Rattle.timefd_lint_sources.specs.declared.told.End.TheVariants.{PassedOver, Accepted, Refused, NotText}
 use Rattle.timefd_lint_sources.specs.declared.told.Source.{Source}
 use Rattle.timefd_lint_sources.specs.declared.told.Telling.{Telling}
+use Rattle.timefd_lint_sources.specs.declared.told.Told.{Told}
 use Rattle.timefd_lint_sources.specs.Judged.{found_by, is_passed_over, language_in, text_of}
 use Rattle.timefd_lint_sources.specs.Told.{IsMessageOn, IsTold, IsTree, drawing_of, note_of, origin_of}
 
@@ -33,11 +36,14 @@ no_text telling s d end message judges not is told =
 
 -- The text is that of the description.
 pub with_fault : (telling : Telling) (s : Source) (d : Description) (text : Text) (g : Diagnostic)
-    (end : End) (message : Text) → is_passed_over d.dialect text ≡ false → IsUtf8 text
-    → text ≡ text_of d → FaultIn (language_in d) nesting_limit text (fault_of g.fault)
-    → IsDiagnosis (language_in d) text g → end ≡ Refused
-    → message ≡ drawing_of telling.style s d g → IsTold telling s d end message
-with_fault telling s d text g end message judges utf8 same faulty diagnosed is told =
+    (further : List Diagnostic) (end : End) (message : Text) → is_passed_over d.dialect text ≡ false
+    → IsUtf8 text → text ≡ text_of d
+    → FaultIn (language_in d) nesting_limit text (fault_of g.fault)
+    → IsDiagnosis (language_in d) text g
+    → AreFurther most_further (language_in d) (without (language_in d) text (fault_of g.fault)) further
+    → end ≡ Refused → message ≡ drawing_of telling.style s d g further
+    → IsTold telling s d end message
+with_fault telling s d text g further end message judges utf8 same faulty diagnosed others is told =
     subst (λ e. IsTold telling s d e message) (sym is)
     (record {
       end = (
@@ -52,13 +58,36 @@ with_fault telling s d text g end message judges utf8 same faulty diagnosed is t
       );
       message = (
         g,
-        record {
-          fault = subst (λ t. FaultIn (language_in d) nesting_limit t (fault_of g.fault)) same faulty;
-          diagnosis = subst (λ t. IsDiagnosis (language_in d) t g) same diagnosed;
-        },
+        further,
+        subst (λ t. AreDiagnosed (language_in d) t g further) same (record {
+          first = record { fault = faulty; diagnosis = diagnosed };
+          further = others;
+        }),
         told,
       );
     })
+
+-- The same of a call that may want memory.
+pub with_faults : {E : Type 0} (telling : Telling) (s : Source) (d : Description) (language : Language)
+    (text : Text) (found : Option Diagnostic) (g : Diagnostic) (further : List Diagnostic)
+    (told : Result Told E) → language ≡ language_in d → is_passed_over d.dialect text ≡ false
+    → IsUtf8 text → text ≡ text_of d → found ≡ Some g
+    → IfSome found (λ x. FaultIn language nesting_limit text (fault_of x.fault))
+    → IfSome found (IsDiagnosis language text)
+    → AreFurther most_further language (without language text (fault_of g.fault)) further
+    → IfOk told (λ t. t.end ≡ Refused)
+    → IfOk told (λ t. t.message.items ≡ drawing_of telling.style s d g further)
+    → IfOk told (λ t. IsTold telling s d t.end t.message.items)
+with_faults telling s d language text found g further (Ok t) named judges utf8 same is faulty diagnosed others ended drawn =
+    with_fault telling s d text g further t.end t.message.items judges utf8 same
+    (subst (λ l. FaultIn l nesting_limit text (fault_of g.fault)) named
+    (subst (λ o. IfSome o (λ x. FaultIn language nesting_limit text (fault_of x.fault))) is faulty))
+    (subst (λ l. IsDiagnosis l text g) named
+    (subst (λ o. IfSome o (IsDiagnosis language text)) is diagnosed))
+    (subst (λ l. AreFurther most_further l (without l text (fault_of g.fault)) further) named others)
+    ended drawn
+with_faults telling s d language text found g further (Err e) named judges utf8 same is faulty diagnosed others ended drawn =
+    tt
 
 pub with_list : (telling : Telling) (s : Source) (d : Description) (text : Text) (list : List Tree)
     (end : End) (message : Text) → is_passed_over d.dialect text ≡ false → IsUtf8 text

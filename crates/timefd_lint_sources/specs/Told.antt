@@ -1,15 +1,11 @@
 -- What is told of the descriptions of a source.
-use Rattle.std.specs.Prelude.{ℕ, ◌≡◌, Bool, List, [], ◌∷◌, ◌++◌, codes, IsFalse}
+use Rattle.std.specs.Prelude.{ℕ, ◌≡◌, Bool, List, [], ◌∷◌, ◌++◌, codes, map, IsFalse}
 use Rattle.timefd_component.specs.Tree.{Text}
-use Rattle.timefd_fault.specs.Faults.{fault_of}
-use Rattle.timefd_language.specs.Grammar.{nesting_limit}
-use Rattle.timefd_parse.specs.declared.language.Language.{Language}
-use Rattle.timefd_parse.specs.Language.{FaultIn}
 use Rattle.timefd_diagnosis.specs.declared.diagnostic.Diagnostic.{Diagnostic}
-use Rattle.timefd_diagnosis.specs.Diagnoses.{IsDiagnosis}
+use Rattle.timefd_diagnosis.specs.Further.{AreDiagnosed}
 use Rattle.timefd_drawing.specs.declared.draw.Style.{Style}
 use Rattle.timefd_drawing.specs.declared.position.Origin.{Origin}
-use Rattle.timefd_drawing.specs.Drawing.{drawn, note}
+use Rattle.timefd_drawing.specs.Drawing.{drawn_all, note}
 use Rattle.timefd_drawing.specs.Positions.{column, line_number}
 use Rattle.timefd_sources.specs.declared.description.Description.{Description}
 use Rattle.timefd_sources.specs.Found.{AllStandIn, place_of}
@@ -41,11 +37,6 @@ placed_in d g = record {
   help = g.help;
 }
 
--- of the one fault of a text
-pub record IsDiagnosed (language : Language) (text : Text) (g : Diagnostic) : Type 0 where
-  pub fault : FaultIn language nesting_limit text (fault_of g.fault)
-  pub diagnosis : IsDiagnosis language text g
-
 -- A tree where it is asked for, and else nothing.
 abbrev pub IsTree : Bool → Text → Type 0
 IsTree explains tree = IsFalse explains → tree ≡ []
@@ -56,13 +47,15 @@ abbrev pub IsTreeAndWarnings : Telling → Source → Description → Levels →
 IsTreeAndWarnings telling s d found message = (tree : Text) × IsTree telling.explains tree
     × (message ≡ tree ++ messages_at telling.style (origin_of s d) (column_of s d) found)
 
--- What is told of a refused one is the drawing of what is wrong with it, at its place in the source.
-abbrev pub drawing_of : Style → Source → Description → Diagnostic → Text
-drawing_of style s d g = drawn style (whole_origin s) s.text.now (placed_in d g)
+-- What is told of a refused one is the drawing of what is wrong with it, and those of what further,
+-- each at its place in the source.
+abbrev pub drawing_of : Style → Source → Description → Diagnostic → List Diagnostic → Text
+drawing_of style s d g further =
+    drawn_all style (whole_origin s) s.text.now (placed_in d g) (map (placed_in d) further)
 
 abbrev pub IsDrawing : Style → Source → Description → Text → Type 0
-IsDrawing style s d message = (g : Diagnostic) × IsDiagnosed (language_in d) (text_of d) g
-    × (message ≡ drawing_of style s d g)
+IsDrawing style s d message = (g : Diagnostic) × (further : List Diagnostic)
+    × AreDiagnosed (language_in d) (text_of d) g further × (message ≡ drawing_of style s d g further)
 
 -- and of one that is no UTF-8 a note in the line of its literal
 abbrev pub no_text_note : Style → Origin → Text

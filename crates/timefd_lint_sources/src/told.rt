@@ -1,6 +1,6 @@
 //! What is told of one description.
 
-ghost use Rattle.std.specs.Prelude.{◌≡◌, IfOk, false};
+ghost use Rattle.std.specs.Prelude.{◌≡◌, IfOk, false, map};
 ghost use Rattle.timefd_lint_sources.specs.declared.told.End.TheVariants as ends;
 ghost use Rattle.timefd_lint_sources.specs.Judged.{text_of};
 ghost use Rattle.timefd_lint_sources.specs.Judged as judging;
@@ -12,8 +12,8 @@ use crate::language::{is_passed_over, language_of};
 use crate::position::{Position, position_of};
 use std::alloc::{AllocError, Global};
 use std::str;
-use timefd_diagnosis::{Diagnostic, Span, diagnose};
-use timefd_drawing::{Origin, Style, drawn, note};
+use timefd_diagnosis::{Diagnostic, MOST_FURTHER, Span, diagnose, further_faults};
+use timefd_drawing::{Origin, Style, drawn_all, note};
 use timefd_sources::{Description, place_of};
 use timefd_warnings::Levels;
 
@@ -124,32 +124,61 @@ fn judged(
     let language = language_of(description.dialect);
     match diagnose(alloc, language, text)? {
         None => accepted(alloc, telling, source, description, language, text),
-        Some(diagnostic) => refused(alloc, telling.style, source, description, diagnostic),
+        Some(diagnostic) => {
+            let fault = &diagnostic.fault;
+            let further = further_faults(alloc, language, text, fault, MOST_FURTHER)?;
+            refused(
+                alloc,
+                telling.style,
+                source,
+                description,
+                diagnostic,
+                further,
+            )
+        }
     }
 }
 
-// The drawing of what is wrong with a description, at its place in the source.
+// The drawings of what is wrong with a description, at its place in the source.
 fn refused(
     alloc: Global,
     style: Style,
     source: Source<'_>,
     description: &Description,
     diagnostic: Diagnostic,
+    further: Vec<Diagnostic>,
 ) -> Result<Told, AllocError>
     ensures end { IfOk result (λ told. told.end ≡ ends.Refused) }
     ensures message { IfOk result (λ told. told.message.items
-        ≡ drawing_of style source.entry description.now diagnostic) }
+        ≡ drawing_of style source.entry description.now diagnostic further.items) }
 {
     let origin = Origin {
         file: source.file,
         line: 1,
     };
-    let diagnostic = placed_in(description, diagnostic);
-    let message = drawn(alloc, style, origin, source.text, &diagnostic)?;
+    let first = placed_in(description, diagnostic);
+    let others = all_placed_in(alloc, description, further)?;
+    let message = drawn_all(alloc, style, origin, source.text, &first, &others)?;
     Ok(Told {
         end: End::Refused,
         message,
     })
+}
+
+// Each of some diagnostics with its bytes as those of the source.
+fn all_placed_in(
+    alloc: Global,
+    description: &Description,
+    diagnostics: Vec<Diagnostic>,
+) -> Result<Vec<Diagnostic>, AllocError>
+    ensures { IfOk result (λ placed. placed.items
+        ≡ map (spec.placed_in description.now) diagnostics.items) }
+{
+    let mut placed = Vec::new(alloc);
+    for diagnostic in diagnostics {
+        placed.push(placed_in(description, diagnostic))?;
+    }
+    Ok(placed)
 }
 
 // A diagnostic of a description, with its bytes as those of the source.
