@@ -10,6 +10,11 @@ use std::io::Write;
 const CONTEXT: usize = 3;
 
 impl From<AllocError> for RewriteError {
+    ghost use Rattle.std.specs.Prelude.{◌≡◌};
+    ghost use Rattle.timefd_rewrite.specs.declared.rewrite.RewriteError.{RewriteError};
+
+    ghost from_gives = { λ _ e. e ≡ RewriteError.Memory };
+
     fn from(_: AllocError) -> RewriteError {
         RewriteError::Memory
     }
