@@ -3,11 +3,15 @@ use Rattle.std.proofs.Common.{◌≡◌, ◌≤◌, ℕ, le_refl, List, Result, 
 use Rattle.std.specs.Prelude.{IfOk}
 use Rattle.std.specs.Result.{IfErr}
 use Rattle.timefd_component.specs.Tree.{Text, Tree}
+use Rattle.timefd_fault.specs.Faults.{Fault}
 use Rattle.timefd_language.specs.Grammar.{nesting_limit}
+use Rattle.timefd_language.proofs.LawLemmas.{one_answer_law}
+use Rattle.timefd_language.proofs.StrftimeReader.{strftime_one_answer_law}
 use Rattle.timefd_language.specs.declared.parse_error.ParseError.{ParseError}
 use Rattle.timefd_language.specs.declared.parse_error.ParseError.TheVariants.{Invalid, Memory}
 use Rattle.timefd_parse.specs.declared.language.Language.{Language}
-use Rattle.timefd_parse.specs.Language.{IsAssignedIn, SpellsIn}
+use Rattle.timefd_parse.specs.declared.language.Language.TheVariants.{Version, Strftime}
+use Rattle.timefd_parse.specs.Language.{FaultIn, IsAssignedIn, SpellsIn}
 use Rattle.timefd_fix.specs.declared.fixes.Fixes.{Fixes}
 use Rattle.timefd_fix.specs.declared.fixing.TheConstants.{FIX_LIMIT}
 use Rattle.timefd_fix.specs.Chains.{IsFixed, IsLeftOf, LeadsTo}
@@ -27,6 +31,21 @@ accepted_fixed X E bytes language fixes steps text last (Ok answer) within chain
       accepted = accepted;
     }
 accepted_fixed X E bytes language fixes steps text last (Err e) within chain same accepted = tt
+
+-- What is accepted has no fault.
+pub no_fault : (language : Language) (text : Text) (list : List Tree) (f : Fault)
+    → SpellsIn language nesting_limit text list → FaultIn language nesting_limit text f → ⊥
+no_fault (Version v) text list f spelled assigned =
+    (one_answer_law v nesting_limit text).1.not_both list f spelled assigned
+no_fault Strftime text list f spelled assigned =
+    (strftime_one_answer_law text).1.not_both list f spelled assigned
+
+pub faultless : (X E : Type 0) (bytes : X → Text) (language : Language) (r : Result X E)
+    → IfOk r (λ answer. (list : List Tree) × SpellsIn language nesting_limit (bytes answer) list)
+    → IfOk r (λ answer. (f : Fault) → FaultIn language nesting_limit (bytes answer) f → ⊥)
+faultless X E bytes language (Ok answer) accepted = λ f assigned.
+    no_fault language (bytes answer) accepted.0 f accepted.1 assigned
+faultless X E bytes language (Err e) accepted = tt
 
 left_at : (language : Language) (fixes : Fixes) (steps : ℕ) (text last : Text) (e : ParseError)
     → steps ≡ FIX_LIMIT → LeadsTo language fixes steps text last

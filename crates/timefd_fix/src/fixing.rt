@@ -3,9 +3,10 @@
 ghost use Rattle.std.specs.Prelude.{◌≡◌, IfOk, IfSome, List, None, string_bytes};
 ghost use Rattle.std.specs.Result.{IfErr};
 ghost use Rattle.timefd_component.specs.Tree.{Tree};
+ghost use Rattle.timefd_fault.specs.Faults.{Fault};
 ghost use Rattle.timefd_language.specs.Grammar.{nesting_limit};
 ghost use Rattle.timefd_language.specs.Told.{MemoryAlone};
-ghost use Rattle.timefd_parse.specs.Language.{IsAssignedIn, SpellsIn};
+ghost use Rattle.timefd_parse.specs.Language.{FaultIn, IsAssignedIn, SpellsIn};
 ghost use Rattle.timefd_fix.specs.Chains.{IsFixed, IsLeftOf, IsMended, IsUnmendedOf};
 
 use crate::cure::cured;
@@ -30,6 +31,11 @@ pub fn fixed(
 ) -> Result<String, ParseError>
     ensures fixed { IfOk result (λ answer.
         IsFixed language fixes text.now (string_bytes answer)) }
+
+    // No fault is left in the answer: neither where one was mended nor elsewhere.
+    ensures faultless { IfOk result (λ answer. (f : Fault)
+        → FaultIn language nesting_limit (string_bytes answer) f → ⊥) }
+
     ensures left { IfErr result (IsLeftOf language fixes text.now) }
 {
     let mut now = owned(alloc, text)?;
