@@ -1,12 +1,11 @@
 //! The node of a component.
 
 ghost use Rattle.std.specs.Prelude.{◌≡◌};
-ghost use Rattle.timefd_component.specs.Reserved.{digits_shown};
 ghost use Rattle.timefd_c_nodes.specs.Encoding as spec;
 
-use crate::node::{COMPONENT, Node, flag_number};
+use crate::fields::{cased, end, ignored, indexed, padded, period, signed, subsecond, timestamp};
+use crate::node::{COMPONENT, Node};
 use timefd_items::Component;
-use timefd_items::modifier::{Padding, SubsecondDigits, TrailingInput};
 
 /// The node of a component whose place is this index.
 #[inline(always)]
@@ -130,127 +129,5 @@ pub fn make_component(node: &mut Node, component: Component, at: usize)
         | Component::Hour(_)
         | Component::UnixTimestamp(_)
         | Component::Year(_) => {},
-    }
-}
-
-#[inline(always)]
-fn numbered(node: &mut Node, component: u32, bytes: usize)
-    ensures { node.new ≡ record node.old { component = component; bytes = bytes } }
-{
-    node.component = component;
-    node.bytes = bytes;
-}
-
-#[inline(always)]
-fn padded(node: &mut Node, component: u32, bytes: usize, padding: Padding)
-    ensures { node.new ≡ record node.old { component = component; bytes = bytes; padding = spec.padding_number padding } }
-{
-    node.padding = padding_number(padding);
-    numbered(node, component, bytes);
-}
-
-#[inline(always)]
-fn signed(node: &mut Node, component: u32, bytes: usize, padding: Padding, sign_is_mandatory: bool)
-    ensures { node.new ≡ record node.old { component = component; bytes = bytes; padding = spec.padding_number padding; sign_is_mandatory = spec.flag_number sign_is_mandatory } }
-{
-    node.padding = padding_number(padding);
-    node.sign_is_mandatory = flag_number(sign_is_mandatory);
-    numbered(node, component, bytes);
-}
-
-#[inline(always)]
-fn timestamp(node: &mut Node, component: u32, bytes: usize, sign_is_mandatory: bool)
-    ensures { node.new ≡ record node.old { component = component; bytes = bytes; sign_is_mandatory = spec.flag_number sign_is_mandatory } }
-{
-    node.sign_is_mandatory = flag_number(sign_is_mandatory);
-    numbered(node, component, bytes);
-}
-
-#[inline(always)]
-fn cased(node: &mut Node, component: u32, bytes: usize, case_sensitive: bool)
-    ensures { node.new ≡ record node.old { component = component; bytes = bytes; case_sensitive = spec.flag_number case_sensitive } }
-{
-    node.case_sensitive = flag_number(case_sensitive);
-    numbered(node, component, bytes);
-}
-
-#[inline(always)]
-fn indexed(node: &mut Node, component: u32, bytes: usize, one_indexed: bool)
-    ensures { node.new ≡ record node.old { component = component; bytes = bytes; one_indexed = spec.flag_number one_indexed } }
-{
-    node.one_indexed = flag_number(one_indexed);
-    numbered(node, component, bytes);
-}
-
-#[inline(always)]
-fn period(node: &mut Node, component: u32, bytes: usize, is_uppercase: bool, case_sensitive: bool)
-    ensures { node.new ≡ record node.old { component = component; bytes = bytes; is_uppercase = spec.flag_number is_uppercase; case_sensitive = spec.flag_number case_sensitive } }
-{
-    node.is_uppercase = flag_number(is_uppercase);
-    node.case_sensitive = flag_number(case_sensitive);
-    numbered(node, component, bytes);
-}
-
-#[inline(always)]
-fn subsecond(node: &mut Node, component: u32, digits: SubsecondDigits)
-    ensures { node.new ≡ record node.old { component = component; bytes = digits_shown digits; digits = spec.digits_number digits } }
-{
-    let number = digits_number(digits);
-    node.digits = number;
-    numbered(node, component, usize::from(number.min(9)));
-}
-
-#[inline(always)]
-fn ignored(node: &mut Node, component: u32, count: u16)
-    ensures { node.new ≡ record node.old { component = component; bytes = 0; ignored = count } }
-{
-    node.ignored = u32::from(count);
-    numbered(node, component, 0);
-}
-
-#[inline(always)]
-fn end(node: &mut Node, component: u32, trailing_input: TrailingInput)
-    ensures { node.new ≡ record node.old { component = component; bytes = 0; trailing_input = spec.trailing_input_number trailing_input } }
-{
-    node.trailing_input = trailing_input_number(trailing_input);
-    numbered(node, component, 0);
-}
-
-#[inline(always)]
-fn padding_number(padding: Padding) -> u8
-    ensures { result ≡ spec.padding_number padding }
-{
-    match padding {
-        Padding::Space => 1,
-        Padding::Zero => 2,
-        Padding::None => 3,
-    }
-}
-
-#[inline(always)]
-fn digits_number(digits: SubsecondDigits) -> u8
-    ensures { result ≡ spec.digits_number digits }
-{
-    match digits {
-        SubsecondDigits::One => 1,
-        SubsecondDigits::Two => 2,
-        SubsecondDigits::Three => 3,
-        SubsecondDigits::Four => 4,
-        SubsecondDigits::Five => 5,
-        SubsecondDigits::Six => 6,
-        SubsecondDigits::Seven => 7,
-        SubsecondDigits::Eight => 8,
-        SubsecondDigits::Nine => 9,
-        SubsecondDigits::OneOrMore => 10,
-    }
-}
-
-#[inline(always)]
-fn trailing_input_number(trailing_input: TrailingInput) -> u8
-    ensures { result ≡ spec.trailing_input_number trailing_input }
-{
-    match trailing_input {
-        TrailingInput::Prohibit => 1,
-        TrailingInput::Discard => 2,
     }
 }

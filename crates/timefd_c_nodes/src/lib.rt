@@ -3,6 +3,7 @@
 #![tactic(auto)]
 
 mod component;
+mod fields;
 mod items;
 pub mod laws;
 mod node;

@@ -1,0 +1,186 @@
+//! The fields of a node that a component has: each is written right into the node.
+
+ghost use Rattle.std.specs.Prelude.{◌≡◌};
+ghost use Rattle.timefd_component.specs.Reserved.{digits_shown};
+ghost use Rattle.timefd_c_nodes.specs.Encoding as spec;
+
+use crate::node::{Node, flag_number};
+use timefd_items::modifier::{Padding, SubsecondDigits, TrailingInput};
+
+/// The number of a component, and the bytes that it reserves.
+#[inline(always)]
+pub fn numbered(node: &mut Node, component: u32, bytes: usize)
+    ensures { node.new ≡ record node.old { component = component; bytes = bytes } }
+{
+    node.component = component;
+    node.bytes = bytes;
+}
+
+/// The same, and how it is padded.
+#[inline(always)]
+pub fn padded(node: &mut Node, component: u32, bytes: usize, padding: Padding)
+    ensures { node.new ≡ record node.old {
+      component = component;
+      bytes = bytes;
+      padding = spec.padding_number padding;
+    } }
+{
+    node.padding = padding_number(padding);
+    numbered(node, component, bytes);
+}
+
+/// The same with how it is padded, and whether its sign is always written.
+#[inline(always)]
+pub fn signed(
+    node: &mut Node,
+    component: u32,
+    bytes: usize,
+    padding: Padding,
+    sign_is_mandatory: bool,
+)
+    ensures { node.new ≡ record node.old {
+      component = component;
+      bytes = bytes;
+      padding = spec.padding_number padding;
+      sign_is_mandatory = spec.flag_number sign_is_mandatory;
+    } }
+{
+    node.padding = padding_number(padding);
+    node.sign_is_mandatory = flag_number(sign_is_mandatory);
+    numbered(node, component, bytes);
+}
+
+/// The same with whether its sign is always written.
+#[inline(always)]
+pub fn timestamp(node: &mut Node, component: u32, bytes: usize, sign_is_mandatory: bool)
+    ensures { node.new ≡ record node.old {
+      component = component;
+      bytes = bytes;
+      sign_is_mandatory = spec.flag_number sign_is_mandatory;
+    } }
+{
+    node.sign_is_mandatory = flag_number(sign_is_mandatory);
+    numbered(node, component, bytes);
+}
+
+/// The same with whether it is read in this case alone.
+#[inline(always)]
+pub fn cased(node: &mut Node, component: u32, bytes: usize, case_sensitive: bool)
+    ensures { node.new ≡ record node.old {
+      component = component;
+      bytes = bytes;
+      case_sensitive = spec.flag_number case_sensitive;
+    } }
+{
+    node.case_sensitive = flag_number(case_sensitive);
+    numbered(node, component, bytes);
+}
+
+/// The same with whether its days are counted from one.
+#[inline(always)]
+pub fn indexed(node: &mut Node, component: u32, bytes: usize, one_indexed: bool)
+    ensures { node.new ≡ record node.old {
+      component = component;
+      bytes = bytes;
+      one_indexed = spec.flag_number one_indexed;
+    } }
+{
+    node.one_indexed = flag_number(one_indexed);
+    numbered(node, component, bytes);
+}
+
+/// The same with whether it is written in capitals, and whether it is read in this case alone.
+#[inline(always)]
+pub fn period(
+    node: &mut Node,
+    component: u32,
+    bytes: usize,
+    is_uppercase: bool,
+    case_sensitive: bool,
+)
+    ensures { node.new ≡ record node.old {
+      component = component;
+      bytes = bytes;
+      is_uppercase = spec.flag_number is_uppercase;
+      case_sensitive = spec.flag_number case_sensitive;
+    } }
+{
+    node.is_uppercase = flag_number(is_uppercase);
+    node.case_sensitive = flag_number(case_sensitive);
+    numbered(node, component, bytes);
+}
+
+/// The same with its digits, as many of which are reserved as are shown at least.
+#[inline(always)]
+pub fn subsecond(node: &mut Node, component: u32, digits: SubsecondDigits)
+    ensures { node.new ≡ record node.old {
+      component = component;
+      bytes = digits_shown digits;
+      digits = spec.digits_number digits;
+    } }
+{
+    let number = digits_number(digits);
+    node.digits = number;
+    numbered(node, component, usize::from(number.min(9)));
+}
+
+/// The same with how many bytes are passed over.
+#[inline(always)]
+pub fn ignored(node: &mut Node, component: u32, count: u16)
+    ensures { node.new ≡ record node.old { component = component; bytes = 0; ignored = count } }
+{
+    node.ignored = u32::from(count);
+    numbered(node, component, 0);
+}
+
+/// The same with what may follow.
+#[inline(always)]
+pub fn end(node: &mut Node, component: u32, trailing_input: TrailingInput)
+    ensures { node.new ≡ record node.old {
+      component = component;
+      bytes = 0;
+      trailing_input = spec.trailing_input_number trailing_input;
+    } }
+{
+    node.trailing_input = trailing_input_number(trailing_input);
+    numbered(node, component, 0);
+}
+
+#[inline(always)]
+fn padding_number(padding: Padding) -> u8
+    ensures { result ≡ spec.padding_number padding }
+{
+    match padding {
+        Padding::Space => 1,
+        Padding::Zero => 2,
+        Padding::None => 3,
+    }
+}
+
+#[inline(always)]
+fn digits_number(digits: SubsecondDigits) -> u8
+    ensures { result ≡ spec.digits_number digits }
+{
+    match digits {
+        SubsecondDigits::One => 1,
+        SubsecondDigits::Two => 2,
+        SubsecondDigits::Three => 3,
+        SubsecondDigits::Four => 4,
+        SubsecondDigits::Five => 5,
+        SubsecondDigits::Six => 6,
+        SubsecondDigits::Seven => 7,
+        SubsecondDigits::Eight => 8,
+        SubsecondDigits::Nine => 9,
+        SubsecondDigits::OneOrMore => 10,
+    }
+}
+
+#[inline(always)]
+fn trailing_input_number(trailing_input: TrailingInput) -> u8
+    ensures { result ≡ spec.trailing_input_number trailing_input }
+{
+    match trailing_input {
+        TrailingInput::Prohibit => 1,
+        TrailingInput::Discard => 2,
+    }
+}
