@@ -36,11 +36,11 @@ at_first kind end body = record {
 }
 
 -- the outcome of one part
-abbrev go : Kind → ℕ → ℕ → ℕ → Option Part → Option Placed
+abbrev pub go : Kind → ℕ → ℕ → ℕ → Option Part → Option Placed
 go kind end place steps None = None
 go kind end place steps (Some p) = before p.stands (all_at place p.stands) (unescaped steps kind end p.rest)
 
-one_step : (kind : Kind) (end steps b : ℕ) (bytes : Text) (r : Option Part) → r ≡ part_of kind b bytes
+pub one_step : (kind : Kind) (end steps b : ℕ) (bytes : Text) (r : Option Part) → r ≡ part_of kind b bytes
     → unescaped (suc steps) kind end (b ∷ bytes) ≡ go kind end (end - length (b ∷ bytes)) steps r
 one_step kind end steps b bytes r e = subst
     (λ (t : Option Part). elim t as (λ _. Option Placed) [

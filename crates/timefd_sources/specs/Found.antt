@@ -1,5 +1,5 @@
 -- Descriptions that are literals of a source.
-use Rattle.std.specs.Prelude.{ℕ, ◌≡◌, List, [], ◌∷◌, Option, None, Some, length, nat_lt, slice_index, if◌then◌else◌}
+use Rattle.std.specs.Prelude.{ℕ, ◌≡◌, ◌≤◌, List, [], ◌∷◌, Option, None, Some, length, nat_le, nat_lt, slice_index, if◌then◌else◌, ⊤}
 use Rattle.std.specs.List.{All}
 use Rattle.timefd_sources.specs.declared.description.Description.{Description}
 use Rattle.timefd_sources.specs.Bytes.{Text}
@@ -15,6 +15,20 @@ pub record StandsIn (source : Text) (d : Description) : Type 0 where
 
 abbrev pub AllStandIn : Text → List Description → Type 0
 AllStandIn source ds = All (StandsIn source) ds
+
+-- Each begins where the one before ends, or behind that.
+abbrev pub AreInOrder : ℕ → List Description → Type 0
+AreInOrder from [] = ⊤
+AreInOrder from (d ∷ ds) = (from ≤ d.piece.start) × AreInOrder d.piece.end ds
+
+-- one that doesn't begin before a place
+abbrev pub begun_behind : ℕ → Option Description → Option Description
+begun_behind from None = None
+begun_behind from (Some d) = if nat_le from d.piece.start then Some d else None
+
+abbrev pub end_behind : ℕ → Option Description → ℕ
+end_behind from None = from
+end_behind from (Some d) = d.piece.end
 
 abbrev pub listed : Option Description → List Description
 listed None = []

@@ -8,3 +8,4 @@ pub mod Between
 pub mod Found
 pub mod Chrono
 pub mod Grammar
+pub mod Written

@@ -1,5 +1,5 @@
 -- The text of a literal that stands in a source.
-use Rattle.std.specs.Prelude.{ℕ, ◌-◌, ◌&&◌, nat_le, nat_lt, if◌then◌else◌, [], ◌∷◌, length, take, drop, Option, Some, None}
+use Rattle.std.specs.Prelude.{ℕ, ◌≡◌, ◌≤◌, ◌-◌, ◌&&◌, nat_le, nat_lt, if◌then◌else◌, [], ◌∷◌, length, take, drop, Option, Some, None}
 use Rattle.timefd_sources.specs.declared.class.Class.TheVariants.{Unquoted}
 use Rattle.timefd_sources.specs.declared.piece.Piece.{Piece}
 use Rattle.timefd_sources.specs.declared.token.Kind.{Kind}
@@ -43,3 +43,16 @@ body_end p kind = p.end - hash_count kind - 1
 
 abbrev pub literal_text : Text → Piece → Kind → Option Placed
 literal_text source p kind = text_of kind (body_end p kind) (cut source p)
+
+abbrev pub inside_of : Kind → Option Text → Option Text
+inside_of kind None = None
+inside_of kind (Some literal) = body kind literal
+
+-- what stands between the quotes of a literal of the source
+abbrev pub inside : Text → Piece → Kind → Option Text
+inside source p kind = inside_of kind (cut source p)
+
+-- These bytes of the source end at a place.
+pub record EndsAt (source : Text) (end : ℕ) (bytes : Text) : Type 0 where
+  pub within : end ≤ length source
+  pub are : bytes ≡ take (length bytes) (drop (end - length bytes) source)

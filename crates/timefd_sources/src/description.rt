@@ -1,7 +1,7 @@
 //! The descriptions in a source.
 
 ghost use Rattle.std.specs.Prelude.{◌≡◌, ◌++◌, IfOk, MatchOption, OnOk, ⊤};
-ghost use Rattle.timefd_sources.specs.Found.{AllStandIn, StandsIn, listed};
+ghost use Rattle.timefd_sources.specs.Found.{AllStandIn, AreInOrder, StandsIn, begun_behind, end_behind, listed};
 
 use crate::between::is_between;
 use crate::calls::{Call, Frame, call_of, dialect_in, text_at};
@@ -148,26 +148,40 @@ fn found(
     }
 }
 
+/// Adds a description that begins behind the others, which end at a place, and answers where all end
+/// then. All that are found do: this is their test.
 fn push_any(
     descriptions: &mut Vec<Description>,
     found: Option<Description>,
-) -> Result<(), AllocError>
-    ensures { OnOk result (descriptions.new.items ≡ descriptions.old.items ++ listed found) }
+    end: usize,
+) -> Result<usize, AllocError>
+    ensures pushed { OnOk result (descriptions.new.items
+        ≡ descriptions.old.items ++ listed (begun_behind end found)) }
+    ensures end { IfOk result (λ next. next ≡ end_behind end (begun_behind end found)) }
 {
     match found {
         Some(description) => {
+            let Piece {
+                start,
+                end: next,
+                ..
+            } = description.piece;
+            if start < end {
+                return Ok(end);
+            }
             descriptions.push(description)?;
-            Ok(())
+            Ok(next)
         }
-        None => Ok(()),
+        None => Ok(end),
     }
 }
 
 /// The descriptions in a source: arguments of the calls that are known, and literals for which a comment
-/// names a language.
-#[tactic(auto, using(crate::proofs::FoundLemmas::at_first))]
+/// names a language, one behind another.
+#[tactic(auto, using(crate::proofs::FoundLemmas::at_first, crate::proofs::FoundLemmas::none_yet))]
 pub fn descriptions_of(alloc: Global, source: &str) -> Result<Vec<Description>, AllocError>
-    ensures { IfOk result (λ found. AllStandIn source.now found.items) }
+    ensures stand { IfOk result (λ found. AllStandIn source.now found.items) }
+    ensures in_order { IfOk result (λ found. AreInOrder 0 found.items) }
 {
     if !may_describe(source.as_bytes()) {
         return Ok(Vec::new(alloc));
@@ -178,13 +192,14 @@ pub fn descriptions_of(alloc: Global, source: &str) -> Result<Vec<Description>, 
     let mut frames: Vec<Frame> = Vec::new(alloc);
     let mut descriptions = Vec::new(alloc);
     let mut open = 0;
+    let mut end = 0;
     for (index, piece) in pieces.iter().enumerate() {
         pass_sign(&mut frames, source, &pieces, index)?;
         open = first_open(&marks, open, piece.start);
         let told = dialect_marked(&marks, open, piece.start);
         let frame = frames.last().copied();
         let description = found(alloc, source, &pieces, index, frame, told)?;
-        push_any(&mut descriptions, description)?;
+        end = push_any(&mut descriptions, description, end)?;
     }
     Ok(descriptions)
 }

@@ -1,6 +1,7 @@
 //! String literals in sources of Rust, and the format descriptions among them.
 #![tactic(auto)]
 
+mod alike;
 mod between;
 mod calls;
 mod character;
@@ -19,12 +20,15 @@ mod place;
 mod string;
 mod token;
 mod unescape;
+mod written;
 
+pub use alike::body_alike;
 pub use chrono::is_of_chrono;
 pub use description::{Description, descriptions_of};
 pub use dialect::Dialect;
-pub use literal::literal_text;
+pub use literal::{body_end, inside, literal_text};
 pub use piece::{Piece, pieces_of};
 pub use place::place_of;
 pub use token::{Encoding, Kind, Token};
 pub use unescape::Unescaped;
+pub use written::body_for;

@@ -46,12 +46,26 @@ pub fn body_end(piece: Piece, kind: Kind) -> usize
 /// The bytes of a token.
 fn cut(source: &[u8], piece: Piece) -> Option<&[u8]>
     ensures cut { seen result ≡ spec.cut source.now piece }
-    ensures within { MatchOption result ⊤ (λ text. length text.now ≤ piece.end) }
+    ensures within { MatchOption result ⊤ (λ text. length text.now + piece.start ≡ piece.end) }
 {
     if piece.start <= piece.end && piece.end <= source.len() {
         Some(&source[piece.start..piece.end])
     } else {
         None
+    }
+}
+
+/// What stands between the quotes of a literal, which is this token of the source. None where no
+/// literal of the kind stands.
+#[tactic(auto, using(crate::proofs::InsideLemmas::inside_stands))]
+pub fn inside(source: &str, piece: Piece, kind: Kind) -> Option<&[u8]>
+    ensures inside { seen result ≡ spec.inside source.now piece kind }
+    ensures within { MatchOption result ⊤ (λ inside. piece.start + length inside.now < spec.body_end piece kind) }
+    ensures place { MatchOption result ⊤ (λ inside. spec.EndsAt source.now (spec.body_end piece kind) inside.now) }
+{
+    match cut(source.as_bytes(), piece) {
+        Some(literal) => body(kind, literal),
+        None => None,
     }
 }
 

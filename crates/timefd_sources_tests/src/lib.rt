@@ -9,3 +9,5 @@ mod shown;
 mod texts;
 #[cfg(test)]
 mod tokens;
+#[cfg(test)]
+mod written;

@@ -1,0 +1,10 @@
+use Rattle.std.proofs.Common.{◌≡◌, length}
+use Rattle.timefd_sources.specs.Written.{closes_nowhere}
+use Rattle.timefd_sources.proofs.written.closes_nowhere.Given as goal
+
+-- What is left decides.
+abbrev pub invariant-bytes : goal.invariant-bytes
+invariant-bytes l = closes_nowhere l.hash_count l.rest ≡ closes_nowhere l.hash_count l.fn.text
+
+abbrev pub decreases-bytes : goal.decreases-bytes
+decreases-bytes l = length l.rest
