@@ -5,3 +5,4 @@ pub mod Sources
 pub mod Files
 pub mod Summaries
 pub mod Marks
+pub mod Rewritten

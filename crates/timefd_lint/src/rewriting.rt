@@ -3,6 +3,8 @@
 
 ghost use Rattle.std.specs.Prelude.{Option, Some, [], IfOk};
 ghost use Rattle.timefd_component.specs.Tree.{Text};
+ghost use Rattle.timefd_lint.specs.Rewritten.{AreCounted, IsSourceRewritten};
+ghost use Rattle.timefd_lint.specs.Sources.{IsRunOfSource};
 ghost use Rattle.timefd_lint.specs.Told.{IsRunOver};
 ghost use Rattle.timefd_rewrite.specs.Rewriting.{AreRewritten};
 
@@ -11,15 +13,17 @@ use crate::fix::{FixError, Original};
 use crate::line::RunError;
 use crate::lines::{failed, lint_lines};
 use crate::options::Options;
-use crate::rust::is_source;
+use crate::rust::{is_source, lint_source};
 use crate::tally::Tally;
 use std::alloc::Global;
-use std::fs;
 use std::io::{Eprint, Write};
 use std::os::unix::fs::MetadataExt;
 use std::rt::Files;
+use std::{fs, str};
 use timefd_drawing::shown::safe;
+use timefd_fix::Fixes;
 use timefd_rewrite::{Counts, Layout, RewriteError, rewrite_lines, write_diff};
+use timefd_rewrite_sources::{Outcome, count_refused, count_rewritten, mend_source};
 
 /// How files are rewritten.
 #[derive(Clone, Copy)]
@@ -27,7 +31,7 @@ pub struct Rewriting {
     pub layout: Layout,
     /// Whether they are written back, and not shown as changes.
     pub writes: bool,
-    /// Whether a file is also rewritten where some of its lines are refused.
+    /// Whether a file is also rewritten where some of its lines or descriptions are refused.
     pub is_partial: bool,
 }
 
@@ -38,7 +42,7 @@ struct Identity {
     inode: u64,
 }
 
-/// Looks at the lines of each file in turn, and shows what changes in it or writes it back. One that
+/// Looks at the lines of each file in turn, or at the descriptions of a source, and shows what changes in it or writes it back. One that
 /// several names stand for is taken once. A file that can't be read or not be written back is noted,
 /// and the others are still looked at.
 pub fn rewrite_files<R: Files + Eprint, W: Write>(
@@ -100,7 +104,8 @@ fn rewrite_file<R: Files + Eprint, W: Write>(
     name: &str,
     writer: &mut W,
 ) -> Result<Tally, RunError> {
-    if is_source(options, name) {
+    let is_source = is_source(options, name);
+    if is_source && !is_mending(rewriting.layout) {
         return noted(
             alloc,
             options,
@@ -113,10 +118,23 @@ fn rewrite_file<R: Files + Eprint, W: Write>(
         Ok(old) => old,
         Err(error) => return noted(alloc, options, name, error, writer),
     };
-    let found = looked_at(alloc, options, rewriting.layout, name, &old.bytes, writer)?;
+    let found = match rewriting.layout {
+        Layout::Fixed(_, fixes) if is_source => {
+            source_looked_at(alloc, options, fixes, name, &old.bytes, writer)?
+        }
+        layout => looked_at(alloc, options, layout, name, &old.bytes, writer)?,
+    };
     match shown_or_written(rt, alloc, rewriting, name, &old, &found, writer) {
         Ok(()) => Ok(found.tally),
         Err(error) => Ok(found.tally.and(noted(alloc, options, name, error, writer)?)),
+    }
+}
+
+// Whether what is at fault is mended, and the language stays.
+fn is_mending(layout: Layout) -> bool {
+    match layout {
+        Layout::Fixed(_, _) => true,
+        Layout::Least(_) | Layout::Normal(_) => false,
     }
 }
 
@@ -138,10 +156,19 @@ fn noted<W: Write>(
     }
 }
 
-// What is found in the lines of a file, and the bytes that are to stand in their place.
+// What is counted in a file.
+#[derive(Clone, Copy)]
+enum Unit {
+    Line,
+    Description,
+}
+
+// What is found in a file, how many lines or descriptions are rewritten, and the bytes that are to
+// stand in place of the file's.
 #[derive(Drop)]
 struct Found {
     tally: Tally,
+    unit: Unit,
     counts: Counts,
     bytes: Vec<u8>,
 }
@@ -168,11 +195,57 @@ fn looked_at<W: Write>(
     match rewrite_lines(alloc, options.comment, layout, &mut lines, &mut bytes) {
         Ok(counts) => Ok(Found {
             tally,
+            unit: Unit::Line,
             counts,
             bytes,
         }),
         // What is read stands in memory, and so does what is written.
         Err(_) => Err(RunError::Memory),
+    }
+}
+
+// Looks at the descriptions of a source, and mends those that can be; none where it is no text.
+fn source_looked_at<W: Write>(
+    alloc: Global,
+    options: Options<'_>,
+    fixes: Fixes,
+    name: &str,
+    old: &[u8],
+    writer: &mut W,
+) -> Result<Found, RunError>
+    ensures told { IfOk result (λ found. (rest : Option Text) × IsRunOfSource options.entry.telling
+        name.now (Some old.now) rest (W.contents writer.old) (W.contents writer.new) found.tally) }
+    ensures mended { IfOk result (λ found. IsSourceRewritten fixes old.now found.counts found.bytes.items) }
+{
+    let mut bytes = old;
+    let tally = lint_source(alloc, options, name, &mut bytes, writer)?;
+    let unit = Unit::Description;
+    match str::from_utf8(old) {
+        Ok(source) => {
+            let mended = mend_source(alloc, fixes, source)?;
+            Ok(Found {
+                tally,
+                unit,
+                counts: counts_of(&mended.outcomes),
+                bytes: mended.bytes,
+            })
+        }
+        Err(_) => Ok(Found {
+            tally,
+            unit,
+            counts: counts_of(&[]),
+            bytes: Vec::new(alloc),
+        }),
+    }
+}
+
+fn counts_of(outcomes: &[Outcome]) -> Counts
+    ensures { AreCounted outcomes.now result }
+{
+    Counts {
+        lines: outcomes.len() as u64,
+        rewritten: count_rewritten(outcomes) as u64,
+        refused: count_refused(outcomes) as u64,
     }
 }
 
@@ -191,12 +264,12 @@ fn shown_or_written<R: Files + Eprint, W: Write>(
     }
     let file = safe(alloc, name)?;
     if found.counts.refused > 0 && !rewriting.is_partial {
-        tell_refused(rt, rewriting.writes, &file, found.counts);
+        tell_refused(rt, rewriting.writes, &file, found);
         return Ok(());
     }
     if rewriting.writes {
         old.replace(rt, alloc, name, &found.bytes)?;
-        tell_rewritten(rt, &file, found.counts);
+        tell_rewritten(rt, &file, found);
         return Ok(());
     }
     match write_diff(alloc, &file, &old.bytes, &found.bytes, writer) {
@@ -206,14 +279,19 @@ fn shown_or_written<R: Files + Eprint, W: Write>(
     }
 }
 
-fn noun(count: u64) -> &'static str {
-    if count == 1 { "line" } else { "lines" }
+fn noun(unit: Unit, count: u64) -> &'static str {
+    match (unit, count) {
+        (Unit::Line, 1) => "line",
+        (Unit::Line, _) => "lines",
+        (Unit::Description, 1) => "description",
+        (Unit::Description, _) => "descriptions",
+    }
 }
 
-// Says why a file some of whose lines are refused is left out.
-fn tell_refused<R: Eprint>(rt: &R, writes: bool, file: &str, counts: Counts) {
-    let Counts { lines, refused, .. } = counts;
-    let noun = noun(lines);
+// Says why a file some of whose lines or descriptions are refused is left out.
+fn tell_refused<R: Eprint>(rt: &R, writes: bool, file: &str, found: &Found) {
+    let Counts { lines, refused, .. } = found.counts;
+    let noun = noun(found.unit, lines);
     let are = if refused == 1 { "is" } else { "are" };
     let (left, cure) = if writes {
         ("not rewritten", "--partial")
@@ -226,12 +304,12 @@ fn tell_refused<R: Eprint>(rt: &R, writes: bool, file: &str, counts: Counts) {
 }
 
 // Says that a file is written back.
-fn tell_rewritten<R: Eprint>(rt: &R, file: &str, counts: Counts) {
+fn tell_rewritten<R: Eprint>(rt: &R, file: &str, found: &Found) {
     let Counts {
         lines,
         rewritten,
         ..
-    } = counts;
-    let noun = noun(lines);
+    } = found.counts;
+    let noun = noun(found.unit, lines);
     let _ = rt.eprintln(format_args!("rewrote {file}: {rewritten} of {lines} {noun}"));
 }

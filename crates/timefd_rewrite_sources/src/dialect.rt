@@ -1,0 +1,29 @@
+//! The languages in which descriptions of sources are mended.
+
+ghost use Rattle.std.specs.Prelude.{◌≡◌};
+ghost use Rattle.timefd_rewrite_sources.specs.Dialects as spec;
+
+use timefd_parse::{DescriptionVersion, Language};
+use timefd_sources::{Dialect, is_of_chrono};
+
+/// The language of a dialect. What chrono has in common with `time` is strftime.
+pub fn language_of(dialect: Dialect) -> Language
+    ensures { result ≡ spec.language_of dialect }
+{
+    match dialect {
+        Dialect::One => Language::Version(DescriptionVersion::One),
+        Dialect::Two => Language::Version(DescriptionVersion::Two),
+        Dialect::Three => Language::Version(DescriptionVersion::Three),
+        Dialect::Strftime | Dialect::Chrono => Language::Strftime,
+    }
+}
+
+/// Whether a text has directives that chrono alone knows, so that it isn't mended.
+pub fn is_passed_over(dialect: Dialect, text: &[u8]) -> bool
+    ensures { result ≡ spec.is_passed_over dialect text.now }
+{
+    match dialect {
+        Dialect::Chrono => is_of_chrono(text),
+        Dialect::One | Dialect::Two | Dialect::Three | Dialect::Strftime => false,
+    }
+}
