@@ -1,5 +1,5 @@
 -- What one description is mended to.
-use Rattle.std.proofs.Common.{◌≡◌, ◌≢◌, true, false, inl, inr, refl, sym, subst, ◌∙◌}
+use Rattle.std.proofs.Common.{◌≡◌, ◌≢◌, true, false, inl, inr, refl, subst, ◌∙◌}
 use Rattle.std.specs.Prelude.{IsUtf8}
 use Rattle.timefd_component.specs.Tree.{Text}
 use Rattle.timefd_fault.specs.declared.invalid_format_description.InvalidFormatDescription.{InvalidFormatDescription}
@@ -58,9 +58,9 @@ mended_to fixes d language text answer of same is =
 pub same : (fixes : Fixes) (source : Text) (d : Description) (language : Language) (text answer : Text)
     → is_passed_over d.dialect (text_of d) ≡ false → language ≡ language_in d → text ≡ text_of d
     → answer ≡ text → IsFixed language fixes text answer → IsAnswer fixes source d (Stays Same)
-same fixes source d language text answer judges of same equal is = (
+same fixes source d language text answer judges of means equal is = (
   refl,
-  (judges, subst (IsMendedTo fixes d) (equal ∙ same) (mended_to fixes d language text answer of same is)),
+  (judges, subst (IsMendedTo fixes d) (equal ∙ means) (mended_to fixes d language text answer of means is)),
 )
 
 pub refused : (fixes : Fixes) (source : Text) (d : Description) (language : Language) (text : Text) (e : ParseError)

@@ -1,7 +1,6 @@
 -- Several descriptions of a source, one after another.
 use Rattle.std.proofs.Common.{ℕ, ◌≡◌, ◌<◌, ◌≤◌, ◌+◌, ◌-◌, List, [], ◌∷◌, ◌++◌, length, take, drop, get_or, refl, sym, ap, subst, ◌∙◌, arith, take_all}
 use Rattle.std.specs.Prelude.{false, Option, None, Some}
-use Rattle.std.specs.List.{All}
 use Rattle.std.proofs.lemmas.List.{append_assoc, append-nil, drop-drop, drop_all, drop_more, take-append-drop, length-drop}
 use Rattle.std.specs.declared.alloc.Global.{Global}
 use Rattle.std.specs.declared.vec.Vec.{Vec}
@@ -18,7 +17,7 @@ use Rattle.timefd_rewrite_sources.specs.declared.answer.Answer.{Answer}
 use Rattle.timefd_rewrite_sources.specs.declared.answer.Answer.TheVariants.{Stays, Becomes}
 use Rattle.timefd_rewrite_sources.specs.declared.outcome.Outcome.{Outcome}
 use Rattle.timefd_rewrite_sources.specs.declared.outcome.Outcome.TheVariants.{PassedOver, Same, Rewritten, Refused, NotText, NotALiteral}
-use Rattle.timefd_rewrite_sources.specs.Mended.{AddsMended, AreMended, IsAnswer, IsOutcome, IsPlaced, IsReplaced, Replaces, is_rewriting}
+use Rattle.timefd_rewrite_sources.specs.Mended.{AddsMended, AreMended, IsAnswer, IsOutcome, IsPlaced, Replaces, is_rewriting}
 
 -- A description's literal has an inside.
 no_text : (kind : Kind) (end : ℕ) (p : Placed) (r : Option Text)

@@ -1,5 +1,5 @@
 -- What written bodies stand for.
-use Rattle.std.proofs.Common.{ℕ, zero, suc, ◌≡◌, ◌≤◌, ◌<◌, ◌-◌, ◌+◌, ◌*◌, ◌/◌, ◌%◌, ◌==◌, ◌&&◌, not, Bool, true, false, cond, nat_le, nat_lt, List, [], ◌∷◌, ◌++◌, length, replicate, ◌⊎◌, inl, inr, get_or, take, Option, Some, None, IsTrue, refl, sym, ap, subst, ◌∙◌, append_assoc, append-nil, length-append, arith, eqb-true}
+use Rattle.std.proofs.Common.{ℕ, zero, suc, ◌≡◌, ◌≤◌, ◌<◌, ◌-◌, ◌+◌, ◌*◌, ◌/◌, ◌%◌, ◌==◌, ◌&&◌, not, Bool, true, false, nat_le, List, [], ◌∷◌, ◌++◌, length, replicate, inl, inr, get_or, take, Option, Some, None, IsTrue, refl, sym, ap, subst, ◌∙◌, append_assoc, append-nil, length-append, arith}
 use Rattle.std.specs.List.{list_all}
 use Rattle.std.proofs.lemmas.Bool.{cases_Bool, and_from}
 use Rattle.std.proofs.lemmas.Bool.Decides.{nat_tests}
@@ -12,10 +12,10 @@ use Rattle.timefd_sources.specs.declared.token.Kind.TheVariants.{Escaped, Raw}
 use Rattle.timefd_sources.specs.declared.unescape.Unescaped as whole
 use Rattle.timefd_sources.specs.Bytes.{Text, quote, hash, backslash, carriage_return, class_test}
 use Rattle.timefd_sources.specs.Behind.{behind_run, hashes}
-use Rattle.timefd_sources.specs.Escapes.{Part, Placed, placed, placed_any, before, all_at, byte_of, escape_by, hex_digit, high_by, is_allowed, itself, letter, low_by, byte_value, part_of, unescaped}
+use Rattle.timefd_sources.specs.Escapes.{Part, Placed, placed_any, before, all_at, byte_of, escape_by, hex_digit, high_by, is_allowed, itself, letter, low_by, byte_value, part_of, unescaped}
 use Rattle.timefd_sources.specs.Grammar.{IsBody, closing, is_body, is_raw_body}
-use Rattle.timefd_sources.specs.Written.{AddsPiece, IsBodyFor, IsWritten, Writes, closes, closes_nowhere, has_body, is_plain, is_shown, may_stand_raw, text_alone, text_in}
-use Rattle.timefd_sources.proofs.UnescapeLemmas.{go, one_step}
+use Rattle.timefd_sources.specs.Written.{AddsPiece, IsBodyFor, IsWritten, closes, closes_nowhere, has_body, is_plain, is_shown, may_stand_raw, text_alone}
+use Rattle.timefd_sources.proofs.UnescapeLemmas.{one_step}
 
 both_true : (a b : Bool) → (a && b) ≡ true → (a ≡ true) × (b ≡ true)
 both_true true b e = (refl, e)

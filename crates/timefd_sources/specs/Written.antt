@@ -1,5 +1,5 @@
 -- Texts that are written as the bodies of literals.
-use Rattle.std.specs.Prelude.{ℕ, ◌≡◌, Bool, true, not, ◌&&◌, ◌==◌, nat_le, nat_lt, List, [], ◌∷◌, ◌++◌, length, Option, Some, None}
+use Rattle.std.specs.Prelude.{ℕ, ◌≡◌, Bool, true, not, ◌&&◌, ◌==◌, nat_le, nat_lt, [], ◌∷◌, ◌++◌, length, Option, Some, None}
 use Rattle.std.specs.List.{list_all}
 use Rattle.timefd_sources.specs.declared.token.Encoding.{Encoding}
 use Rattle.timefd_sources.specs.declared.token.Encoding.TheVariants.{Str, Bytes, C}
@@ -7,7 +7,7 @@ use Rattle.timefd_sources.specs.declared.token.Kind.{Kind}
 use Rattle.timefd_sources.specs.declared.token.Kind.TheVariants.{Escaped, Raw}
 use Rattle.timefd_sources.specs.Bytes.{Text, quote, backslash, carriage_return}
 use Rattle.timefd_sources.specs.Behind.{hashes}
-use Rattle.timefd_sources.specs.Escapes.{Part, Placed, part_of, unescaped}
+use Rattle.timefd_sources.specs.Escapes.{Placed, part_of, unescaped}
 use Rattle.timefd_sources.specs.Grammar.{IsBody, closing, is_body}
 
 abbrev pub text_alone : Option Placed → Option Text
