@@ -1,6 +1,7 @@
 -- Why a walk over folders doesn't come to its end.
-use Rattle.std.specs.Prelude.{ℕ, ◌≡◌, ◌≤◌, ⊤, nat_eq, string_bytes}
-use Rattle.std.specs.List.{count_by}
+use Rattle.std.specs.Prelude.{ℕ, ◌≡◌, ◌≤◌, ◌++◌, ⊤, List, nat_eq, string_bytes}
+use denote.Ref.{Bor}
+use Rattle.std.specs.List.{Contains, count_by}
 use Rattle.std.specs.declared.io.ErrorKind.{ErrorKind}
 use Rattle.timefd_lint_files.specs.declared.system.ReadError.{ReadError}
 use Rattle.timefd_lint_files.specs.declared.system.ReadError.TheVariants as unread
@@ -9,24 +10,35 @@ use Rattle.timefd_lint_files.specs.declared.walk_error.Reason.TheVariants.{Unrea
 use Rattle.timefd_lint_files.specs.declared.walk_error.WalkError.{WalkError}
 use Rattle.timefd_lint_files.specs.declared.walk_error.WalkError.TheVariants.{Memory, Failed}
 use Rattle.timefd_lint_files.specs.Matching.{Text, slash}
+use Rattle.timefd_lint_files.specs.Walks.{as_folder}
 
 -- The system says that it fails for this reason, or memory ran out.
 abbrev pub IsReadError : (ErrorKind → Type 0) → ReadError → Type 0
 IsReadError fails unread.Memory = ⊤
 IsReadError fails (unread.Failed kind) = fails kind
 
--- how many slashes a path has: at least as many as there are folders around what it names
+-- how many slashes a path has
 abbrev pub slashes : Text → ℕ
 slashes path = count_by (nat_eq slash) path
 
--- A folder or a file can't be read, or stands in as many folders as this.
-abbrev pub IsReason : (Text → ErrorKind → Type 0) → ℕ → Text → Reason → Type 0
-IsReason fails depth path (Unread kind) = fails path kind
-IsReason fails depth path TooDeep = depth ≤ slashes path
+-- A path begins with the name of a folder, and at least so many slashes stand behind it: as many folders stand
+-- between the two.
+abbrev pub IsBelow : ℕ → Text → Text → Type 0
+IsBelow depth folder path = (rest : Text) × (path ≡ folder ++ rest) × (depth ≤ slashes rest)
 
-abbrev pub IsWalkError : (Text → ErrorKind → Type 0) → ℕ → WalkError → Type 0
-IsWalkError fails depth Memory = ⊤
-IsWalkError fails depth (Failed path reason) = IsReason fails depth (string_bytes path) reason
+-- It is so of one of these names.
+abbrev pub IsBelowAny : ℕ → List (Bor Text) → Text → Type 0
+IsBelowAny depth names path =
+    (name : Bor Text) × Contains names name × IsBelow depth (as_folder name.now) path
+
+-- A folder or a file can't be read, or stands too deep.
+abbrev pub IsReason : (Text → ErrorKind → Type 0) → (Text → Type 0) → Text → Reason → Type 0
+IsReason fails Deep path (Unread kind) = fails path kind
+IsReason fails Deep path TooDeep = Deep path
+
+abbrev pub IsWalkError : (Text → ErrorKind → Type 0) → (Text → Type 0) → WalkError → Type 0
+IsWalkError fails Deep Memory = ⊤
+IsWalkError fails Deep (Failed path reason) = IsReason fails Deep (string_bytes path) reason
 
 -- A folder or a file can't be read.
 abbrev pub IsUnread : (Text → ErrorKind → Type 0) → WalkError → Type 0

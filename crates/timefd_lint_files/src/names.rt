@@ -2,7 +2,7 @@
 
 ghost use Rattle.std.specs.Prelude.{◌≡◌, ◌++◌, ◌∷◌, [], List, string_bytes, IfOk, OnOk};
 ghost use Rattle.std.specs.Result.{IfErr};
-ghost use Rattle.timefd_lint_files.specs.Errors.{IsWalkError};
+ghost use Rattle.timefd_lint_files.specs.Errors.{IsBelow, IsBelowAny, IsWalkError};
 ghost use Rattle.timefd_lint_files.specs.Matching.{Text};
 ghost use Rattle.timefd_lint_files.specs.Walks as spec;
 ghost use Rattle.timefd_lint_files.specs.declared.walk_error.WalkError.TheVariants as errors;
@@ -49,7 +49,7 @@ fn push_name(alloc: Global, walk: &mut Walk, name: &str) -> Result<(), WalkError
 }
 
 /// Adds a name, or those of the sources below its folder.
-#[tactic(auto, using(crate::proofs::NameLemmas::as_input, crate::proofs::NameLemmas::as_file, crate::proofs::NameLemmas::as_walked, crate::proofs::ErrorLemmas::below_named))]
+#[tactic(auto, using(crate::proofs::NameLemmas::as_input, crate::proofs::NameLemmas::as_file, crate::proofs::NameLemmas::as_walked))]
 fn expand<S: FileSystem>(
     system: &S,
     alloc: Global,
@@ -62,7 +62,8 @@ fn expand<S: FileSystem>(
         × IsExpanded (IsWalk (S.lists system.now) (S.holds system.now) 255 [])
         (S.tells system.now) name.entry names) }
     ensures ignores { OnOk result (walk.new.ignores.items ≡ []) }
-    ensures error { IfErr result (IsWalkError (S.fails system.now) 255) }
+    ensures error { IfErr result
+        (IsWalkError (S.fails system.now) (IsBelow 255 (spec.as_folder name.entry.now))) }
 {
     if is_input(name) {
         return push_name(alloc, walk, name);
@@ -93,8 +94,8 @@ pub fn expanded<S: FileSystem>(
     ensures all { IfOk result (λ all. AreExpanded (IsWalk (S.lists system.now) (S.holds system.now) 255 [])
         (S.tells system.now) names.now (texts all.items)) }
 
-    // A path with fewer than 255 slashes isn't refused for its depth.
-    ensures error { IfErr result (IsWalkError (S.fails system.now) 255) }
+    // What is refused for its depth begins with one of the names, and 255 slashes and more stand behind that.
+    ensures error { IfErr result (IsWalkError (S.fails system.now) (IsBelowAny 255 names.now)) }
 {
     let mut walk = Walk::new(alloc);
     for name in names {

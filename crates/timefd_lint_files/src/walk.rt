@@ -1,8 +1,8 @@
 //! The sources of Rust below a folder.
 
-ghost use Rattle.std.specs.Prelude.{◌≡◌, ◌+◌, ◌++◌, [], List, length, string_bytes, IfOk, OnOk};
+ghost use Rattle.std.specs.Prelude.{◌≡◌, ◌++◌, [], List, length, string_bytes, IfOk, OnOk};
 ghost use Rattle.std.specs.Result.{IfErr};
-ghost use Rattle.timefd_lint_files.specs.Errors.{IsUnread, IsWalkError, slashes};
+ghost use Rattle.timefd_lint_files.specs.Errors.{IsBelow, IsUnread, IsWalkError};
 ghost use Rattle.timefd_lint_files.specs.Matching.{Text};
 ghost use Rattle.timefd_lint_files.specs.Walks.{AreListed, IsLookedAt, IsWalk, text_any, texts};
 
@@ -109,7 +109,7 @@ pub fn walk_folder<S: FileSystem>(
         × IsWalk (S.lists system.now) (S.holds system.now) depth walk.old.ignores.items
         folder.now names) }
     ensures ignores { OnOk result (walk.new.ignores.items ≡ walk.old.ignores.items) }
-    ensures error { IfErr result (IsWalkError (S.fails system.now) (slashes folder.now + depth)) }
+    ensures error { IfErr result (IsWalkError (S.fails system.now) (IsBelow depth folder.now)) }
 {
     if depth == 0 {
         return Err(failed(alloc, folder, Reason::TooDeep));
