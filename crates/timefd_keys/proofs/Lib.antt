@@ -1,0 +1,4 @@
+pub mod ReadingLemmas
+pub mod FoundLemmas
+pub mod NumberLemmas
+pub mod KeyLemmas

@@ -1,0 +1,10 @@
+use Rattle.std.proofs.Common.{◌≡◌, length}
+use Rattle.timefd_keys.specs.Keys.{dialect_of}
+use Rattle.timefd_keys.proofs.key.dialect_of.Given as goal
+
+-- What is left decides.
+abbrev pub invariant-keys : goal.invariant-keys
+invariant-keys l = dialect_of l.rest l.name ≡ dialect_of l.fn.keys l.name
+
+abbrev pub decreases-keys : goal.decreases-keys
+decreases-keys l = length l.rest

@@ -1,0 +1,26 @@
+use Rattle.std.proofs.Common.{ℕ, ◌≡◌, ◌≤◌, ◌-◌, ◌∙◌, List, [], ◌∷◌, length, get_or, take, drop, rules, arith, sym, ap, take_all, Some}
+use Rattle.std.proofs.lemmas.Grind.{common_steps}
+use Rattle.timefd_sources.specs.Escapes.{next_value}
+use Rattle.timefd_keys.specs.Escapes.{number}
+use Rattle.timefd_keys.proofs.NumberLemmas.{one_digit}
+use Rattle.timefd_keys.proofs.number.number_of.Goals as goal
+
+-- a text that has a first byte
+split : (text : List ℕ) → 1 ≤ length text
+    → text ≡ get_or text 0 0 ∷ take (length text - 1) (drop 1 text)
+split [] le = absurd (omega arith)
+split (b ∷ bytes) le =
+    ap (λ (t : List ℕ). b ∷ t) (sym (take_all (length (b ∷ bytes) - 1) bytes (omega arith)))
+
+pub digits-preserved : goal.digits-preserved
+digits-preserved c = record {
+  number = one_digit c.digits.left c.digits.value c.next_value-value.result (get_or c.digits.rest.now 0 0)
+      (take (length c.digits.rest.now - 1) (drop 1 c.digits.rest.now)) c.digits.rest.now
+      (number c.args.count (Some 0) c.args.text.now)
+      (first_of (omega arith, omega (arith, c.digits-test.true)))
+      (split c.digits.rest.now (omega (arith, c.in-len1-up.len_at_least)))
+      (c.next_value-value.ensures.value ∙ ap (next_value c.digits.value) c.hex_digit.ensures.value)
+      c.digits.invariant.number;
+  small = c.next_value-value.ensures.small;
+  within = first_of (search rules, omega arith, grind (arith, common_steps));
+}

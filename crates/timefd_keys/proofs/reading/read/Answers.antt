@@ -1,0 +1,61 @@
+use Rattle.std.proofs.Common.{ℕ, ◌≡◌, ◌<◌, ◌≤◌, ◌-◌, ◌∙◌, List, [], ◌∷◌, length, get_or, take, drop, rules, arith, refl, sym, ap, take_all}
+use Rattle.std.proofs.lemmas.Grind.{common_steps}
+use Rattle.timefd_keys.proofs.ReadingLemmas.{at_closing, ended, faulty, one_more, unended}
+use Rattle.timefd_keys.proofs.reading.read.Goals as goal
+
+-- a text that has a first byte
+split : (text : List ℕ) → 1 ≤ length text
+    → text ≡ get_or text 0 0 ∷ take (length text - 1) (drop 1 text)
+split [] le = absurd (omega arith)
+split (b ∷ bytes) le =
+    ap (λ (t : List ℕ). b ∷ t) (sym (take_all (length (b ∷ bytes) - 1) bytes (omega arith)))
+
+none : (text : List ℕ) → length text < 1 → text ≡ []
+none [] le = refl
+none (b ∷ bytes) le = absurd (omega arith)
+
+pub returns-then-closes : goal.returns-then-closes
+returns-then-closes c =
+    c.told_as.ensures
+    ∙ at_closing c.args.style c.args.end c.parts.text.items c.parts.places.items
+    (get_or c.parts.rest.now 0 0) (take (length c.parts.rest.now - 1) (drop 1 c.parts.rest.now))
+    c.parts.rest.now c.args.all.now c.closes.result (c.args.end - length c.parts.rest.now)
+    c.parts.invariant c.closes.ensures c.if-closes.true
+    (split c.parts.rest.now (omega (arith, c.in-len1-up.len_at_least))) refl
+
+pub returns-in_default-part_of : goal.returns-in_default-part_of
+returns-in_default-part_of c =
+    faulty c.args.style c.args.end c.parts.text.items c.parts.places.items
+    (get_or c.parts.rest.now 0 0) (take (length c.parts.rest.now - 1) (drop 1 c.parts.rest.now))
+    c.parts.rest.now c.args.all.now c.closes.result c.part_of.result
+    c.parts.invariant c.closes.ensures c.if-closes.false c.part_of.ensures.part
+    (first_of (search rules, cc, grind (arith, common_steps)))
+    (split c.parts.rest.now (omega (arith, c.in-len1-up.len_at_least)))
+
+pub parts-preserved : goal.parts-preserved
+parts-preserved c =
+    one_more c.args.style c.args.end c.parts.text.items c.push_part.new.text.items
+    c.parts.places.items c.push_part.new.places.items
+    (get_or c.parts.rest.now 0 0) (take (length c.parts.rest.now - 1) (drop 1 c.parts.rest.now))
+    c.parts.rest.now c.args.all.now c.closes.result c.part_of.result c.in-Some.next
+    c.parts.invariant c.closes.ensures c.if-closes.false c.part_of.ensures.part
+    (first_of (search rules, cc, grind (arith, common_steps)))
+    (split c.parts.rest.now (omega (arith, c.in-len1-up.len_at_least)))
+    (first_of (search rules, omega arith, grind (arith, common_steps)))
+    (first_of (search rules, cc, grind (arith, common_steps)))
+    (first_of (search rules, cc, grind (arith, common_steps)))
+
+pub returns-then-is_closed_by_end : goal.returns-then-is_closed_by_end
+returns-then-is_closed_by_end c =
+    c.told_as-then-is_closed_by_end.ensures
+    ∙ ended c.args.style c.args.end c.parts.text.items c.parts.places.items c.parts.rest.now
+    c.args.all.now c.is_closed_by_end.result c.parts.invariant
+    (none c.parts.rest.now (omega (arith, c.in_default.len_below)))
+    c.is_closed_by_end.ensures c.if-is_closed_by_end.true
+
+pub returns : goal.returns
+returns c =
+    unended c.args.style c.args.end c.parts.text.items c.parts.places.items c.parts.rest.now
+    c.args.all.now c.is_closed_by_end.result c.parts.invariant
+    (none c.parts.rest.now (omega (arith, c.in_default.len_below)))
+    c.is_closed_by_end.ensures c.if-is_closed_by_end.false

@@ -1,0 +1,10 @@
+use Rattle.std.proofs.Common.{length}
+use Rattle.timefd_keys.proofs.ReadingLemmas.{Left}
+use Rattle.timefd_keys.proofs.reading.read.Given as goal
+
+-- What is left decides.
+abbrev pub invariant-parts : goal.invariant-parts
+invariant-parts l = Left l.style l.end l.text.items l.places.items l.rest l.fn.all
+
+abbrev pub decreases-parts : goal.decreases-parts
+decreases-parts l = length l.rest

@@ -1,0 +1,42 @@
+-- Descriptions that are strings of a file with keys.
+use Rattle.std.specs.Prelude.{ℕ, ◌≡◌, ◌<◌, ◌≤◌, List, Some, length, slice_index}
+use Rattle.std.specs.List.{All}
+use Rattle.std.specs.Str.{IsCharBoundary}
+use Rattle.timefd_sources.specs.declared.description.Description.{Description}
+use Rattle.timefd_sources.specs.Between.{AllBetween}
+use Rattle.timefd_sources.specs.Bytes.{Text}
+use Rattle.timefd_sources.specs.Literals.{body_end}
+use Rattle.timefd_keys.specs.declared.format.Format.{Format}
+use Rattle.timefd_keys.specs.Strings.{Reading, string_at}
+
+-- what is told of a description: its bytes, their places, and that of what closes it
+abbrev pub told : Description → Reading
+told d = record {
+  text = d.unescaped.text.items;
+  places = d.unescaped.places.items;
+  closing = body_end d.piece d.kind;
+}
+
+-- a place from the first byte of a string up to what closes it
+pub record IsWithin (start closing place : ℕ) : Type 0 where
+  pub from : start ≤ place
+  pub before : place < closing
+
+abbrev pub AllWithin : ℕ → ℕ → List ℕ → Type 0
+AllWithin start closing places = (k : ℕ) → k < length places → IsWithin start closing (slice_index places k)
+
+-- The string lies in the source, between two of its characters, and each character that it stands for does.
+pub record Lies (source : Text) (start closing : ℕ) (text : Text) (places : List ℕ) : Type 0 where
+  pub first : IsCharBoundary source start
+  pub last : IsCharBoundary source closing
+  pub each : AllBetween source text places
+  pub within : AllWithin start closing places
+
+-- What is told of a description is what the string at its place stands for, and lies there.
+pub record StandsIn (format : Format) (source : Text) (d : Description) : Type 0 where
+  pub text : Some (told d) ≡ string_at format source d.piece.start
+  pub lies : Lies source d.piece.start (body_end d.piece d.kind) d.unescaped.text.items
+      d.unescaped.places.items
+
+abbrev pub AllStandIn : Format → Text → List Description → Type 0
+AllStandIn format source ds = All (StandsIn format source) ds

@@ -1,0 +1,6 @@
+pub mod Formats
+pub mod Keys
+pub mod Styles
+pub mod Escapes
+pub mod Strings
+pub mod Found

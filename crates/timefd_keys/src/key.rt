@@ -1,0 +1,84 @@
+//! Keys whose strings are descriptions.
+
+ghost use Rattle.std.specs.Prelude.{◌≡◌};
+ghost use Rattle.timefd_keys.specs.Keys as spec;
+
+use timefd_sources::Dialect;
+
+/// A key whose strings are descriptions of a language.
+#[derive(Clone, Copy)]
+pub struct Key<'a> {
+    pub name: &'a str,
+    pub dialect: Dialect,
+}
+
+/// The language that a word names: `1`, `2`, `3`, `strftime`.
+pub fn dialect_named(word: &str) -> Option<Dialect>
+    ensures { result ≡ spec.dialect_named word.now }
+{
+    match word {
+        "1" => Some(Dialect::One),
+        "2" => Some(Dialect::Two),
+        "3" => Some(Dialect::Three),
+        "strftime" => Some(Dialect::Strftime),
+        _ => None,
+    }
+}
+
+/// The language of the first of these keys that has this name.
+pub fn dialect_of(keys: &[Key<'_>], name: &[u8]) -> Option<Dialect>
+    ensures { result ≡ spec.dialect_of keys.now name.now }
+{
+    let mut rest = keys;
+    'keys: while let [key, behind @ ..] = rest {
+        if key.name.as_bytes() == name {
+            return Some(key.dialect);
+        }
+        rest = behind;
+    }
+    None
+}
+
+/// Why a word is no `KEY=LANGUAGE`.
+#[derive(Clone, Copy, Debug, PartialEq, Eq)]
+pub enum KeyFault {
+    /// It has no equals sign.
+    NoEqualsSign,
+    /// Nothing stands in front of that.
+    EmptyName,
+    /// Behind it stands no language.
+    UnknownLanguage,
+}
+
+// The key of a name and the word for its language.
+fn answer_of<'a>(name: &'a str, language: &str) -> Result<Key<'a>, KeyFault>
+    ensures { spec.seen result ≡ spec.answer_of name.now language.now }
+{
+    if name.is_empty() {
+        return Err(KeyFault::EmptyName);
+    }
+    match dialect_named(language) {
+        Some(dialect) => Ok(Key { name, dialect }),
+        None => Err(KeyFault::UnknownLanguage),
+    }
+}
+
+/// The key that a word is, as `time_format=3`, where the first equals sign counts; or why it is none.
+pub fn key_of(word: &str) -> Result<Key<'_>, KeyFault>
+    ensures { spec.seen result ≡ spec.key_of word.now }
+{
+    match word.split_once('=') {
+        Some((name, language)) => answer_of(name, language),
+        None => Err(KeyFault::NoEqualsSign),
+    }
+}
+
+/// Why a word is no `KEY=LANGUAGE`; `None` where it is one.
+pub fn key_fault(word: &str) -> Option<KeyFault>
+    ensures { result ≡ spec.key_fault word.now }
+{
+    match key_of(word) {
+        Ok(_) => None,
+        Err(fault) => Some(fault),
+    }
+}

@@ -1,0 +1,21 @@
+//! String values of keys in files of TOML, JSON and YAML, as format descriptions.
+#![tactic(auto)]
+
+mod bytes;
+mod escape;
+mod format;
+mod found;
+mod key;
+mod letter;
+mod lies;
+mod name;
+mod number;
+mod part;
+mod passing;
+mod reading;
+mod scalar;
+mod style;
+
+pub use format::{Format, format_named};
+pub use found::descriptions_by;
+pub use key::{Key, KeyFault, dialect_named, dialect_of, key_fault, key_of};

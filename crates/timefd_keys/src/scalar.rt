@@ -1,0 +1,136 @@
+//! Escapes by the number of a character.
+
+ghost use Rattle.std.specs.Prelude.{◌≡◌, ◌≤◌, length, MatchOption, Some, IsTrue, ⊤};
+ghost use Rattle.timefd_keys.specs.Escapes.{numbered, numbered_any, parted_any};
+ghost use Rattle.timefd_keys.specs.Escapes as spec;
+ghost use Rattle.timefd_sources.specs.Escapes as sources;
+
+use crate::number::{Number, number_of};
+use crate::part::{Part, Stands};
+use crate::style::Style;
+
+#[tactic(auto, using(timefd_sources::proofs::ScalarLemmas::is_scalar_value))]
+fn scalar_value(value: u32) -> Option<char>
+    ensures { result ≡ sources.scalar_value value }
+{
+    char::from_u32(value)
+}
+
+/// A character, and what stands behind its escape.
+pub fn char_part(rest: &[u8], c: Option<char>) -> Option<Part<'_>>
+    ensures part { parted_any result ≡ sources.char_part rest.now c }
+    ensures within { MatchOption result ⊤ (λ part. length part.rest.now ≤ length rest.now) }
+{
+    match c {
+        Some(c) => Some(Part {
+            stands: Stands::Char(c),
+            rest,
+        }),
+        None => None,
+    }
+}
+
+fn character(rest: &[u8], value: u32) -> Option<Part<'_>>
+    ensures part { parted_any result ≡ sources.character rest.now (Some value) }
+    ensures within { MatchOption result ⊤ (λ part. length part.rest.now ≤ length rest.now) }
+{
+    char_part(rest, scalar_value(value))
+}
+
+fn is_first_half(value: u32) -> bool
+    ensures { result ≡ spec.is_first_half value }
+{
+    55296 <= value && value <= 56319
+}
+
+fn is_second_half(value: u32) -> bool
+    ensures { result ≡ spec.is_second_half value }
+{
+    56320 <= value && value <= 57343
+}
+
+fn joined(first: u32, second: u32) -> u32
+    requires first { IsTrue (spec.is_first_half first) }
+    requires second { IsTrue (spec.is_second_half second) }
+    ensures { result ≡ spec.joined first second }
+{
+    65536 + (first - 55296) * 1024 + (second - 56320)
+}
+
+fn behind_letter(text: &[u8]) -> Option<Number<'_>>
+    ensures number { numbered_any result ≡ spec.behind_letter text.now }
+    ensures within { MatchOption result ⊤ (λ number. length number.rest.now ≤ length text.now) }
+{
+    match text {
+        [b'u', behind @ ..] => number_of(4, behind),
+        _ => None,
+    }
+}
+
+fn second_half(text: &[u8]) -> Option<Number<'_>>
+    ensures number { numbered_any result ≡ spec.second_half text.now }
+    ensures within { MatchOption result ⊤ (λ number. length number.rest.now ≤ length text.now) }
+{
+    match text {
+        [b'\\', behind @ ..] => behind_letter(behind),
+        _ => None,
+    }
+}
+
+// The character of two halves.
+fn paired(first: u32, second: Number<'_>) -> Option<Part<'_>>
+    requires { IsTrue (spec.is_first_half first) }
+    ensures part { parted_any result ≡ spec.pair first (Some (numbered second.entry)) }
+    ensures within { MatchOption result ⊤ (λ part. length part.rest.now ≤ length second.entry.rest.now) }
+{
+    if is_second_half(second.value) {
+        character(second.rest, joined(first, second.value))
+    } else {
+        None
+    }
+}
+
+fn pair(first: u32, text: &[u8]) -> Option<Part<'_>>
+    requires { IsTrue (spec.is_first_half first) }
+    ensures part { parted_any result ≡ spec.pair first (spec.second_half text.now) }
+    ensures within { MatchOption result ⊤ (λ part. length part.rest.now ≤ length text.now) }
+{
+    match second_half(text) {
+        Some(second) => paired(first, second),
+        None => None,
+    }
+}
+
+fn joins_halves(style: Style) -> bool
+    ensures { result ≡ spec.joins_halves style }
+{
+    match style {
+        Style::Json => true,
+        Style::Basic | Style::Literal | Style::Double | Style::Single | Style::Plain => false,
+    }
+}
+
+fn scalar_part(style: Style, number: Number<'_>) -> Option<Part<'_>>
+    ensures part { parted_any result ≡ spec.scalar_part style (Some (numbered number.entry)) }
+    ensures within { MatchOption result ⊤ (λ part. length part.rest.now ≤ length number.entry.rest.now) }
+{
+    if joins_halves(style) && is_first_half(number.value) {
+        pair(number.value, number.rest)
+    } else {
+        character(number.rest, number.value)
+    }
+}
+
+/// The character of an escape with this many digits, which stand behind its letter.
+pub fn numeric(style: Style, count: usize, text: &[u8]) -> Option<Part<'_>>
+    ensures part { parted_any result ≡ spec.numeric style count text.now }
+    ensures within { MatchOption result ⊤ (λ part. length part.rest.now ≤ length text.now) }
+{
+    if count == 0 {
+        return None;
+    }
+    match number_of(count, text) {
+        Some(number) => scalar_part(style, number),
+        None => None,
+    }
+}

@@ -1,0 +1,169 @@
+//! How strings are written, and which bytes end them.
+
+ghost use Rattle.std.specs.Prelude.{◌≡◌};
+ghost use Rattle.timefd_keys.specs.Styles as spec;
+
+use crate::bytes::{begins_space, behind_blanks, is_blank, is_line_end};
+use crate::format::Format;
+
+/// How a string is written.
+#[derive(Clone, Copy, Debug, PartialEq, Eq)]
+pub enum Style {
+    /// In JSON.
+    Json,
+    /// In TOML, with double quotes.
+    Basic,
+    /// In TOML, with single quotes.
+    Literal,
+    /// In YAML, with double quotes.
+    Double,
+    /// In YAML, with single quotes.
+    Single,
+    /// In YAML, without quotes.
+    Plain,
+}
+
+fn begins_two(byte: u8, text: &[u8]) -> bool
+    ensures { result ≡ spec.begins_two byte text.now }
+{
+    match text {
+        [] | [_] => false,
+        [first, second, ..] => *first == byte && *second == byte,
+    }
+}
+
+fn toml_style(byte: u8, behind: &[u8]) -> Option<Style>
+    ensures { result ≡ spec.toml_style byte behind.now }
+{
+    if begins_two(byte, behind) {
+        None
+    } else if byte == b'"' {
+        Some(Style::Basic)
+    } else if byte == b'\'' {
+        Some(Style::Literal)
+    } else {
+        None
+    }
+}
+
+/// Whether a byte is a sign of lists and tables in one line.
+pub fn is_flow(byte: u8) -> bool
+    ensures { result ≡ spec.is_flow byte }
+{
+    byte == b',' || byte == b'[' || byte == b']' || byte == b'{' || byte == b'}'
+}
+
+fn is_other_indicator(byte: u8) -> bool
+    ensures { result ≡ spec.is_other_indicator byte }
+{
+    byte == b'#'
+        || byte == b'&'
+        || byte == b'*'
+        || byte == b'!'
+        || byte == b'|'
+        || byte == b'>'
+        || byte == b'%'
+        || byte == b'@'
+        || byte == b'`'
+}
+
+fn is_mark(byte: u8) -> bool
+    ensures { result ≡ spec.is_mark byte }
+{
+    byte == b'-' || byte == b'?' || byte == b':'
+}
+
+/// Whether a byte begins a string of YAML without quotes.
+pub fn begins_plain(byte: u8, behind: &[u8]) -> bool
+    ensures { result ≡ spec.begins_plain byte behind.now }
+{
+    if byte <= b' ' || is_flow(byte) || is_other_indicator(byte) {
+        false
+    } else if is_mark(byte) {
+        !begins_space(behind)
+    } else {
+        true
+    }
+}
+
+fn yaml_style(byte: u8, behind: &[u8]) -> Option<Style>
+    ensures { result ≡ spec.yaml_style byte behind.now }
+{
+    if byte == b'"' {
+        Some(Style::Double)
+    } else if byte == b'\'' {
+        Some(Style::Single)
+    } else if begins_plain(byte, behind) {
+        Some(Style::Plain)
+    } else {
+        None
+    }
+}
+
+/// How a string is written that begins with this byte; `None` where none does.
+pub fn style_of(format: Format, byte: u8, behind: &[u8]) -> Option<Style>
+    ensures { result ≡ spec.style_of format byte behind.now }
+{
+    match format {
+        Format::Toml => toml_style(byte, behind),
+        Format::Json if byte == b'"' => Some(Style::Json),
+        Format::Json => None,
+        Format::Yaml => yaml_style(byte, behind),
+    }
+}
+
+fn ends_line(text: &[u8]) -> bool
+    ensures { result ≡ spec.ends_line text.now }
+{
+    match text {
+        [] => true,
+        [byte, ..] => is_line_end(*byte) || *byte == b'#',
+    }
+}
+
+fn ends_plain(byte: u8, behind: &[u8]) -> bool
+    ensures { result ≡ spec.ends_plain byte behind.now }
+{
+    is_line_end(byte) || is_blank(byte) && ends_line(behind_blanks(behind))
+}
+
+fn begins_apostrophe(text: &[u8]) -> bool
+    ensures { result ≡ spec.begins_apostrophe text.now }
+{
+    match text {
+        [] => false,
+        [byte, ..] => *byte == b'\'',
+    }
+}
+
+/// Whether this byte closes a string.
+pub fn closes(style: Style, byte: u8, behind: &[u8]) -> bool
+    ensures { result ≡ spec.closes style byte behind.now }
+{
+    match style {
+        Style::Json | Style::Basic | Style::Double => byte == b'"',
+        Style::Literal => byte == b'\'',
+        Style::Single => byte == b'\'' && !begins_apostrophe(behind),
+        Style::Plain => ends_plain(byte, behind),
+    }
+}
+
+/// Whether the end of a text closes a string.
+pub fn is_closed_by_end(style: Style) -> bool
+    ensures { result ≡ spec.is_closed_by_end style }
+{
+    match style {
+        Style::Json | Style::Basic | Style::Literal | Style::Double | Style::Single => false,
+        Style::Plain => true,
+    }
+}
+
+/// Whether a string has a quote in front.
+pub fn is_quoted(style: Style) -> bool
+    ensures { result ≡ spec.is_quoted style }
+{
+    match style {
+        Style::Json | Style::Basic | Style::Literal | Style::Double | Style::Single => true,
+        Style::Plain => false,
+    }
+}
