@@ -12,7 +12,7 @@ use Rattle.std.specs.Str.{NonePass, all_scalars, encode_utf8_all}
 use Rattle.timefd_component.specs.Tree.{Text}
 use Rattle.timefd_drawing.specs.Json.{NoneIsHiddenInJson, all_escaped, escaped, hex_digit, quoted, unit, units}
 use Rattle.timefd_drawing.specs.Shown.{is_hidden}
-use Rattle.timefd_drawing.proofs.ShownLemmas.{first_scalar, joined, not_true, other_scalars}
+use Rattle.timefd_drawing.proofs.ShownLemmas.{first_scalar, joined, not_true, other_scalars, prints}
 
 -- the bytes spell characters of which none is hidden
 record IsClear (bytes : Text) : Type 0 where
@@ -52,21 +52,6 @@ one c is clear = record {
   spell = append-nil (encode_utf8 c);
   clear = (clear, tt);
 }
-
--- Characters of ASCII that print aren't hidden, one by one.
-printing : list_all (λ c. not (is_hidden (0x20 + c))) (range_with_len 0 0x5F) ≡ true
-printing = refl
-
-prints : (c : ℕ) → 0x20 ≤ c → c < 0x7F → is_hidden c ≡ false
-prints c low high =
-    let below : c - 0x20 < 0x5F = omega arith in
-    let at : get_or (range_with_len 0 0x5F) (c - 0x20) 0 ≡ c - 0x20 =
-    omega (arith, get_or-range_with_len 0 0x5F (c - 0x20) 0 below) in
-    let same : 0x20 + (c - 0x20) ≡ c = omega arith in
-    not_true (is_hidden c) (subst (λ n. not (is_hidden n) ≡ true) same
-    (subst (λ n. not (is_hidden (0x20 + n)) ≡ true) at
-    (AllPass-from_list_all (λ n. not (is_hidden (0x20 + n))) (range_with_len 0 0x5F) printing
-    (c - 0x20) 0 (omega (arith, length-range_with_len 0 0x5F)))))
 
 low_scalar : (c : ℕ) → c < 0x7F → all_scalars (c ∷ []) ≡ true
 low_scalar c low = grind (arith, nat_tests)

@@ -1,13 +1,16 @@
 -- What is shown holds no hidden character.
-use Rattle.std.proofs.Common.{ℕ, ◌≡◌, ◌<◌, ◌+◌, Bool, true, false, nat_lt, not, ◌==◌, List, [], ◌∷◌, map, chars, refl, sym, subst, inl, inr, arith, ltb-true, get_or}
-use Rattle.std.proofs.lemmas.Bool.{cases_Bool}
+use Rattle.std.proofs.Common.{ℕ, ◌≡◌, ◌<◌, ◌≤◌, ◌+◌, ◌-◌, Bool, true, false, nat_le, nat_lt, not, ◌==◌, List, [], ◌∷◌, ◌++◌, map, chars, refl, sym, ap, subst, ◌∙◌, inl, inr, arith, ltb-true, get_or}
+use Rattle.std.proofs.lemmas.Bool.{and_parts, cases_Bool, le-ltb, leb-true}
 use Rattle.std.proofs.lemmas.Bool.Decides.{nat_tests}
 use Rattle.std.proofs.lemmas.List.FromFn.{get_or-range_with_len, length-range_with_len}
 use Rattle.std.proofs.lemmas.List.Sums.{AllPass-from_list_all}
-use Rattle.std.proofs.lemmas.Str.{chars-encodes, scalars-chars}
+use Rattle.std.proofs.lemmas.Str.{chars-IsAscii, chars-encodes, encode_ascii, scalars-chars}
+use Rattle.std.proofs.lemmas.Str.Ascii.{IsAscii-cons, IsAscii-nil}
+use Rattle.std.specs.Char.{encode_utf8}
 use Rattle.std.specs.List.{list_all, range_with_len}
-use Rattle.std.specs.Str.{NonePass, all_scalars}
-use Rattle.timefd_drawing.specs.Shown.{NoneIsHidden, is_hidden, shown}
+use Rattle.std.specs.Str.{IsAscii, NonePass, all_scalars, encode_utf8_all}
+use Rattle.timefd_component.specs.Tree.{Text}
+use Rattle.timefd_drawing.specs.Shown.{NoneIsHidden, is_hidden, is_printable, safe, shown}
 
 -- What holds of the pictures, of the replacement character, and of each character that isn't hidden
 -- holds of what is shown.
@@ -77,3 +80,53 @@ pub none_is_hidden : NoneIsHidden
 none_is_hidden text utf8 =
     subst (NonePass is_hidden) (sym (chars-encodes (map shown (chars text))
     (shown_scalars (chars text) (scalars-chars text utf8)))) (none_pass (chars text))
+
+-- Characters of ASCII that print aren't hidden, one by one.
+printing : list_all (λ c. not (is_hidden (0x20 + c))) (range_with_len 0 0x5F) ≡ true
+printing = refl
+
+pub prints : (c : ℕ) → 0x20 ≤ c → c < 0x7F → is_hidden c ≡ false
+prints c low high =
+    let below : c - 0x20 < 0x5F = omega arith in
+    let at : get_or (range_with_len 0 0x5F) (c - 0x20) 0 ≡ c - 0x20 =
+    omega (arith, get_or-range_with_len 0 0x5F (c - 0x20) 0 below) in
+    let same : 0x20 + (c - 0x20) ≡ c = omega arith in
+    not_true (is_hidden c) (subst (λ n. not (is_hidden n) ≡ true) same
+    (subst (λ n. not (is_hidden (0x20 + n)) ≡ true) at
+    (AllPass-from_list_all (λ n. not (is_hidden (0x20 + n))) (range_with_len 0 0x5F) printing
+    (c - 0x20) 0 (omega (arith, length-range_with_len 0 0x5F)))))
+
+-- What prints is shown as it is.
+itself : (c : ℕ) → 0x20 ≤ c → c < 0x7F → shown c ≡ c
+itself c low high =
+    let other : (c == 0x7F) ≡ false = grind (arith, nat_tests) in
+    rw (le-ltb c 0x20 low) (rw other (rw (prints c low high) refl))
+
+bounds : (c : ℕ) → is_printable c ≡ true → (0x20 ≤ c) × (c < 0x7F)
+bounds c is =
+    let parts = and_parts (nat_le 0x20 c) (nat_le c 0x7E) is in
+    let high : c ≤ 0x7E = leb-true c 0x7E parts.1 in
+    (leb-true 0x20 c parts.0, omega arith)
+
+all_ascii : (text : Text) → list_all is_printable text ≡ true → IsAscii text
+all_ascii [] are = IsAscii-nil
+all_ascii (b ∷ bytes) are =
+    let parts = and_parts (is_printable b) (list_all is_printable bytes) are in
+    let high = (bounds b parts.0).1 in
+    IsAscii-cons b bytes (omega (arith, high)) (all_ascii bytes parts.1)
+
+encoded : (text : Text) → list_all is_printable text ≡ true
+    → encode_utf8_all (map shown text) ≡ text
+encoded [] are = refl
+encoded (b ∷ bytes) are =
+    let parts = and_parts (is_printable b) (list_all is_printable bytes) are in
+    let ends = bounds b parts.0 in
+    let first : encode_utf8 (shown b) ≡ b ∷ [] =
+    ap encode_utf8 (itself b ends.0 ends.1) ∙ encode_ascii b (omega (arith, ends.1)) in
+    ap (λ t. t ++ encode_utf8_all (map shown bytes)) first ∙
+    ap (λ t. b ∷ t) (encoded bytes parts.1)
+
+pub shown_as_it_is : (text : Text) → list_all is_printable text ≡ true → safe text ≡ text
+shown_as_it_is text are =
+    ap (λ cs. encode_utf8_all (map shown cs)) (chars-IsAscii text (all_ascii text are)) ∙
+    encoded text are

@@ -20,6 +20,10 @@ hidden_ranges =
 abbrev pub is_hidden : ℕ → Bool
 is_hidden c = list_any (λ ends. is_between ends c) hidden_ranges
 
+-- a byte that a terminal shows as it is: one of ASCII that prints
+abbrev pub is_printable : ℕ → Bool
+is_printable b = is_between (0x20, 0x7E) b
+
 -- The picture of a control character of ASCII, and the replacement character for any other that is
 -- hidden.
 abbrev pub shown : ℕ → ℕ

@@ -1,6 +1,7 @@
 //! Texts as a terminal may show them.
 
 ghost use Rattle.std.specs.Prelude.{◌≡◌, ◌<◌, ◌-◌, ◌^◌, chars, drop, false, IfOk, length, string_bytes, take};
+ghost use Rattle.std.specs.List.{list_all};
 ghost use Rattle.std.specs.Str.{encode_utf8_all};
 ghost use Rattle.timefd_drawing.specs.Shown as spec;
 ghost use Rattle.unicode_width.specs.Width.{str_width};
@@ -51,11 +52,22 @@ fn shown_char(c: char) -> char
     }
 }
 
+// Whether a terminal shows each of the bytes as it is.
+fn are_printable(bytes: &[u8]) -> bool
+    ensures { result ≡ list_all spec.is_printable bytes.now }
+{
+    bytes.iter().all(|byte| matches!(*byte, b' '..=b'~'))
+}
+
 /// The text with what stands for each of its characters, so that a terminal obeys none and shows
 /// something of each. An `Err` says that memory ran out.
+#[tactic(auto, using(crate::proofs::ShownLemmas::shown_as_it_is))]
 pub fn safe(alloc: Global, text: &str) -> Result<String, AllocError>
     ensures { IfOk result (λ shown. string_bytes shown ≡ spec.safe text.now) }
 {
+    if are_printable(text.as_bytes()) {
+        return String::from_str(alloc, text);
+    }
     text.chars().map(shown_char).collect(alloc)
 }
 
