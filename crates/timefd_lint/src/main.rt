@@ -11,6 +11,7 @@ mod line;
 mod lines;
 mod mark;
 mod options;
+mod progress;
 mod rewriting;
 mod run;
 mod rust;
@@ -23,6 +24,7 @@ mod usage;
 use color::is_colored;
 use line::RunError;
 use options::{Options, run_options};
+use progress::Watched;
 use rewriting::{Rewriting, rewrite_files};
 use run::run;
 use source::BUFFER;
@@ -187,7 +189,10 @@ fn run_and_rewrite<W: Write>(
     let Ok(mut input) = BufReader::with_capacity(rt.alloc(), BUFFER, rt.stdin()) else {
         return Err(RunError::Memory);
     };
-    run(rt, rt.alloc(), options, &mut input, writer)
+    let watched = Watched::new(rt, options.file_count());
+    let end = run(&watched, rt.alloc(), options, &mut input, writer);
+    watched.end();
+    end
 }
 
 // Says why the status of a run that came to its end is no verdict.
