@@ -1,5 +1,5 @@
 -- What is told of a text that is accepted.
-use Rattle.std.proofs.Common.{◌≡◌, true, List, [], ◌++◌, Option, ap, refl, sym, ◌∙◌}
+use Rattle.std.proofs.Common.{◌≡◌, true, List, [], ◌++◌, Option, ap, append-nil, refl, sym, ◌∙◌}
 use Rattle.std.specs.Prelude.{IsUtf8}
 use Rattle.std.specs.Io.KnownBytes.{Appends}
 use Rattle.std.proofs.KnownBytes.{Appends-nil, Appends-trans}
@@ -9,11 +9,13 @@ use Rattle.timefd_drawing.specs.declared.position.Origin.{Origin}
 use Rattle.timefd_language.specs.Grammar.{nesting_limit}
 use Rattle.timefd_parse.specs.declared.language.Language.{Language}
 use Rattle.timefd_parse.specs.Language.{SpellsIn}
+use Rattle.timefd_warnings.specs.declared.levels.Level.TheVariants.{Allowed}
 use Rattle.timefd_warnings.specs.declared.levels.Levels.{Levels}
+use Rattle.timefd_warnings.specs.Levels.{all_at}
 use Rattle.timefd_lint_warnings.specs.Messages.{messages as warning_messages}
 use Rattle.timefd_lint.specs.declared.line.TextEnd.TheVariants.{Accepted}
 use Rattle.timefd_lint_sources.specs.declared.told.Telling.{Telling}
-use Rattle.timefd_lint_sources.specs.Judged.{found_by}
+use Rattle.timefd_lint_warnings.specs.Found.{found_by}
 use Rattle.timefd_lint.specs.Lines.{IsEndOf}
 use Rattle.timefd_lint.specs.Told.{Says, WritesTree}
 
@@ -36,6 +38,18 @@ tree_and_warnings language telling origin text found before between behind told 
   (tree.0, ap (λ t. tree.0 ++ t) are, tree.1),
   Appends-trans before between behind tree.0 told tree.2 written,
 )
+
+-- It stands alone where each warning is allowed.
+pub tree_alone : (language : Language) (telling : Telling) (origin : Origin) (text : Text)
+    (found : Levels) (before behind : Option Text) → WritesTree telling before behind
+    → found ≡ all_at Allowed → Says language telling origin text (Accepted found) before behind
+tree_alone language telling origin text found before behind tree is =
+    let none : warning_messages telling.style origin found ≡ [] =
+    ap (warning_messages telling.style origin) is in (
+      tree.0,
+      (tree.0, sym (append-nil tree.0) ∙ ap (λ t. tree.0 ++ t) (sym none), tree.1),
+      tree.2,
+    )
 
 -- A text that spells a list is accepted with the warnings of that list.
 pub accepted_is : (language : Language) (telling : Telling) (text : Text) (list : List Tree)

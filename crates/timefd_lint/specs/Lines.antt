@@ -8,7 +8,7 @@ use Rattle.timefd_parse.specs.declared.language.Language.{Language}
 use Rattle.timefd_parse.specs.Language.{SpellsIn, FaultIn}
 use Rattle.timefd_rewrite.specs.Lines.{is_passed_over}
 use Rattle.timefd_lint_sources.specs.declared.told.Telling.{Telling}
-use Rattle.timefd_lint_sources.specs.Judged.{found_by}
+use Rattle.timefd_lint_warnings.specs.Found.{found_by}
 use Rattle.timefd_lint.specs.declared.line.TextEnd.{TextEnd}
 use Rattle.timefd_lint.specs.declared.line.TextEnd.TheVariants.{PassedOver, Accepted, Refused, NotText, Failed}
 

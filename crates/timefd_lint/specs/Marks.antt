@@ -1,5 +1,5 @@
 -- The byte-order mark at the front of a file.
-use Rattle.std.specs.Prelude.{◌≡◌, Bool, true, false, [], ◌∷◌, ◌++◌, Option, codes, decimal, nat_eq}
+use Rattle.std.specs.Prelude.{◌≡◌, Bool, true, false, [], ◌∷◌, ◌++◌, Option, codes, nat_eq}
 use Rattle.std.specs.Io.KnownBytes.{Appends}
 use Rattle.std.specs.List.{starts_with}
 use Rattle.timefd_component.specs.Tree.{Text}
@@ -11,8 +11,8 @@ use Rattle.timefd_drawing.specs.declared.position.Origin.{Origin}
 use Rattle.timefd_drawing.specs.Drawing.{note}
 use Rattle.timefd_drawing.specs.Github.{annotation}
 use Rattle.timefd_drawing.specs.Json.{note_object}
-use Rattle.timefd_drawing.specs.Lines.{blue, plain}
-use Rattle.timefd_drawing.specs.Shown.{safe}
+use Rattle.timefd_warnings.specs.declared.levels.Level.TheVariants.{Warned}
+use Rattle.timefd_lint_warnings.specs.Messages.{head, place}
 
 -- U+FEFF in UTF-8
 abbrev pub has_mark : Text → Bool
@@ -26,25 +26,9 @@ abbrev pub sentence : Text
 sentence =
     codes "a byte-order mark is a literal of the first description, and hides a comment mark"
 
--- what is put in front of what is yellow
-abbrev pub yellow : Bool → Text
-yellow true = 27 ∷ codes "[1;33m"
-yellow false = []
-
--- `warning[CODE]: SENTENCE`
-abbrev pub head : Bool → Text → Text → Text
-head colored code sentence =
-    yellow colored ++ (codes "warning[" ++ (code ++ (codes "]" ++ (plain colored ++ (codes ": "
-    ++ (sentence ++ codes "\n"))))))
-
--- `--> FILE:LINE:1`
-abbrev pub place : Bool → Origin → Text
-place colored origin =
-    codes " " ++ (blue colored ++ (codes "-->" ++ (plain colored ++ (codes " "
-    ++ (safe origin.file.now ++ (codes ":" ++ (decimal origin.line ++ codes ":1\n")))))))
-
 abbrev pub human_note : Bool → Origin → Text
-human_note colored origin = head colored code sentence ++ (place colored origin ++ codes "\n")
+human_note colored origin =
+    head colored Warned code sentence ++ (place colored origin.file.now origin.line 1 ++ codes "\n")
 
 -- What is noted of it stands in its line and is a warning, which editors read as any note.
 abbrev pub mark_note_in : Format → Style → Origin → Text

@@ -6,7 +6,6 @@ ghost use Rattle.timefd_component.specs.Tree.{Tree};
 ghost use Rattle.timefd_drawing.specs.Drawing as drawing;
 ghost use Rattle.timefd_language.specs.Grammar.{nesting_limit};
 ghost use Rattle.timefd_parse.specs.Language.{SpellsIn};
-ghost use Rattle.timefd_lint_sources.specs.Judged.{found_by};
 ghost use Rattle.timefd_lint_sources.specs.Told.{no_text_note};
 ghost use Rattle.timefd_lint.specs.declared.line.TextEnd.TheVariants as ends;
 ghost use Rattle.timefd_lint.specs.Lines.{IsEndOf, IsLineEnd};
@@ -20,7 +19,6 @@ use timefd_diagnosis::{Diagnostic, MOST_FURTHER, diagnose, further_faults};
 use timefd_drawing::{Origin, drawn_all, note};
 use timefd_explain::explained;
 use timefd_lint_warnings::{found_in, messages};
-use timefd_parse::Language;
 use timefd_rewrite::is_passed_over;
 use timefd_warnings::{Level, Levels};
 
@@ -173,7 +171,10 @@ fn accepted<W: Write>(
         text.now end (W.contents writer.old) (W.contents writer.new)) }
 {
     write_tree(alloc, options, origin, text, writer)?;
-    let found = warnings_of(alloc, options.telling.levels, options.language, text)?;
+    let Some(levels) = options.telling.levels else {
+        return Ok(TextEnd::Accepted(Levels::all_at(Level::Allowed)));
+    };
+    let found = found_in(alloc, options.language, text, levels)?;
     let told = messages(alloc, options.telling.style, origin, found)?;
     write(writer, &told)?;
     Ok(TextEnd::Accepted(found))
@@ -196,22 +197,6 @@ fn write_tree<W: Write>(
         write(writer, tree.as_bytes())?;
     }
     Ok(())
-}
-
-// The warnings of a text that is accepted, if they are looked for.
-fn warnings_of(
-    alloc: Global,
-    levels: Option<Levels>,
-    language: Language,
-    text: &str,
-) -> Result<Levels, AllocError>
-    ensures { (list : List Tree) → SpellsIn language nesting_limit text.now list
-        → IfOk result (λ found. found ≡ found_by levels language list) }
-{
-    match levels {
-        Some(levels) => found_in(alloc, language, text, levels),
-        None => Ok(Levels::all_at(Level::Allowed)),
-    }
 }
 
 /// Writes all of the bytes.

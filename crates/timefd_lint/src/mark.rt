@@ -1,7 +1,6 @@
 //! A byte-order mark at the front of a file.
 
 ghost use Rattle.std.specs.Prelude.{◌≡◌, ◌&&◌, IfOk, OnOk, string_bytes};
-ghost use Rattle.timefd_drawing.specs.Lines as drawing;
 ghost use Rattle.timefd_lint.specs.Marks.{Notes, has_mark};
 ghost use Rattle.timefd_lint.specs.Marks as spec;
 
@@ -11,8 +10,9 @@ use std::alloc::{AllocError, Global};
 use std::io::Write;
 use timefd_drawing::github::{Command, annotation};
 use timefd_drawing::json::{Entry, note_object};
-use timefd_drawing::shown::safe;
 use timefd_drawing::{Format, Origin, Style, note};
+use timefd_lint_warnings::{head, place};
+use timefd_warnings::Level;
 
 // What the mark is called, and what it does.
 const CODE: &str = "byte-order-mark";
@@ -72,46 +72,7 @@ fn human(alloc: Global, is_colored: bool, origin: Origin<'_>) -> Result<String, 
     ensures { IfOk result (λ drawing. string_bytes drawing
         ≡ spec.human_note is_colored origin.entry) }
 {
-    let head = head(alloc, is_colored, CODE, SENTENCE)?;
-    let place = place(alloc, is_colored, origin)?;
+    let head = head(alloc, is_colored, Level::Warned, CODE, SENTENCE)?;
+    let place = place(alloc, is_colored, origin, 1)?;
     format!(in alloc; "{head}{place}\n")
-}
-
-// `warning[CODE]: SENTENCE`
-fn head(alloc: Global, is_colored: bool, code: &str, sentence: &str) -> Result<String, AllocError>
-    ensures { IfOk result (λ line. string_bytes line ≡ spec.head is_colored code.now sentence.now) }
-{
-    let (yellow, plain) = (yellow(is_colored), plain(is_colored));
-    format!(in alloc; "{yellow}warning[{code}]{plain}: {sentence}\n")
-}
-
-// `--> FILE:LINE:1`
-fn place(alloc: Global, is_colored: bool, origin: Origin<'_>) -> Result<String, AllocError>
-    ensures { IfOk result (λ line. string_bytes line ≡ spec.place is_colored origin.entry) }
-{
-    let (blue, plain) = (blue(is_colored), plain(is_colored));
-    let file = safe(alloc, origin.file)?;
-    let line = origin.line;
-    format!(in alloc; " {blue}-->{plain} {file}:{line}:1\n")
-}
-
-// What is put in front of what is yellow.
-fn yellow(is_colored: bool) -> &'static str
-    ensures { result.now ≡ spec.yellow is_colored }
-{
-    if is_colored { "\u{1B}[1;33m" } else { "" }
-}
-
-// What is put in front of what is blue.
-fn blue(is_colored: bool) -> &'static str
-    ensures { result.now ≡ drawing.blue is_colored }
-{
-    if is_colored { "\u{1B}[1;36m" } else { "" }
-}
-
-// What is put behind both.
-fn plain(is_colored: bool) -> &'static str
-    ensures { result.now ≡ drawing.plain is_colored }
-{
-    if is_colored { "\u{1B}[0m" } else { "" }
 }

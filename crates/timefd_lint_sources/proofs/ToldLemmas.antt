@@ -20,7 +20,8 @@ use Rattle.timefd_lint_sources.specs.declared.told.End.TheVariants.{PassedOver, 
 use Rattle.timefd_lint_sources.specs.declared.told.Source.{Source}
 use Rattle.timefd_lint_sources.specs.declared.told.Telling.{Telling}
 use Rattle.timefd_lint_sources.specs.declared.told.Told.{Told}
-use Rattle.timefd_lint_sources.specs.Judged.{found_by, is_passed_over, language_in, text_of}
+use Rattle.timefd_lint_warnings.specs.Found.{found_by}
+use Rattle.timefd_lint_sources.specs.Judged.{is_passed_over, language_in, text_of}
 use Rattle.timefd_lint_sources.specs.Told.{IsMessageOn, IsTold, IsTree, drawing_of, note_of, origin_of}
 
 pub passed_over : (telling : Telling) (s : Source) (d : Description)

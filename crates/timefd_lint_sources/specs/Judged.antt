@@ -11,10 +11,8 @@ use Rattle.timefd_sources.specs.declared.description.Description.{Description}
 use Rattle.timefd_sources.specs.declared.dialect.Dialect.{Dialect}
 use Rattle.timefd_sources.specs.declared.dialect.Dialect.TheVariants.{One, Two, Three, Strftime, Chrono}
 use Rattle.timefd_sources.specs.Chrono.{is_of_chrono}
-use Rattle.timefd_warnings.specs.declared.levels.Level.TheVariants.{Allowed}
 use Rattle.timefd_warnings.specs.declared.levels.Levels.{Levels}
-use Rattle.timefd_warnings.specs.Levels.{all_at}
-use Rattle.timefd_lint_warnings.specs.Found.{found_in}
+use Rattle.timefd_lint_warnings.specs.Found.{found_by}
 use Rattle.timefd_lint_sources.specs.declared.told.End.{End}
 use Rattle.timefd_lint_sources.specs.declared.told.End.TheVariants.{PassedOver, Accepted, Refused, NotText}
 
@@ -39,11 +37,6 @@ text_of d = d.unescaped.text.items
 
 abbrev pub language_in : Description → Language
 language_in d = language_of d.dialect
-
--- the levels of the warnings that a text which spells the list has; none is told where none are asked for
-abbrev pub found_by : Option Levels → Language → List Tree → Levels
-found_by None language list = all_at Allowed
-found_by (Some levels) language list = found_in language levels list
 
 -- Accepted where it spells a list, with the warnings of that, refused where it has a fault, and else
 -- no UTF-8.

@@ -5,7 +5,7 @@ ghost use Rattle.timefd_component.specs.Tree.{Tree};
 ghost use Rattle.timefd_language.specs.Grammar.{nesting_limit};
 ghost use Rattle.timefd_parse.specs.Language.{SpellsIn};
 ghost use Rattle.timefd_lint_sources.specs.declared.told.End.TheVariants as ends;
-ghost use Rattle.timefd_lint_sources.specs.Judged.{found_by};
+ghost use Rattle.timefd_lint_warnings.specs.Found.{found_by};
 ghost use Rattle.timefd_lint_sources.specs.Told.{IsMessageOn, IsTree};
 
 use crate::position::position_of;
@@ -13,7 +13,7 @@ use crate::told::{End, Source, Telling, Told};
 use std::alloc::{AllocError, Global};
 use timefd_drawing::Origin;
 use timefd_explain::explained;
-use timefd_lint_warnings::{found_in, messages_at};
+use timefd_lint_warnings::{found_by, messages_at};
 use timefd_parse::Language;
 use timefd_sources::Description;
 use timefd_warnings::{Level, Levels};
@@ -62,7 +62,7 @@ fn explained_and_warned(
         file: source.file,
         line: place.line,
     };
-    let found = warnings_of(alloc, telling.levels, language, text)?;
+    let found = found_by(alloc, telling.levels, language, text)?;
     let mut message = tree_of(alloc, telling.explains, language, origin, text)?;
     let told = messages_at(alloc, telling.style, origin, place.column, found)?;
     message.extend_from_slice(&told)?;
@@ -87,21 +87,5 @@ fn tree_of(
         Ok(tree.into_bytes())
     } else {
         Ok(Vec::new(alloc))
-    }
-}
-
-// The warnings of an accepted description, if they are looked for.
-fn warnings_of(
-    alloc: Global,
-    levels: Option<Levels>,
-    language: Language,
-    text: &str,
-) -> Result<Levels, AllocError>
-    ensures { (list : List Tree) → SpellsIn language nesting_limit text.now list
-        → IfOk result (λ found. found ≡ found_by levels language list) }
-{
-    match levels {
-        Some(levels) => found_in(alloc, language, text, levels),
-        None => Ok(Levels::all_at(Level::Allowed)),
     }
 }

@@ -1,5 +1,5 @@
 -- The warnings of a text, by what it spells.
-use Rattle.std.specs.Prelude.{List}
+use Rattle.std.specs.Prelude.{List, Option, None, Some}
 use Rattle.timefd_component.specs.Tree.{Tree, trees}
 use Rattle.timefd_format_item.specs.Meaning.{item_trees}
 use Rattle.timefd_items.specs.Description.{description_tree}
@@ -8,9 +8,10 @@ use Rattle.timefd_parse.specs.declared.language.Language.{Language}
 use Rattle.timefd_parse.specs.declared.language.Language.TheVariants.{Version, Strftime}
 use Rattle.timefd_parse.specs.declared.parsing.BorrowedOutput.{BorrowedOutput}
 use Rattle.timefd_parse.specs.declared.parsing.BorrowedOutput.TheVariants.{Items, Description}
+use Rattle.timefd_warnings.specs.declared.levels.Level.TheVariants.{Allowed}
 use Rattle.timefd_warnings.specs.declared.levels.Levels.{Levels}
 use Rattle.timefd_warnings.specs.declared.warned.Style.{Style}
-use Rattle.timefd_warnings.specs.Levels.{found}
+use Rattle.timefd_warnings.specs.Levels.{all_at, found}
 
 -- how components are written in the language
 abbrev pub style_of : Language → Style
@@ -20,6 +21,11 @@ style_of Strftime = Style.Percents
 -- what is told of the parts of what a text spells
 abbrev pub found_in : Language → Levels → List Tree → Levels
 found_in language levels list = found levels (style_of language) (leaves_in list)
+
+-- The same where warnings may not be asked for: then each is allowed.
+abbrev pub found_by : Option Levels → Language → List Tree → Levels
+found_by None language list = all_at Allowed
+found_by (Some levels) language list = found_in language levels list
 
 -- the parts of what was read
 abbrev pub output_parts : BorrowedOutput → List Tree

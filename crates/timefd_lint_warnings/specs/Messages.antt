@@ -40,10 +40,10 @@ plain true = 27 ∷ codes "[0m"
 plain false = []
 
 -- `warning[CODE]: SENTENCE`
-abbrev pub head : Bool → Level → Warning → Text
-head colored level w =
-    paint colored level ++ (severity level ++ (codes "[" ++ (name_of w ++ (codes "]"
-    ++ (plain colored ++ (codes ": " ++ (sentence_of w ++ codes "\n")))))))
+abbrev pub head : Bool → Level → Text → Text → Text
+head colored level code sentence =
+    paint colored level ++ (severity level ++ (codes "[" ++ (code ++ (codes "]"
+    ++ (plain colored ++ (codes ": " ++ (sentence ++ codes "\n")))))))
 
 -- `--> FILE:LINE:COLUMN`
 abbrev pub place : Bool → Text → ℕ → ℕ → Text
@@ -60,7 +60,7 @@ help colored w =
 -- The warning is one of the text as a whole, and so stands where that begins.
 abbrev pub human : Bool → Origin → ℕ → Level → Warning → Text
 human colored origin column level w =
-    head colored level w ++ (place colored origin.file.now origin.line column ++ (help colored w
+    head colored level (name_of w) (sentence_of w) ++ (place colored origin.file.now origin.line column ++ (help colored w
     ++ codes "\n"))
 
 -- `FILE:LINE:COLUMN: warning[CODE]: SENTENCE`

@@ -15,7 +15,7 @@ use timefd_parse::{
     BorrowedOutput, DescriptionVersion, Language, NESTING_LIMIT, StrftimeTables,
     parse_all_borrowed, parse_strftime_all_borrowed,
 };
-use timefd_warnings::{Description, Levels, Style};
+use timefd_warnings::{Description, Level, Levels, Style};
 
 /// What is told of a text that a language accepts: the levels of the warnings that it has; any other
 /// is allowed. An `Err` says that memory ran out.
@@ -31,6 +31,22 @@ pub fn found_in(
     match language {
         Language::Version(version) => found_in_version(alloc, version, text, levels),
         Language::Strftime => found_in_strftime(alloc, text, levels),
+    }
+}
+
+/// The same where warnings may not be asked for: then each is allowed.
+pub fn found_by(
+    alloc: Global,
+    levels: Option<Levels>,
+    language: Language,
+    text: &str,
+) -> Result<Levels, AllocError>
+    ensures { (list : List Tree) → SpellsIn language nesting_limit text.now list
+        → IfOk result (λ told. told ≡ spec.found_by levels language list) }
+{
+    match levels {
+        Some(levels) => found_in(alloc, language, text, levels),
+        None => Ok(Levels::all_at(Level::Allowed)),
     }
 }
 

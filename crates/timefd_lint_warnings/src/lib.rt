@@ -5,5 +5,6 @@ mod found;
 mod message;
 mod told;
 
-pub use found::found_in;
+pub use found::{found_by, found_in};
+pub use message::{head, place};
 pub use told::{messages, messages_at};

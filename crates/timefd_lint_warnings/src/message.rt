@@ -87,29 +87,31 @@ fn human(
         ≡ spec.human is_colored origin.entry column level warning) }
 {
     let (head, place, help) = (
-        head(alloc, is_colored, level, warning)?,
+        head(alloc, is_colored, level, warning.name(), warning.sentence())?,
         place(alloc, is_colored, origin, column)?,
         help(alloc, is_colored, warning)?,
     );
     format!(in alloc; "{head}{place}{help}\n")
 }
 
-// `warning[CODE]: SENTENCE`
-fn head(
+/// The first line of a drawing: `warning[CODE]: SENTENCE`. An `Err` says that memory ran out.
+pub fn head(
     alloc: Global,
     is_colored: bool,
     level: Level,
-    warning: Warning,
+    code: &str,
+    sentence: &str,
 ) -> Result<String, AllocError>
-    ensures { IfOk result (λ line. string_bytes line ≡ spec.head is_colored level warning) }
+    ensures { IfOk result (λ line.
+        string_bytes line ≡ spec.head is_colored level code.now sentence.now) }
 {
     let (paint, plain) = (paint(is_colored, level), plain(is_colored));
-    let (severity, code, sentence) = (severity(level), warning.name(), warning.sentence());
+    let severity = severity(level);
     format!(in alloc; "{paint}{severity}[{code}]{plain}: {sentence}\n")
 }
 
-// `--> FILE:LINE:COLUMN`
-fn place(
+/// Its second line: `--> FILE:LINE:COLUMN`. An `Err` says that memory ran out.
+pub fn place(
     alloc: Global,
     is_colored: bool,
     origin: Origin<'_>,

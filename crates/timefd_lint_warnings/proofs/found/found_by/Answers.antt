@@ -3,8 +3,8 @@ use Rattle.std.specs.Prelude.{IfOk}
 use Rattle.timefd_component.specs.Tree.{Tree}
 use Rattle.timefd_language.specs.Grammar.{nesting_limit}
 use Rattle.timefd_parse.specs.Language.{SpellsIn}
-use Rattle.timefd_lint_sources.specs.Judged.{found_by}
-use Rattle.timefd_lint.proofs.line.warnings_of.Goals as goal
+use Rattle.timefd_lint_warnings.specs.Found.{found_by}
+use Rattle.timefd_lint_warnings.proofs.found.found_by.Goals as goal
 
 pub returns-in-Some : goal.returns-in-Some
 returns-in-Some c =
