@@ -7,6 +7,8 @@ mod counts;
 mod dialect;
 mod outcome;
 mod source;
+#[cfg(test)]
+mod tests;
 
 pub use counts::{count_refused, count_rewritten};
 pub use outcome::Outcome;
