@@ -165,11 +165,15 @@ escape style (b ∷ bytes) = escape_by style b bytes (letter style b)
 abbrev pub itself : ℕ → Text → Part
 itself b bytes = record { stands = b ∷ []; rest = bytes }
 
+-- the control character behind the letters of ASCII
+abbrev pub delete : ℕ
+delete = 126 + 1
+
 -- control characters that have to be escaped: in JSON all, elsewhere all but the tab
 abbrev pub is_refused : Style → ℕ → Bool
 is_refused Json b = nat_lt b 32
-is_refused Basic b = (nat_lt b 32 && not (b == 9)) || (b == 127)
-is_refused Literal b = (nat_lt b 32 && not (b == 9)) || (b == 127)
+is_refused Basic b = (nat_lt b 32 && not (b == 9)) || (b == delete)
+is_refused Literal b = (nat_lt b 32 && not (b == 9)) || (b == delete)
 is_refused Double b = nat_lt b 32 && not (b == 9)
 is_refused Single b = nat_lt b 32 && not (b == 9)
 is_refused Plain b = nat_lt b 32 && not (b == 9)

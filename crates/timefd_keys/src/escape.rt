@@ -10,6 +10,9 @@ use crate::part::{Part, Stands};
 use crate::scalar::{char_part, numeric};
 use crate::style::Style;
 
+// The control character behind the letters of ASCII.
+const DELETE: u8 = b'\x7f';
+
 fn escape_by(style: Style, byte: u8, behind: &[u8], letter: Option<char>) -> Option<Part<'_>>
     ensures part { parted_any result ≡ spec.escape_by style byte behind.now letter }
     ensures within { MatchOption result ⊤ (λ part. length part.rest.now ≤ length behind.now) }
@@ -45,7 +48,7 @@ fn is_refused(style: Style, byte: u8) -> bool
 {
     match style {
         Style::Json => byte < b' ',
-        Style::Basic | Style::Literal => byte < b' ' && byte != b'\t' || byte == 127,
+        Style::Basic | Style::Literal => byte < b' ' && byte != b'\t' || byte == DELETE,
         Style::Double | Style::Single | Style::Plain => byte < b' ' && byte != b'\t',
     }
 }

@@ -1,5 +1,5 @@
 -- What doesn't go together in settings, and with the names of files.
-use Rattle.std.specs.Prelude.{Bool, true, false, ◌&&◌, ◌==◌, not, Option, Some, None, is_some, if◌then◌else◌}
+use Rattle.std.specs.Prelude.{Bool, true, false, ◌&&◌, ◌||◌, ◌==◌, not, Option, Some, None, is_some, if◌then◌else◌}
 use Rattle.timefd_drawing.specs.declared.draw.Format.{Format}
 use Rattle.timefd_drawing.specs.declared.draw.Format.TheVariants.{Human, Json, Short, Github}
 use Rattle.timefd_language.specs.declared.description_version.DescriptionVersion.{DescriptionVersion}
@@ -7,7 +7,7 @@ use Rattle.timefd_language.specs.declared.description_version.DescriptionVersion
 use Rattle.timefd_parse.specs.declared.language.Language.{Language}
 use Rattle.timefd_parse.specs.declared.language.Language.TheVariants as languages
 use Rattle.timefd_lint_options.specs.declared.error.Conflict.{Conflict}
-use Rattle.timefd_lint_options.specs.declared.error.Conflict.TheVariants.{ExplainUndrawn, WriteWithoutVersion, PartialWithoutWrite, UnsafeWithoutFix, FixesRewritten, FixesWhole, FixesSource, FixesNoFile, FixesInput, NormalOfAnother, NoConversion, RewritesWarned, RewritesWhole, RewritesSource, RewritesNoFile, RewritesInput}
+use Rattle.timefd_lint_options.specs.declared.error.Conflict.TheVariants.{ExplainUndrawn, KeysRewritten, WriteWithoutVersion, PartialWithoutWrite, UnsafeWithoutFix, FixesRewritten, FixesWhole, FixesSource, FixesNoFile, FixesInput, NormalOfAnother, NoConversion, RewritesWarned, RewritesWhole, RewritesSource, RewritesNoFile, RewritesInput}
 use Rattle.timefd_lint_options.specs.declared.names.Names.{Names}
 use Rattle.timefd_lint_options.specs.declared.settings.Settings.{Settings}
 use Rattle.timefd_lint_options.specs.Settings.{target}
@@ -67,5 +67,6 @@ conflict s names =
     if s.explains && not (is_drawn s.format) then Some ExplainUndrawn
     else if s.is_partial && not s.writes then Some PartialWithoutWrite
     else if s.is_unsafe && not s.fixes then Some UnsafeWithoutFix
+    else if s.has_keys && (s.fixes || is_some (target s)) then Some KeysRewritten
     else if s.fixes then fixing_conflict s names
     else version_conflict s names (target s)

@@ -5,3 +5,4 @@ pub mod Names
 pub mod Conflicts
 pub mod Asked
 pub mod Suggestions
+pub mod KeyWords

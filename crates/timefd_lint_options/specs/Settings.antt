@@ -8,14 +8,16 @@ use Rattle.timefd_language.specs.declared.description_version.DescriptionVersion
 use Rattle.timefd_language.specs.Grammar.{is_empty}
 use Rattle.timefd_parse.specs.declared.language.Language.TheVariants as languages
 use Rattle.timefd_lint_options.specs.declared.error.OptionError.{OptionError}
-use Rattle.timefd_lint_options.specs.declared.error.OptionError.TheVariants.{NotAValue}
+use Rattle.timefd_lint_options.specs.declared.error.OptionError.TheVariants.{NotAKey, NotAValue}
 use Rattle.timefd_lint_options.specs.declared.settings.Color.TheVariants as colors
 use Rattle.timefd_lint_options.specs.declared.settings.Settings.{Settings}
 use Rattle.timefd_lint_options.specs.declared.word.Flag.{Flag}
 use Rattle.timefd_lint_options.specs.declared.word.Flag.TheVariants.{Whole, Source, Explain, Normal, Fix, Unsafe, Write, Partial, Warn, Quiet}
 use Rattle.timefd_lint_options.specs.declared.word.Valued.{Valued}
-use Rattle.timefd_lint_options.specs.declared.word.Valued.TheVariants.{Language, Format, Color, Comment, To, Deny, Allow}
+use Rattle.timefd_lint_options.specs.declared.word.Valued.TheVariants.{Language, Format, Color, Comment, Key, To, Deny, Allow}
 use Rattle.timefd_lint_options.specs.Values.{language_named, format_named, color_named, version_named}
+use Rattle.timefd_keys.specs.declared.key.KeyFault.{KeyFault}
+use Rattle.timefd_keys.specs.Keys.{key_fault}
 use Rattle.timefd_warnings.specs.declared.levels.Level.{Level}
 use Rattle.timefd_warnings.specs.declared.levels.Level.TheVariants.{Allowed, Warned, Denied}
 use Rattle.timefd_warnings.specs.Codes as warnings
@@ -27,6 +29,7 @@ initial = record {
   format = formats.Human;
   color = colors.Auto;
   comment = None;
+  has_keys = false;
   is_whole = false;
   is_source = false;
   explains = false;
@@ -74,6 +77,13 @@ with_color s word = option_map (λ c. record s { color = c }) (color_named word)
 abbrev pub with_comment : Settings → Bor Text → Option Settings
 with_comment s word = if is_empty word.now then None else Some (record s { comment = Some word })
 
+abbrev pub keyed_by : Settings → Option KeyFault → Option Settings
+keyed_by s None = Some (record s { has_keys = true })
+keyed_by s (Some fault) = None
+
+abbrev pub with_key : Settings → Text → Option Settings
+with_key s word = keyed_by s (key_fault word)
+
 abbrev pub with_version : Settings → Text → Option Settings
 with_version s word = option_map (λ v. record s { to = Some v }) (version_named word)
 
@@ -88,6 +98,7 @@ set s Language word = with_language s word.now
 set s Format word = with_format s word.now
 set s Color word = with_color s word.now
 set s Comment word = with_comment s word
+set s Key word = with_key s word.now
 set s To word = with_version s word.now
 set s Deny word = with_warning s word.now Denied
 set s Allow word = with_warning s word.now Allowed
@@ -96,5 +107,23 @@ abbrev pub or_error : OptionError → Option Settings → Result Settings Option
 or_error e (Some s) = Ok s
 or_error e None = Err e
 
+abbrev pub key_refused_by : Option KeyFault → Bor Text → OptionError
+key_refused_by (Some fault) word = NotAKey fault word
+key_refused_by None word = NotAValue Key word
+
+abbrev pub key_refused : Bor Text → OptionError
+key_refused word = key_refused_by (key_fault word.now) word
+
+-- why an option doesn't take a word
+abbrev pub refused : Valued → Bor Text → OptionError
+refused Language word = NotAValue Language word
+refused Format word = NotAValue Format word
+refused Color word = NotAValue Color word
+refused Comment word = NotAValue Comment word
+refused Key word = key_refused word
+refused To word = NotAValue To word
+refused Deny word = NotAValue Deny word
+refused Allow word = NotAValue Allow word
+
 abbrev pub with_value : Settings → Valued → Bor Text → Result Settings OptionError
-with_value s option word = or_error (NotAValue option word) (set s option word)
+with_value s option word = or_error (refused option word) (set s option word)

@@ -3,7 +3,7 @@ use Rattle.std.specs.Prelude.{codes, List, [], ◌∷◌}
 use Rattle.timefd_component.specs.Tree.{Text}
 
 abbrev pub long_names : List Text
-long_names = codes "--language" ∷ codes "--format" ∷ codes "--color" ∷ codes "--comment"
+long_names = codes "--language" ∷ codes "--format" ∷ codes "--color" ∷ codes "--comment" ∷ codes "--key"
     ∷ codes "--whole" ∷ codes "--source" ∷ codes "--explain" ∷ codes "--to" ∷ codes "--normal" ∷ codes "--fix" ∷ codes "--unsafe"
     ∷ codes "--write"
     ∷ codes "--partial" ∷ codes "--warn" ∷ codes "--deny" ∷ codes "--allow" ∷ codes "--quiet" ∷ codes "--help" ∷ codes "--version" ∷ []

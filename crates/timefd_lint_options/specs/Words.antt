@@ -3,7 +3,7 @@ use Rattle.std.specs.Prelude.{Bool, true, false, codes, bytes_eq, nat_eq, if◌t
 use Rattle.std.specs.List.{starts_with}
 use Rattle.timefd_component.specs.Tree.{Text}
 use Rattle.timefd_lint_options.specs.declared.word.Flag.TheVariants.{Whole, Source, Explain, Normal, Fix, Unsafe, Write, Partial, Warn, Quiet}
-use Rattle.timefd_lint_options.specs.declared.word.Valued.TheVariants.{Language, Format, Color, Comment, To, Deny, Allow}
+use Rattle.timefd_lint_options.specs.declared.word.Valued.TheVariants.{Language, Format, Color, Comment, Key, To, Deny, Allow}
 use Rattle.timefd_lint_options.specs.declared.word.Word.{Word}
 use Rattle.timefd_lint_options.specs.declared.word.Word.TheVariants.{Flag, Valued, Help, Version, End, Unknown, File}
 
@@ -28,6 +28,7 @@ word_of word =
     else if bytes_eq word (codes "--format") then Valued Format
     else if bytes_eq word (codes "--color") then Valued Color
     else if bytes_eq word (codes "--comment") then Valued Comment
+    else if bytes_eq word (codes "--key") then Valued Key
     else if bytes_eq word (codes "--to") then Valued To
     else if bytes_eq word (codes "--deny") then Valued Deny
     else if bytes_eq word (codes "--allow") then Valued Allow

@@ -22,6 +22,9 @@ pub fn conflict(settings: Settings<'_>, names: Names) -> Option<Conflict>
     if settings.is_unsafe && !settings.fixes {
         return Some(Conflict::UnsafeWithoutFix);
     }
+    if settings.has_keys && (settings.fixes || target(settings).is_some()) {
+        return Some(Conflict::KeysRewritten);
+    }
     if settings.fixes {
         return fixing_conflict(settings, names);
     }

@@ -1,6 +1,7 @@
 //! What is wrong with words that are no arguments of the program.
 
 use crate::word::Valued;
+use timefd_keys::KeyFault;
 
 /// Why words are no arguments of the program.
 #[derive(Clone, Copy)]
@@ -11,6 +12,8 @@ pub enum OptionError<'a> {
     MissingValue(Valued),
     /// The option doesn't take the word as its value.
     NotAValue(Valued, &'a str),
+    /// The word is no `KEY=LANGUAGE`, for this reason.
+    NotAKey(KeyFault, &'a str),
     /// The option stands behind the name of a file.
     BehindFile(&'a str),
     /// Options that don't go together.
@@ -24,6 +27,8 @@ pub enum Conflict {
     ExplainUndrawn,
     /// `--write` with none of `--to`, `--normal` and `--fix`.
     WriteWithoutVersion,
+    /// Strings of keys are looked at, and stay as they are.
+    KeysRewritten,
     /// `--partial` without `--write`.
     PartialWithoutWrite,
     /// `--unsafe` without `--fix`.

@@ -4,6 +4,7 @@
 mod asked;
 mod conflict;
 mod error;
+mod keys;
 mod names;
 mod settings;
 mod suggestion;
@@ -12,6 +13,7 @@ mod word;
 
 pub use asked::{Asked, Options, options_of};
 pub use error::{Conflict, OptionError};
+pub use keys::keys_of;
 pub use settings::{Color, Settings, target};
 pub use suggestion::nearest_option;
 pub use word::{Flag, Valued, is_input};

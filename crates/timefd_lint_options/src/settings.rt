@@ -7,6 +7,7 @@ use crate::error::OptionError;
 use crate::values::{color_named, format_named, language_named, version_named};
 use crate::word::{Flag, Valued};
 use timefd_drawing::Format;
+use timefd_keys::key_fault;
 use timefd_parse::{DescriptionVersion, Language};
 use timefd_warnings::{Level, Levels, Warning};
 
@@ -30,6 +31,8 @@ pub struct Settings<'a> {
     pub color: Color,
     /// What lines begin with that are passed over.
     pub comment: Option<&'a str>,
+    /// Whether strings of keys are looked at.
+    pub has_keys: bool,
     /// Whether a file is one text.
     pub is_whole: bool,
     /// Whether a file is a source of Rust, whatever its name.
@@ -66,6 +69,7 @@ impl Settings<'_> {
             format: Format::Human,
             color: Color::Auto,
             comment: None,
+            has_keys: false,
             is_whole: false,
             is_source: false,
             explains: false,
@@ -142,7 +146,7 @@ pub fn with_flag<'a>(settings: Settings<'a>, flag: Flag) -> Settings<'a>
     }
 }
 
-/// The settings with the value of an option; `NotAValue` where the option doesn't take it.
+/// The settings with the value of an option; `NotAValue` or `NotAKey` where the option doesn't take it.
 pub fn with_value<'a>(
     settings: Settings<'a>,
     option: Valued,
@@ -155,13 +159,14 @@ pub fn with_value<'a>(
         Valued::Format => with_format(settings, value),
         Valued::Color => with_color(settings, value),
         Valued::Comment => with_comment(settings, value),
+        Valued::Key => with_key(settings, value),
         Valued::To => with_version(settings, value),
         Valued::Deny => with_warning(settings, value, Level::Denied),
         Valued::Allow => with_warning(settings, value, Level::Allowed),
     };
     match set {
         Some(settings) => Ok(settings),
-        None => Err(OptionError::NotAValue(option, value)),
+        None => Err(refused(option, value)),
     }
 }
 
@@ -206,6 +211,43 @@ fn with_comment<'a>(settings: Settings<'a>, value: &'a str) -> Option<Settings<'
         comment: Some(value),
         ..settings
     })
+}
+
+fn with_key<'a>(settings: Settings<'a>, value: &str) -> Option<Settings<'a>>
+    ensures { result ≡ spec.with_key settings.entry value.now }
+{
+    match key_fault(value) {
+        Some(_) => None,
+        None => Some(Settings {
+            has_keys: true,
+            ..settings
+        }),
+    }
+}
+
+// Why an option doesn't take a value.
+fn refused<'a>(option: Valued, value: &'a str) -> OptionError<'a>
+    ensures { result ≡ spec.refused option value.entry }
+{
+    match option {
+        Valued::Key => key_refused(value),
+        Valued::Language
+        | Valued::Format
+        | Valued::Color
+        | Valued::Comment
+        | Valued::To
+        | Valued::Deny
+        | Valued::Allow => OptionError::NotAValue(option, value),
+    }
+}
+
+fn key_refused<'a>(value: &'a str) -> OptionError<'a>
+    ensures { result ≡ spec.key_refused value.entry }
+{
+    match key_fault(value) {
+        Some(fault) => OptionError::NotAKey(fault, value),
+        None => OptionError::NotAValue(Valued::Key, value),
+    }
 }
 
 fn with_version<'a>(settings: Settings<'a>, value: &str) -> Option<Settings<'a>>

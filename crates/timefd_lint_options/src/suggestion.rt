@@ -18,6 +18,7 @@ fn long_names() -> &'static [&'static str]
         "--format",
         "--color",
         "--comment",
+        "--key",
         "--whole",
         "--source",
         "--explain",

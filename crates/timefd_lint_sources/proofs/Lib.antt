@@ -1,2 +1,3 @@
 mod ToldLemmas
 mod ReportLemmas
+pub mod FinderLemmas

@@ -1,4 +1,5 @@
 -- What is told of the descriptions of a source.
+use Rattle.std.specs.List.{All}
 use Rattle.std.specs.Prelude.{ℕ, ◌≡◌, Bool, List, [], ◌∷◌, ◌++◌, codes, map, IsFalse}
 use Rattle.timefd_component.specs.Tree.{Text}
 use Rattle.timefd_diagnosis.specs.declared.diagnostic.Diagnostic.{Diagnostic}
@@ -8,12 +9,15 @@ use Rattle.timefd_drawing.specs.declared.position.Origin.{Origin}
 use Rattle.timefd_drawing.specs.Drawing.{drawn_all, note}
 use Rattle.timefd_drawing.specs.Positions.{column, line_number}
 use Rattle.timefd_sources.specs.declared.description.Description.{Description}
-use Rattle.timefd_sources.specs.Found.{AllStandIn, place_of}
+use Rattle.timefd_keys.specs.Found as keys
+use Rattle.timefd_sources.specs.Found.{StandsIn, place_of}
 use Rattle.timefd_warnings.specs.declared.levels.Levels.{Levels}
 use Rattle.timefd_lint_warnings.specs.Messages.{messages_at}
 use Rattle.timefd_lint_sources.specs.declared.source.Report.{Report}
 use Rattle.timefd_lint_sources.specs.declared.told.End.{End}
 use Rattle.timefd_lint_sources.specs.declared.told.End.TheVariants.{PassedOver, Accepted, Refused, NotText}
+use Rattle.timefd_lint_sources.specs.declared.told.Finder.{Finder}
+use Rattle.timefd_lint_sources.specs.declared.told.Finder.TheVariants.{Rust, Keys}
 use Rattle.timefd_lint_sources.specs.declared.told.Source.{Source}
 use Rattle.timefd_lint_sources.specs.declared.told.Telling.{Telling}
 use Rattle.timefd_lint_sources.specs.Judged.{IsEndOf, language_in, text_of}
@@ -88,8 +92,19 @@ AreTold telling s (d ∷ ds) [] message = ⊥
 AreTold telling s (d ∷ ds) (e ∷ ends) message = (one : Text) × (rest : Text)
     × IsTold telling s d e one × AreTold telling s ds ends rest × (message ≡ one ++ rest)
 
--- The descriptions are literals of the source.
+-- A description is a literal of a source of Rust, or a string of a file with keys.
+abbrev pub IsFoundBy : Finder → Text → Description → Type 0
+IsFoundBy Rust source d = StandsIn source d
+IsFoundBy (Keys format names) source d = keys.StandsIn format source d
+
+abbrev pub IsFound : Source → Description → Type 0
+IsFound s d = IsFoundBy s.finder s.text.now d
+
+abbrev pub AllFound : Source → List Description → Type 0
+AllFound s ds = All (IsFound s) ds
+
+-- The descriptions stand in the source.
 pub record IsSourceTold (telling : Telling) (s : Source) (r : Report) : Type 0 where
   pub descriptions : List Description
-  pub stand : AllStandIn s.text.now descriptions
+  pub stand : AllFound s descriptions
   pub told : AreTold telling s descriptions r.ends.items r.message.items

@@ -1,4 +1,4 @@
-//! What the linter tells of a source of Rust: of each description in it, at its place.
+//! What the linter tells of a source of Rust or a file with keys: of each description in it, at its place.
 #![tactic(auto)]
 
 mod accepted;
@@ -8,4 +8,4 @@ mod source;
 mod told;
 
 pub use source::{Report, lint_source, tell_all};
-pub use told::{End, Source, Telling, Told, tell};
+pub use told::{End, Finder, Source, Telling, Told, tell};

@@ -1,10 +1,11 @@
 //! What is told of all descriptions of a source.
 
 ghost use Rattle.std.specs.Prelude.{IfOk, OnOk};
-ghost use Rattle.timefd_lint_sources.specs.Told.{AddsTold, AreTold, IsSourceTold};
+ghost use Rattle.timefd_lint_sources.specs.Told.{AddsTold, AllFound, AreTold, IsSourceTold};
 
-use crate::told::{End, Source, Telling, Told, tell};
+use crate::told::{End, Finder, Source, Telling, Told, tell};
 use std::alloc::{AllocError, Global};
+use timefd_keys::descriptions_by;
 use timefd_sources::{Description, descriptions_of};
 
 /// What is told of the descriptions of a source.
@@ -16,7 +17,7 @@ pub struct Report {
     pub message: Vec<u8>,
 }
 
-/// Looks at the descriptions in a source of Rust, and tells what is wrong with each where that stands.
+/// Looks at the descriptions in a source, and tells what is wrong with each where that stands.
 /// An `Err` says that memory ran out.
 pub fn lint_source(
     alloc: Global,
@@ -25,8 +26,19 @@ pub fn lint_source(
 ) -> Result<Report, AllocError>
     ensures { IfOk result (IsSourceTold telling source.entry) }
 {
-    let descriptions = descriptions_of(alloc, source.text)?;
+    let descriptions = found(alloc, source)?;
     tell_all(alloc, telling, source, &descriptions)
+}
+
+// The descriptions in a source.
+#[tactic(auto, using(crate::proofs::FinderLemmas::by_rust, crate::proofs::FinderLemmas::by_keys))]
+fn found(alloc: Global, source: Source<'_>) -> Result<Vec<Description>, AllocError>
+    ensures { IfOk result (λ found. AllFound source.entry found.items) }
+{
+    match source.finder {
+        Finder::Rust => Ok(descriptions_of(alloc, source.text)?),
+        Finder::Keys(format, keys) => Ok(descriptions_by(alloc, format, source.text, keys)?),
+    }
 }
 
 /// Looks at these descriptions of a source, one after another.

@@ -14,6 +14,7 @@ use std::alloc::{AllocError, Global};
 use std::str;
 use timefd_diagnosis::{Diagnostic, MOST_FURTHER, Span, diagnose, further_faults};
 use timefd_drawing::{Origin, Style, drawn_all, note};
+use timefd_keys::{Format, Key};
 use timefd_sources::{Description, place_of};
 use timefd_warnings::Levels;
 
@@ -28,11 +29,22 @@ pub struct Telling {
     pub levels: Option<Levels>,
 }
 
-/// A source of Rust that is looked at.
+/// How the descriptions in a source are found.
+#[derive(Clone, Copy)]
+pub enum Finder<'a> {
+    /// As string literals of Rust.
+    Rust,
+    /// As strings of these keys, in a file of this format.
+    Keys(Format, &'a [Key<'a>]),
+}
+
+/// A source that is looked at: one of Rust, or a file with keys.
 #[derive(Clone, Copy)]
 pub struct Source<'a> {
     /// The name of its file.
     pub file: &'a str,
+    /// How its descriptions are found.
+    pub finder: Finder<'a>,
     /// All of it.
     pub text: &'a str,
 }

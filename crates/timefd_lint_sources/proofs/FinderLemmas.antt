@@ -1,0 +1,20 @@
+-- Descriptions by how they are found.
+use Rattle.std.proofs.Common.{◌≡◌, List, sym, subst}
+use Rattle.std.specs.List.{All}
+use denote.Ref.{Bor}
+use Rattle.timefd_keys.specs.declared.format.Format.{Format}
+use Rattle.timefd_keys.specs.declared.key.Key.{Key}
+use Rattle.timefd_keys.specs.Found as keyed
+use Rattle.timefd_sources.specs.declared.description.Description.{Description}
+use Rattle.timefd_sources.specs.Found.{AllStandIn}
+use Rattle.timefd_lint_sources.specs.declared.told.Finder.TheVariants.{Rust, Keys}
+use Rattle.timefd_lint_sources.specs.declared.told.Source.{Source}
+use Rattle.timefd_lint_sources.specs.Told.{AllFound, IsFoundBy}
+
+pub by_rust : (s : Source) (ds : List Description) → s.finder ≡ Rust → AllStandIn s.text.now ds
+    → AllFound s ds
+by_rust s ds is stand = subst (λ f. All (IsFoundBy f s.text.now) ds) (sym is) stand
+
+pub by_keys : (s : Source) (format : Format) (keys : Bor (List Key)) (ds : List Description)
+    → s.finder ≡ Keys format keys → keyed.AllStandIn format s.text.now ds → AllFound s ds
+by_keys s format keys ds is stand = subst (λ f. All (IsFoundBy f s.text.now) ds) (sym is) stand
