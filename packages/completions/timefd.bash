@@ -25,11 +25,11 @@ _timefd_lint() {
         word+=' unsettled-width unsettled-year deprecated-component'
         mapfile -t COMPREPLY < <(compgen -W "$word" -- "$2")
         ;;
-    --comment) COMPREPLY=() ;;
+    --comment | --key) COMPREPLY=() ;;
     *)
         case $2 in
         -*)
-            word='--language --format --color --comment --whole --source --explain --warn --deny --allow --to --normal --fix --unsafe --write --partial --quiet --help --version --'
+            word='--language --format --color --comment --key --whole --source --explain --warn --deny --allow --to --normal --fix --unsafe --write --partial --quiet --help --version --'
             mapfile -t COMPREPLY < <(compgen -W "$word" -- "$2")
             ;;
         *) mapfile -t COMPREPLY < <(compgen -f -- "$2") ;;

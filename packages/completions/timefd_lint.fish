@@ -2,6 +2,7 @@ complete -c timefd_lint -l language -x -a '1 2 3 strftime' -d 'the language of a
 complete -c timefd_lint -l format -x -a 'human json short github' -d 'how a fault is written'
 complete -c timefd_lint -l color -x -a 'always never auto' -d 'whether the drawing is coloured'
 complete -c timefd_lint -l comment -x -d 'what lines begin with that are passed over'
+complete -c timefd_lint -l key -x -d 'look at the strings of this key in TOML, JSON and YAML'
 complete -c timefd_lint -l whole -d 'a file is one text'
 complete -c timefd_lint -l source -d 'a file is a source of Rust, whatever its name'
 complete -c timefd_lint -l explain -d 'show each accepted text as its tree'

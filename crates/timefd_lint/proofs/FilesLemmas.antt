@@ -12,7 +12,7 @@ use Rattle.timefd_lint.specs.declared.failure.OpenError.{OpenError}
 use Rattle.timefd_lint.specs.declared.options.Options.{Options}
 use Rattle.timefd_lint.specs.declared.tally.Tally.{Tally}
 use Rattle.timefd_lint.specs.Files.{IsRunAs, IsRunIn, IsNoted, IsRunOfFile, IsRunOfName, IsRunOfNames, input_name}
-use Rattle.timefd_lint.specs.Sources.{IsRunOfSource, IsRunWith, any_source, is_source}
+use Rattle.timefd_lint.specs.Sources.{IsRunOfSource, IsRunWith, any_source, finder_of, is_source}
 use Rattle.timefd_lint.specs.Told.{IsRunOfAll, IsRunOver, tally_of, both}
 use Rattle.timefd_lint.proofs.SourcesLemmas.{with_behind, with_more}
 use Rattle.timefd_lint.proofs.ToldLemmas.{lines_on, no_text, whole_on}
@@ -20,7 +20,7 @@ use Rattle.timefd_lint.proofs.ToldLemmas.{lines_on, no_text, whole_on}
 -- What is told of a reader, by its name and as the options ask.
 pub in_source : (options : Options) (file : Text) (bytes rest before behind : Option Text) (tally : Tally)
     → is_source options file ≡ true
-    → IsRunOfSource options.telling file bytes rest before behind tally
+    → IsRunOfSource (finder_of options file) options.telling file bytes rest before behind tally
     → IsRunIn options file bytes rest before behind tally
 in_source options file bytes rest before behind tally is run =
     subst (λ s. IsRunAs s options file bytes rest before behind tally) (sym is) run
@@ -53,7 +53,7 @@ pub input_alone : (options : Options) (before behind : Option Text) (tally : Tal
 input_alone options before behind tally none run =
     subst (λ r. IsRunWith r options.is_whole options.language options.comment options.telling before
     behind tally)
-    (or-false options.is_source ∙ ap (λ names. any_source options names) (sym none)) run
+    (or-false (options.is_source || false) ∙ or-false options.is_source ∙ ap (λ names. any_source options names) (sym none)) run
 
 pub input_named : (options : Options) (name : Text) (before behind : Option Text) (tally : Tally)
     → is_input name ≡ true

@@ -11,13 +11,13 @@ use denote.Ref.{Bor}
 use Rattle.timefd_component.specs.Tree.{Text}
 use Rattle.timefd_parse.specs.declared.language.Language.{Language}
 use Rattle.timefd_sources.specs.declared.description.Description.{Description}
-use Rattle.timefd_sources.specs.Found.{AllStandIn, StandsIn}
 use Rattle.timefd_lint_sources.specs.declared.source.Report.{Report}
 use Rattle.timefd_lint_sources.specs.declared.told.End.{End}
+use Rattle.timefd_lint_sources.specs.declared.told.Finder.{Finder}
 use Rattle.timefd_lint_sources.specs.declared.told.Source.{Source}
 use Rattle.timefd_lint_sources.specs.declared.told.Telling.{Telling}
 use Rattle.timefd_lint_sources.specs.Judged.{text_of}
-use Rattle.timefd_lint_sources.specs.Told.{AreTold, IsSourceTold, no_text_note, origin_of}
+use Rattle.timefd_lint_sources.specs.Told.{AllFound, AreTold, IsFound, IsSourceTold, no_text_note, origin_of}
 use Rattle.timefd_lint.specs.declared.line.RunError.{RunError}
 use Rattle.timefd_lint.specs.declared.line.TextEnd.{TextEnd}
 use Rattle.timefd_lint.specs.declared.line.TextEnd.TheVariants.{NotText, Failed}
@@ -50,9 +50,11 @@ all_found all i tally none so_far = sym (ap (λ l. tally_from tally l) (drop_all
 pub reported : (telling : Telling) (s : Source) (r : Report) (before behind : Option Text)
     (message : Text) (ends : List End) (tally : Tally) → IsSourceTold telling s r
     → message ≡ r.message.items → Appends before behind message → ends ≡ r.ends.items
-    → tally ≡ tally_of_ends ends → IsReported telling s.file.now s.text.now before behind tally
+    → tally ≡ tally_of_ends ends
+    → IsReported s.finder telling s.file.now s.text.now before behind tally
 reported telling s r before behind message ends tally told same written same_ends found = (
   s,
+  refl,
   refl,
   refl,
   (
@@ -70,32 +72,37 @@ pub noted_no_text : (telling : Telling) (name : Bor Text) (before behind : Optio
 noted_no_text telling name before behind message text tally same is written found =
     (name, refl, subst (λ m. Appends before behind m) (same ∙ is) written, found)
 
-pub said_of_text : (telling : Telling) (name bytes text : Text) (before behind : Option Text)
-    (tally : Tally) → text ≡ bytes → IsUtf8 text → IsReported telling name text before behind tally
-    → IsSaid telling name bytes before behind tally
-said_of_text telling name bytes text before behind tally same utf8 reported =
+pub said_of_text : (finder own : Finder) (telling : Telling) (name bytes text : Text)
+    (before behind : Option Text) (tally : Tally) → own ≡ finder → text ≡ bytes → IsUtf8 text
+    → IsReported own telling name text before behind tally
+    → IsSaid finder telling name bytes before behind tally
+said_of_text finder own telling name bytes text before behind tally by same utf8 reported =
     inl (
       subst IsUtf8 same utf8,
-      subst (λ t. IsReported telling name t before behind tally) same reported,
+      subst (λ t. IsReported finder telling name t before behind tally) same
+          (subst (λ f. IsReported f telling name text before behind tally) by reported),
     )
 
-pub said_of_no_text : (telling : Telling) (name bytes : Text) (before behind : Option Text)
-    (tally : Tally) → ¬ IsUtf8 bytes → IsNotText telling name before behind tally
-    → IsSaid telling name bytes before behind tally
-said_of_no_text telling name bytes before behind tally none noted = inr (none, noted)
+pub said_of_no_text : (finder : Finder) (telling : Telling) (name bytes : Text)
+    (before behind : Option Text) (tally : Tally) → ¬ IsUtf8 bytes
+    → IsNotText telling name before behind tally
+    → IsSaid finder telling name bytes before behind tally
+said_of_no_text finder telling name bytes before behind tally none noted = inr (none, noted)
 
 -- All bytes of a reader stand behind none in a buffer.
-pub source_read : (telling : Telling) (name : Text) (bytes rest : Option Text) (old read text : Text)
-    (before behind : Option Text) (tally : Tally) → IfSome bytes (λ all. read ≡ old ++ all)
-    → IsAtEnd rest → old ≡ [] → text ≡ read → IsSaid telling name text before behind tally
-    → IsRunOfSource telling name bytes rest before behind tally
-source_read telling name bytes rest old read text before behind tally all left none same said =
+pub source_read : (finder : Finder) (telling : Telling) (name : Text) (bytes rest : Option Text)
+    (old read text : Text) (before behind : Option Text) (tally : Tally)
+    → IfSome bytes (λ all. read ≡ old ++ all)
+    → IsAtEnd rest → old ≡ [] → text ≡ read → IsSaid finder telling name text before behind tally
+    → IsRunOfSource finder telling name bytes rest before behind tally
+source_read finder telling name bytes rest old read text before behind tally all left none same said =
     inl (text, whole_text bytes old read text all none same, read_to_end bytes rest left, said)
 
-pub source_unread : (telling : Telling) (name : Bor Text) (bytes rest before behind : Option Text)
-    (end : TextEnd) (tally : Tally) → end ≡ Failed → SaysFailed telling.style name before behind
-    → tally ≡ tally_of_one end → IsRunOfSource telling name.now bytes rest before behind tally
-source_unread telling name bytes rest before behind end tally failed said is =
+pub source_unread : (finder : Finder) (telling : Telling) (name : Bor Text)
+    (bytes rest before behind : Option Text) (end : TextEnd) (tally : Tally) → end ≡ Failed
+    → SaysFailed telling.style name before behind
+    → tally ≡ tally_of_one end → IsRunOfSource finder telling name.now bytes rest before behind tally
+source_unread finder telling name bytes rest before behind end tally failed said is =
     inr (
       name,
       refl,
@@ -113,7 +120,7 @@ record AreLiterals (is_whole : Bool) (language : Language) (comment : Option (Bo
 
 literals : (is_whole : Bool) (language : Language) (comment : Option (Bor Text)) (telling : Telling)
     (s : Source) (ds : List Description) (ends : List End) (message : Text)
-    → AllStandIn s.text.now ds → AreTold telling s ds ends message
+    → AllFound s ds → AreTold telling s ds ends message
     → AreLiterals is_whole language comment telling ends message
 literals is_whole language comment telling s [] [] message stand are = record {
   told = [];
@@ -133,12 +140,12 @@ literals is_whole language comment telling s (d ∷ ds) (e ∷ ends) message sta
     } in
     let more : AreLiterals is_whole language comment telling ends rest =
     literals is_whole language comment telling s ds ends rest
-    (All-tail (StandsIn s.text.now) d ds stand) others in
+    (All-tail (IsFound s) d ds stand) others in
     let is_literal : IsOfLiteral telling t = record {
       source = s;
       description = d;
       came = e;
-      stands = All-head (StandsIn s.text.now) d ds stand;
+      stands = All-head (IsFound s) d ds stand;
       told = told;
       line = refl;
       origin = refl;
@@ -169,11 +176,11 @@ of_texts is_whole language comment telling before behind tally run = record {
 }
 
 pub of_source : (is_whole : Bool) (language : Language) (comment : Option (Bor Text)) (telling : Telling)
-    (name : Text) (bytes rest before behind : Option Text) (tally : Tally)
-    → IsRunOfSource telling name bytes rest before behind tally
+    (finder : Finder) (name : Text) (bytes rest before behind : Option Text) (tally : Tally)
+    → IsRunOfSource finder telling name bytes rest before behind tally
     → IsRunOfAny is_whole language comment telling before behind tally
-of_source is_whole language comment telling name bytes rest before behind tally
-    (inl (source, all, read, inl (utf8, (s, f, t, (r, told, written, found))))) =
+of_source is_whole language comment telling finder name bytes rest before behind tally
+    (inl (source, all, read, inl (utf8, (s, f, by, t, (r, told, written, found))))) =
     let are : AreLiterals is_whole language comment telling r.ends.items r.message.items =
     literals is_whole language comment telling s told.descriptions r.ends.items r.message.items
     told.stand told.told in
@@ -183,7 +190,7 @@ of_source is_whole language comment telling name bytes rest before behind tally
       found = found ∙ are.found [];
       written = subst (λ m. Appends before behind m) are.said written;
     }
-of_source is_whole language comment telling name bytes rest before behind tally
+of_source is_whole language comment telling finder name bytes rest before behind tally
     (inl (source, all, read, inr (none, (file, same, written, found)))) =
     let t : Told = record {
       line = source;
@@ -199,7 +206,7 @@ of_source is_whole language comment telling name bytes rest before behind tally
       found = found ∙ sym (tally_one t);
       written = subst (λ m. Appends before behind m) (sym (append-nil t.message)) written;
     }
-of_source is_whole language comment telling name bytes rest before behind tally
+of_source is_whole language comment telling finder name bytes rest before behind tally
     (inr (file, same, said, found)) =
     of_texts is_whole language comment telling before behind tally
     (failed_run is_whole language comment telling file before behind Failed tally refl said found)
@@ -262,22 +269,22 @@ with_texts true is_whole language comment telling before behind tally run =
 with_texts false is_whole language comment telling before behind tally run = run
 
 pub with_source : (reads is_whole : Bool) (language : Language) (comment : Option (Bor Text))
-    (telling : Telling) (name : Text) (bytes rest before behind : Option Text) (tally : Tally)
-    → reads ≡ true → IsRunOfSource telling name bytes rest before behind tally
+    (telling : Telling) (finder : Finder) (name : Text) (bytes rest before behind : Option Text)
+    (tally : Tally) → reads ≡ true → IsRunOfSource finder telling name bytes rest before behind tally
     → IsRunWith reads is_whole language comment telling before behind tally
-with_source reads is_whole language comment telling name bytes rest before behind tally is run =
+with_source reads is_whole language comment telling finder name bytes rest before behind tally is run =
     subst (λ r. IsRunWith r is_whole language comment telling before behind tally) (sym is)
-    (of_source is_whole language comment telling name bytes rest before behind tally run)
+    (of_source is_whole language comment telling finder name bytes rest before behind tally run)
 
 -- The same of a run that may have ended early.
 pub source_told : (reads is_whole : Bool) (language : Language) (comment : Option (Bor Text))
-    (telling : Telling) (name : Text) (bytes rest before behind : Option Text)
+    (telling : Telling) (finder : Finder) (name : Text) (bytes rest before behind : Option Text)
     (r : Result Tally RunError) → reads ≡ true
-    → IfOk r (IsRunOfSource telling name bytes rest before behind)
+    → IfOk r (IsRunOfSource finder telling name bytes rest before behind)
     → IfOk r (IsRunWith reads is_whole language comment telling before behind)
-source_told reads is_whole language comment telling name bytes rest before behind (Ok tally) is run =
-    with_source reads is_whole language comment telling name bytes rest before behind tally is run
-source_told reads is_whole language comment telling name bytes rest before behind (Err e) is run = tt
+source_told reads is_whole language comment telling finder name bytes rest before behind (Ok tally) is run =
+    with_source reads is_whole language comment telling finder name bytes rest before behind tally is run
+source_told reads is_whole language comment telling finder name bytes rest before behind (Err e) is run = tt
 
 pub with_whole : (reads is_whole : Bool) (language : Language) (comment : Option (Bor Text))
     (telling : Telling) (file : Text) (bytes rest before behind : Option Text) (tally : Tally)

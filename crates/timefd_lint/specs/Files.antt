@@ -10,7 +10,7 @@ use Rattle.timefd_lint.specs.declared.line.TextEnd.TheVariants as ends
 use Rattle.timefd_lint.specs.declared.options.Options.{Options}
 use Rattle.timefd_lint.specs.declared.tally.Tally.{Tally}
 use Rattle.timefd_lint.specs.Failures.{note_of}
-use Rattle.timefd_lint.specs.Sources.{IsRunOfSource, is_source}
+use Rattle.timefd_lint.specs.Sources.{IsRunOfSource, finder_of, is_source}
 use Rattle.timefd_lint.specs.Told.{IsRunOn, tally_of_one, both}
 
 -- what the standard input is shown as
@@ -22,7 +22,7 @@ input_name = codes "<stdin>"
 abbrev pub IsRunAs : Bool → Options → Text → Option Text → Option Text → Option Text → Option Text → Tally
     → Type 0
 IsRunAs true options file bytes rest before behind tally =
-    IsRunOfSource options.telling file bytes rest before behind tally
+    IsRunOfSource (finder_of options file) options.telling file bytes rest before behind tally
 IsRunAs false options file bytes rest before behind tally =
     IsRunOn options.is_whole options.language options.comment options.telling file bytes rest before
     behind tally

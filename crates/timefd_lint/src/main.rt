@@ -36,8 +36,9 @@ use summary::summary;
 use tally::Tally;
 use timefd_convert::conversion_between;
 use timefd_fix::Fixes;
+use timefd_keys::Key;
 use timefd_lint_files::{Reason, WalkError, expanded};
-use timefd_lint_options::{Asked, OptionError, Settings, options_of, target};
+use timefd_lint_options::{Asked, OptionError, Settings, keys_of, options_of, target};
 use timefd_parse::Language;
 use timefd_rewrite::Layout;
 
@@ -95,7 +96,11 @@ fn status(rt: &HostRuntime, words: &[&str]) -> u8 {
         Ok(Asked::Version) => written(rt, usage::VERSION),
         Ok(Asked::Run(asked)) => {
             let from = words.len().saturating_sub(asked.file_count);
-            names_status(rt, asked.settings, words.get(from..).unwrap_or(words))
+            let names = words.get(from..).unwrap_or(words);
+            match keys_of(rt.alloc(), words) {
+                Ok(keys) => names_status(rt, asked.settings, &keys, names),
+                Err(AllocError) => no_memory(rt),
+            }
         }
         Err(error) => wrong_arguments(rt, error),
     }
@@ -103,9 +108,9 @@ fn status(rt: &HostRuntime, words: &[&str]) -> u8 {
 
 // The status of a run over what is named. Where nothing is rewritten, a folder stands for the sources
 // below it.
-fn names_status(rt: &HostRuntime, settings: Settings<'_>, names: &[&str]) -> u8 {
+fn names_status(rt: &HostRuntime, settings: Settings<'_>, keys: &[Key<'_>], names: &[&str]) -> u8 {
     if rewriting_of(settings).is_some() {
-        return files_status(rt, settings, names);
+        return files_status(rt, settings, keys, names);
     }
     let files = match expanded(rt, rt.alloc(), names) {
         Ok(files) => files,
@@ -116,7 +121,7 @@ fn names_status(rt: &HostRuntime, settings: Settings<'_>, names: &[&str]) -> u8 
         return end_of(rt, settings, 0, Tally::new());
     }
     match lent(rt.alloc(), &files) {
-        Ok(files) => files_status(rt, settings, &files),
+        Ok(files) => files_status(rt, settings, keys, &files),
         Err(AllocError) => no_memory(rt),
     }
 }
@@ -128,9 +133,9 @@ fn walk_failed(rt: &HostRuntime, path: &str, reason: Reason) -> u8 {
     }
 }
 
-fn files_status(rt: &HostRuntime, settings: Settings<'_>, files: &[&str]) -> u8 {
+fn files_status(rt: &HostRuntime, settings: Settings<'_>, keys: &[Key<'_>], files: &[&str]) -> u8 {
     let colored = is_colored(rt, settings.color);
-    run_status(rt, settings, run_options(settings, colored, files))
+    run_status(rt, settings, run_options(settings, colored, keys, files))
 }
 
 // What may be written against faults.

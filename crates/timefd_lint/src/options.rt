@@ -3,6 +3,7 @@
 ghost use Rattle.std.specs.Prelude.{◌≡◌, length, max, if◌then◌else◌, Some, None};
 
 use timefd_drawing::Style;
+use timefd_keys::Key;
 use timefd_lint_options::Settings;
 use timefd_lint_sources::Telling;
 use timefd_parse::Language;
@@ -21,6 +22,8 @@ pub struct Options<'a> {
     pub is_whole: bool,
     /// Whether a file is a source of Rust, whatever its name.
     pub is_source: bool,
+    /// The keys whose strings are looked at in files with keys.
+    pub keys: &'a [Key<'a>],
     /// The names of the files: none, where the standard input is read.
     pub files: &'a [&'a str],
 }
@@ -34,10 +37,11 @@ impl Options<'_> {
     }
 }
 
-/// What a run does by its settings, over these files.
+/// What a run does by its settings and keys, over these files.
 pub fn run_options<'a>(
     settings: Settings<'a>,
     is_colored: bool,
+    keys: &'a [Key<'a>],
     files: &'a [&'a str],
 ) -> Options<'a>
     ensures language { result.language ≡ settings.entry.language }
@@ -49,6 +53,7 @@ pub fn run_options<'a>(
     ensures explains { result.telling.explains ≡ settings.entry.explains }
     ensures levels { result.telling.levels ≡ (if settings.entry.warns then Some settings.entry.levels
         else None) }
+    ensures keys { result.keys.now ≡ keys.now }
     ensures files { result.files.now ≡ files.now }
 {
     Options {
@@ -64,6 +69,7 @@ pub fn run_options<'a>(
         comment: settings.comment,
         is_whole: settings.is_whole,
         is_source: settings.is_source,
+        keys,
         files,
     }
 }

@@ -1,4 +1,4 @@
-//! A source of Rust.
+//! A source of Rust, or a file with keys.
 
 ghost use Rattle.std.specs.Prelude.{◌≡◌, IfOk};
 ghost use Rattle.timefd_lint.specs.Sources.{IsNotText, IsReported, IsRunOfSource, IsSaid};
@@ -12,16 +12,44 @@ use std::alloc::Global;
 use std::io::{Read, Write};
 use std::str;
 use timefd_drawing::{Origin, note};
-use timefd_lint_sources::{End, Source};
+use timefd_keys::format_named;
+use timefd_lint_sources::{End, Finder, Source};
 
 /// Whether the file of a name is read as a source of Rust.
-pub fn is_source(options: Options<'_>, name: &str) -> bool
-    ensures { result ≡ spec.is_source options.entry name.now }
+fn is_rust(options: Options<'_>, name: &str) -> bool
+    ensures { result ≡ spec.is_rust options.entry name.now }
 {
     options.is_source || name.as_bytes().ends_with(b".rs")
 }
 
-/// Looks at all bytes of a reader as a source of Rust, and writes what is wrong in it.
+/// Whether it is one with keys, where keys are looked for.
+fn has_keys(options: Options<'_>, name: &str) -> bool
+    ensures { result ≡ spec.has_keys options.entry name.now }
+{
+    format_named(name).is_some() && !options.keys.is_empty()
+}
+
+/// Whether the file of a name is read as a source: of Rust, or with keys.
+pub fn is_source(options: Options<'_>, name: &str) -> bool
+    ensures { result ≡ spec.is_source options.entry name.now }
+{
+    is_rust(options, name) || has_keys(options, name)
+}
+
+/// How the descriptions in the file of a name are found, which is read as a source.
+fn finder_of<'a>(options: Options<'a>, name: &str) -> Finder<'a>
+    ensures { result ≡ spec.finder_of options.entry name.now }
+{
+    if is_rust(options, name) {
+        return Finder::Rust;
+    }
+    match format_named(name) {
+        Some(format) => Finder::Keys(format, options.keys),
+        None => Finder::Rust,
+    }
+}
+
+/// Looks at all bytes of a reader as a source, and writes what is wrong in it.
 #[tactic(auto, using(crate::proofs::SourcesLemmas::source_read, crate::proofs::SourcesLemmas::source_unread))]
 pub fn lint_source<R: Read, W: Write>(
     alloc: Global,
@@ -30,7 +58,7 @@ pub fn lint_source<R: Read, W: Write>(
     reader: &mut R,
     writer: &mut W,
 ) -> Result<Tally, RunError>
-    ensures { IfOk result (IsRunOfSource options.entry.telling name.now
+    ensures { IfOk result (IsRunOfSource (spec.finder_of options.entry name.now) options.entry.telling name.now
         (R.remaining reader.old) (R.remaining reader.new)
         (W.contents writer.old) (W.contents writer.new)) }
 {
@@ -53,11 +81,18 @@ fn lint_bytes<W: Write>(
     bytes: &[u8],
     writer: &mut W,
 ) -> Result<Tally, RunError>
-    ensures { IfOk result (IsSaid options.entry.telling name.now bytes.now
+    ensures { IfOk result (IsSaid (spec.finder_of options.entry name.now) options.entry.telling name.now bytes.now
         (W.contents writer.old) (W.contents writer.new)) }
 {
     match str::from_utf8(bytes) {
-        Ok(text) => lint_text(alloc, options, Source { file: name, text }, writer),
+        Ok(text) => {
+            let source = Source {
+                file: name,
+                finder: finder_of(options, name),
+                text,
+            };
+            lint_text(alloc, options, source, writer)
+        }
         Err(_) => not_text(alloc, options, name, writer),
     }
 }
@@ -70,7 +105,7 @@ fn lint_text<W: Write>(
     source: Source<'_>,
     writer: &mut W,
 ) -> Result<Tally, RunError>
-    ensures { IfOk result (IsReported options.entry.telling source.entry.file.now
+    ensures { IfOk result (IsReported source.entry.finder options.entry.telling source.entry.file.now
         source.entry.text.now (W.contents writer.old) (W.contents writer.new)) }
 {
     let report = timefd_lint_sources::lint_source(alloc, options.telling, source)?;

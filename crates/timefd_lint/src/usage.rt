@@ -2,6 +2,7 @@
 
 use std::alloc::{AllocError, Global};
 use timefd_drawing::shown::safe;
+use timefd_keys::KeyFault;
 use timefd_lint_options::{Conflict, OptionError, Valued, nearest_option};
 use timefd_warnings::Warning;
 
@@ -14,6 +15,7 @@ pub const USAGE: &str = "usage: timefd_lint [OPTION].. [--] [FILE]..
 Reads format descriptions, one a line, from the files or from the standard input, and shows which
 are none, where, why, and what to write in their place. The file - is the standard input. In a file
 whose name ends in .rs, a source of Rust, they are the string literals in calls of time and chrono.
+With --key they are, in files whose names end in .toml, .json, .yaml or .yml, strings of these keys.
 A folder stands for the sources below it, but hidden ones and those that .gitignore files name.
 
   --language 1|2|3|strftime    the language of all lines; version 3 if it isn't given
@@ -22,6 +24,7 @@ A folder stands for the sources below it, but hidden ones and those that .gitign
                                annotation of GitHub
   --color always|never|auto    whether the drawing is coloured; auto asks the terminal
   --comment MARK               passes over the lines that begin with the mark
+  --key KEY=LANGUAGE           looks at the strings of this key in TOML, JSON and YAML; may be repeated
   --whole                      takes a file as one text, each newline in it counted
   --source                     takes a file as a source of Rust, whatever its name
   --explain                    shows each accepted text as its tree
@@ -58,6 +61,11 @@ pub fn sentence(alloc: Global, error: OptionError<'_>) -> Result<String, AllocEr
             let word = safe(alloc, word)?;
             format!(in alloc; "`{word}` is no value of `{name}`: {values}")
         }
+        OptionError::NotAKey(fault, word) => {
+            let word = safe(alloc, word)?;
+            let fault = key_sentence(fault);
+            format!(in alloc; "`{word}` is no value of `--key`: {fault}")
+        }
         OptionError::BehindFile(word) => {
             let word = safe(alloc, word)?;
             format!(in alloc;
@@ -85,6 +93,7 @@ fn name(option: Valued) -> &'static str {
         Valued::Format => "--format",
         Valued::Color => "--color",
         Valued::Comment => "--comment",
+        Valued::Key => "--key",
         Valued::To => "--to",
         Valued::Deny => "--deny",
         Valued::Allow => "--allow",
@@ -98,6 +107,7 @@ fn values(alloc: Global, option: Valued) -> Result<String, AllocError> {
         Valued::Format => String::from_str(alloc, "one of human, json, short, github"),
         Valued::Color => String::from_str(alloc, "one of always, never, auto"),
         Valued::Comment => String::from_str(alloc, "a mark that is not empty"),
+        Valued::Key => String::from_str(alloc, "a key and its language, as `time_format=3`"),
         Valued::To => String::from_str(alloc, "one of 2, 3"),
         Valued::Deny | Valued::Allow => warning_names(alloc),
     }
@@ -115,11 +125,21 @@ fn warning_names(alloc: Global) -> Result<String, AllocError> {
     Ok(names)
 }
 
+fn key_sentence(fault: KeyFault) -> &'static str {
+    match fault {
+        KeyFault::NoEqualsSign => "it wants `=` and a language behind the key, as `time_format=3`",
+        KeyFault::EmptyName => "it wants a key in front of `=`, as `time_format=3`",
+        KeyFault::UnknownLanguage => "the language is one of 1, 2, 3, strftime",
+    }
+}
+
 fn conflict_sentence(conflict: Conflict) -> &'static str {
     match conflict {
         Conflict::ExplainUndrawn => "`--explain` draws trees, and goes with `--format human` alone",
         Conflict::WriteWithoutVersion =>
             "`--write` wants `--to 2`, `--to 3`, `--normal` or `--fix`",
+        Conflict::KeysRewritten =>
+            "`--key` looks at files, and doesn't go with `--to`, `--normal` and `--fix`",
         Conflict::PartialWithoutWrite => "`--partial` goes with `--write` alone",
         Conflict::UnsafeWithoutFix => "`--unsafe` goes with `--fix` alone",
         Conflict::FixesRewritten => "`--fix` doesn't go with `--to` and `--normal`",
