@@ -1,4 +1,4 @@
-//! The languages by which descriptions of sources are judged.
+//! The languages by which descriptions of sources are judged, and mended.
 
 ghost use Rattle.std.specs.Prelude.{◌≡◌};
 ghost use Rattle.timefd_lint_sources.specs.Judged as spec;

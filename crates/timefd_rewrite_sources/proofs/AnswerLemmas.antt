@@ -11,7 +11,7 @@ use Rattle.timefd_language.specs.declared.parse_error.ParseError.TheVariants.{In
 use Rattle.timefd_parse.specs.declared.language.Language.{Language}
 use Rattle.timefd_sources.specs.declared.description.Description.{Description}
 use Rattle.timefd_sources.specs.Written.{IsBodyFor, has_body}
-use Rattle.timefd_rewrite_sources.specs.Dialects.{is_passed_over, language_in, text_of}
+use Rattle.timefd_lint_sources.specs.Judged.{is_passed_over, language_in, text_of}
 use Rattle.timefd_rewrite_sources.specs.declared.answer.Answer.TheVariants.{Stays}
 use Rattle.timefd_rewrite_sources.specs.declared.outcome.Outcome.TheVariants.{PassedOver, Same, Rewritten, Refused, NotText, NotALiteral}
 use Rattle.timefd_rewrite_sources.specs.Mended.{IsAnswer, IsMendedTo, IsOutcome, line_ends, old_line_ends}

@@ -1,2 +1,1 @@
-pub mod Dialects
 pub mod Mended

@@ -8,7 +8,7 @@ use Rattle.timefd_sources.specs.declared.description.Description.{Description}
 use Rattle.timefd_sources.specs.Found.{AllStandIn, AreInOrder}
 use Rattle.timefd_sources.specs.Literals.{body_end, inside}
 use Rattle.timefd_sources.specs.Written.{IsBodyFor, has_body}
-use Rattle.timefd_rewrite_sources.specs.Dialects.{is_passed_over, language_in, text_of}
+use Rattle.timefd_lint_sources.specs.Judged.{is_passed_over, language_in, text_of}
 use Rattle.timefd_rewrite_sources.specs.declared.answer.Answer.{Answer}
 use Rattle.timefd_rewrite_sources.specs.declared.answer.Answer.TheVariants.{Stays, Becomes}
 use Rattle.timefd_rewrite_sources.specs.declared.source.Mended.{Mended}

@@ -1,15 +1,15 @@
 //! What one description is mended to.
 
 ghost use Rattle.std.specs.Prelude.{◌≡◌, ◌≢◌, IfOk, IsUtf8, false};
-ghost use Rattle.timefd_rewrite_sources.specs.Dialects as spec;
-ghost use Rattle.timefd_rewrite_sources.specs.Dialects.{text_of};
+ghost use Rattle.timefd_lint_sources.specs.Judged as spec;
+ghost use Rattle.timefd_lint_sources.specs.Judged.{text_of};
 ghost use Rattle.timefd_rewrite_sources.specs.Mended.{IsAnswer, IsMendedTo, line_ends, old_line_ends};
 
-use crate::dialect::{is_passed_over, language_of};
 use crate::outcome::Outcome;
 use std::alloc::{AllocError, Global};
 use std::str;
 use timefd_fix::{Fixes, fixed};
+use timefd_lint_sources::{is_passed_over, language_of};
 use timefd_parse::ParseError;
 use timefd_sources::{Description, body_alike, inside};
 

@@ -4,7 +4,6 @@
 
 mod answer;
 mod counts;
-mod dialect;
 mod outcome;
 mod source;
 #[cfg(test)]
