@@ -4,3 +4,4 @@ pub mod ToldLemmas
 pub mod AcceptedLemmas
 pub mod TextLemmas
 pub mod MarkLemmas
+pub mod RewrittenLemmas

@@ -1,0 +1,11 @@
+use Rattle.std.proofs.Common.{refl, subst}
+use Rattle.timefd_lint.specs.Rewritten.{AreCounted}
+use Rattle.timefd_lint.proofs.RewrittenLemmas.{text_rewritten}
+use Rattle.timefd_lint.proofs.rewriting.source_looked_at.Goals as goal
+
+pub returns-in_ok-mended-in-Ok-clause-mended : goal.returns-in_ok-mended-in-Ok-clause-mended
+returns-in_ok-mended-in-Ok-clause-mended g c =
+    text_rewritten c.args.fixes c.args.old.now c.in-Ok.source.now c.in_ok-mended-in-Ok.mended
+    c.counts_of.result c.in_ok-mended-in-Ok.mended.bytes.items c.in-Ok.ensures.cases.0
+    c.in-Ok.ensures.cases.1 c.in_ok-mended-in-Ok.ensures
+    (subst (λ os. AreCounted os c.counts_of.result) c.deref.ensures.value c.counts_of.ensures) refl
