@@ -106,10 +106,10 @@ fn status(rt: &HostRuntime, words: &[&str]) -> u8 {
     }
 }
 
-// The status of a run over what is named. Where nothing is rewritten, a folder stands for the sources
-// below it.
+// The status of a run over what is named. A folder stands for the sources below it, unless it is lines that are
+// rewritten.
 fn names_status(rt: &HostRuntime, settings: Settings<'_>, keys: &[Key<'_>], names: &[&str]) -> u8 {
-    if rewriting_of(settings).is_some() {
+    if rewriting_of(settings).is_some() && !settings.fixes {
         return files_status(rt, settings, keys, names);
     }
     let files = match expanded(rt, rt.alloc(), names) {
