@@ -1,6 +1,8 @@
 -- What fails of a file, in words.
 use Rattle.std.specs.Prelude.{codes}
 use denote.Ref.{Bor}
+use Rattle.std.specs.declared.io.ErrorKind.{ErrorKind}
+use Rattle.std.specs.declared.io.ErrorKind.TheVariants.{NotFound, IsADirectory, PermissionDenied}
 use Rattle.timefd_component.specs.Tree.{Text}
 use Rattle.timefd_drawing.specs.declared.draw.Style.{Style}
 use Rattle.timefd_drawing.specs.Drawing.{note}
@@ -33,6 +35,13 @@ sentence Occupied =
 sentence Changed = codes "the file can't be rewritten: it has changed meanwhile"
 sentence Rust = codes "the file can't be rewritten: it is a source of Rust"
 sentence Unwritten = codes "the file can't be written back"
+
+-- What fails of a file that can't be read, by what the system says.
+abbrev pub unread : ErrorKind → Failure
+unread NotFound = Absent
+unread IsADirectory = Folder
+unread PermissionDenied = Forbidden
+unread kind = Unread
 
 -- What is written of a file that fails: its name, and the sentence.
 abbrev pub note_of : Style → Bor Text → Failure → Text

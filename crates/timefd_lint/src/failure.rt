@@ -42,7 +42,9 @@ pub enum OpenError {
 }
 
 /// What fails where a file can't be read.
-pub fn unread(kind: ErrorKind) -> Failure {
+pub fn unread(kind: ErrorKind) -> Failure
+    ensures { result ≡ spec.unread kind }
+{
     match kind {
         ErrorKind::NotFound => Failure::Absent,
         ErrorKind::IsADirectory => Failure::Folder,

@@ -2,6 +2,8 @@
 
 ghost use Rattle.std.specs.Prelude.{◌≡◌, IfOk, OnOk};
 ghost use Rattle.std.specs.Io.KnownBytes.{Appends};
+ghost use Rattle.std.specs.IoError.{error_kind};
+ghost use Rattle.timefd_lint.specs.Failures as failures;
 ghost use Rattle.timefd_lint.specs.Failures.{note_of};
 ghost use Rattle.timefd_lint.specs.Told.{IsNext, IsRunOfAll, IsRunOver, SaysFailed};
 ghost use Rattle.timefd_lint.specs.declared.line.TextEnd.TheVariants as ends;
@@ -120,6 +122,8 @@ pub fn read_error<W: Write>(
     ensures end { IfOk result (λ end. end ≡ ends.Failed) }
     ensures said { OnOk result (SaysFailed options.entry.telling.style name.entry
         (W.contents writer.old) (W.contents writer.new)) }
+    ensures noted { OnOk result (Appends (W.contents writer.old) (W.contents writer.new)
+        (note_of options.entry.telling.style name.entry (failures.unread (error_kind error)))) }
 {
     if error.kind() == ErrorKind::OutOfMemory {
         return Err(RunError::Memory);
