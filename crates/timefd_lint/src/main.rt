@@ -7,6 +7,7 @@ mod color;
 mod failure;
 mod fix;
 mod folders;
+mod found;
 mod line;
 mod lines;
 mod mark;

@@ -1,29 +1,21 @@
 //! The named files in a later version of the language, in the normal form of version 3, or mended: shown
 //! as changes, or written back.
 
-ghost use Rattle.std.specs.Prelude.{Option, Some, [], IfOk};
-ghost use Rattle.timefd_component.specs.Tree.{Text};
-ghost use Rattle.timefd_lint.specs.Rewritten.{AreCounted, IsSourceRewritten};
-ghost use Rattle.timefd_lint.specs.Sources.{IsRunOfSource};
-ghost use Rattle.timefd_lint.specs.Told.{IsRunOver};
-ghost use Rattle.timefd_rewrite.specs.Rewriting.{AreRewritten};
-
 use crate::failure::Failure;
 use crate::fix::{FixError, Original};
+use crate::found::{Found, Unit, looked_at, source_looked_at};
 use crate::line::RunError;
-use crate::lines::{failed, lint_lines};
+use crate::lines::failed;
 use crate::options::Options;
-use crate::rust::{is_source, lint_source};
+use crate::rust::is_source;
 use crate::tally::Tally;
 use std::alloc::Global;
+use std::fs;
 use std::io::{Eprint, Write};
 use std::os::unix::fs::MetadataExt;
 use std::rt::Files;
-use std::{fs, str};
 use timefd_drawing::shown::safe;
-use timefd_fix::Fixes;
-use timefd_rewrite::{Counts, Layout, RewriteError, rewrite_lines, write_diff};
-use timefd_rewrite_sources::{Outcome, count_refused, count_rewritten, mend_source};
+use timefd_rewrite::{Counts, Layout, RewriteError, write_diff};
 
 /// How files are rewritten.
 #[derive(Clone, Copy)]
@@ -42,9 +34,9 @@ struct Identity {
     inode: u64,
 }
 
-/// Looks at the lines of each file in turn, or at the descriptions of a source, and shows what changes in it or writes it back. One that
-/// several names stand for is taken once. A file that can't be read or not be written back is noted,
-/// and the others are still looked at.
+/// Looks at the lines of each file in turn, or at the descriptions of a source, and shows what changes
+/// in it or writes it back. One that several names stand for is taken once. A file that can't be read
+/// or not be written back is noted, and the others are still looked at.
 pub fn rewrite_files<R: Files + Eprint, W: Write>(
     rt: &R,
     alloc: Global,
@@ -153,99 +145,6 @@ fn noted<W: Write>(
             let end = failed(alloc, options, name, failure, writer)?;
             Ok(Tally::of(end))
         }
-    }
-}
-
-// What is counted in a file.
-#[derive(Clone, Copy)]
-enum Unit {
-    Line,
-    Description,
-}
-
-// What is found in a file, how many lines or descriptions are rewritten, and the bytes that are to
-// stand in place of the file's.
-#[derive(Drop)]
-struct Found {
-    tally: Tally,
-    unit: Unit,
-    counts: Counts,
-    bytes: Vec<u8>,
-}
-
-// Looks at the lines of a file, and rewrites those that can be.
-fn looked_at<W: Write>(
-    alloc: Global,
-    options: Options<'_>,
-    layout: Layout,
-    name: &str,
-    old: &[u8],
-    writer: &mut W,
-) -> Result<Found, RunError>
-    ensures told { IfOk result (λ found. (rest : Option Text) × IsRunOver options.entry.language
-        options.entry.comment options.entry.telling name.now (Some old.now) rest
-        (W.contents writer.old) (W.contents writer.new) found.tally) }
-    ensures rewritten { IfOk result (λ found. AreRewritten layout options.entry.comment
-        (Some old.now) (Some []) (Some found.bytes.items) found.counts) }
-{
-    let mut lines = old;
-    let tally = lint_lines(alloc, options, name, &mut lines, writer)?;
-    let mut lines = old;
-    let mut bytes = Vec::new(alloc);
-    match rewrite_lines(alloc, options.comment, layout, &mut lines, &mut bytes) {
-        Ok(counts) => Ok(Found {
-            tally,
-            unit: Unit::Line,
-            counts,
-            bytes,
-        }),
-        // What is read stands in memory, and so does what is written.
-        Err(_) => Err(RunError::Memory),
-    }
-}
-
-// Looks at the descriptions of a source, and mends those that can be; none where it is no text.
-fn source_looked_at<W: Write>(
-    alloc: Global,
-    options: Options<'_>,
-    fixes: Fixes,
-    name: &str,
-    old: &[u8],
-    writer: &mut W,
-) -> Result<Found, RunError>
-    ensures told { IfOk result (λ found. (rest : Option Text) × IsRunOfSource options.entry.telling
-        name.now (Some old.now) rest (W.contents writer.old) (W.contents writer.new) found.tally) }
-    ensures mended { IfOk result (λ found. IsSourceRewritten fixes old.now found.counts found.bytes.items) }
-{
-    let mut bytes = old;
-    let tally = lint_source(alloc, options, name, &mut bytes, writer)?;
-    let unit = Unit::Description;
-    match str::from_utf8(old) {
-        Ok(source) => {
-            let mended = mend_source(alloc, fixes, source)?;
-            Ok(Found {
-                tally,
-                unit,
-                counts: counts_of(&mended.outcomes),
-                bytes: mended.bytes,
-            })
-        }
-        Err(_) => Ok(Found {
-            tally,
-            unit,
-            counts: counts_of(&[]),
-            bytes: Vec::new(alloc),
-        }),
-    }
-}
-
-fn counts_of(outcomes: &[Outcome]) -> Counts
-    ensures { AreCounted outcomes.now result }
-{
-    Counts {
-        lines: outcomes.len() as u64,
-        rewritten: count_rewritten(outcomes) as u64,
-        refused: count_refused(outcomes) as u64,
     }
 }
 

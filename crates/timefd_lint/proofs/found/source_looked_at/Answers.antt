@@ -1,7 +1,7 @@
 use Rattle.std.proofs.Common.{refl, subst}
 use Rattle.timefd_lint.specs.Rewritten.{AreCounted}
 use Rattle.timefd_lint.proofs.RewrittenLemmas.{text_rewritten}
-use Rattle.timefd_lint.proofs.rewriting.source_looked_at.Goals as goal
+use Rattle.timefd_lint.proofs.found.source_looked_at.Goals as goal
 
 pub returns-in_ok-mended-in-Ok-clause-mended : goal.returns-in_ok-mended-in-Ok-clause-mended
 returns-in_ok-mended-in-Ok-clause-mended g c =
