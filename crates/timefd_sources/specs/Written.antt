@@ -78,6 +78,6 @@ AddsPiece e b body more = (piece : Text) × Writes e b piece × (more ≡ body +
 
 -- whether a byte that no letter stands for is written as it is
 abbrev pub is_shown : Encoding → ℕ → Bool
-is_shown Str b = nat_le 32 b && not (b == 127)
-is_shown Bytes b = nat_le 32 b && nat_lt b 127
-is_shown C b = nat_le 32 b && not (b == 127)
+is_shown Str b = nat_le 32 b && not (b == 0x7F)
+is_shown Bytes b = nat_le 32 b && nat_lt b 0x7F
+is_shown C b = nat_le 32 b && not (b == 0x7F)

@@ -168,8 +168,8 @@ fn is_shown(encoding: Encoding, byte: u8) -> bool
     ensures { result ≡ spec.is_shown encoding byte }
 {
     match encoding {
-        Encoding::Bytes => 32 <= byte && byte < 127,
-        Encoding::Str | Encoding::C => 32 <= byte && byte != 127,
+        Encoding::Bytes => 32 <= byte && byte < 0x7F,
+        Encoding::Str | Encoding::C => 32 <= byte && byte != 0x7F,
     }
 }
 
