@@ -4,6 +4,7 @@
 #![tactic(auto)]
 
 mod color;
+mod config;
 mod failure;
 mod fix;
 mod folders;
@@ -23,6 +24,7 @@ mod tally;
 mod usage;
 
 use color::is_colored;
+use config::{ConfigFailure, config_keys};
 use line::RunError;
 use options::{Options, run_options};
 use progress::Watched;
@@ -38,6 +40,7 @@ use tally::Tally;
 use timefd_convert::conversion_between;
 use timefd_fix::Fixes;
 use timefd_keys::Key;
+use timefd_lint_config::{OwnedKey, same_keys, with_keys};
 use timefd_lint_files::{Reason, WalkError, expanded};
 use timefd_lint_options::{Asked, OptionError, Settings, keys_of, options_of, target};
 use timefd_parse::Language;
@@ -98,13 +101,45 @@ fn status(rt: &HostRuntime, words: &[&str]) -> u8 {
         Ok(Asked::Run(asked)) => {
             let from = words.len().saturating_sub(asked.file_count);
             let names = words.get(from..).unwrap_or(words);
-            match keys_of(rt.alloc(), words) {
-                Ok(keys) => names_status(rt, asked.settings, &keys, names),
-                Err(AllocError) => no_memory(rt),
-            }
+            keys_status(rt, asked.settings, words, names)
         }
         Err(error) => wrong_arguments(rt, error),
     }
+}
+
+// The keys of the file of settings, which counts where files are looked at.
+fn looked_at_keys(
+    rt: &HostRuntime,
+    settings: Settings<'_>,
+) -> Result<Vec<OwnedKey>, ConfigFailure> {
+    match rewriting_of(settings) {
+        Some(_) => Ok(Vec::new(rt.alloc())),
+        None => config_keys(rt, rt.alloc()),
+    }
+}
+
+// The status of a run over what is named, with the keys of these words, and behind them those of the file of settings.
+fn keys_status(rt: &HostRuntime, settings: Settings<'_>, words: &[&str], names: &[&str]) -> u8 {
+    let more = match looked_at_keys(rt, settings) {
+        Ok(more) => more,
+        Err(ConfigFailure::Memory) => return no_memory(rt),
+        Err(ConfigFailure::Wrong(sentence)) => return told(rt, WRONG_ARGUMENTS, &sentence),
+    };
+    let Ok(keys) = keys_of(rt.alloc(), words) else {
+        return no_memory(rt);
+    };
+    match all_keys(rt.alloc(), &keys, &more) {
+        Ok(keys) => names_status(rt, settings, &keys, names),
+        Err(AllocError) => no_memory(rt),
+    }
+}
+
+fn all_keys<'a>(
+    alloc: Global,
+    keys: &'a [Key<'_>],
+    more: &'a [OwnedKey],
+) -> Result<Vec<Key<'a>>, AllocError> {
+    with_keys(same_keys(alloc, keys)?, more)
 }
 
 // The status of a run over what is named. A folder stands for the sources below it, unless it is lines that are

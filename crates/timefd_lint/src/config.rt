@@ -1,0 +1,113 @@
+//! The file of settings in the working directory.
+
+use std::alloc::{AllocError, Global};
+use std::io::ErrorKind;
+use std::{fs, str};
+use timefd_drawing::shown::safe;
+use timefd_lint_config::{ConfigError, OwnedKey, keys_of_config};
+use toml::de;
+
+const NAME: &str = ".timefd.toml";
+
+/// What comes of the file of settings where it gives no keys.
+#[derive(Drop)]
+pub enum ConfigFailure {
+    /// Memory ran out.
+    Memory,
+    /// This is wrong with it, in a sentence that names it.
+    Wrong(String),
+}
+
+impl From<AllocError> for ConfigFailure {
+    fn from(_: AllocError) -> Self {
+        ConfigFailure::Memory
+    }
+}
+
+/// The keys of the file of settings in the working directory: none, where there is no such file.
+pub fn config_keys(rt: &HostRuntime, alloc: Global) -> Result<Vec<OwnedKey>, ConfigFailure> {
+    match fs::read(rt, NAME) {
+        Ok(bytes) => keys_of_bytes(alloc, &bytes),
+        Err(error) => match error.kind() {
+            ErrorKind::NotFound => Ok(Vec::new(alloc)),
+            ErrorKind::OutOfMemory => Err(ConfigFailure::Memory),
+            kind => Err(wrong(alloc, unreadable(kind))),
+        },
+    }
+}
+
+fn keys_of_bytes(alloc: Global, bytes: &[u8]) -> Result<Vec<OwnedKey>, ConfigFailure> {
+    let Ok(text) = str::from_utf8(bytes) else {
+        return Err(wrong(alloc, "the bytes are no UTF-8"));
+    };
+    match keys_of_config(alloc, text) {
+        Ok(keys) => Ok(keys),
+        Err(error) => Err(failure(alloc, text, error)),
+    }
+}
+
+fn unreadable(kind: ErrorKind) -> &'static str {
+    match kind {
+        ErrorKind::IsADirectory => "the file can't be read: it is a folder",
+        ErrorKind::PermissionDenied => "the file can't be read: permission denied",
+        _ => "the file can't be read",
+    }
+}
+
+fn wrong(alloc: Global, what: &str) -> ConfigFailure {
+    told(format!(in alloc; "`{NAME}`: {what}"))
+}
+
+fn told(sentence: Result<String, AllocError>) -> ConfigFailure {
+    match sentence {
+        Ok(sentence) => ConfigFailure::Wrong(sentence),
+        Err(AllocError) => ConfigFailure::Memory,
+    }
+}
+
+fn failure(alloc: Global, text: &str, error: ConfigError) -> ConfigFailure {
+    match error {
+        ConfigError::Memory => ConfigFailure::Memory,
+        ConfigError::NotToml(error) => not_toml(alloc, text, error),
+        ConfigError::UnknownName(name) => {
+            about(
+                alloc,
+                &name,
+                "stands for nothing here: the one table is `[keys]`",
+            )
+        }
+        ConfigError::NotATable => wrong(alloc, "`keys` is no table"),
+        ConfigError::EmptyName => wrong(alloc, "a key has no name"),
+        ConfigError::WrongType(name) => {
+            about(
+                alloc,
+                &name,
+                "has neither a number nor a string for its language",
+            )
+        }
+        ConfigError::UnknownLanguage(name) => {
+            about(
+                alloc,
+                &name,
+                "has no language: it is one of 1, 2, 3, \"strftime\"",
+            )
+        }
+    }
+}
+
+// What is wrong with what has this name.
+fn about(alloc: Global, name: &str, what: &str) -> ConfigFailure {
+    match safe(alloc, name) {
+        Ok(name) => told(format!(in alloc; "`{NAME}`: `{name}` {what}")),
+        Err(AllocError) => ConfigFailure::Memory,
+    }
+}
+
+// Why the text is no TOML, and in which line, counted from 1.
+fn not_toml(alloc: Global, text: &str, error: de::Error) -> ConfigFailure {
+    let start = error.span().map_or(0, |span| span.start);
+    let before = text.as_bytes().get(..start).unwrap_or(text.as_bytes());
+    let line = 1 + before.iter().filter(|byte| **byte == b'\n').count();
+    let reason = error.message();
+    told(format!(in alloc; "`{NAME}`: line {line} is no TOML: {reason}"))
+}

@@ -1,0 +1,118 @@
+-- The keys that a file of settings gives.
+use Rattle.std.specs.Prelude.{ℤ, pos, ◌==◌, Option, Some, None, Result, Ok, Err, List, [], ◌∷◌, codes, bytes_eq, length, map, if◌then◌else◌, string_bytes}
+use Rattle.std.specs.Ordering.{int_eq}
+use Rattle.timefd_sources.specs.declared.dialect.Dialect.{Dialect}
+use Rattle.timefd_sources.specs.declared.dialect.Dialect.TheVariants.{One, Two, Three}
+use Rattle.timefd_sources.specs.Bytes.{Text}
+use Rattle.timefd_keys.specs.Keys.{Named, dialect_named}
+use Rattle.toml.specs.Data.{Data, string, integer, float, boolean, datetime, array, table, Members, no_members, member, get_member}
+use Rattle.toml.specs.Parse.{parse_document}
+use Rattle.timefd_lint_config.specs.declared.error.ConfigError.{ConfigError}
+use Rattle.timefd_lint_config.specs.declared.error.ConfigError.TheVariants as error
+use Rattle.timefd_lint_config.specs.declared.keys.OwnedKey.{OwnedKey}
+use Rattle.timefd_lint_config.specs.declared.language.ValueFault.{ValueFault}
+use Rattle.timefd_lint_config.specs.declared.language.ValueFault.TheVariants as no_language
+
+-- what is wrong with a text
+pub data Fault : Type 0 where
+  NotToml : Fault
+  UnknownName : Text → Fault
+  NotATable : Fault
+  EmptyName : Fault
+  WrongType : Text → Fault
+  UnknownLanguage : Text → Fault
+
+-- what an error says of the text: nothing, where memory ran out
+abbrev pub fault : ConfigError → Option Fault
+fault error.Memory = None
+fault (error.NotToml why) = Some NotToml
+fault (error.UnknownName name) = Some (UnknownName (string_bytes name))
+fault error.NotATable = Some NotATable
+fault error.EmptyName = Some EmptyName
+fault (error.WrongType name) = Some (WrongType (string_bytes name))
+fault (error.UnknownLanguage name) = Some (UnknownLanguage (string_bytes name))
+
+-- a key by the bytes of its name
+abbrev pub named : OwnedKey → Named
+named key = record { name = string_bytes key.name; dialect = key.dialect }
+
+abbrev pub named_all : List OwnedKey → List Named
+named_all keys = map named keys
+
+-- the language that a number names
+abbrev pub dialect_numbered : ℤ → Option Dialect
+dialect_numbered number =
+    if int_eq number (pos 1) then Some One
+    else if int_eq number (pos 2) then Some Two
+    else if int_eq number (pos 3) then Some Three
+    else None
+
+abbrev pub known : Option Dialect → Result Dialect ValueFault
+known (Some dialect) = Ok dialect
+known None = Err no_language.UnknownLanguage
+
+-- the language that a value names, or why it names none
+abbrev pub dialect_valued : Data → Result Dialect ValueFault
+dialect_valued (integer number) = known (dialect_numbered number)
+dialect_valued (string word) = known (dialect_named word)
+dialect_valued (float number) = Err no_language.WrongType
+dialect_valued (boolean value) = Err no_language.WrongType
+dialect_valued (datetime value) = Err no_language.WrongType
+dialect_valued (array items) = Err no_language.WrongType
+dialect_valued (table _) = Err no_language.WrongType
+
+abbrev pub key_by : Text → Result Dialect ValueFault → Result Named Fault
+key_by name (Ok dialect) = Ok (record { name = name; dialect = dialect })
+key_by name (Err no_language.WrongType) = Err (WrongType name)
+key_by name (Err no_language.UnknownLanguage) = Err (UnknownLanguage name)
+
+-- the key of a name and a value
+abbrev pub key_of : Text → Data → Result Named Fault
+key_of name value =
+    if length name == 0 then Err EmptyName else key_by name (dialect_valued value)
+
+abbrev pub in_front : Named → Result (List Named) Fault → Result (List Named) Fault
+in_front key (Ok keys) = Ok (key ∷ keys)
+in_front key (Err fault) = Err fault
+
+abbrev pub with_key : Result Named Fault → Result (List Named) Fault → Result (List Named) Fault
+with_key (Ok key) behind = in_front key behind
+with_key (Err fault) behind = Err fault
+
+-- the keys of a table, or what is wrong with the first that is none
+abbrev pub keys_in : Members → Result (List Named) Fault
+keys_in no_members = Ok []
+keys_in (member name value rest) = with_key (key_of name value) (keys_in rest)
+
+-- the first name that stands for nothing
+abbrev pub unknown_name : Members → Option Text
+unknown_name no_members = None
+unknown_name (member name value rest) =
+    if bytes_eq name (codes "keys") then unknown_name rest else Some name
+
+abbrev pub keys_at : Option Data → Result (List Named) Fault
+keys_at None = Ok []
+keys_at (Some (table rows)) = keys_in rows
+keys_at (Some (string word)) = Err NotATable
+keys_at (Some (integer number)) = Err NotATable
+keys_at (Some (float number)) = Err NotATable
+keys_at (Some (boolean value)) = Err NotATable
+keys_at (Some (datetime value)) = Err NotATable
+keys_at (Some (array items)) = Err NotATable
+
+abbrev pub unless_unknown : Option Text → Result (List Named) Fault → Result (List Named) Fault
+unless_unknown (Some name) keys = Err (UnknownName name)
+unless_unknown None keys = keys
+
+-- The keys of a document: it has the table `keys`, or nothing.
+abbrev pub keys_of_document : Members → Result (List Named) Fault
+keys_of_document document =
+    unless_unknown (unknown_name document) (keys_at (get_member (codes "keys") document))
+
+abbrev pub keys_of_parsed : Option Members → Result (List Named) Fault
+keys_of_parsed (Some document) = keys_of_document document
+keys_of_parsed None = Err NotToml
+
+-- the keys that a text gives
+abbrev pub keys_of_config : Text → Result (List Named) Fault
+keys_of_config text = keys_of_parsed (parse_document text)

@@ -1,0 +1,81 @@
+//! The text of a file of settings.
+
+ghost use Rattle.std.specs.Prelude.{◌≡◌, IfOk, IfErr, IfSome, Ok, Err, codes, option_map, string_bytes};
+ghost use Rattle.toml.specs.Data.{get_member};
+ghost use Rattle.toml.specs.View.{view, table_view};
+ghost use Rattle.timefd_lint_config.specs.Config as spec;
+
+use crate::error::ConfigError;
+use crate::keys::{OwnedKey, keys_in};
+use std::alloc::Global;
+use toml::{Table, Value, table_from_str};
+
+// The one table of the file.
+const KEYS: &str = "keys";
+
+// The first name in a document that stands for nothing here.
+fn unknown_name(document: &Table) -> Option<&String>
+    ensures { option_map (λ name. string_bytes name.now) result ≡ spec.unknown_name (table_view document.now) }
+{
+    'names: for (name, _value) in document.iter() {
+        if name.as_str() != KEYS {
+            return Some(name);
+        }
+    }
+    None
+}
+
+// What stands in a document as the table of keys.
+fn value_of_keys(document: &Table) -> Option<&Value>
+    ensures { option_map (λ v. view v.now) result ≡ get_member (codes "keys") (table_view document.now) }
+{
+    document.get(KEYS)
+}
+
+// The keys of what stands there.
+fn keys_at(alloc: Global, value: Option<&Value>) -> Result<Vec<OwnedKey>, ConfigError>
+    ensures keys { IfOk result (λ keys.
+        spec.keys_at (option_map (λ v. view v.now) value.entry) ≡ Ok (spec.named_all keys.items)) }
+    ensures error { IfErr result (λ error. IfSome (spec.fault error) (λ fault.
+        spec.keys_at (option_map (λ v. view v.now) value.entry) ≡ Err fault)) }
+{
+    match value {
+        Some(Value::Table(table)) => keys_in(alloc, table),
+        Some(
+            Value::String(_)
+            | Value::Integer(_)
+            | Value::Float(_)
+            | Value::Boolean(_)
+            | Value::Datetime(_)
+            | Value::Array(_),
+        ) => Err(ConfigError::NotATable),
+        None => Ok(Vec::new(alloc)),
+    }
+}
+
+// The keys of a document.
+fn keys_of_document(alloc: Global, document: &Table) -> Result<Vec<OwnedKey>, ConfigError>
+    ensures keys { IfOk result (λ keys.
+        spec.keys_of_document (table_view document.now) ≡ Ok (spec.named_all keys.items)) }
+    ensures error { IfErr result (λ error. IfSome (spec.fault error) (λ fault.
+        spec.keys_of_document (table_view document.now) ≡ Err fault)) }
+{
+    if let Some(name) = unknown_name(document) {
+        return Err(ConfigError::UnknownName(name.clone()?));
+    }
+    keys_at(alloc, value_of_keys(document))
+}
+
+/// The keys that the text of a file of settings gives in its table `keys`, by name; or what is wrong with it.
+pub fn keys_of_config(alloc: Global, text: &str) -> Result<Vec<OwnedKey>, ConfigError>
+    ensures keys { IfOk result (λ keys.
+        spec.keys_of_config text.now ≡ Ok (spec.named_all keys.items)) }
+    ensures error { IfErr result (λ error. IfSome (spec.fault error) (λ fault.
+        spec.keys_of_config text.now ≡ Err fault)) }
+{
+    match table_from_str(alloc, text) {
+        Ok(document) => keys_of_document(alloc, &document),
+        Err(error) if error.is_memory() => Err(ConfigError::Memory),
+        Err(error) => Err(ConfigError::NotToml(error)),
+    }
+}
