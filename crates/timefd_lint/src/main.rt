@@ -19,6 +19,7 @@ mod run;
 mod rust;
 mod source;
 mod stamp;
+mod status;
 mod summary;
 mod tally;
 mod usage;
@@ -28,53 +29,22 @@ use config::{ConfigFailure, config_keys};
 use line::RunError;
 use options::{Options, run_options};
 use progress::Watched;
-use rewriting::{Rewriting, rewrite_files};
+use rewriting::{rewrite_files, rewriting_of};
 use run::run;
 use source::BUFFER;
+use status::{
+    FAILED, NOT_TEXT, WRONG_ARGUMENTS, no_memory, told, walk_failed, write_failed, wrong_arguments,
+};
 use std::alloc::{AllocError, Global};
 use std::env;
 use std::io::{BufReader, BufWriter, ErrorKind, Write};
 use std::process::ExitCode;
 use summary::summary;
 use tally::Tally;
-use timefd_convert::conversion_between;
-use timefd_fix::Fixes;
 use timefd_keys::Key;
 use timefd_lint_config::{OwnedKey, same_keys, with_keys};
-use timefd_lint_files::{Reason, WalkError, expanded};
-use timefd_lint_options::{Asked, OptionError, Settings, keys_of, options_of, target};
-use timefd_parse::Language;
-use timefd_rewrite::Layout;
-
-// The statuses of runs that did not come to their end.
-const WRONG_ARGUMENTS: u8 = 2;
-
-const NO_MEMORY: u8 = 3;
-
-const FAILED: u8 = 4;
-
-const NOT_TEXT: u8 = 5;
-
-// Says on the standard error why the status is no verdict, and answers the status.
-fn told(rt: &HostRuntime, status: u8, sentence: &str) -> u8 {
-    let _ = eprintln!(rt; "timefd_lint: {sentence}");
-    status
-}
-
-fn no_memory(rt: &HostRuntime) -> u8 {
-    told(rt, NO_MEMORY, "memory ran out")
-}
-
-fn write_failed(rt: &HostRuntime) -> u8 {
-    told(rt, FAILED, "the standard output can't be written")
-}
-
-fn wrong_arguments(rt: &HostRuntime, error: OptionError<'_>) -> u8 {
-    match usage::sentence(rt.alloc(), error) {
-        Ok(sentence) => told(rt, WRONG_ARGUMENTS, &sentence),
-        Err(AllocError) => no_memory(rt),
-    }
-}
+use timefd_lint_files::{WalkError, expanded};
+use timefd_lint_options::{Asked, Settings, keys_of, options_of};
 
 // The words, each lent.
 fn lent<'a>(alloc: Global, words: &'a [String]) -> Result<Vec<&'a str>, AllocError> {
@@ -94,7 +64,7 @@ fn written(rt: &HostRuntime, text: &str) -> u8 {
 }
 
 // The status of what the words behind the program's name ask for.
-fn status(rt: &HostRuntime, words: &[&str]) -> u8 {
+fn words_status(rt: &HostRuntime, words: &[&str]) -> u8 {
     match options_of(words) {
         Ok(Asked::Help) => written(rt, usage::USAGE),
         Ok(Asked::Version) => written(rt, usage::VERSION),
@@ -162,48 +132,9 @@ fn names_status(rt: &HostRuntime, settings: Settings<'_>, keys: &[Key<'_>], name
     }
 }
 
-fn walk_failed(rt: &HostRuntime, path: &str, reason: Reason) -> u8 {
-    match folders::sentence(rt.alloc(), path, reason) {
-        Ok(sentence) => told(rt, FAILED, &sentence),
-        Err(AllocError) => no_memory(rt),
-    }
-}
-
 fn files_status(rt: &HostRuntime, settings: Settings<'_>, keys: &[Key<'_>], files: &[&str]) -> u8 {
     let colored = is_colored(rt, settings.color);
     run_status(rt, settings, run_options(settings, colored, keys, files))
-}
-
-// What may be written against faults.
-fn fixes_of(settings: Settings<'_>) -> Fixes {
-    if settings.is_unsafe {
-        Fixes::All
-    } else {
-        Fixes::Sure
-    }
-}
-
-// How descriptions are laid out, where they are rewritten or mended.
-fn layout_of(settings: Settings<'_>) -> Option<Layout> {
-    if settings.fixes {
-        return Some(Layout::Fixed(settings.language, fixes_of(settings)));
-    }
-    let to = Language::Version(target(settings)?);
-    let conversion = conversion_between(settings.language, to)?;
-    if settings.is_normal {
-        Some(Layout::Normal(conversion))
-    } else {
-        Some(Layout::Least(conversion))
-    }
-}
-
-// How files are rewritten, where they are.
-fn rewriting_of(settings: Settings<'_>) -> Option<Rewriting> {
-    Some(Rewriting {
-        layout: layout_of(settings)?,
-        writes: settings.writes,
-        is_partial: settings.is_partial,
-    })
 }
 
 fn run_status(rt: &HostRuntime, settings: Settings<'_>, options: Options<'_>) -> u8 {
@@ -262,10 +193,10 @@ fn end_of(rt: &HostRuntime, settings: Settings<'_>, file_count: usize, tally: Ta
 
 fn args_status(rt: &HostRuntime, args: &[String]) -> u8 {
     let [_, words @ ..] = args else {
-        return status(rt, &[]);
+        return words_status(rt, &[]);
     };
     match lent(rt.alloc(), words) {
-        Ok(words) => status(rt, &words),
+        Ok(words) => words_status(rt, &words),
         Err(AllocError) => no_memory(rt),
     }
 }

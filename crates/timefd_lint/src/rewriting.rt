@@ -14,7 +14,11 @@ use std::fs;
 use std::io::{Eprint, Write};
 use std::os::unix::fs::MetadataExt;
 use std::rt::Files;
+use timefd_convert::conversion_between;
 use timefd_drawing::shown::safe;
+use timefd_fix::Fixes;
+use timefd_lint_options::{Settings, target};
+use timefd_parse::Language;
 use timefd_rewrite::{Counts, Layout, RewriteError, write_diff};
 
 /// How files are rewritten.
@@ -25,6 +29,38 @@ pub struct Rewriting {
     pub writes: bool,
     /// Whether a file is also rewritten where some of its lines or descriptions are refused.
     pub is_partial: bool,
+}
+
+// What may be written against faults.
+fn fixes_of(settings: Settings<'_>) -> Fixes {
+    if settings.is_unsafe {
+        Fixes::All
+    } else {
+        Fixes::Sure
+    }
+}
+
+// How descriptions are laid out, where they are rewritten or mended.
+fn layout_of(settings: Settings<'_>) -> Option<Layout> {
+    if settings.fixes {
+        return Some(Layout::Fixed(settings.language, fixes_of(settings)));
+    }
+    let to = Language::Version(target(settings)?);
+    let conversion = conversion_between(settings.language, to)?;
+    if settings.is_normal {
+        Some(Layout::Normal(conversion))
+    } else {
+        Some(Layout::Least(conversion))
+    }
+}
+
+/// How files are rewritten, where they are.
+pub fn rewriting_of(settings: Settings<'_>) -> Option<Rewriting> {
+    Some(Rewriting {
+        layout: layout_of(settings)?,
+        writes: settings.writes,
+        is_partial: settings.is_partial,
+    })
 }
 
 // Which file of the system a name stands for.

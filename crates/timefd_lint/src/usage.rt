@@ -24,7 +24,8 @@ A folder stands for the sources below it, but hidden ones and those that .gitign
                                annotation of GitHub
   --color always|never|auto    whether the drawing is coloured; auto asks the terminal
   --comment MARK               passes over the lines that begin with the mark
-  --key KEY=LANGUAGE           looks at the strings of this key in TOML, JSON and YAML; may be repeated
+  --key KEY=LANGUAGE           looks at the strings of this key in TOML, JSON and YAML; may be repeated,
+                               or stand under [keys] in a file .timefd.toml
   --whole                      takes a file as one text, each newline in it counted
   --source                     takes a file as a source of Rust, whatever its name
   --explain                    shows each accepted text as its tree
@@ -33,7 +34,7 @@ A folder stands for the sources below it, but hidden ones and those that .gitign
   --allow CODE                 the same, but for this warning
   --to 2|3                     shows what has to change in a later version; writes no file
   --normal                     shows what would change in the normal form of version 3
-  --fix                        shows what mends the refused lines, where that is sure
+  --fix                        shows what mends refused lines and literals, where that is sure
   --unsafe                     with --fix: also by a guess, as the nearest word
   --write                      with --to, --normal or --fix: writes the named files back so
   --partial                    with --write: also files some of whose lines are refused
