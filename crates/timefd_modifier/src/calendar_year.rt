@@ -24,14 +24,14 @@ impl CalendarYearFullExtendedRange {
         }
     }
 
-    /// The same with another padding.
+    /// Sets how the number is filled on the left.
     pub const fn with_padding(self, padding: Padding) -> Self
         ensures { result ≡ record self { padding = padding } }
     {
         CalendarYearFullExtendedRange { padding, ..self }
     }
 
-    /// The same with `sign_is_mandatory` so set.
+    /// Sets whether a year from 0 to 9,999 has a `+`.
     pub const fn with_sign_is_mandatory(self, sign_is_mandatory: bool) -> Self
         ensures { result ≡ record self { sign_is_mandatory = sign_is_mandatory } }
     {
@@ -62,14 +62,14 @@ impl CalendarYearFullStandardRange {
         }
     }
 
-    /// The same with another padding.
+    /// Sets how the number is filled on the left.
     pub const fn with_padding(self, padding: Padding) -> Self
         ensures { result ≡ record self { padding = padding } }
     {
         CalendarYearFullStandardRange { padding, ..self }
     }
 
-    /// The same with `sign_is_mandatory` so set.
+    /// Sets whether a value that is not negative has a `+`.
     pub const fn with_sign_is_mandatory(self, sign_is_mandatory: bool) -> Self
         ensures { result ≡ record self { sign_is_mandatory = sign_is_mandatory } }
     {
@@ -100,14 +100,14 @@ impl CalendarYearCenturyExtendedRange {
         }
     }
 
-    /// The same with another padding.
+    /// Sets how the number is filled on the left.
     pub const fn with_padding(self, padding: Padding) -> Self
         ensures { result ≡ record self { padding = padding } }
     {
         CalendarYearCenturyExtendedRange { padding, ..self }
     }
 
-    /// The same with `sign_is_mandatory` so set.
+    /// Sets whether a year from 0 to 9,999 has a `+`.
     pub const fn with_sign_is_mandatory(self, sign_is_mandatory: bool) -> Self
         ensures { result ≡ record self { sign_is_mandatory = sign_is_mandatory } }
     {
@@ -138,14 +138,14 @@ impl CalendarYearCenturyStandardRange {
         }
     }
 
-    /// The same with another padding.
+    /// Sets how the number is filled on the left.
     pub const fn with_padding(self, padding: Padding) -> Self
         ensures { result ≡ record self { padding = padding } }
     {
         CalendarYearCenturyStandardRange { padding, ..self }
     }
 
-    /// The same with `sign_is_mandatory` so set.
+    /// Sets whether a value that is not negative has a `+`.
     pub const fn with_sign_is_mandatory(self, sign_is_mandatory: bool) -> Self
         ensures { result ≡ record self { sign_is_mandatory = sign_is_mandatory } }
     {
@@ -173,7 +173,7 @@ impl CalendarYearLastTwo {
         }
     }
 
-    /// The same with another padding.
+    /// Sets how the number is filled on the left.
     pub const fn with_padding(self, padding: Padding) -> Self
         ensures { result ≡ record self { padding = padding } }
     {

@@ -25,14 +25,14 @@ impl IsoYearFullExtendedRange {
         }
     }
 
-    /// The same with another padding.
+    /// Sets how the number is filled on the left.
     pub const fn with_padding(self, padding: Padding) -> Self
         ensures { result ≡ record self { padding = padding } }
     {
         IsoYearFullExtendedRange { padding, ..self }
     }
 
-    /// The same with `sign_is_mandatory` so set.
+    /// Sets whether a year from 0 to 9,999 has a `+`.
     pub const fn with_sign_is_mandatory(self, sign_is_mandatory: bool) -> Self
         ensures { result ≡ record self { sign_is_mandatory = sign_is_mandatory } }
     {
@@ -63,14 +63,14 @@ impl IsoYearFullStandardRange {
         }
     }
 
-    /// The same with another padding.
+    /// Sets how the number is filled on the left.
     pub const fn with_padding(self, padding: Padding) -> Self
         ensures { result ≡ record self { padding = padding } }
     {
         IsoYearFullStandardRange { padding, ..self }
     }
 
-    /// The same with `sign_is_mandatory` so set.
+    /// Sets whether a value that is not negative has a `+`.
     pub const fn with_sign_is_mandatory(self, sign_is_mandatory: bool) -> Self
         ensures { result ≡ record self { sign_is_mandatory = sign_is_mandatory } }
     {
@@ -101,14 +101,14 @@ impl IsoYearCenturyExtendedRange {
         }
     }
 
-    /// The same with another padding.
+    /// Sets how the number is filled on the left.
     pub const fn with_padding(self, padding: Padding) -> Self
         ensures { result ≡ record self { padding = padding } }
     {
         IsoYearCenturyExtendedRange { padding, ..self }
     }
 
-    /// The same with `sign_is_mandatory` so set.
+    /// Sets whether a year from 0 to 9,999 has a `+`.
     pub const fn with_sign_is_mandatory(self, sign_is_mandatory: bool) -> Self
         ensures { result ≡ record self { sign_is_mandatory = sign_is_mandatory } }
     {
@@ -139,14 +139,14 @@ impl IsoYearCenturyStandardRange {
         }
     }
 
-    /// The same with another padding.
+    /// Sets how the number is filled on the left.
     pub const fn with_padding(self, padding: Padding) -> Self
         ensures { result ≡ record self { padding = padding } }
     {
         IsoYearCenturyStandardRange { padding, ..self }
     }
 
-    /// The same with `sign_is_mandatory` so set.
+    /// Sets whether a value that is not negative has a `+`.
     pub const fn with_sign_is_mandatory(self, sign_is_mandatory: bool) -> Self
         ensures { result ≡ record self { sign_is_mandatory = sign_is_mandatory } }
     {
@@ -174,7 +174,7 @@ impl IsoYearLastTwo {
         }
     }
 
-    /// The same with another padding.
+    /// Sets how the number is filled on the left.
     pub const fn with_padding(self, padding: Padding) -> Self
         ensures { result ≡ record self { padding = padding } }
     {
