@@ -12,8 +12,8 @@
 extern "C" {
 #endif
 
-/* The number of this header's version, 0.1.0: a million for each major one, a thousand for each minor one. */
-#define TIMEFD_VERSION 1000u
+/* The number of this header's version, 0.2.0: a million for each major one, a thousand for each minor one. */
+#define TIMEFD_VERSION 2000u
 
 /* The number of the library's version. Where it isn't TIMEFD_VERSION, this is the header of another library. */
 uint32_t timefd_version(void);
@@ -233,8 +233,8 @@ timefd_answer timefd_convert(uint32_t from, uint32_t to, const uint8_t *text, si
 
 /* A part of a description. */
 typedef struct timefd_node {
-    uint32_t what;             /* one of the five above */
-    uint32_t component;        /* which component, or 0 */
+    uint8_t what;              /* one of the five above */
+    uint8_t component;         /* which component, or 0 */
     uint8_t padding;           /* TIMEFD_PADDING_SPACE, TIMEFD_PADDING_ZERO or TIMEFD_PADDING_NONE */
     uint8_t sign_is_mandatory; /* TIMEFD_FALSE or TIMEFD_TRUE, as the next three */
     uint8_t case_sensitive;
@@ -243,12 +243,12 @@ typedef struct timefd_node {
     uint8_t digits;         /* 1 to 9, or TIMEFD_ONE_OR_MORE */
     uint8_t trailing_input; /* TIMEFD_PROHIBIT or TIMEFD_DISCARD */
     uint8_t format;         /* of an optional: whether a formatter writes it, TIMEFD_FALSE or TIMEFD_TRUE */
-    uint32_t ignored;       /* how many bytes a parser skips, 1 to 65535 */
+    uint16_t ignored;       /* how many bytes a parser skips, 1 to 65535 */
+    uint32_t bytes;         /* the bytes that are reserved for it, the length of the longest text that it can be shown as;
+                               UINT32_MAX where there are more */
     size_t start;           /* of a literal the index of its first byte in the buffer of literals; of any other node the index
                                of the first node of its members, which is its own index where it has none */
     size_t count;           /* how many bytes a literal has, and how many members any other node */
-    size_t bytes;           /* the bytes that are reserved for it, the length of the longest text that it can be shown as;
-                               SIZE_MAX where there are more */
 } timefd_node;
 
 /* What is said of a text by timefd_read. */
@@ -450,21 +450,21 @@ TIMEFD_FIELD(timefd_diagnosis, answer, 0, 32);
 TIMEFD_FIELD(timefd_diagnosis, fault, 32, 40);
 TIMEFD_IS(sizeof(timefd_diagnosis) == 72);
 
-TIMEFD_FIELD(timefd_node, what, 0, 4);
-TIMEFD_FIELD(timefd_node, component, 4, 4);
-TIMEFD_FIELD(timefd_node, padding, 8, 1);
-TIMEFD_FIELD(timefd_node, sign_is_mandatory, 9, 1);
-TIMEFD_FIELD(timefd_node, case_sensitive, 10, 1);
-TIMEFD_FIELD(timefd_node, one_indexed, 11, 1);
-TIMEFD_FIELD(timefd_node, is_uppercase, 12, 1);
-TIMEFD_FIELD(timefd_node, digits, 13, 1);
-TIMEFD_FIELD(timefd_node, trailing_input, 14, 1);
-TIMEFD_FIELD(timefd_node, format, 15, 1);
-TIMEFD_FIELD(timefd_node, ignored, 16, 4);
-TIMEFD_FIELD(timefd_node, start, 24, 8);
-TIMEFD_FIELD(timefd_node, count, 32, 8);
-TIMEFD_FIELD(timefd_node, bytes, 40, 8);
-TIMEFD_IS(sizeof(timefd_node) == 48);
+TIMEFD_FIELD(timefd_node, what, 0, 1);
+TIMEFD_FIELD(timefd_node, component, 1, 1);
+TIMEFD_FIELD(timefd_node, padding, 2, 1);
+TIMEFD_FIELD(timefd_node, sign_is_mandatory, 3, 1);
+TIMEFD_FIELD(timefd_node, case_sensitive, 4, 1);
+TIMEFD_FIELD(timefd_node, one_indexed, 5, 1);
+TIMEFD_FIELD(timefd_node, is_uppercase, 6, 1);
+TIMEFD_FIELD(timefd_node, digits, 7, 1);
+TIMEFD_FIELD(timefd_node, trailing_input, 8, 1);
+TIMEFD_FIELD(timefd_node, format, 9, 1);
+TIMEFD_FIELD(timefd_node, ignored, 10, 2);
+TIMEFD_FIELD(timefd_node, bytes, 12, 4);
+TIMEFD_FIELD(timefd_node, start, 16, 8);
+TIMEFD_FIELD(timefd_node, count, 24, 8);
+TIMEFD_IS(sizeof(timefd_node) == 32);
 
 TIMEFD_FIELD(timefd_read_answer, status, 0, 4);
 TIMEFD_FIELD(timefd_read_answer, value, 8, 8);

@@ -316,7 +316,7 @@ static const struct wrong WRONGS[] = {
     {{{.what = 6}}, 1, 0},
     {{DAY, {.what = TIMEFD_COMPONENT, .component = TIMEFD_END + 1}}, 2, 1},
     {{DAY, {.what = TIMEFD_COMPONENT, .component = TIMEFD_DAY, .padding = 4}}, 2, 1},
-    {{{.what = TIMEFD_COMPONENT, .component = TIMEFD_IGNORE, .ignored = 65536}}, 1, 0},
+    {{{.what = TIMEFD_COMPONENT, .component = TIMEFD_IGNORE, .ignored = 0}}, 1, 0},
     {{DAY, DAY, {.what = TIMEFD_COMPOUND, .count = 3}}, 3, 2},
     {{DAY, {.what = TIMEFD_FIRST, .count = 2}}, 2, 1},
     {{{.what = TIMEFD_OPTIONAL, .format = TIMEFD_TRUE}}, 1, 0},
@@ -332,7 +332,7 @@ static bool is_no_description(const struct wrong *wrong) {
     return answer.status == TIMEFD_NO_DESCRIPTION && answer.value == wrong->index && answer.written == 0 && buffer[0] == '.';
 }
 
-/* One node of a text, as its bytes: those of each field in turn, the lowest first. `U` are bytes between two fields. */
+/* One node of a text, as its bytes: those of each field in turn, the lowest first. */
 struct layout {
     uint32_t kind;
     const char *text;
@@ -340,37 +340,37 @@ struct layout {
     const char *bytes;
 };
 
-#define U "...."
 #define ONE(a) a "\0\0\0\0\0\0\0"
+#define FOUR(a) a "\0\0\0"
 #define NO_MODIFIER "\0\0\0\0\0\0\0\0"
-#define NONE "\0\0\0\0"
+#define NONE "\0\0"
 
 /* Each field has a value in one of them that none beside it has. */
 static const struct layout LAYOUTS[] = {
-    {TIMEFD_VERSION_2, "ab[day]cde", 2, "\1\0\0\0" NONE NO_MODIFIER NONE U ONE("\2") ONE("\3") ONE("\3")},
-    {TIMEFD_VERSION_3, "ab[day]cde", 3, "\3\0\0\0" NONE NO_MODIFIER NONE U ONE("\0") ONE("\3") ONE("\7")},
-    {TIMEFD_VERSION_3, "x[optional [ab]]", 2, "\4\0\0\0" NONE "\0\0\0\0\0\0\0\2" NONE U ONE("\1") ONE("\1") ONE("\2")},
-    {TIMEFD_VERSION_2, "x[day padding:none]", 1, "\2\0\0\0\1\0\0\0\3\0\0\0\0\0\0\0" NONE U ONE("\1") ONE("\0") ONE("\2")},
+    {TIMEFD_VERSION_2, "ab[day]cde", 2, "\1\0" NO_MODIFIER NONE FOUR("\3") ONE("\2") ONE("\3")},
+    {TIMEFD_VERSION_3, "ab[day]cde", 3, "\3\0" NO_MODIFIER NONE FOUR("\7") ONE("\0") ONE("\3")},
+    {TIMEFD_VERSION_3, "x[optional [ab]]", 2, "\4\0" "\0\0\0\0\0\0\0\2" NONE FOUR("\2") ONE("\1") ONE("\1")},
+    {TIMEFD_VERSION_2, "x[day padding:none]", 1, "\2\1" "\3\0\0\0\0\0\0\0" NONE FOUR("\2") ONE("\1") ONE("\0")},
     {TIMEFD_VERSION_2, "[unix_timestamp sign:mandatory]", 0,
-     "\2\0\0\0\41\0\0\0\0\2\0\0\0\0\0\0" NONE U ONE("\0") ONE("\0") ONE("\17")},
+     "\2\41" "\0\2\0\0\0\0\0\0" NONE FOUR("\17") ONE("\0") ONE("\0")},
     {TIMEFD_VERSION_2, "[month repr:short case_sensitive:false]", 0,
-     "\2\0\0\0\2\0\0\0\0\0\1\0\0\0\0\0" NONE U ONE("\0") ONE("\0") ONE("\3")},
+     "\2\2" "\0\0\1\0\0\0\0\0" NONE FOUR("\3") ONE("\0") ONE("\0")},
     {TIMEFD_VERSION_2, "[weekday repr:sunday one_indexed:false]", 0,
-     "\2\0\0\0\10\0\0\0\0\0\0\1\0\0\0\0" NONE U ONE("\0") ONE("\0") ONE("\1")},
-    {TIMEFD_VERSION_2, "[period case:lower]", 0, "\2\0\0\0\32\0\0\0\0\0\2\0\1\0\0\0" NONE U ONE("\0") ONE("\0") ONE("\2")},
-    {TIMEFD_VERSION_2, "[subsecond digits:7]", 0, "\2\0\0\0\34\0\0\0\0\0\0\0\0\7\0\0" NONE U ONE("\0") ONE("\0") ONE("\7")},
+     "\2\10" "\0\0\0\1\0\0\0\0" NONE FOUR("\1") ONE("\0") ONE("\0")},
+    {TIMEFD_VERSION_2, "[period case:lower]", 0, "\2\32" "\0\0\2\0\1\0\0\0" NONE FOUR("\2") ONE("\0") ONE("\0")},
+    {TIMEFD_VERSION_2, "[subsecond digits:7]", 0, "\2\34" "\0\0\0\0\0\7\0\0" NONE FOUR("\7") ONE("\0") ONE("\0")},
     {TIMEFD_VERSION_2, "[end trailing_input:discard]", 0,
-     "\2\0\0\0\45\0\0\0\0\0\0\0\0\0\2\0" NONE U ONE("\0") ONE("\0") ONE("\0")},
-    {TIMEFD_VERSION_2, "[ignore count:772]", 0, "\2\0\0\0\40\0\0\0" NO_MODIFIER "\4\3\0\0" U ONE("\0") ONE("\0") ONE("\0")},
+     "\2\45" "\0\0\0\0\0\0\2\0" NONE FOUR("\0") ONE("\0") ONE("\0")},
+    {TIMEFD_VERSION_2, "[ignore count:772]", 0, "\2\40" NO_MODIFIER "\4\3" FOUR("\0") ONE("\0") ONE("\0")},
 };
 
-/* Whether the node has these bytes, but for those between two fields. */
+/* Whether the node has these bytes: there are none between its fields. */
 static bool is_laid_out(const struct layout *layout) {
     struct sample sample = {layout->kind, layout->text};
     struct outcome outcome = outcome_of(READ, &sample, 0);
     const uint8_t *node = (const uint8_t *)&outcome.nodes[layout->index];
-    return outcome.read.written && outcome.read.nodes > layout->index && memcmp(node, layout->bytes, 20) == 0 &&
-           memcmp(node + 24, layout->bytes + 24, 24) == 0;
+    return outcome.read.written && outcome.read.nodes > layout->index &&
+           memcmp(node, layout->bytes, sizeof(timefd_node)) == 0;
 }
 
 /* Faults, the bytes that are at fault, and the nearest word. */

@@ -17,7 +17,7 @@ const DYNAMIC: &str = "TIMEFD_DYNAMIC";
 
 /// The library as it is handed out, and the oldest one that this crate is written for.
 const INSTALLED: &str = "libtimefd.a";
-const OLDEST: &str = "0.1.0";
+const OLDEST: &str = "0.2.0";
 
 /// The readers as `rt lib` leaves them, and what passes their calls for memory on to `malloc`,
 /// `realloc` and `free`.

@@ -22,7 +22,7 @@ static void print_node(size_t index, const timefd_node *node, const uint8_t *lit
     default:
         printf("%s of %zu from %zu on", node->what == TIMEFD_FIRST ? "first" : "compound", node->count, node->start);
     }
-    printf(", %zu bytes\n", node->bytes);
+    printf(", %u bytes\n", (unsigned)node->bytes);
 }
 
 /* Reads a text with room that is always enough for version 3: a node for each byte, and one more. */

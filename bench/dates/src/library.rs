@@ -54,7 +54,7 @@ impl FormatAnswer {
 /// `timefd_node`, which nobody looks into here.
 #[repr(C, align(8))]
 #[derive(Clone, Copy)]
-struct Node([u8; 48]);
+struct Node([u8; 32]);
 
 #[repr(C)]
 struct ReadAnswer {
@@ -115,7 +115,7 @@ impl Nodes {
     /// Reads the text.
     pub fn read(text: &str) -> Nodes {
         // No text that is read here has more nodes than bytes.
-        let (mut nodes, mut literals) = (vec![Node([0; 48]); text.len()], vec![0; text.len()]);
+        let (mut nodes, mut literals) = (vec![Node([0; 32]); text.len()], vec![0; text.len()]);
         // SAFETY: the three are as long as is said, `Node` is as large as the header's, and none of them is touched
         // while the call runs.
         let answer = unsafe {

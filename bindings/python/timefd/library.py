@@ -53,8 +53,8 @@ class ReadAnswer(ctypes.Structure):
 
 class RawNode(ctypes.Structure):
     _fields_ = [
-        ("what", ctypes.c_uint32),
-        ("component", ctypes.c_uint32),
+        ("what", ctypes.c_uint8),
+        ("component", ctypes.c_uint8),
         ("padding", ctypes.c_uint8),
         ("sign_is_mandatory", ctypes.c_uint8),
         ("case_sensitive", ctypes.c_uint8),
@@ -63,10 +63,10 @@ class RawNode(ctypes.Structure):
         ("digits", ctypes.c_uint8),
         ("trailing_input", ctypes.c_uint8),
         ("format", ctypes.c_uint8),
-        ("ignored", ctypes.c_uint32),
+        ("ignored", ctypes.c_uint16),
+        ("bytes", ctypes.c_uint32),
         ("start", ctypes.c_size_t),
         ("count", ctypes.c_size_t),
-        ("bytes", ctypes.c_size_t),
     ]
 
 
@@ -107,7 +107,7 @@ class DateAnswer(ctypes.Structure):
 
 def _load() -> ctypes.CDLL:
     beside = pathlib.Path(__file__).with_name("libtimefd.so")
-    library = ctypes.CDLL(str(beside) if beside.exists() else "libtimefd.so.0.1")
+    library = ctypes.CDLL(str(beside) if beside.exists() else "libtimefd.so.0.2")
     kind, size, text = ctypes.c_uint32, ctypes.c_size_t, ctypes.c_char_p
     buffer, nodes = ctypes.POINTER(ctypes.c_char), ctypes.POINTER(RawNode)
     moment = ctypes.POINTER(RawMoment)

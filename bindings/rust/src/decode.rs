@@ -73,9 +73,7 @@ fn of_time(node: &RawNode) -> Option<Component> {
         }
         30 => Component::OffsetMinute { padding: padding()? },
         31 => Component::OffsetSecond { padding: padding()? },
-        32 => {
-            Component::Ignore { count: u16::try_from(node.ignored).ok().and_then(NonZeroU16::new)? }
-        }
+        32 => Component::Ignore { count: NonZeroU16::new(node.ignored)? },
         33 => Component::UnixTimestampSecond { sign_is_mandatory: sign_is_mandatory()? },
         34 => Component::UnixTimestampMillisecond { sign_is_mandatory: sign_is_mandatory()? },
         35 => Component::UnixTimestampMicrosecond { sign_is_mandatory: sign_is_mandatory()? },

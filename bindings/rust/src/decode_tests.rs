@@ -10,7 +10,7 @@ use crate::sys::RawNode;
 
 /// A node that has every modifier: padded by spaces, `digits:3`, 5 bytes ignored, the booleans
 /// false where not said.
-fn node(component: u32, is_true: bool) -> RawNode {
+fn node(component: u8, is_true: bool) -> RawNode {
     let boolean = 1 + u8::from(is_true);
     RawNode {
         what: 2,
@@ -95,14 +95,12 @@ fn every_component_has_the_numbers_that_it_came_of() {
 
 #[test]
 fn other_numbers_are_none() {
-    for number in [0, 38, u32::MAX] {
+    for number in [0, 38, u8::MAX] {
         assert_eq!(component(&node(number, true)), None);
     }
     let unmodified = RawNode { what: 2, ..RawNode::default() };
     for number in 1..=37 {
         assert_eq!(component(&RawNode { component: number, ..unmodified }), None);
     }
-    for ignored in [0, 65_536, u32::MAX] {
-        assert_eq!(component(&RawNode { component: 32, ignored, ..unmodified }), None);
-    }
+    assert_eq!(component(&RawNode { component: 32, ignored: 0, ..unmodified }), None);
 }

@@ -58,7 +58,7 @@ pub(crate) fn component(component: Component) -> RawNode {
         }
         Component::OffsetMinute { padding } => padded(30, padding),
         Component::OffsetSecond { padding } => padded(31, padding),
-        Component::Ignore { count } => RawNode { ignored: count.get().into(), ..numbered(32) },
+        Component::Ignore { count } => RawNode { ignored: count.get(), ..numbered(32) },
         Component::UnixTimestampSecond { sign_is_mandatory } => timestamp(33, sign_is_mandatory),
         Component::UnixTimestampMillisecond { sign_is_mandatory } => {
             timestamp(34, sign_is_mandatory)
@@ -80,30 +80,30 @@ pub(crate) fn literal(start: usize, count: usize) -> RawNode {
     RawNode { what: LITERAL, start, count, ..RawNode::default() }
 }
 
-fn numbered(number: u32) -> RawNode {
+fn numbered(number: u8) -> RawNode {
     RawNode { what: COMPONENT, component: number, ..RawNode::default() }
 }
 
-fn padded(number: u32, padding: Padding) -> RawNode {
+fn padded(number: u8, padding: Padding) -> RawNode {
     RawNode { padding: padding.number(), ..numbered(number) }
 }
 
-fn timestamp(number: u32, sign_is_mandatory: bool) -> RawNode {
+fn timestamp(number: u8, sign_is_mandatory: bool) -> RawNode {
     RawNode { sign_is_mandatory: boolean_number(sign_is_mandatory), ..numbered(number) }
 }
 
-fn signed(number: u32, padding: Padding, sign_is_mandatory: bool) -> RawNode {
+fn signed(number: u8, padding: Padding, sign_is_mandatory: bool) -> RawNode {
     RawNode { padding: padding.number(), ..timestamp(number, sign_is_mandatory) }
 }
 
-fn named(number: u32, case_sensitive: bool) -> RawNode {
+fn named(number: u8, case_sensitive: bool) -> RawNode {
     RawNode { case_sensitive: boolean_number(case_sensitive), ..numbered(number) }
 }
 
-fn period(number: u32, is_uppercase: bool, case_sensitive: bool) -> RawNode {
+fn period(number: u8, is_uppercase: bool, case_sensitive: bool) -> RawNode {
     RawNode { is_uppercase: boolean_number(is_uppercase), ..named(number, case_sensitive) }
 }
 
-fn indexed(number: u32, one_indexed: bool) -> RawNode {
+fn indexed(number: u8, one_indexed: bool) -> RawNode {
     RawNode { one_indexed: boolean_number(one_indexed), ..numbered(number) }
 }

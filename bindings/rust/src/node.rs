@@ -50,7 +50,8 @@ impl<'a> Item<'a> {
         }
     }
 
-    /// The greatest length of any text that the node is shown as, in bytes.
+    /// The greatest length of any text that the node is shown as, in bytes; `u32::MAX` where it is
+    /// longer.
     pub fn max_bytes_needed(self) -> usize {
         self.record().bytes
     }

@@ -14,7 +14,7 @@
 //!   that header's version: each call is made only once `timefd_version` has said so.
 
 /// The version of the header that this module is written for.
-const VERSION: u32 = 1000;
+const VERSION: u32 = 2000;
 
 pub(crate) const ACCEPTED: u32 = 0;
 pub(crate) const REFUSED: u32 = 1;
@@ -26,18 +26,18 @@ pub(crate) const UNREAD: u32 = 9;
 pub(crate) const CONTRADICTION: u32 = 10;
 pub(crate) const MISSING: u32 = 11;
 
-pub(crate) const LITERAL: u32 = 1;
-pub(crate) const COMPONENT: u32 = 2;
-pub(crate) const COMPOUND: u32 = 3;
-pub(crate) const OPTIONAL: u32 = 4;
-pub(crate) const FIRST: u32 = 5;
+pub(crate) const LITERAL: u8 = 1;
+pub(crate) const COMPONENT: u8 = 2;
+pub(crate) const COMPOUND: u8 = 3;
+pub(crate) const OPTIONAL: u8 = 4;
+pub(crate) const FIRST: u8 = 5;
 
 /// `timefd_node` of the header, which says what each field means.
 #[repr(C)]
 #[derive(Debug, Clone, Copy, Default)]
 pub(crate) struct RawNode {
-    pub(crate) what: u32,
-    pub(crate) component: u32,
+    pub(crate) what: u8,
+    pub(crate) component: u8,
     pub(crate) padding: u8,
     pub(crate) sign_is_mandatory: u8,
     pub(crate) case_sensitive: u8,
@@ -46,10 +46,10 @@ pub(crate) struct RawNode {
     pub(crate) digits: u8,
     pub(crate) trailing_input: u8,
     pub(crate) format: u8,
-    pub(crate) ignored: u32,
+    pub(crate) ignored: u16,
+    pub(crate) bytes: u32,
     pub(crate) start: usize,
     pub(crate) count: usize,
-    pub(crate) bytes: usize,
 }
 
 /// So many nodes that are 0, set by one `memset`.
@@ -142,7 +142,7 @@ pub(crate) struct DateAnswer {
 /// Where each field stands, as the header has it.
 const _: () = {
     use core::mem::{offset_of, size_of};
-    assert!(size_of::<Answer>() == 32 && size_of::<RawNode>() == 48);
+    assert!(size_of::<Answer>() == 32 && size_of::<RawNode>() == 32);
     assert!(size_of::<RawFault>() == 40 && size_of::<Diagnosis>() == 72);
     assert!(offset_of!(RawFault, code) == 0 && offset_of!(RawFault, out_of_memory) == 4);
     assert!(offset_of!(RawFault, start) == 8 && offset_of!(RawFault, end) == 16);
@@ -155,13 +155,13 @@ const _: () = {
     assert!(offset_of!(Answer, value) == 8 && offset_of!(Answer, sentence_len) == 16);
     assert!(offset_of!(Answer, written) == 24 && offset_of!(ReadAnswer, value) == 8);
     assert!(offset_of!(ReadAnswer, nodes) == 16 && offset_of!(ReadAnswer, literals) == 24);
-    assert!(offset_of!(RawNode, what) == 0 && offset_of!(RawNode, component) == 4);
-    assert!(offset_of!(RawNode, padding) == 8 && offset_of!(RawNode, sign_is_mandatory) == 9);
-    assert!(offset_of!(RawNode, case_sensitive) == 10 && offset_of!(RawNode, one_indexed) == 11);
-    assert!(offset_of!(RawNode, is_uppercase) == 12 && offset_of!(RawNode, digits) == 13);
-    assert!(offset_of!(RawNode, trailing_input) == 14 && offset_of!(RawNode, format) == 15);
-    assert!(offset_of!(RawNode, ignored) == 16 && offset_of!(RawNode, start) == 24);
-    assert!(offset_of!(RawNode, count) == 32 && offset_of!(RawNode, bytes) == 40);
+    assert!(offset_of!(RawNode, what) == 0 && offset_of!(RawNode, component) == 1);
+    assert!(offset_of!(RawNode, padding) == 2 && offset_of!(RawNode, sign_is_mandatory) == 3);
+    assert!(offset_of!(RawNode, case_sensitive) == 4 && offset_of!(RawNode, one_indexed) == 5);
+    assert!(offset_of!(RawNode, is_uppercase) == 6 && offset_of!(RawNode, digits) == 7);
+    assert!(offset_of!(RawNode, trailing_input) == 8 && offset_of!(RawNode, format) == 9);
+    assert!(offset_of!(RawNode, ignored) == 10 && offset_of!(RawNode, bytes) == 12);
+    assert!(offset_of!(RawNode, start) == 16 && offset_of!(RawNode, count) == 24);
     assert!(size_of::<RawMoment>() == 24 && size_of::<FormatAnswer>() == 32);
     assert!(offset_of!(RawMoment, known) == 0 && offset_of!(RawMoment, year) == 4);
     assert!(offset_of!(RawMoment, nanosecond) == 8 && offset_of!(RawMoment, offset_seconds) == 12);

@@ -14,7 +14,7 @@ use crate::sys::{COMPONENT, COMPOUND, FIRST, LITERAL, OPTIONAL, RawNode};
 #[derive(Debug, Clone, Copy, PartialEq, Eq, Hash)]
 pub(crate) struct Record<'a> {
     pub(crate) content: Content<'a>,
-    /// The greatest length of what it is shown as, in bytes.
+    /// The greatest length of what it is shown as, in bytes, at most `u32::MAX`.
     pub(crate) bytes: usize,
     /// The index of the first of all nodes below it, or its own where there is none.
     pub(crate) begin: u32,
@@ -112,7 +112,7 @@ fn record<'a>(index: u32, node: &RawNode, literals: &mut Literals<'a, '_>) -> Op
         COMPONENT => (Content::Markup(Markup::Component(decode::component(node)?)), index),
         _ => nested(index, node)?,
     };
-    Some(Record { content, bytes: node.bytes, begin, next: index + 1 })
+    Some(Record { content, bytes: node.bytes as usize, begin, next: index + 1 })
 }
 
 /// What a node with members is, and the first of all nodes below it. It is no part of the loop over

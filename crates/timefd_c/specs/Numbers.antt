@@ -9,7 +9,7 @@ use Rattle.timefd_c.specs.declared.nodes.TheConstants.{VERSION}
 use Rattle.timefd_c.specs.Languages.{language_of}
 
 pub record Numbers : Type 0 where
-  pub version : VERSION ≡ 1000
+  pub version : VERSION ≡ 2000
   -- the statuses
   pub accepted : ACCEPTED ≡ 0
   pub refused : REFUSED ≡ 1

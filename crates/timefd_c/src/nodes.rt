@@ -12,8 +12,8 @@ use timefd_c_nodes::Node;
 use timefd_c_read::read_within;
 use timefd_parse::{BorrowedParseError, NESTING_LIMIT};
 
-/// The number of this version, 0.1.0: a million for each major one, a thousand for each minor one.
-pub const VERSION: u32 = 1_000;
+/// The number of this version, 0.2.0: a million for each major one, a thousand for each minor one.
+pub const VERSION: u32 = 2_000;
 
 /// The number of this version, so that a program can compare it with its header's.
 #[unsafe(no_mangle)]

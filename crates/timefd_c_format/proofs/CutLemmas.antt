@@ -1,5 +1,5 @@
 -- Nodes with one more behind them, and the nodes in front of the last trees.
-use Rattle.std.proofs.Common.{◌≡◌, ◌∙◌, ℕ, zero, suc, ◌+◌, ◌-◌, ◌≤◌, ◌==◌, ◌&&◌, nat_lt, if◌then◌else◌, Bool, true, false, List, [], ◌∷◌, ◌++◌, Option, Some, None, length, take, get_or, drop, ◌<◌, refl, sym, ap, subst, arith, length-append, ltb-false, add-one, drop-cons}
+use Rattle.std.proofs.Common.{◌≡◌, ◌∙◌, ℕ, zero, suc, ◌+◌, ◌-◌, ◌≤◌, ◌==◌, nat_lt, if◌then◌else◌, Bool, true, false, List, [], ◌∷◌, ◌++◌, Option, Some, None, length, take, get_or, drop, ◌<◌, refl, sym, ap, subst, arith, length-append, ltb-false, add-one, drop-cons}
 use Rattle.std.proofs.lemmas.Bool.{le-leb, le-ltb}
 use Rattle.std.proofs.lemmas.List.{take_all, take_more}
 use Rattle.timefd_component.specs.declared.component.Component.{Component}
@@ -32,44 +32,43 @@ leaf_more : (ts : List Tree) (t : Tree) → Some (ts ++ t ∷ []) ≡ Some (befo
 leaf_more ts t = ap (λ us. Some (us ++ t ∷ [])) (sym (before_zero ts))
 
 -- What a node makes of the trees so far, where it is this and its bytes are these.
-more_by : (ts : List Tree) (a b c d e far big : Bool) (bytes : Text) (co : Option Component) (k : ℕ)
+more_by : (ts : List Tree) (a b c d e far : Bool) (bytes : Text) (co : Option Component) (k : ℕ)
     (fl : Option Bool) (r : Role) → arity r ≤ length ts
     → by_kind (if a then Some kind.Literal else if b then Some kind.Component
     else if c then Some kind.Compound else if d then Some kind.Optional
     else if e then Some kind.First else None)
-    (if far then None else Some (text bytes)) (if big then None else shown_role co) k (perhaps_role fl) ≡ Some r
+    (if far then None else Some (text bytes)) (shown_role co) k (perhaps_role fl) ≡ Some r
     → (if a then Some (ts ++ literal bytes ∷ []) else if b then with_component co ts
     else if c then with_members k (λ us. compound (trees us)) ts else if d then with_optional fl ts
     else if e then with_members k (λ us. first (trees us)) ts else None) ≡ Some (grown ts (as_part r))
-more_by ts true b c d e true big bytes co k fl r fits is = absurd cc
-more_by ts true b c d e false big bytes co k fl r fits is =
+more_by ts true b c d e true bytes co k fl r fits is = absurd cc
+more_by ts true b c d e false bytes co k fl r fits is =
     subst (λ x. Some (ts ++ literal bytes ∷ []) ≡ Some (grown ts (as_part x))) (same_role (text bytes) r is)
     (leaf_more ts (literal bytes))
-more_by ts false true c d e far true bytes co k fl r fits is = absurd cc
-more_by ts false true c d e far false bytes None k fl r fits is = absurd cc
-more_by ts false true c d e far false bytes (Some co) k fl r fits is =
+more_by ts false true c d e far bytes None k fl r fits is = absurd cc
+more_by ts false true c d e far bytes (Some co) k fl r fits is =
     subst (λ x. Some (ts ++ component (modern co) ∷ []) ≡ Some (grown ts (as_part x))) (same_role (shown co) r is)
     (leaf_more ts (component (modern co)))
-more_by ts false false true d e far big bytes co k fl r fits is =
+more_by ts false false true d e far bytes co k fl r fits is =
     let same : together k ≡ r = same_role (together k) r is in
     subst (λ x. with_members k (λ us. compound (trees us)) ts ≡ Some (grown ts (as_part x))) same
     (members_more k (λ us. compound (trees us)) ts (subst (λ x. arity x ≤ length ts) (sym same) fits))
-more_by ts false false false true e far big bytes co k None r fits is = absurd cc
-more_by ts false false false true e far big bytes co k (Some format) r fits is =
+more_by ts false false false true e far bytes co k None r fits is = absurd cc
+more_by ts false false false true e far bytes co k (Some format) r fits is =
     let same : perhaps format ≡ r = same_role (perhaps format) r is in
     subst (λ x. with_members 1 (λ us. optional format (pack us)) ts ≡ Some (grown ts (as_part x))) same
     (members_more 1 (λ us. optional format (pack us)) ts (subst (λ x. arity x ≤ length ts) (sym same) fits))
-more_by ts false false false false true far big bytes co k fl r fits is =
+more_by ts false false false false true far bytes co k fl r fits is =
     let same : either k ≡ r = same_role (either k) r is in
     subst (λ x. with_members k (λ us. first (trees us)) ts ≡ Some (grown ts (as_part x))) same
     (members_more k (λ us. first (trees us)) ts (subst (λ x. arity x ≤ length ts) (sym same) fits))
-more_by ts false false false false false far big bytes co k fl r fits is = absurd cc
+more_by ts false false false false false far bytes co k fl r fits is = absurd cc
 
 pub whole_role : (l : Text) (n : Node) (ts : List Tree) (r : Role) → role_in l n ≡ Some r → arity r ≤ length ts
     → grown_with l n (Some ts) ≡ Some (grown ts (as_part r))
 whole_role l n ts r is fits =
     more_by ts (n.what == 1) (n.what == 2) (n.what == 3) (n.what == 4) (n.what == 5)
-    (nat_lt (length l) (n.start + n.count)) ((n.component == 32) && nat_lt 65535 n.ignored)
+    (nat_lt (length l) (n.start + n.count))
     (take n.count (drop n.start l)) (component_of n) n.count (flag_of n.format) r fits is
 
 pub record Opened (count : ℕ) (o : Option Role) (rest : ℕ → Option ℕ) : Type 0 where

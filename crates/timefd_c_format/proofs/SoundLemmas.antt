@@ -1,11 +1,11 @@
 -- Nodes that read as trees are a description, where each is a part by itself, as those written of trees are.
-use Rattle.std.proofs.Common.{◌≡◌, ◌≢◌, ◌∙◌, ◌⊎◌, inl, inr, ℕ, ◌+◌, ◌-◌, ◌≤◌, ◌<◌, ◌==◌, ◌&&◌, nat_le, nat_lt, if◌then◌else◌, Bool, true, false, List, [], ◌∷◌, ◌++◌, Option, Some, None, length, take, drop, refl, sym, ap, subst, arith, length-append}
+use Rattle.std.proofs.Common.{◌≡◌, ◌≢◌, ◌∙◌, ◌⊎◌, inl, inr, ℕ, ◌+◌, ◌-◌, ◌≤◌, ◌<◌, ◌==◌, nat_le, nat_lt, if◌then◌else◌, Bool, true, false, List, [], ◌∷◌, ◌++◌, Option, Some, None, length, take, drop, refl, sym, ap, subst, arith, length-append}
 use Rattle.std.proofs.Math.Dec.{eqb}
 use Rattle.std.proofs.lemmas.Bool.{le-ltb, leb-true}
 use Rattle.std.proofs.lemmas.Bool.Decides.{eqb_tells}
 use Rattle.std.specs.Prelude.{⊤}
 use Rattle.timefd_component.specs.declared.component.Component.{Component}
-use Rattle.timefd_component.specs.declared.component.Component.TheVariants.{Ignore, Subsecond}
+use Rattle.timefd_component.specs.declared.component.Component.TheVariants.{Subsecond}
 use Rattle.timefd_component.specs.Modern.{AreModern}
 use Rattle.timefd_component.specs.Tree.{Text, Tree, component, literal, compound, optional, first, Trees, no_trees, more_trees, pack, trees}
 use Rattle.timefd_node_list.specs.Nodes.{Role, text, shown, together, perhaps, either, arity, before, ending, grown}
@@ -15,16 +15,14 @@ use Rattle.timefd_c_nodes.specs.Decoding.{component_of, flag_of, grown_with, rea
 use Rattle.timefd_c_nodes.specs.Encoding.{component_table, literals_of, node_for, nodes_from, own_text}
 use Rattle.timefd_c_nodes.proofs.DecodeLemmas.{nodes_from-append, trees_back}
 use Rattle.timefd_c_nodes.proofs.WriteLemmas.{literals_of-append}
-use Rattle.timefd_c_format.specs.Laws.{AllSkipFew, IsShort, SkipsFew}
 use Rattle.timefd_c_format.specs.Nodes.{count_behind, fault_behind, fault_from, node_fault}
 use Rattle.timefd_c_format.specs.Parts.{by_kind, perhaps_role, role_in, shown_role}
 use Rattle.timefd_c_format.specs.declared.part.Kind.TheVariants as kind
 use Rattle.timefd_c_format.proofs.CutLemmas.{as_part, behind_step, grown_length, whole_role}
 
--- A literal's bytes are all among the literals, and few are skipped.
+-- A literal's bytes are all among the literals.
 record IsPart (l : Text) (n : Node) : Type 0 where
   pub inside : n.what ≡ 1 → n.start + n.count ≤ length l
-  pub few : n.component ≡ 32 → n.ignored < 65536
 
 abbrev AreParts : Text → List Node → Type 0
 AreParts l [] = ⊤
@@ -45,39 +43,38 @@ members_there count make ts us e = by (nat_le count (length ts)) refl e
     by true is e = leb-true count (length ts) is
     by false is e = absurd cc
 
-found_by : (ts us : List Tree) (a b c d e far big : Bool) (bytes : Text) (co : Option Component) (k : ℕ)
-    (fl : Option Bool) → (a ≡ true → far ≡ false) → big ≡ false
+found_by : (ts us : List Tree) (a b c d e far : Bool) (bytes : Text) (co : Option Component) (k : ℕ)
+    (fl : Option Bool) → (a ≡ true → far ≡ false)
     → (if a then Some (ts ++ literal bytes ∷ []) else if b then with_component co ts
     else if c then with_members k (λ vs. compound (trees vs)) ts else if d then with_optional fl ts
     else if e then with_members k (λ vs. first (trees vs)) ts else None) ≡ Some us
     → Found ts (by_kind (if a then Some kind.Literal else if b then Some kind.Component
     else if c then Some kind.Compound else if d then Some kind.Optional
     else if e then Some kind.First else None)
-    (if far then None else Some (text bytes)) (if big then None else shown_role co) k (perhaps_role fl))
-found_by ts us a b c d e far true bytes co k fl f g h = absurd cc
-found_by ts us true b c d e true false bytes co k fl f g h = let no : true ≡ false = f refl in absurd cc
-found_by ts us true b c d e false false bytes co k fl f g h =
+    (if far then None else Some (text bytes)) (shown_role co) k (perhaps_role fl))
+found_by ts us true b c d e true bytes co k fl f h = let no : true ≡ false = f refl in absurd cc
+found_by ts us true b c d e false bytes co k fl f h =
     record { role = text bytes; is = refl; fits = omega arith }
-found_by ts us false true c d e far false bytes None k fl f g h = absurd cc
-found_by ts us false true c d e far false bytes (Some x) k fl f g h =
+found_by ts us false true c d e far bytes None k fl f h = absurd cc
+found_by ts us false true c d e far bytes (Some x) k fl f h =
     record { role = shown x; is = refl; fits = omega arith }
-found_by ts us false false true d e far false bytes co k fl f g h = record {
+found_by ts us false false true d e far bytes co k fl f h = record {
   role = together k;
   is = refl;
   fits = members_there k (λ vs. compound (trees vs)) ts us h;
 }
-found_by ts us false false false true e far false bytes co k None f g h = absurd cc
-found_by ts us false false false true e far false bytes co k (Some format) f g h = record {
+found_by ts us false false false true e far bytes co k None f h = absurd cc
+found_by ts us false false false true e far bytes co k (Some format) f h = record {
   role = perhaps format;
   is = refl;
   fits = members_there 1 (λ vs. optional format (pack vs)) ts us h;
 }
-found_by ts us false false false false true far false bytes co k fl f g h = record {
+found_by ts us false false false false true far bytes co k fl f h = record {
   role = either k;
   is = refl;
   fits = members_there k (λ vs. first (trees vs)) ts us h;
 }
-found_by ts us false false false false false far false bytes co k fl f g h = absurd cc
+found_by ts us false false false false false far bytes co k fl f h = absurd cc
 
 told : (a b : ℕ) → (a == b) ≡ true → a ≡ b
 told a b e = by (eqb_tells a b) e
@@ -86,19 +83,13 @@ told a b e = by (eqb_tells a b) e
     by (inl x) e = x.1
     by (inr x) e = let no : false ≡ true = sym x.0 ∙ e in absurd cc
 
-neither : (a b : Bool) → (a ≡ true → b ≡ false) → (a && b) ≡ false
-neither true b f = f refl
-neither false b f = refl
-
 found : (l : Text) (n : Node) (ts us : List Tree) → IsPart l n → grown_with l n (Some ts) ≡ Some us
     → Found ts (role_in l n)
 found l n ts us p h =
     found_by ts us (n.what == 1) (n.what == 2) (n.what == 3) (n.what == 4) (n.what == 5)
-    (nat_lt (length l) (n.start + n.count)) ((n.component == 32) && nat_lt 65535 n.ignored)
+    (nat_lt (length l) (n.start + n.count))
     (take n.count (drop n.start l)) (component_of n) n.count (flag_of n.format)
-    (λ e. le-ltb (length l) (n.start + n.count) (p.inside (told n.what 1 e)))
-    (neither (n.component == 32) (nat_lt 65535 n.ignored)
-    (λ e. le-ltb 65535 n.ignored (omega (arith, p.few (told n.component 32 e))))) h
+    (λ e. le-ltb (length l) (n.start + n.count) (p.inside (told n.what 1 e))) h
 
 same_trees : (ts us : List Tree) → Some ts ≡ Some us → ts ≡ us
 same_trees ts us e = cc
@@ -133,32 +124,22 @@ what_is : (c : Component) → (component_table c).what ≡ 2
 what_is (Subsecond s) = refl
 what_is c = refl
 
-few_ignored : (c : Component) → IsShort c → (component_table c).ignored < 65536
-few_ignored (Ignore m) h = h
-few_ignored (Subsecond s) h = omega arith
-few_ignored c h = omega arith
-
-node_part : (t : Tree) (at used : ℕ) (l : Text) → SkipsFew t → used + length (own_text t) ≤ length l
+node_part : (t : Tree) (at used : ℕ) (l : Text) → used + length (own_text t) ≤ length l
     → IsPart l (node_for at used t)
-node_part (component c) at used l h room =
-    record { inside = λ e. absurd (omega (arith, e, what_is c)); few = λ e. few_ignored c h }
-node_part (literal bytes) at used l h room =
-    record { inside = λ e. room; few = λ e. absurd (omega (arith, e)) }
-node_part (compound ts) at used l h room =
-    record { inside = λ e. absurd (omega (arith, e)); few = λ e. absurd (omega (arith, e)) }
-node_part (optional format t) at used l h room =
-    record { inside = λ e. absurd (omega (arith, e)); few = λ e. absurd (omega (arith, e)) }
-node_part (first ts) at used l h room =
-    record { inside = λ e. absurd (omega (arith, e)); few = λ e. absurd (omega (arith, e)) }
+node_part (component c) at used l room = record { inside = λ e. absurd (omega (arith, e, what_is c)) }
+node_part (literal bytes) at used l room = record { inside = λ e. room }
+node_part (compound ts) at used l room = record { inside = λ e. absurd (omega (arith, e)) }
+node_part (optional format t) at used l room = record { inside = λ e. absurd (omega (arith, e)) }
+node_part (first ts) at used l room = record { inside = λ e. absurd (omega (arith, e)) }
 
 parts_append : (l : Text) (ns ms : List Node) → AreParts l ns → AreParts l ms → AreParts l (ns ++ ms)
 parts_append l [] ms p q = q
 parts_append l (n ∷ ns) ms p q = (p.0, parts_append l ns ms p.1 q)
 
 -- the nodes of the members, and then the one around them
-around : (l : Text) (xs : List Tree) (t : Tree) (at used : ℕ) → AreParts l (nodes_from at used xs) → SkipsFew t
+around : (l : Text) (xs : List Tree) (t : Tree) (at used : ℕ) → AreParts l (nodes_from at used xs)
     → used + length (literals_of (xs ++ t ∷ [])) ≤ length l → AreParts l (nodes_from at used (xs ++ t ∷ []))
-around l xs t at used p h room =
+around l xs t at used p room =
     let here : used + length (literals_of xs) + length (own_text t) ≤ length l =
     omega (
       arith,
@@ -170,7 +151,7 @@ around l xs t at used p h room =
     subst (AreParts l) (sym (nodes_from-append xs (t ∷ []) at used))
     (parts_append l (nodes_from at used xs)
     (nodes_from (at + length xs) (used + length (literals_of xs)) (t ∷ [])) p
-    (node_part t (at + length xs) (used + length (literals_of xs)) l h here, tt))
+    (node_part t (at + length xs) (used + length (literals_of xs)) l here, tt))
 
 inner_room : (xs : List Tree) (t : Tree) (used n : ℕ) → used + length (literals_of (xs ++ t ∷ [])) ≤ n
     → used + length (literals_of xs) ≤ n
@@ -183,25 +164,25 @@ inner_room xs t used n h =
     )
 
 mutual
-  tree_parts : (t : Tree) (at used : ℕ) (l : Text) → SkipsFew t
+  tree_parts : (t : Tree) (at used : ℕ) (l : Text)
       → used + length (literals_of (walked t)) ≤ length l → AreParts l (nodes_from at used (walked t))
-  tree_parts (component c) at used l h room = (node_part (component c) at used l h (omega (arith, room)), tt)
-  tree_parts (literal bytes) at used l h room =
-      (node_part (literal bytes) at used l h (omega (arith, room, length-append bytes [])), tt)
-  tree_parts (compound us) at used l h room =
+  tree_parts (component c) at used l room = (node_part (component c) at used l (omega (arith, room)), tt)
+  tree_parts (literal bytes) at used l room =
+      (node_part (literal bytes) at used l (omega (arith, room, length-append bytes [])), tt)
+  tree_parts (compound us) at used l room =
       around l (walked_all us) (compound us) at used
-      (trees_parts us at used l h (inner_room (walked_all us) (compound us) used (length l) room)) h room
-  tree_parts (optional format t) at used l h room =
+      (trees_parts us at used l (inner_room (walked_all us) (compound us) used (length l) room)) room
+  tree_parts (optional format t) at used l room =
       around l (walked t) (optional format t) at used
-      (tree_parts t at used l h (inner_room (walked t) (optional format t) used (length l) room)) h room
-  tree_parts (first us) at used l h room =
+      (tree_parts t at used l (inner_room (walked t) (optional format t) used (length l) room)) room
+  tree_parts (first us) at used l room =
       around l (walked_all us) (first us) at used
-      (trees_parts us at used l h (inner_room (walked_all us) (first us) used (length l) room)) h room
+      (trees_parts us at used l (inner_room (walked_all us) (first us) used (length l) room)) room
 
-  trees_parts : (us : Trees) (at used : ℕ) (l : Text) → AllSkipFew us
+  trees_parts : (us : Trees) (at used : ℕ) (l : Text)
       → used + length (literals_of (walked_all us)) ≤ length l → AreParts l (nodes_from at used (walked_all us))
-  trees_parts no_trees at used l h room = tt
-  trees_parts (more_trees t us) at used l h room =
+  trees_parts no_trees at used l room = tt
+  trees_parts (more_trees t us) at used l room =
       let own : List ℕ = literals_of (walked t) in
       let rest : List ℕ = literals_of (walked_all us) in
       let all : length (literals_of (walked t ++ walked_all us)) ≡ length own + length rest =
@@ -209,12 +190,12 @@ mutual
       subst (AreParts l) (sym (nodes_from-append (walked t) (walked_all us) at used))
       (parts_append l (nodes_from at used (walked t))
       (nodes_from (at + length (walked t)) (used + length own) (walked_all us))
-      (tree_parts t at used l h.0 (omega (arith, room, all)))
-      (trees_parts us (at + length (walked t)) (used + length own) l h.1 (omega (arith, room, all))))
+      (tree_parts t at used l (omega (arith, room, all)))
+      (trees_parts us (at + length (walked t)) (used + length own) l (omega (arith, room, all))))
 
-pub written_sound : (ts : List Tree) → AreModern (trees ts) → AllSkipFew (trees ts)
+pub written_sound : (ts : List Tree) → AreModern (trees ts)
     → node_fault (literals_of (walked_all (trees ts))) (nodes_from 0 0 (walked_all (trees ts))) ≡ None
-written_sound ts modern few =
+written_sound ts modern =
     let l : Text = literals_of (walked_all (trees ts)) in
     sound_from l 0 (nodes_from 0 0 (walked_all (trees ts))) [] ts
-    (trees_parts (trees ts) 0 0 l few (omega arith)) (trees_back ts modern)
+    (trees_parts (trees ts) 0 0 l (omega arith)) (trees_back ts modern)

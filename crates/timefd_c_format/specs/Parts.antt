@@ -1,5 +1,5 @@
 -- What a node is, where it is a part of a description.
-use Rattle.std.specs.Prelude.{ℕ, ◌+◌, ◌==◌, ◌&&◌, nat_lt, if◌then◌else◌, Bool, Option, Some, None, take, drop, length}
+use Rattle.std.specs.Prelude.{ℕ, ◌+◌, ◌==◌, nat_lt, if◌then◌else◌, Bool, Option, Some, None, take, drop, length}
 use Rattle.timefd_component.specs.declared.component.Component.{Component}
 use Rattle.timefd_component.specs.Tree.{Text}
 use Rattle.timefd_node_list.specs.Nodes.{Role, text, shown, together, perhaps, either}
@@ -35,10 +35,9 @@ abbrev pub perhaps_role : Option Bool → Option Role
 perhaps_role None = None
 perhaps_role (Some format) = Some (perhaps format)
 
--- A component, where its numbers mean something. A parser skips 65535 bytes at most.
+-- A component, where its numbers mean something.
 abbrev pub component_role : Node → Option Role
-component_role n =
-    if (n.component == 32) && nat_lt 65535 n.ignored then None else shown_role (component_of n)
+component_role n = shown_role (component_of n)
 
 abbrev pub kind_of : ℕ → Option Kind
 kind_of n =

@@ -19,7 +19,6 @@ use timefd_modifier::{
 
 /// The component that the numbers of a node name, where each of them that it has means something.
 pub(crate) fn component_of(node: &Node) -> Option<Component>
-    requires { node.now.component ≡ 32 → node.now.ignored < 65536 }
     ensures { result ≡ spec.component_of node.now }
 {
     Some(match node.component {

@@ -55,9 +55,8 @@ pub(crate) fn trailing_input_of(number: u8) -> Option<TrailingInput>
     }
 }
 
-pub(crate) fn count_of(number: u32) -> Option<NonZero<u16>>
-    requires { number < 65536 }
+pub(crate) fn count_of(number: u16) -> Option<NonZero<u16>>
     ensures { result ≡ spec.count_of number }
 {
-    NonZero::<u16>::new(number as u16)
+    NonZero::<u16>::new(number)
 }

@@ -50,7 +50,7 @@ pub(crate) fn part_of<'l>(node: &Node, literals: &'l [u8]) -> Option<Part<'l>>
 }
 
 #[inline(always)]
-fn kind_of(number: u32) -> Option<Kind>
+fn kind_of(number: u8) -> Option<Kind>
     ensures { result ≡ spec.kind_of number }
 {
     match number {
@@ -84,9 +84,6 @@ fn optional_of<'l>(format: u8) -> Option<Part<'l>>
 fn shown_of<'l>(node: &Node) -> Option<Part<'l>>
     ensures { spec.part_role result ≡ spec.component_role node.now }
 {
-    if node.component == 32 && node.ignored > 65_535 {
-        return None;
-    }
     Some(Part::Component(component_of(node)?))
 }
 

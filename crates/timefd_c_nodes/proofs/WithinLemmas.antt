@@ -9,7 +9,7 @@ use Rattle.timefd_node_list.specs.Views.{walked, walked_all}
 use Rattle.timefd_c_nodes.specs.declared.node.Node.{Node}
 use Rattle.timefd_c_nodes.specs.declared.place.Place.{Place}
 use Rattle.timefd_c_nodes.specs.declared.place.Written.{Written}
-use Rattle.timefd_c_nodes.specs.Encoding.{component_node, compound_node, first_node, optional_node, node_for, own_text, literals_of}
+use Rattle.timefd_c_nodes.specs.Encoding.{component_node, component_table, compound_node, first_node, optional_node, node_for, own_text, literals_of}
 use Rattle.timefd_c_nodes.specs.Writing.{overwritten, nodes_written, literals_written, IsPast, IsWritten, Puts, WritesWithin}
 use Rattle.timefd_c_nodes.proofs.TreeLemmas.{compound_behind, first_behind, optional_behind, reserved_kept, table_bytes}
 use Rattle.timefd_c_nodes.proofs.WriteLemmas.{literals-length, literals_written-append, nodes_written-append}
@@ -56,10 +56,11 @@ overwritten-none at bytes =
     ∙ take-append-drop at bytes
 
 -- a tree that adds nothing to the literals
-pub within_node : (t : Tree) (at : Place) (n : Node) (w : Written) (ns ms : List Node) (a : Text)
-    → own_text t ≡ [] → n ≡ node_for at.nodes at.literals t → Puts n at ns ms w
+pub within_node : (t : Tree) (at : Place) (n : Node) (reserved : ℕ) (w : Written)
+    (ns ms : List Node) (a : Text)
+    → own_text t ≡ [] → n ≡ node_for at.nodes at.literals t → Puts n reserved at ns ms w
     → WritesWithin (t ∷ []) at w.end ns ms a a
-within_node t at n w ns ms a own is puts =
+within_node t at n reserved w ns ms a own is puts =
     let none_added : length (literals_of (t ∷ [])) ≡ 0 = ap (λ x. length (x ++ [])) own in
     record {
       node_at = omega (arith, puts.node_at);
@@ -71,19 +72,22 @@ within_node t at n w ns ms a own is puts =
           sym (ap (λ x. overwritten at.literals x a) own ∙ overwritten-none at.literals a);
     }
 
-pub put_node : (t : Tree) (at : Place) (n : Node) (r : Option Written) (ns ms : List Node) (a : Text)
-    → own_text t ≡ [] → n ≡ node_for at.nodes at.literals t → IfSome r (Puts n at ns ms)
+pub put_node : (t : Tree) (at : Place) (n : Node) (reserved : ℕ) (r : Option Written)
+    (ns ms : List Node) (a : Text)
+    → own_text t ≡ [] → n ≡ node_for at.nodes at.literals t → IfSome r (Puts n reserved at ns ms)
     → IfSome r (λ w. WritesWithin (t ∷ []) at w.end ns ms a a)
-put_node t at n None ns ms a own is puts = puts
-put_node t at n (Some w) ns ms a own is puts = within_node t at n w ns ms a own is puts
+put_node t at n reserved None ns ms a own is puts = puts
+put_node t at n reserved (Some w) ns ms a own is puts =
+    within_node t at n reserved w ns ms a own is puts
 
 pub written_component : (c : Component) (at : Place) (n : Node) (r : Option Written)
-    (ns ms : List Node) (a : Text) → n ≡ component_node c at.nodes → IfSome r (Puts n at ns ms)
+    (ns ms : List Node) (a : Text) → n ≡ component_node c at.nodes
+    → IfSome r (Puts n (component_table c).bytes at ns ms)
     → IfSome r (IsWritten (walked (component c)) (reserve (component c)) at ns ms a a)
 written_component c at n None ns ms a is puts = puts
 written_component c at n (Some w) ns ms a is puts = record {
-  within = within_node (component c) at n w ns ms a refl is puts;
-  bytes = puts.bytes ∙ ap (λ m. m.bytes) is ∙ table_bytes c ∙ reserved_kept c;
+  within = within_node (component c) at n (component_table c).bytes w ns ms a refl is puts;
+  bytes = puts.bytes ∙ table_bytes c ∙ reserved_kept c;
 }
 
 -- Trees in turn.
@@ -151,43 +155,43 @@ pub written_compound : (ts : List Tree) (from : Place) (inner : Written) (r : Op
     (n : Node) (len : ℕ) (ns ms ks : List Node) (a b : Text)
     → IsWritten (walked_all (trees ts)) (reserve_all (trees ts)) from ns ms a b inner
     → len ≡ length ts → n ≡ compound_node from.nodes len inner.bytes
-    → IfSome r (Puts n inner.end ms ks)
+    → IfSome r (Puts n inner.bytes inner.end ms ks)
     → IfSome r (IsWritten (walked (compound (trees ts))) (reserve (compound (trees ts))) from ns ks a
     b)
 written_compound ts from inner None n len ns ms ks a b members long is puts = puts
 written_compound ts from inner (Some w) n len ns ms ks a b members long is puts = record {
   within = within_both (walked_all (trees ts)) (compound (trees ts) ∷ []) from inner.end w.end ns ms
-      ks a b b members.within (within_node (compound (trees ts)) inner.end n w ms ks b refl
+      ks a b b members.within (within_node (compound (trees ts)) inner.end n inner.bytes w ms ks b refl
       (compound_behind ts from.nodes inner.end.nodes inner.end.literals inner.bytes len n
       members.within.node_at long members.bytes is) puts);
-  bytes = puts.bytes ∙ ap (λ m. m.bytes) is ∙ members.bytes;
+  bytes = puts.bytes ∙ members.bytes;
 }
 
 pub written_optional : (t : Tree) (from : Place) (inner : Written) (r : Option Written) (n : Node)
     (ns ms ks : List Node) (a b : Text)
     → IsWritten (walked t) (reserve t) from ns ms a b inner
-    → n ≡ optional_node from.nodes true inner.bytes → IfSome r (Puts n inner.end ms ks)
+    → n ≡ optional_node from.nodes true inner.bytes → IfSome r (Puts n inner.bytes inner.end ms ks)
     → IfSome r (IsWritten (walked (optional true t)) (reserve (optional true t)) from ns ks a b)
 written_optional t from inner None n ns ms ks a b member is puts = puts
 written_optional t from inner (Some w) n ns ms ks a b member is puts = record {
   within = within_both (walked t) (optional true t ∷ []) from inner.end w.end ns ms ks a b b
-      member.within (within_node (optional true t) inner.end n w ms ks b refl
+      member.within (within_node (optional true t) inner.end n inner.bytes w ms ks b refl
       (optional_behind t true from.nodes inner.end.nodes inner.end.literals inner.bytes n
       member.within.node_at member.bytes is) puts);
-  bytes = puts.bytes ∙ ap (λ m. m.bytes) is ∙ member.bytes;
+  bytes = puts.bytes ∙ member.bytes;
 }
 
 pub written_first : (ts : List Tree) (from : Place) (inner : Written) (r : Option Written) (n : Node)
     (len bytes : ℕ) (ns ms ks : List Node) (a b : Text)
     → IsWritten (walked_all (trees ts)) (reserve_all (trees ts)) from ns ms a b inner
     → len ≡ length ts → bytes ≡ kept_bytes (reserve (first (trees ts)))
-    → n ≡ first_node from.nodes len bytes → IfSome r (Puts n inner.end ms ks)
+    → n ≡ first_node from.nodes len bytes → IfSome r (Puts n bytes inner.end ms ks)
     → IfSome r (IsWritten (walked (first (trees ts))) (reserve (first (trees ts))) from ns ks a b)
 written_first ts from inner None n len bytes ns ms ks a b members long reserves is puts = puts
 written_first ts from inner (Some w) n len bytes ns ms ks a b members long reserves is puts = record {
   within = within_both (walked_all (trees ts)) (first (trees ts) ∷ []) from inner.end w.end ns ms ks
-      a b b members.within (within_node (first (trees ts)) inner.end n w ms ks b refl
+      a b b members.within (within_node (first (trees ts)) inner.end n bytes w ms ks b refl
       (first_behind ts from.nodes inner.end.nodes inner.end.literals bytes len n
       members.within.node_at long reserves is) puts);
-  bytes = puts.bytes ∙ ap (λ m. m.bytes) is ∙ reserves;
+  bytes = puts.bytes ∙ reserves;
 }

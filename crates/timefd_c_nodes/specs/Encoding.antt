@@ -1,5 +1,5 @@
 -- The node of each part of a description.
-use Rattle.std.specs.Prelude.{ℕ, ◌+◌, ◌-◌, ◌++◌, Bool, true, false, List, [], ◌∷◌, length}
+use Rattle.std.specs.Prelude.{ℕ, ◌+◌, ◌-◌, ◌^◌, ◌++◌, min, Bool, true, false, List, [], ◌∷◌, length}
 use Rattle.timefd_modifier.specs.declared.enums.Padding.{Padding}
 use Rattle.timefd_modifier.specs.declared.enums.SubsecondDigits.{SubsecondDigits}
 use Rattle.timefd_modifier.specs.declared.enums.TrailingInput.{TrailingInput}
@@ -53,21 +53,24 @@ blank what = record {
   trailing_input = 0;
   format = 0;
   ignored = 0;
+  bytes = 0;
   start = 0;
   count = 0;
-  bytes = 0;
 }
+
+-- The bytes that a node tells, where so many are reserved for it: at most what 32 bits hold.
+abbrev pub shown_bytes : ℕ → ℕ
+shown_bytes bytes = min bytes (2 ^ 32 - 1)
 
 -- bytes of the buffer of literals, from this one on
 abbrev pub literal_node : ℕ → ℕ → Node
-literal_node start len = record (blank LITERAL) { start = start; count = len; bytes = len }
+literal_node start len = record (blank LITERAL) { start = start; count = len; bytes = shown_bytes len }
 
 abbrev pub compound_node : ℕ → ℕ → ℕ → Node
 compound_node start count bytes = record (blank COMPOUND) {
   start = start;
   count = count;
-  bytes =
-      bytes;
+  bytes = shown_bytes bytes;
 }
 
 abbrev pub optional_node : ℕ → Bool → ℕ → Node
@@ -76,11 +79,15 @@ optional_node start format bytes = record (blank OPTIONAL) {
   start =
       start;
   count = 1;
-  bytes = bytes;
+  bytes = shown_bytes bytes;
 }
 
 abbrev pub first_node : ℕ → ℕ → ℕ → Node
-first_node start count bytes = record (blank FIRST) { start = start; count = count; bytes = bytes }
+first_node start count bytes = record (blank FIRST) {
+  start = start;
+  count = count;
+  bytes = shown_bytes bytes;
+}
 
 -- a component, and the bytes that it reserves
 abbrev pub numbered : ℕ → ℕ → Node

@@ -42,12 +42,13 @@ pub record IsWritten (ts : List Tree) (reserved : ℕ) (from : Place)
   pub within : WritesWithin ts from w.end nodes_before nodes_after before after
   pub bytes : w.bytes ≡ kept_bytes reserved
 
--- A node that adds nothing to the literals is written at a place, if there is room for it.
-pub record Puts (node : Node) (at : Place) (nodes_before nodes_after : List Node) (w : Written)
-    : Type 0 where
+-- A node that adds nothing to the literals, and reserves so many bytes, is written at a place, if there
+-- is room for it.
+pub record Puts (node : Node) (reserved : ℕ) (at : Place) (nodes_before nodes_after : List Node)
+    (w : Written) : Type 0 where
   pub node_at : w.end.nodes ≡ at.nodes + 1
   pub literal_at : w.end.literals ≡ at.literals
-  pub bytes : w.bytes ≡ node.bytes
+  pub bytes : w.bytes ≡ reserved
   pub node_room : length nodes_after ≡ length nodes_before
   pub nodes : at.nodes < length nodes_before → nodes_after ≡ set nodes_before at.nodes node
 

@@ -22,7 +22,7 @@ pub fn component_node(component: Component, at: usize) -> Node
 pub fn component_bytes(component: Component) -> usize
     ensures { result ≡ (spec.component_table component).bytes }
 {
-    component_node(component, 0).bytes
+    component_node(component, 0).bytes as usize
 }
 
 /// Makes a node that of a component whose place is this index: blank, and then with the number of the

@@ -9,7 +9,7 @@ use timefd_items::modifier::{Padding, SubsecondDigits, TrailingInput};
 
 /// The number of a component, and the bytes that it reserves.
 #[inline(always)]
-pub fn numbered(node: &mut Node, component: u32, bytes: usize)
+pub fn numbered(node: &mut Node, component: u8, bytes: u32)
     ensures { node.new ≡ record node.old { component = component; bytes = bytes } }
 {
     node.component = component;
@@ -18,7 +18,7 @@ pub fn numbered(node: &mut Node, component: u32, bytes: usize)
 
 /// The same, and how it is padded.
 #[inline(always)]
-pub fn padded(node: &mut Node, component: u32, bytes: usize, padding: Padding)
+pub fn padded(node: &mut Node, component: u8, bytes: u32, padding: Padding)
     ensures { node.new ≡ record node.old {
       component = component;
       bytes = bytes;
@@ -33,8 +33,8 @@ pub fn padded(node: &mut Node, component: u32, bytes: usize, padding: Padding)
 #[inline(always)]
 pub fn signed(
     node: &mut Node,
-    component: u32,
-    bytes: usize,
+    component: u8,
+    bytes: u32,
     padding: Padding,
     sign_is_mandatory: bool,
 )
@@ -52,7 +52,7 @@ pub fn signed(
 
 /// The same with whether its sign is always written.
 #[inline(always)]
-pub fn timestamp(node: &mut Node, component: u32, bytes: usize, sign_is_mandatory: bool)
+pub fn timestamp(node: &mut Node, component: u8, bytes: u32, sign_is_mandatory: bool)
     ensures { node.new ≡ record node.old {
       component = component;
       bytes = bytes;
@@ -65,7 +65,7 @@ pub fn timestamp(node: &mut Node, component: u32, bytes: usize, sign_is_mandator
 
 /// The same with whether it is read in this case alone.
 #[inline(always)]
-pub fn cased(node: &mut Node, component: u32, bytes: usize, case_sensitive: bool)
+pub fn cased(node: &mut Node, component: u8, bytes: u32, case_sensitive: bool)
     ensures { node.new ≡ record node.old {
       component = component;
       bytes = bytes;
@@ -78,7 +78,7 @@ pub fn cased(node: &mut Node, component: u32, bytes: usize, case_sensitive: bool
 
 /// The same with whether its days are counted from one.
 #[inline(always)]
-pub fn indexed(node: &mut Node, component: u32, bytes: usize, one_indexed: bool)
+pub fn indexed(node: &mut Node, component: u8, bytes: u32, one_indexed: bool)
     ensures { node.new ≡ record node.old {
       component = component;
       bytes = bytes;
@@ -93,8 +93,8 @@ pub fn indexed(node: &mut Node, component: u32, bytes: usize, one_indexed: bool)
 #[inline(always)]
 pub fn period(
     node: &mut Node,
-    component: u32,
-    bytes: usize,
+    component: u8,
+    bytes: u32,
     is_uppercase: bool,
     case_sensitive: bool,
 )
@@ -112,7 +112,7 @@ pub fn period(
 
 /// The same with its digits, as many of which are reserved as are shown at least.
 #[inline(always)]
-pub fn subsecond(node: &mut Node, component: u32, digits: SubsecondDigits)
+pub fn subsecond(node: &mut Node, component: u8, digits: SubsecondDigits)
     ensures { node.new ≡ record node.old {
       component = component;
       bytes = digits_shown digits;
@@ -121,21 +121,21 @@ pub fn subsecond(node: &mut Node, component: u32, digits: SubsecondDigits)
 {
     let number = digits_number(digits);
     node.digits = number;
-    numbered(node, component, usize::from(number.min(9)));
+    numbered(node, component, u32::from(number.min(9)));
 }
 
 /// The same with how many bytes are passed over.
 #[inline(always)]
-pub fn ignored(node: &mut Node, component: u32, count: u16)
+pub fn ignored(node: &mut Node, component: u8, count: u16)
     ensures { node.new ≡ record node.old { component = component; bytes = 0; ignored = count } }
 {
-    node.ignored = u32::from(count);
+    node.ignored = count;
     numbered(node, component, 0);
 }
 
 /// The same with what may follow.
 #[inline(always)]
-pub fn end(node: &mut Node, component: u32, trailing_input: TrailingInput)
+pub fn end(node: &mut Node, component: u8, trailing_input: TrailingInput)
     ensures { node.new ≡ record node.old {
       component = component;
       bytes = 0;

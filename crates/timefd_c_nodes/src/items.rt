@@ -76,7 +76,7 @@ pub fn write_compound(
 {
     let inner = write_all(members, from, nodes, literals)?;
     let node = Node::compound(from.nodes, members.len(), inner.bytes);
-    put(node, inner.end, nodes)
+    put(node, inner.bytes, inner.end, nodes)
 }
 
 /// Writes an item, and the node that says that a parser may skip it.
@@ -94,7 +94,7 @@ fn write_optional(
 {
     let inner = write_item(member, from, nodes, literals)?;
     let node = Node::optional(from.nodes, true, inner.bytes);
-    put(node, inner.end, nodes)
+    put(node, inner.bytes, inner.end, nodes)
 }
 
 /// Writes items in turn, and the node that says that they are alternatives.
@@ -113,7 +113,7 @@ fn write_first(
     let bytes = first_bytes(members);
     let inner = write_all(members, from, nodes, literals)?;
     let node = Node::first(from.nodes, members.len(), bytes);
-    put(node, inner.end, nodes)
+    put(node, bytes, inner.end, nodes)
 }
 
 /// The bytes that an item reserves, at most `usize::MAX`.

@@ -4,28 +4,28 @@ ghost use Rattle.std.specs.Prelude.{◌≡◌};
 ghost use Rattle.timefd_c_nodes.specs.Encoding as spec;
 
 /// What a node is: bytes of the buffer of literals.
-pub const LITERAL: u32 = 1;
+pub const LITERAL: u8 = 1;
 
 /// What a node is: a component with its modifiers.
-pub const COMPONENT: u32 = 2;
+pub const COMPONENT: u8 = 2;
 
 /// What a node is: its members in turn.
-pub const COMPOUND: u32 = 3;
+pub const COMPOUND: u8 = 3;
 
 /// What a node is: its one member, which a parser may skip.
-pub const OPTIONAL: u32 = 4;
+pub const OPTIONAL: u8 = 4;
 
 /// What a node is: its members as alternatives.
-pub const FIRST: u32 = 5;
+pub const FIRST: u8 = 5;
 
 /// A part of a description. A field that says nothing of such a part is 0.
 #[repr(C)]
 #[derive(Debug, Clone, Copy, PartialEq, Eq)]
 pub struct Node {
     /// What it is: one of the five numbers.
-    pub what: u32,
+    pub what: u8,
     /// Which component: 1 to 37, in the order of `Component`.
-    pub component: u32,
+    pub component: u8,
     /// The padding of a component: 1 spaces, 2 zeros, 3 none.
     pub padding: u8,
     /// Whether a component always shows its sign: 1 no, 2 yes.
@@ -43,25 +43,25 @@ pub struct Node {
     /// Whether a formatter writes what is optional: 1 no, 2 yes.
     pub format: u8,
     /// How many bytes a parser skips: 1 to 65535.
-    pub ignored: u32,
+    pub ignored: u16,
+    /// The bytes that are reserved for it, at most `u32::MAX`.
+    pub bytes: u32,
     /// Of a literal the index of its first byte among the literals, of any other node the index of
     /// the first node of its members, which is its own where it has none.
     pub start: usize,
     /// How many bytes a literal has, and how many members any other node.
     pub count: usize,
-    /// The bytes that are reserved for it, at most `usize::MAX`.
-    pub bytes: usize,
 }
 
 // So large is it in `examples/timefd.h`.
-const _: () = prove!(size_of::<Node>() == 48);
+const _: () = prove!(size_of::<Node>() == 32);
 
 const _: () = prove!(align_of::<Node>() == 8);
 
 impl Node {
     /// The node of which nothing is known but what it is.
     #[inline(always)]
-    pub const fn blank(what: u32) -> Node
+    pub const fn blank(what: u8) -> Node
         ensures { result ≡ spec.blank what }
     {
         Node {
@@ -76,9 +76,9 @@ impl Node {
             trailing_input: 0,
             format: 0,
             ignored: 0,
+            bytes: 0,
             start: 0,
             count: 0,
-            bytes: 0,
         }
     }
 
@@ -88,9 +88,9 @@ impl Node {
         ensures { result ≡ spec.literal_node start len }
     {
         Node {
+            bytes: shown_bytes(len),
             start,
             count: len,
-            bytes: len,
             ..Node::blank(LITERAL)
         }
     }
@@ -101,9 +101,9 @@ impl Node {
         ensures { result ≡ spec.compound_node start count bytes }
     {
         Node {
+            bytes: shown_bytes(bytes),
             start,
             count,
-            bytes,
             ..Node::blank(COMPOUND)
         }
     }
@@ -115,9 +115,9 @@ impl Node {
     {
         Node {
             format: flag_number(format),
+            bytes: shown_bytes(bytes),
             start,
             count: 1,
-            bytes,
             ..Node::blank(OPTIONAL)
         }
     }
@@ -128,12 +128,20 @@ impl Node {
         ensures { result ≡ spec.first_node start count bytes }
     {
         Node {
+            bytes: shown_bytes(bytes),
             start,
             count,
-            bytes,
             ..Node::blank(FIRST)
         }
     }
+}
+
+/// The bytes that a node tells, where so many are reserved for it.
+#[inline(always)]
+fn shown_bytes(bytes: usize) -> u32
+    ensures { result ≡ spec.shown_bytes bytes }
+{
+    u32::try_from(bytes).unwrap_or(u32::MAX)
 }
 
 /// The number of a flag: 0 is left for a node that has none.

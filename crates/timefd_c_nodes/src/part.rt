@@ -28,20 +28,17 @@ pub fn put_part(
         Shape::Compound(members) => {
             let bytes = part.max_bytes_needed();
             let node = Node::compound(first_inner(part, at), members.len(), bytes);
-            put(node, at, nodes)
+            put(node, bytes, at, nodes)
         }
         Shape::Optional { format, .. } => {
             let bytes = part.max_bytes_needed();
-            put(
-                Node::optional(first_inner(part, at), format, bytes),
-                at,
-                nodes,
-            )
+            let node = Node::optional(first_inner(part, at), format, bytes);
+            put(node, bytes, at, nodes)
         }
         Shape::First(members) => {
             let bytes = part.max_bytes_needed();
             let node = Node::first(first_inner(part, at), members.len(), bytes);
-            put(node, at, nodes)
+            put(node, bytes, at, nodes)
         }
     }
 }

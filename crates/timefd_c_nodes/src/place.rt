@@ -33,17 +33,17 @@ pub struct Written {
     pub bytes: usize,
 }
 
-/// Writes a node that adds nothing to the literals, if there is room for it. There is no answer where
-/// a `usize` doesn't count the nodes.
+/// Writes a node that adds nothing to the literals and reserves so many bytes, if there is room for it.
+/// There is no answer where a `usize` doesn't count the nodes.
 #[inline(always)]
-pub fn put(node: Node, at: Place, nodes: &mut [Node]) -> Option<Written>
-    ensures some { IfSome result (Puts node at nodes.old nodes.new) }
+pub fn put(node: Node, bytes: usize, at: Place, nodes: &mut [Node]) -> Option<Written>
+    ensures some { IfSome result (Puts node bytes at nodes.old nodes.new) }
     ensures none { result ≡ None → 2 ^ 64 ≤ at.nodes + 1 }
 {
     if at.nodes < nodes.len() {
         nodes[at.nodes] = node;
     }
-    behind_node(at, node.bytes)
+    behind_node(at, bytes)
 }
 
 /// The place behind a node that adds nothing to the literals and reserves so many bytes.
@@ -64,14 +64,15 @@ fn behind_node(at: Place, bytes: usize) -> Option<Written>
 /// `usize` doesn't count the nodes.
 #[inline(always)]
 pub fn put_component(component: Component, at: Place, nodes: &mut [Node]) -> Option<Written>
-    ensures some { IfSome result (Puts (spec.component_node component at.nodes) at nodes.old nodes.new) }
+    ensures some { IfSome result (Puts (spec.component_node component at.nodes)
+        (spec.component_table component).bytes at nodes.old nodes.new) }
     ensures none { result ≡ None → 2 ^ 64 ≤ at.nodes + 1 }
 {
     if at.nodes >= nodes.len() {
         return behind_node(at, component_bytes(component));
     }
     make_component(&mut nodes[at.nodes], component, at.nodes);
-    behind_node(at, nodes[at.nodes].bytes)
+    behind_node(at, nodes[at.nodes].bytes as usize)
 }
 
 /// Writes the node of a literal, and its bytes, each where its buffer has room for it. There is no
@@ -87,7 +88,7 @@ pub fn put_literal(
         at nodes.old nodes.new literals.old literals.new) }
     ensures none { result ≡ None → IsPast (walked (literal text.now)) at }
 {
-    let written = put(Node::literal(at.literals, text.len()), at, nodes)?;
+    let written = put(Node::literal(at.literals, text.len()), text.len(), at, nodes)?;
     let behind = at.literals.checked_add(text.len())?;
     if behind <= literals.len() {
         copy_over(text, at.literals, literals);

@@ -28,7 +28,7 @@ behind_all list p before ms a b all = record { within = all.within; bytes = all.
 -- several pieces, or none, in one node behind them
 pub whole_written : (list : List Tree) (p : Progress) (before ms ks : List Node) (a b : Text)
     (n : Node) (r : Option Written) → HasWritten list before ms a b p → (p.count ≡ 1 → ⊥)
-    → n ≡ compound_node 0 p.count p.bytes → IfSome r (Puts n p.end ms ks)
+    → n ≡ compound_node 0 p.count p.bytes → IfSome r (Puts n p.bytes p.end ms ks)
     → IfSome r (IsWritten (walked (pack list)) (reserve (pack list)) START before ks a b)
 whole_written [] p before ms ks a b n r all several is puts =
     written_compound [] START (written_so_far p) r n p.count before ms ks a b

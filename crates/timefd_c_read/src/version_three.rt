@@ -72,11 +72,8 @@ fn write_whole(all: Progress, nodes: &mut [Node]) -> Option<Written>
             bytes: all.bytes,
         });
     }
-    put(
-        Node::compound(START.nodes, all.count, all.bytes),
-        all.end,
-        nodes,
-    )
+    let node = Node::compound(START.nodes, all.count, all.bytes);
+    put(node, all.bytes, all.end, nodes)
 }
 
 /// Writes the pieces of a text, as far as there is room. The error is its fault, or `Memory` where

@@ -7,7 +7,7 @@ use timefd_lint_options::{Conflict, OptionError, Valued, nearest_option};
 use timefd_warnings::Warning;
 
 /// What `--version` writes.
-pub const VERSION: &str = "timefd_lint 0.1.0\n";
+pub const VERSION: &str = "timefd_lint 0.2.0\n";
 
 /// What `--help` writes.
 pub const USAGE: &str = "usage: timefd_lint [OPTION].. [--] [FILE]..

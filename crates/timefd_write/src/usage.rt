@@ -8,7 +8,7 @@ use std::alloc::{AllocError, Global};
 use timefd_drawing::shown::safe;
 
 /// What `--version` writes.
-pub const VERSION: &str = "timefd_format 0.1.0\n";
+pub const VERSION: &str = "timefd_format 0.2.0\n";
 
 /// What `--help` writes.
 pub const USAGE: &str = "usage: timefd_format [OPTION].. [--] DESCRIPTION [MOMENT]..

@@ -9,7 +9,7 @@ const ROOM: usize = 12;
 
 /// What a node is and its component; padding, sign, case, one-indexed, uppercase, digits, trailing
 /// input, format; the ignored bytes; start, count and bytes.
-type Row = (u32, u32, [u8; 8], u32, [usize; 3]);
+type Row = (u8, u8, [u8; 8], u16, [usize; 3]);
 
 const NONE: [u8; 8] = [0; 8];
 
@@ -43,9 +43,9 @@ fn node(row: &Row) -> Node {
         trailing_input,
         format,
         ignored,
+        bytes: bytes as u32,
         start,
         count,
-        bytes,
     }
 }
 

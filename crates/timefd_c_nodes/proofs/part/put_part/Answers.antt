@@ -7,7 +7,7 @@ use Rattle.timefd_c_nodes.proofs.part.put_part.Goals as goal
 
 pub returns-in-Compound-clause-some : goal.returns-in-Compound-clause-some
 returns-in-Compound-clause-some c =
-    put_node (view_tree c.args.part) c.args.at c.compound-node.result c.put.result _ _ _
+    put_node (view_tree c.args.part) c.args.at c.compound-node.result _ c.put.result _ _ _
     (ap own_text (sym c.in-Compound.ensures))
     (compound_is (view_tree c.args.part) (member_trees c.in-Compound.members) c.args.at.nodes
     c.args.at.literals c.first_inner.result c.max_bytes_needed-bytes.result c.len.result
@@ -17,7 +17,7 @@ returns-in-Compound-clause-some c =
 
 pub returns-in-First-clause-some : goal.returns-in-First-clause-some
 returns-in-First-clause-some c =
-    put_node (view_tree c.args.part) c.args.at c.first-node.result c.put-in-First.result _ _ _
+    put_node (view_tree c.args.part) c.args.at c.first-node.result _ c.put-in-First.result _ _ _
     (ap own_text (sym c.in-First.ensures))
     (first_is (view_tree c.args.part) (member_trees c.in-First.members) c.args.at.nodes
     c.args.at.literals c.first_inner-in-First.result c.max_bytes_needed-bytes-in-First.result
