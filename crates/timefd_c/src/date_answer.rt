@@ -131,7 +131,7 @@ fn component_code(reason: Reason) -> u32
 {
     match reason {
         Reason::Unread(component) | Reason::Contradiction(component) => {
-            component_node(component, 0).component
+            u32::from(component_node(component, 0).component)
         }
         Reason::Literal | Reason::Trailing => 0,
     }

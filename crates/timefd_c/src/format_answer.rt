@@ -60,7 +60,7 @@ impl FormatAnswer {
         FormatAnswer {
             status: UNSHOWN,
             reason: lack_code(unshown.lack),
-            component: component_node(unshown.component, 0).component,
+            component: u32::from(component_node(unshown.component, 0).component),
             value: 0,
             written: 0,
         }
