@@ -51,7 +51,7 @@ fn header_name(variant: impl Debug) -> String {
 }
 
 /// What a number of a component is taken for.
-fn component_name(number: u32) -> Option<String> {
+fn component_name(number: u8) -> Option<String> {
     let mut node = RawNode { what: COMPONENT, component: number, ignored: 1, ..RawNode::default() };
     (node.padding, node.sign_is_mandatory, node.case_sensitive) = (1, 1, 1);
     (node.one_indexed, node.is_uppercase, node.digits, node.trailing_input) = (1, 1, 1, 1);
@@ -106,14 +106,15 @@ fn taken() -> BTreeMap<String, u32> {
         ("HAS_DATE", RawMoment::HAS_DATE),
         ("HAS_TIME", RawMoment::HAS_TIME),
         ("HAS_OFFSET", RawMoment::HAS_OFFSET),
-        ("LITERAL", LITERAL),
-        ("COMPONENT", COMPONENT),
-        ("COMPOUND", COMPOUND),
-        ("OPTIONAL", OPTIONAL),
-        ("FIRST", FIRST),
+        ("LITERAL", LITERAL.into()),
+        ("COMPONENT", COMPONENT.into()),
+        ("COMPOUND", COMPOUND.into()),
+        ("OPTIONAL", OPTIONAL.into()),
+        ("FIRST", FIRST.into()),
     ];
     let named = named.map(|(name, number)| (name.to_owned(), number));
-    let components = (0..=255).filter_map(|number| Some((component_name(number)?, number)));
+    let components =
+        (0..=u8::MAX).filter_map(|number| Some((component_name(number)?, number.into())));
     let modifiers = (0..=u8::MAX).flat_map(|number| {
         modifier_names(number).into_iter().map(move |name| (name, number.into()))
     });

@@ -16,7 +16,7 @@ const A: RawNode = literal(0, 1);
 const B: RawNode = literal(1, 1);
 const C: RawNode = literal(2, 1);
 
-const fn node(what: u32, start: usize, count: usize) -> RawNode {
+const fn node(what: u8, start: usize, count: usize) -> RawNode {
     RawNode {
         what,
         component: 0,
@@ -29,9 +29,9 @@ const fn node(what: u32, start: usize, count: usize) -> RawNode {
         trailing_input: 0,
         format: 0,
         ignored: 0,
+        bytes: 0,
         start,
         count,
-        bytes: 0,
     }
 }
 
