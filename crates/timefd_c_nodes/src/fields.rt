@@ -31,13 +31,7 @@ pub fn padded(node: &mut Node, component: u8, bytes: u32, padding: Padding)
 
 /// The same with how it is padded, and whether its sign is always written.
 #[inline(always)]
-pub fn signed(
-    node: &mut Node,
-    component: u8,
-    bytes: u32,
-    padding: Padding,
-    sign_is_mandatory: bool,
-)
+pub fn signed(node: &mut Node, component: u8, bytes: u32, padding: Padding, sign_is_mandatory: bool)
     ensures { node.new ≡ record node.old {
       component = component;
       bytes = bytes;
@@ -91,13 +85,7 @@ pub fn indexed(node: &mut Node, component: u8, bytes: u32, one_indexed: bool)
 
 /// The same with whether it is written in capitals, and whether it is read in this case alone.
 #[inline(always)]
-pub fn period(
-    node: &mut Node,
-    component: u8,
-    bytes: u32,
-    is_uppercase: bool,
-    case_sensitive: bool,
-)
+pub fn period(node: &mut Node, component: u8, bytes: u32, is_uppercase: bool, case_sensitive: bool)
     ensures { node.new ≡ record node.old {
       component = component;
       bytes = bytes;
