@@ -88,12 +88,8 @@ pub fn put_literal(
         at nodes.old nodes.new literals.old literals.new) }
     ensures none { result ≡ None → IsPast (walked (literal text.now)) at }
 {
-    let written = put(
-        Node::literal(at.literals, text.len()),
-        text.len(),
-        at,
-        nodes,
-    )?;
+    let node = Node::literal(at.literals, text.len());
+    let written = put(node, text.len(), at, nodes)?;
     let behind = at.literals.checked_add(text.len())?;
     if behind <= literals.len() {
         copy_over(text, at.literals, literals);
