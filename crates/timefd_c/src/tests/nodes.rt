@@ -43,7 +43,7 @@ fn node(row: &Row) -> Node {
         trailing_input,
         format,
         ignored,
-        bytes: bytes as u32,
+        bytes: u32::try_from(bytes).unwrap_or(0),
         start,
         count,
     }
