@@ -10,11 +10,14 @@ use Rattle.timefd_lint_files.specs.declared.entry.Entry.{Entry}
 use Rattle.timefd_lint_files.specs.declared.entry.Role.{Role}
 use Rattle.timefd_lint_files.specs.declared.entry.Role.TheVariants as roles
 use Rattle.timefd_lint_files.specs.declared.ignore_file.IgnoreFile.{IgnoreFile}
+use Rattle.timefd_lint_files.specs.declared.system.ReadError.{ReadError}
+use Rattle.timefd_lint_files.specs.declared.system.ReadError.TheVariants as unread
+use Rattle.timefd_lint_files.specs.declared.walk_error.Reason.{Reason}
 use Rattle.timefd_lint_files.specs.declared.walk_error.Reason.TheVariants.{Unread, TooDeep}
 use Rattle.timefd_lint_files.specs.declared.walk_error.WalkError.{WalkError}
 use Rattle.timefd_lint_files.specs.declared.walk_error.WalkError.TheVariants.{Memory, Failed}
 use Rattle.timefd_lint_files.specs.Entries.{role}
-use Rattle.timefd_lint_files.specs.Errors.{IsBelow, IsBelowAny, IsFailureOf, IsUnread, IsWalkError, slashes}
+use Rattle.timefd_lint_files.specs.Errors.{IsBelow, IsBelowAny, IsFailureOf, IsReadError, IsUnread, IsUnreadOf, IsWalkError, slashes}
 use Rattle.timefd_lint_files.specs.Matching.{Text, slash}
 use Rattle.timefd_lint_files.specs.Rules.{is_ignored}
 use Rattle.timefd_lint_files.specs.Walks.{IsLeft, IsLookedAt, as_folder, entered, found_as, passed, taken}
@@ -45,9 +48,15 @@ entered_as ignores folder name roles.Folder before behind path left =
     cases_bool true left = absurd cc
     cases_bool false left = same left.1
 
+-- What stands below a folder stands below that around it.
+outside : (folder name path : Text) (depth : ℕ) → IsBelow (folder ++ name) depth path → IsBelow folder depth path
+outside folder name path depth is =
+    let all : slashes (name ++ is.0) ≡ slashes name + slashes is.0 = sum_by-append one_if_slash name is.0 in
+    (name ++ is.0, is.1 ∙ append_assoc folder name is.0, omega (arith, all, is.2))
+
 -- What stands below a folder stands one folder deeper below that around it.
-around : (folder name path : Text) (depth : ℕ) → 0 < depth → IsBelow (depth - 1) ((folder ++ name) ++ slash ∷ []) path
-    → IsBelow depth folder path
+around : (folder name path : Text) (depth : ℕ) → 0 < depth → IsBelow ((folder ++ name) ++ slash ∷ []) (depth - 1) path
+    → IsBelow folder depth path
 around folder name path depth some is =
     let behind : Text = name ++ slash ∷ is.0 in
     let all : slashes behind ≡ slashes name + slashes (slash ∷ is.0) = sum_by-append one_if_slash name (slash ∷ is.0) in
@@ -56,28 +65,31 @@ around folder name path depth some is =
     is.1 ∙ append_assoc (folder ++ name) (slash ∷ []) is.0 ∙ append_assoc folder name (slash ∷ is.0) in
     (behind, cut, omega (arith, some, all, one, is.2))
 
-as_deep : (fails : Text → ErrorKind → Type 0) (Deep Other : Text → Type 0) (e : WalkError)
-    → ((path : Text) → Deep path → Other path) → IsWalkError fails Deep e → IsWalkError fails Other e
-as_deep fails Deep Other Memory each is = is
-as_deep fails Deep Other (Failed path (Unread kind)) each is = is
-as_deep fails Deep Other (Failed path TooDeep) each is = each (string_bytes path) is
+as_deep : (fails : Text → ErrorKind → Type 0) (Below Other : ℕ → Text → Type 0) (depth more : ℕ) (e : WalkError)
+    → ((path : Text) → Below 0 path → Other 0 path) → ((path : Text) → Below depth path → Other more path)
+    → IsWalkError fails Below depth e → IsWalkError fails Other more e
+as_deep fails Below Other depth more Memory each deep is = is
+as_deep fails Below Other depth more (Failed path (Unread kind)) each deep is = (is.0, each (string_bytes path) is.1)
+as_deep fails Below Other depth more (Failed path TooDeep) each deep is = deep (string_bytes path) is
 
 -- What fails below a folder that is gone into fails below that in which it stands.
 pub deeper : (fails : Text → ErrorKind → Type 0) (ignores : List IgnoreFile) (folder : Text) (entry : Entry)
     (before behind : List Text) (path named : Text) (below : Option Text) (depth : ℕ) (e : WalkError) → 0 < depth
     → IsLookedAt ignores folder entry before behind below → below ≡ Some path → named ≡ path
-    → IsWalkError fails (IsBelow (depth - 1) named) e → IsWalkError fails (IsBelow depth folder) e
+    → IsWalkError fails (IsBelow named) (depth - 1) e → IsWalkError fails (IsBelow folder) depth e
 deeper fails ignores folder entry before behind path named below depth e some left is same error =
     let name = string_bytes entry.name in
     let own : path ≡ (folder ++ name) ++ slash ∷ [] = entered_as ignores folder name (role entry) before behind path
     (subst (λ (b : Option Text). IsLookedAt ignores folder entry before behind b) is left) in
-    as_deep fails (IsBelow (depth - 1) named) (IsBelow depth folder) e
+    as_deep fails (IsBelow named) (IsBelow folder) (depth - 1) depth e
+    (λ told in_it. outside folder name told 0 (outside (folder ++ name) (slash ∷ []) told 0
+    (subst (λ (f : Text). IsBelow f 0 told) (same ∙ own) in_it)))
     (λ told in_it. around folder name told depth some
-    (subst (λ (f : Text). IsBelow (depth - 1) f told) (same ∙ own) in_it)) error
+    (subst (λ (f : Text). IsBelow f (depth - 1) told) (same ∙ own) in_it)) error
 
 -- A folder may not be gone into.
 pub too_deep : (fails : Text → ErrorKind → Type 0) (folder : Text) (depth : ℕ) (e : WalkError) → depth ≡ 0
-    → IsFailureOf folder TooDeep e → IsWalkError fails (IsBelow depth folder) e
+    → IsFailureOf folder TooDeep e → IsWalkError fails (IsBelow folder) depth e
 too_deep fails folder depth Memory none is = is
 too_deep fails folder depth (Failed path (Unread kind)) none is = absurd cc
 too_deep fails folder depth (Failed path TooDeep) none is =
@@ -85,15 +97,50 @@ too_deep fails folder depth (Failed path TooDeep) none is =
 
 -- What fails below one of the names fails below them.
 pub below_any : (fails : Text → ErrorKind → Type 0) (names : List (Bor Text)) (at : ℕ) (d : Bor Text) (e : WalkError)
-    → at < length names → IsWalkError fails (IsBelow 255 (as_folder (get_or names at d).now)) e
-    → IsWalkError fails (IsBelowAny 255 names) e
+    → at < length names → IsWalkError fails (IsBelow (as_folder (get_or names at d).now)) 255 e
+    → IsWalkError fails (IsBelowAny names) 255 e
 below_any fails names at d e lt error =
     let name = get_or names at d in
-    as_deep fails (IsBelow 255 (as_folder name.now)) (IsBelowAny 255 names) e
+    as_deep fails (IsBelow (as_folder name.now)) (IsBelowAny names) 255 255 e
+    (λ path below. (name, Contains-get_or names at d lt, below))
     (λ path below. (name, Contains-get_or names at d lt, below)) error
 
 -- What can't be read is so at any depth.
-pub unread_error : (fails : Text → ErrorKind → Type 0) (Deep : Text → Type 0) (e : WalkError) → IsUnread fails e → IsWalkError fails Deep e
-unread_error fails Deep Memory is = is
-unread_error fails Deep (Failed path (Unread kind)) is = is
-unread_error fails Deep (Failed path TooDeep) is = absurd is
+pub unread_error : (fails : Text → ErrorKind → Type 0) (folder : Text) (depth : ℕ) (e : WalkError)
+    → IsUnread fails folder e → IsWalkError fails (IsBelow folder) depth e
+unread_error fails folder depth Memory is = is
+unread_error fails folder depth (Failed path (Unread kind)) is = is
+unread_error fails folder depth (Failed path TooDeep) is = absurd is
+
+same_kind : {one other : ErrorKind} → ◌≡◌ {A = Reason} (Unread one) (Unread other) → one ≡ other
+same_kind e = cc
+
+-- A folder or a file of this path can't be read.
+pub unread_at : (fails : Text → ErrorKind → Type 0) (path : Text) (error : ReadError) (e : WalkError)
+    → IsReadError (fails path) error → IsUnreadOf path error e → IsUnread fails path e
+unread_at fails path unread.Memory Memory why is = tt
+unread_at fails path unread.Memory (Failed named reason) why is = absurd cc
+unread_at fails path (unread.Failed kind) Memory why is = tt
+unread_at fails path (unread.Failed kind) (Failed named (Unread told)) why is = (
+  subst (λ (p : Text). fails p told) (sym is.0)
+      (subst (λ (k : ErrorKind). fails path k) (sym (same_kind is.1)) why),
+  ([], is.0 ∙ sym (append-nil path), omega arith),
+)
+unread_at fails path (unread.Failed kind) (Failed named TooDeep) why is = absurd cc
+
+-- What can't be read below a folder can't be read below that around it.
+pub unread_below : (fails : Text → ErrorKind → Type 0) (folder name path : Text) (e : WalkError)
+    → path ≡ folder ++ name → IsUnread fails path e → IsUnread fails folder e
+unread_below fails folder name path Memory same is = tt
+unread_below fails folder name path (Failed told (Unread kind)) same is = (
+  is.0,
+  outside folder name (string_bytes told) 0
+      (subst (λ (p : Text). IsBelow p 0 (string_bytes told)) same is.1),
+)
+unread_below fails folder name path (Failed told TooDeep) same is = absurd is
+
+-- A file of a folder can't be read.
+pub unread_in : (fails : Text → ErrorKind → Type 0) (folder name path : Text) (error : ReadError) (e : WalkError)
+    → path ≡ folder ++ name → IsReadError (fails path) error → IsUnreadOf path error e → IsUnread fails folder e
+unread_in fails folder name path error e same why is =
+    unread_below fails folder name path e same (unread_at fails path error e why is)

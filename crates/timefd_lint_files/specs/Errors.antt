@@ -23,28 +23,30 @@ slashes path = count_by (nat_eq slash) path
 
 -- A path begins with the name of a folder, and at least so many slashes stand behind it: as many folders stand
 -- between the two.
-abbrev pub IsBelow : ℕ → Text → Text → Type 0
-IsBelow depth folder path = (rest : Text) × (path ≡ folder ++ rest) × (depth ≤ slashes rest)
+abbrev pub IsBelow : Text → ℕ → Text → Type 0
+IsBelow folder depth path = (rest : Text) × (path ≡ folder ++ rest) × (depth ≤ slashes rest)
 
 -- It is so of one of these names.
-abbrev pub IsBelowAny : ℕ → List (Bor Text) → Text → Type 0
-IsBelowAny depth names path =
-    (name : Bor Text) × Contains names name × IsBelow depth (as_folder name.now) path
+abbrev pub IsBelowAny : List (Bor Text) → ℕ → Text → Type 0
+IsBelowAny names depth path =
+    (name : Bor Text) × Contains names name × IsBelow (as_folder name.now) depth path
 
--- A folder or a file can't be read, or stands too deep.
-abbrev pub IsReason : (Text → ErrorKind → Type 0) → (Text → Type 0) → Text → Reason → Type 0
-IsReason fails Deep path (Unread kind) = fails path kind
-IsReason fails Deep path TooDeep = Deep path
+-- A folder or a file that stands below can't be read, or at least so many stand around it.
+abbrev pub IsReason : (Text → ErrorKind → Type 0) → (ℕ → Text → Type 0) → ℕ → Text → Reason → Type 0
+IsReason fails Below depth path (Unread kind) = fails path kind × Below 0 path
+IsReason fails Below depth path TooDeep = Below depth path
 
-abbrev pub IsWalkError : (Text → ErrorKind → Type 0) → (Text → Type 0) → WalkError → Type 0
-IsWalkError fails Deep Memory = ⊤
-IsWalkError fails Deep (Failed path reason) = IsReason fails Deep (string_bytes path) reason
+abbrev pub IsWalkError : (Text → ErrorKind → Type 0) → (ℕ → Text → Type 0) → ℕ → WalkError → Type 0
+IsWalkError fails Below depth Memory = ⊤
+IsWalkError fails Below depth (Failed path reason) =
+    IsReason fails Below depth (string_bytes path) reason
 
--- A folder or a file can't be read.
-abbrev pub IsUnread : (Text → ErrorKind → Type 0) → WalkError → Type 0
-IsUnread fails Memory = ⊤
-IsUnread fails (Failed path (Unread kind)) = fails (string_bytes path) kind
-IsUnread fails (Failed path TooDeep) = ⊥
+-- A folder, or a folder or a file that stands below it, can't be read.
+abbrev pub IsUnread : (Text → ErrorKind → Type 0) → Text → WalkError → Type 0
+IsUnread fails folder Memory = ⊤
+IsUnread fails folder (Failed path (Unread kind)) =
+    fails (string_bytes path) kind × IsBelow folder 0 (string_bytes path)
+IsUnread fails folder (Failed path TooDeep) = ⊥
 
 -- What is told of a folder or a file is told of it by its name, unless there is no memory for that.
 abbrev pub IsFailureOf : Text → Reason → WalkError → Type 0

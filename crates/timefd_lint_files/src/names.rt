@@ -63,7 +63,7 @@ fn expand<S: FileSystem>(
         (S.tells system.now) name.entry names) }
     ensures ignores { OnOk result (walk.new.ignores.items ≡ []) }
     ensures error { IfErr result
-        (IsWalkError (S.fails system.now) (IsBelow 255 (spec.as_folder name.entry.now))) }
+        (IsWalkError (S.fails system.now) (IsBelow (spec.as_folder name.entry.now)) 255) }
 {
     if is_input(name) {
         return push_name(alloc, walk, name);
@@ -94,8 +94,9 @@ pub fn expanded<S: FileSystem>(
     ensures all { IfOk result (λ all. AreExpanded (IsWalk (S.lists system.now) (S.holds system.now) 255 [])
         (S.tells system.now) names.now (texts all.items)) }
 
-    // What is refused for its depth begins with one of the names, and 255 slashes and more stand behind that.
-    ensures error { IfErr result (IsWalkError (S.fails system.now) (IsBelowAny 255 names.now)) }
+    // What isn't read begins with one of the names. Behind that stand 255 slashes and more where the depth is
+    // the reason.
+    ensures error { IfErr result (IsWalkError (S.fails system.now) (IsBelowAny names.now) 255) }
 {
     let mut walk = Walk::new(alloc);
     for name in names {

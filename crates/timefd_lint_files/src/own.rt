@@ -12,6 +12,7 @@ use crate::walk_error::{WalkError, unread};
 use std::alloc::Global;
 
 /// Whether a folder has an entry of this kind and name.
+#[tactic(auto, using(crate::proofs::ErrorLemmas::unread_at))]
 fn tells<S: FileSystem>(
     system: &S,
     alloc: Global,
@@ -20,7 +21,7 @@ fn tells<S: FileSystem>(
     name: &str,
 ) -> Result<bool, WalkError>
     ensures told { IfOk result (λ has. Tells (S.lists system.now) folder.now kind name.now has) }
-    ensures error { IfErr result (IsUnread (S.fails system.now)) }
+    ensures error { IfErr result (IsUnread (S.fails system.now) folder.now) }
 {
     match system.entries(alloc, folder) {
         Ok(entries) => Ok(has_entry(&entries, kind, name)),
@@ -29,6 +30,7 @@ fn tells<S: FileSystem>(
 }
 
 /// Whether a folder with these entries has a repository with an exclude file.
+#[tactic(auto, using(crate::proofs::ErrorLemmas::unread_below))]
 fn has_exclude<S: FileSystem>(
     system: &S,
     alloc: Global,
@@ -36,7 +38,7 @@ fn has_exclude<S: FileSystem>(
     entries: &[Entry],
 ) -> Result<bool, WalkError>
     ensures told { IfOk result (λ has. HasExclude (S.lists system.now) folder.now entries.now has) }
-    ensures error { IfErr result (IsUnread (S.fails system.now)) }
+    ensures error { IfErr result (IsUnread (S.fails system.now) folder.now) }
 {
     if !has_entry(entries, Kind::Folder, ".git") {
         return Ok(false);
@@ -50,6 +52,7 @@ fn has_exclude<S: FileSystem>(
 }
 
 /// The file of this name, whose patterns hold in a folder.
+#[tactic(auto, using(crate::proofs::ErrorLemmas::unread_in))]
 fn file_of<S: FileSystem>(
     system: &S,
     alloc: Global,
@@ -57,7 +60,7 @@ fn file_of<S: FileSystem>(
     name: &str,
 ) -> Result<IgnoreFile, WalkError>
     ensures read { IfOk result (λ file. IsOwn (S.holds system.now) folder.now name.now file) }
-    ensures error { IfErr result (IsUnread (S.fails system.now)) }
+    ensures error { IfErr result (IsUnread (S.fails system.now) folder.now) }
 {
     let path = joined(alloc, folder, name)?;
     match system.text(alloc, &path) {
@@ -78,7 +81,7 @@ fn add_if<S: FileSystem>(
 ) -> Result<(), WalkError>
     ensures added { OnOk result (HasOwnIf is (S.holds system.now) folder.now name.now
         ignores.old.items ignores.new.items) }
-    ensures error { IfErr result (IsUnread (S.fails system.now)) }
+    ensures error { IfErr result (IsUnread (S.fails system.now) folder.now) }
 {
     if !is {
         return Ok(());
@@ -101,7 +104,7 @@ pub fn add_own<S: FileSystem>(
 ) -> Result<(), WalkError>
     ensures added { OnOk result (HasOwn (S.lists system.now) (S.holds system.now) folder.now entries.now
         ignores.old.items ignores.new.items) }
-    ensures error { IfErr result (IsUnread (S.fails system.now)) }
+    ensures error { IfErr result (IsUnread (S.fails system.now) folder.now) }
 {
     let excludes = has_exclude(system, alloc, folder, entries)?;
     let has_own = has_entry(entries, Kind::File, ".gitignore");

@@ -49,13 +49,14 @@ impl Walk {
 }
 
 /// The entries of a folder, by name.
+#[tactic(auto, using(crate::proofs::ErrorLemmas::unread_at))]
 fn sorted_entries<S: FileSystem>(
     system: &S,
     alloc: Global,
     folder: &str,
 ) -> Result<Vec<Entry>, WalkError>
     ensures listed { IfOk result (λ entries. AreListed (S.lists system.now folder.now) entries.items) }
-    ensures error { IfErr result (IsUnread (S.fails system.now)) }
+    ensures error { IfErr result (IsUnread (S.fails system.now) folder.now) }
 {
     match system.entries(alloc, folder) {
         Ok(mut entries) => {
@@ -109,7 +110,7 @@ pub fn walk_folder<S: FileSystem>(
         × IsWalk (S.lists system.now) (S.holds system.now) depth walk.old.ignores.items
         folder.now names) }
     ensures ignores { OnOk result (walk.new.ignores.items ≡ walk.old.ignores.items) }
-    ensures error { IfErr result (IsWalkError (S.fails system.now) (IsBelow depth folder.now)) }
+    ensures error { IfErr result (IsWalkError (S.fails system.now) (IsBelow folder.now) depth) }
 {
     if depth == 0 {
         return Err(failed(alloc, folder, Reason::TooDeep));
