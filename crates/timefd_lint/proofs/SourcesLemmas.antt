@@ -23,8 +23,8 @@ use Rattle.timefd_lint.specs.declared.line.TextEnd.{TextEnd}
 use Rattle.timefd_lint.specs.declared.line.TextEnd.TheVariants.{NotText, Failed}
 use Rattle.timefd_lint.specs.declared.tally.Tally.{Tally}
 use Rattle.timefd_lint.specs.Sources.{IsNotText, IsOfLiteral, IsReported, IsRunOfAny, IsRunOfSource, IsRunWith, IsSaid, IsToldOfAny, tally_from, tally_of_ends, text_end}
-use Rattle.timefd_lint.specs.Told.{IsRun, IsRunOfAll, IsRunOver, SaysFailed, Told, both, messages, place, tally_of, tally_of_one}
-use Rattle.timefd_lint.proofs.ToldLemmas.{failed_run, lines_run, only, read_to_end, run_behind, tally_both, tally_one, whole_run, whole_text}
+use Rattle.timefd_lint.specs.Told.{IsRun, IsRunOfAll, IsRunOver, SaysUnread, Told, both, messages, place, tally_of, tally_of_one}
+use Rattle.timefd_lint.proofs.ToldLemmas.{lines_run, only, read_to_end, run_behind, tally_both, tally_one, unread_run, whole_run, whole_text}
 
 -- What is found in the descriptions of a source, one after another.
 pub none_found : (ends : List End) (tally : Tally) → tally ≡ tally_of []
@@ -100,7 +100,7 @@ source_read finder telling name bytes rest old read text before behind tally all
 
 pub source_unread : (finder : Finder) (telling : Telling) (name : Bor Text)
     (bytes rest before behind : Option Text) (end : TextEnd) (tally : Tally) → end ≡ Failed
-    → SaysFailed telling.style name before behind
+    → SaysUnread telling.style name before behind
     → tally ≡ tally_of_one end → IsRunOfSource finder telling name.now bytes rest before behind tally
 source_unread finder telling name bytes rest before behind end tally failed said is =
     inr (
@@ -209,7 +209,7 @@ of_source is_whole language comment telling finder name bytes rest before behind
 of_source is_whole language comment telling finder name bytes rest before behind tally
     (inr (file, same, said, found)) =
     of_texts is_whole language comment telling before behind tally
-    (failed_run is_whole language comment telling file before behind Failed tally refl said found)
+    (unread_run is_whole language comment telling file before behind tally said found)
 
 any_behind : (is_whole : Bool) (language : Language) (comment : Option (Bor Text)) (telling : Telling)
     (before between behind : Option Text) (a b : Tally)

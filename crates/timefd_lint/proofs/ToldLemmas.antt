@@ -1,11 +1,12 @@
 -- What is told of texts, one after another.
 use Rattle.std.proofs.Common.{◌≡◌, Bool, true, false, ◌||◌, ◌&&◌, List, [], ◌∷◌, ◌++◌, Option, Some, None, refl, sym, ap, subst, ◌∙◌, append-nil, length-append, arith, ℕ, ◌+◌, ◌<◌, ◌≤◌, length}
 use Rattle.std.specs.Prelude.{All, IsFalse, IsTrue, IfSome}
+use Rattle.std.specs.declared.io.ErrorKind.{ErrorKind}
 use Rattle.std.specs.Io.KnownBytes.{Appends, Keeps, IsAtEnd}
 use Rattle.std.specs.Io.BufRead.{take_through, drop_through, DropsThrough}
 use Rattle.std.specs.Io.Iter.{u64_saturate}
 use Rattle.std.proofs.KnownBytes.{Appends-nil, Appends-trans}
-use Rattle.std.proofs.lemmas.List.Elements.{All-append, All-cons}
+use Rattle.std.proofs.lemmas.List.Elements.{All-append, All-cons, All-nil}
 use Rattle.std.proofs.lemmas.List.Folds.{list_any-append}
 use Rattle.std.proofs.lemmas.Grind.{flat_map-append}
 use Rattle.std.proofs.lemmas.Bool.{true≢false, false≢true}
@@ -25,10 +26,10 @@ use Rattle.timefd_warnings.proofs.LevelLemmas.{count_within}
 use Rattle.timefd_rewrite.specs.Lines.{AreLinesUpTo, AreLinesOf, without_newline}
 use Rattle.timefd_rewrite.proofs.LineLemmas.{all_lines, front_lines, next_line, no_line, up_to_more}
 use Rattle.timefd_lint.specs.Lines.{IsEndOf, IsLineEnd}
-use Rattle.timefd_lint.specs.Failures.{note_of}
+use Rattle.timefd_lint.specs.Failures.{note_of, unread}
 use Rattle.timefd_lint.specs.declared.failure.Failure.{Failure}
 use Rattle.timefd_lint.specs.Marks.{Notes, has_mark}
-use Rattle.timefd_lint.specs.Told.{Says, SaysFailed, SaysOf, AreMarked, Told, is_description, is_refused, is_not_text, is_failed, warnings_in, warnings_of, IsEndIn, IsTold, IsPlace, ArePlaced, place, one_if, count, tally_of_one, tally_of, text_in, both, messages, lines_in, lines_of, IsReadUp, IsRun, IsRunOver, IsRunOfAll, IsRunOn, IsNext}
+use Rattle.timefd_lint.specs.Told.{Says, SaysUnread, SaysOf, IsUnreadIfFailed, AreMarked, Told, is_description, is_refused, is_not_text, is_failed, warnings_in, warnings_of, IsEndIn, IsTold, IsPlace, ArePlaced, place, one_if, count, tally_of_one, tally_of, text_in, both, messages, lines_in, lines_of, IsReadUp, IsRun, IsRunOver, IsRunOfAll, IsRunOn, IsNext}
 
 -- A note, and what is said behind it.
 pub notes_and_says : (is_marked : Bool) (language : Language) (telling : Telling) (origin : Origin)
@@ -42,17 +43,29 @@ notes_and_says is_marked language telling origin text end before between behind 
   Appends-trans before between behind noted.0 said.0 noted.2 said.2,
 )
 
-pub says_failed : (style : Style) (file : Bor Text) (failure : Failure) (before behind : Option Text)
-    → Appends before behind (note_of style file failure) → SaysFailed style file before behind
-says_failed style file failure before behind written = (failure, written)
+pub says_unread : (style : Style) (file : Bor Text) (kind : ErrorKind) (before behind : Option Text)
+    → Appends before behind (note_of style file (unread kind)) → SaysUnread style file before behind
+says_unread style file kind before behind written =
+    (note_of style file (unread kind), (kind, refl), written)
 
--- What is said of a file that can't be read is no text's, and depends on no line.
+-- What is said of a file that fails is no text's, and depends on no line.
 fails_at : (language : Language) (telling : Telling) (origin : Origin) (text : Text)
-    (before behind : Option Text) → SaysFailed telling.style origin.file before behind
+    (before behind : Option Text) (failure : Failure)
+    → Appends before behind (note_of telling.style origin.file failure)
     → SaysOf false language telling origin text Failed before behind
-fails_at language telling origin text before behind said =
-    let message : Text = note_of telling.style origin.file said.0 in
-    (message, ([], message, refl, refl, (said.0, refl)), said.1)
+fails_at language telling origin text before behind failure written =
+    let message : Text = note_of telling.style origin.file failure in
+    (message, ([], message, refl, refl, (failure, refl)), written)
+
+-- The message is the note on why it can't be read.
+unread_at : (language : Language) (telling : Telling) (origin : Origin) (text : Text)
+    (before behind : Option Text) → SaysUnread telling.style origin.file before behind
+    → SaysOf false language telling origin text Failed before behind
+unread_at language telling origin text before behind said = (
+  said.0,
+  ([], said.0, refl, refl, (unread said.1.0, said.1.1)),
+  said.2,
+)
 
 and_false : (b : Bool) → (b && false) ≡ false
 and_false true = refl
@@ -65,7 +78,7 @@ and_right false false both = both
 
 pub read_fails : (is_first : Bool) (language : Language) (comment : Option (Bor Text))
     (telling : Telling) (origin : Origin) (bytes rest before behind : Option Text)
-    (end : TextEnd) → end ≡ Failed → SaysFailed telling.style origin.file before behind
+    (end : TextEnd) → end ≡ Failed → SaysUnread telling.style origin.file before behind
     → IsNext is_first language comment telling origin bytes rest before behind (Some end)
 read_fails is_first language comment telling origin bytes rest before behind end failed said = (
   [],
@@ -73,8 +86,26 @@ read_fails is_first language comment telling origin bytes rest before behind end
   subst (λ m. SaysOf m language telling origin (text_in false []) end before behind)
       (sym (and_false is_first))
       (subst (λ e. SaysOf false language telling origin (text_in false []) e before behind) (sym failed)
-      (fails_at language telling origin (text_in false []) before behind said)),
+      (unread_at language telling origin (text_in false []) before behind said)),
+  λ _. said,
 )
+
+-- What came of a text is no failure.
+never_failed : (language : Language) (telling : Telling) (text : Text) (end : TextEnd)
+    → IsEndOf language telling text end → IsTrue (is_failed end) → ⊥
+never_failed language telling text PassedOver ended fails = ended
+never_failed language telling text (Accepted found) ended fails = false≢true fails
+never_failed language telling text Refused ended fails = false≢true fails
+never_failed language telling text NotText ended fails = false≢true fails
+never_failed language telling text Failed ended fails = ended
+
+line_never_failed : (language : Language) (comment : Option (Bor Text)) (telling : Telling) (line : Text) (end : TextEnd)
+    → IsLineEnd language comment telling line end → IsTrue (is_failed end) → ⊥
+line_never_failed language comment telling line PassedOver ended fails = false≢true fails
+line_never_failed language comment telling line (Accepted found) ended fails = false≢true fails
+line_never_failed language comment telling line Refused ended fails = false≢true fails
+line_never_failed language comment telling line NotText ended fails = false≢true fails
+line_never_failed language comment telling line Failed ended fails = ended
 
 -- One text is a run.
 or_false : (b : Bool) → (b || false) ≡ b
@@ -231,6 +262,7 @@ pub record IsRunUpTo (is_first : Bool) (language : Language) (comment : Option (
   pub marks : AreMarked run.told
   pub number : line ≡ 1 + length run.told
   pub places : ArePlaced file 1 run.told
+  pub reasons : All (IsUnreadIfFailed telling) run.told
 
 one_line : (t : Told) → IsFalse (is_failed t.end) → lines_of (t ∷ []) ≡ t.line ∷ []
 one_line t open_end = rw open_end refl
@@ -259,6 +291,7 @@ next_told is_first language comment telling origin bytes rest before between beh
       notes_and_says (is_first && has_mark line) language telling origin (text_in false line) end
           before between behind noted
           (subst (λ t. Says language telling origin t end between behind) is said),
+      λ fails. absurd (line_never_failed language comment telling text end ended fails),
     )
 
 -- No line is told.
@@ -274,6 +307,7 @@ no_lines language comment telling file bytes known = record {
   marks = tt;
   number = refl;
   places = tt;
+  reasons = All-nil (IsUnreadIfFailed telling);
 }
 
 or_left : (a b : Bool) → (a || b) ≡ false → a ≡ false
@@ -319,6 +353,8 @@ line_behind is_first language comment telling origin file line bytes rest next b
       marks = marked_behind is_first so_far.run.told t so_far.first refl so_far.marks;
       number = one_longer line so_far.run.told t so_far.number;
       places = placed_behind file 1 line so_far.run.told t so_far.number at so_far.places;
+      reasons = All-append (IsUnreadIfFailed telling) so_far.run.told (t ∷ []) so_far.reasons
+          (only t (IsUnreadIfFailed telling) (λ fails. absurd (false≢true (sym open_end ∙ fails))));
     }
 
 appends_kept : (a b c : Option Text) (bs : Text) → Appends a b bs → Keeps b c → Appends a c bs
@@ -366,6 +402,7 @@ at_end is_first language comment telling origin file line bytes rest before betw
       read = λ _. all_read bytes rest next (lines_of so_far.run.told) so_far.lines end.1;
       marks = so_far.marks;
       places = so_far.places;
+      reasons = so_far.reasons;
     }
 
 or_true : (b : Bool) → (b || true) ≡ true
@@ -391,18 +428,16 @@ pub run_fails : (is_first : Bool) (language : Language) (comment : Option (Bor T
     (bytes rest left before between behind : Option Text) (tally : Tally)
     → IsPlace file number origin
     → IsRunUpTo is_first language comment telling file number bytes rest before between tally
-    → (line : Text)
-    → SaysOf (is_first && has_mark line) language telling origin (text_in false line) Failed between behind
+    → SaysUnread telling.style origin.file between behind
     → IsRunOver language comment telling file bytes left before behind
     (both tally (tally_of_one Failed))
-unfolding run_behind one_text
+unfolding run_behind one_text unread_at
 run_fails is_first language comment telling origin file number bytes rest left before between behind
-    tally at so_far line said =
-    let is_marked : Bool = is_first && has_mark line in
+    tally at so_far said =
     let t : Told = record {
-      line = line;
+      line = [];
       origin = origin;
-      is_marked = is_marked;
+      is_marked = false;
       end = Failed;
       message = said.0;
     } in
@@ -410,14 +445,18 @@ run_fails is_first language comment telling origin file number bytes rest left b
     record {
       run = run_behind false language comment telling before between behind tally
           (tally_of_one Failed) so_far.run
-          (one_text false language comment telling origin line is_marked Failed between behind
-          (λ e. absurd (true≢false e)) (and_right is_first (has_mark line)) said);
+          (one_text false language comment telling origin [] false Failed between behind
+          (λ e. absurd (true≢false e)) (λ e. absurd (false≢true e))
+          (unread_at language telling origin (text_in false []) between behind said));
       lines = subst (λ f. AreLinesOf bytes (lines_of (so_far.run.told ++ t ∷ [])) f)
           (sym (or_true tally.failed))
           (subst (λ ls. AreLinesOf bytes ls true) (failed_one so_far.run.told t refl) all);
       read = λ works. absurd (true≢false (sym (or_true tally.failed) ∙ works));
-      marks = marked_behind is_first so_far.run.told t so_far.first refl so_far.marks;
+      marks = marked_behind is_first so_far.run.told t so_far.first (sym (and_false is_first))
+          so_far.marks;
       places = placed_behind file 1 number so_far.run.told t so_far.number at so_far.places;
+      reasons = All-append (IsUnreadIfFailed telling) so_far.run.told (t ∷ []) so_far.reasons
+          (only t (IsUnreadIfFailed telling) (λ _. said.1));
     }
 
 is_failed_alone : (end : TextEnd) → is_failed end ≡ true → end ≡ Failed
@@ -443,9 +482,7 @@ line_fails is_first language comment telling origin file line bytes rest next be
     subst (λ e. IsRunOver language comment telling file bytes next before behind
     (both tally (tally_of_one e))) (sym is)
     (run_fails is_first language comment telling origin file line bytes rest next before between behind
-    tally at so_far more.0
-    (subst (λ e. SaysOf (is_first && has_mark more.0) language telling origin (text_in false more.0) e
-    between behind) is more.2))
+    tally at so_far (more.3 (ap is_failed is)))
 
 -- One text, one file that can't be read, and a reader, as runs.
 pub whole_text : (bytes : Option Text) (old read text : Text) → IfSome bytes (λ all. read ≡ old ++ all)
@@ -479,6 +516,7 @@ text_of_all language comment telling origin file bytes rest old read text before
       is_told = record { end = λ _. ended; marked = λ m. m; message = said.1 };
       marked = refl;
       place = at;
+      reason = λ fails. absurd (never_failed language telling text end ended fails);
       whole = λ _. whole_text bytes old read text all none same;
       found = is;
       written = said.2;
@@ -487,11 +525,12 @@ text_of_all language comment telling origin file bytes rest old read text before
 
 pub none_of_all : (language : Language) (comment : Option (Bor Text)) (telling : Telling)
     (name : Bor Text) (bytes rest before behind : Option Text) (end : TextEnd) (tally : Tally)
-    → end ≡ Failed → SaysFailed telling.style name before behind → tally ≡ tally_of_one end
+    → end ≡ Failed → SaysUnread telling.style name before behind → tally ≡ tally_of_one end
     → IsRunOfAll language comment telling name.now bytes rest before behind tally
+unfolding unread_at
 none_of_all language comment telling name bytes rest before behind end tally failed said is =
     let noted : SaysOf false language telling (place name 1) [] Failed before behind =
-    fails_at language telling (place name 1) [] before behind said in
+    unread_at language telling (place name 1) [] before behind said in
     record {
       told = record {
         line = [];
@@ -507,6 +546,7 @@ none_of_all language comment telling name bytes rest before behind end tally fai
       };
       marked = refl;
       place = (refl, refl);
+      reason = λ _. said.1;
       whole = λ e. absurd (true≢false e);
       found = is ∙ ap tally_of_one failed;
       written = noted.2;
@@ -516,14 +556,23 @@ none_of_all language comment telling name bytes rest before behind end tally fai
 
 pub failed_run : (is_whole : Bool) (language : Language) (comment : Option (Bor Text))
     (telling : Telling) (name : Bor Text) (before behind : Option Text) (end : TextEnd)
-    (tally : Tally) → end ≡ Failed → SaysFailed telling.style name before behind
+    (tally : Tally) (failure : Failure) → end ≡ Failed
+    → Appends before behind (note_of telling.style name failure)
     → tally ≡ tally_of_one end → IsRun is_whole language comment telling before behind tally
-failed_run is_whole language comment telling name before behind end tally failed said is =
+failed_run is_whole language comment telling name before behind end tally failure failed written is =
     subst (λ t. IsRun is_whole language comment telling before behind t)
     (sym (is ∙ ap tally_of_one failed))
     (one_text is_whole language comment telling (place name 1) [] false Failed before behind
     (λ e. absurd (true≢false e)) (λ e. absurd (false≢true e))
-    (fails_at language telling (place name 1) (text_in is_whole []) before behind said))
+    (fails_at language telling (place name 1) (text_in is_whole []) before behind failure written))
+
+pub unread_run : (is_whole : Bool) (language : Language) (comment : Option (Bor Text))
+    (telling : Telling) (name : Bor Text) (before behind : Option Text)
+    (tally : Tally) → SaysUnread telling.style name before behind
+    → tally ≡ tally_of_one Failed → IsRun is_whole language comment telling before behind tally
+unread_run is_whole language comment telling name before behind tally said is =
+    failed_run is_whole language comment telling name before behind Failed tally (unread said.1.0) refl
+    (subst (λ m. Appends before behind m) said.1.1 said.2) is
 
 pub whole_run : (is_whole : Bool) (language : Language) (comment : Option (Bor Text))
     (telling : Telling) (file : Text) (bytes rest before behind : Option Text) (tally : Tally)
@@ -605,7 +654,7 @@ pub fails_last : (is_first : Bool) (language : Language) (comment : Option (Bor 
     (bytes rest left before between behind : Option Text) (tally one all : Tally) (end : TextEnd)
     → end ≡ Failed
     → IsRunUpTo is_first language comment telling name.now line bytes rest before between tally
-    → SaysFailed telling.style name between behind
+    → SaysUnread telling.style name between behind
     → one ≡ tally_of_one end → all ≡ both tally one
     → IsRunOver language comment telling name.now bytes left before behind all
 fails_last is_first language comment telling name line bytes rest left before between behind tally one
@@ -613,10 +662,7 @@ fails_last is_first language comment telling name line bytes rest left before be
     subst (λ t. IsRunOver language comment telling name.now bytes left before behind t)
     (sym (tally_is tally one all end is_one sum ∙ ap (λ e. both tally (tally_of_one e)) failed))
     (run_fails is_first language comment telling (place name line) name.now line bytes rest left before
-    between behind tally (refl, refl) so_far []
-    (subst (λ m. SaysOf m language telling (place name line) (text_in false []) Failed between behind)
-    (sym (and_false is_first))
-    (fails_at language telling (place name line) (text_in false []) between behind said)))
+    between behind tally (refl, refl) so_far said)
 
 pub whole_on : (is_whole : Bool) (language : Language) (comment : Option (Bor Text))
     (telling : Telling) (file : Text) (bytes rest before behind : Option Text) (tally : Tally)

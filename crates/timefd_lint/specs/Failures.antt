@@ -1,5 +1,5 @@
 -- What fails of a file, in words.
-use Rattle.std.specs.Prelude.{codes}
+use Rattle.std.specs.Prelude.{◌≡◌, codes}
 use denote.Ref.{Bor}
 use Rattle.std.specs.declared.io.ErrorKind.{ErrorKind}
 use Rattle.std.specs.declared.io.ErrorKind.TheVariants.{NotFound, IsADirectory, PermissionDenied}
@@ -47,3 +47,7 @@ unread kind = Unread
 abbrev pub note_of : Style → Bor Text → Failure → Text
 note_of style name failure =
     note style (record { file = name; line = 1 }) (code failure) (sentence failure)
+
+-- What is written of a file that can't be read says why, by what the system says.
+abbrev pub IsUnreadNote : Style → Bor Text → Text → Type 0
+IsUnreadNote style name message = (kind : ErrorKind) × (message ≡ note_of style name (unread kind))

@@ -22,7 +22,7 @@ use Rattle.timefd_lint.specs.declared.line.TextEnd.{TextEnd}
 use Rattle.timefd_lint.specs.declared.line.TextEnd.TheVariants.{PassedOver, Accepted, Refused, NotText, Failed}
 use Rattle.timefd_lint.specs.declared.options.Options.{Options}
 use Rattle.timefd_lint.specs.declared.tally.Tally.{Tally}
-use Rattle.timefd_lint.specs.Told.{IsReadUp, IsRun, IsTold, SaysFailed, Told, both, messages, place, tally_of, tally_of_one}
+use Rattle.timefd_lint.specs.Told.{IsReadUp, IsRun, IsTold, SaysUnread, Told, both, messages, place, tally_of, tally_of_one}
 
 -- whether the file of a name is read as a source of Rust
 abbrev pub is_rust : Options → Text → Bool
@@ -81,10 +81,10 @@ IsSaid finder telling name bytes before behind tally =
     (IsUtf8 bytes × IsReported finder telling name bytes before behind tally)
     ⊎ ((¬ IsUtf8 bytes) × IsNotText telling name before behind tally)
 
--- Of a source that can't be read the note on what fails of it is written.
+-- Of a source that can't be read the note on why is written.
 abbrev pub IsUnread : Telling → Text → Option Text → Option Text → Tally → Type 0
 IsUnread telling name before behind tally = (file : Bor Text) × (file.now ≡ name)
-    × SaysFailed telling.style file before behind × (tally ≡ tally_of_one Failed)
+    × SaysUnread telling.style file before behind × (tally ≡ tally_of_one Failed)
 
 -- All bytes of a reader are the source, unless they can't be read.
 abbrev pub IsRunOfSource : Finder → Telling → Text → Option Text → Option Text → Option Text → Option Text

@@ -22,7 +22,7 @@ use Rattle.timefd_lint_warnings.specs.Messages.{messages as warning_messages}
 use Rattle.timefd_lint_sources.specs.declared.told.Telling.{Telling}
 use Rattle.timefd_lint_sources.specs.Told.{no_text_note}
 use Rattle.timefd_rewrite.specs.Lines.{AreLinesOf, IsNextLine, without_newline}
-use Rattle.timefd_lint.specs.Failures.{note_of}
+use Rattle.timefd_lint.specs.Failures.{IsUnreadNote, note_of}
 use Rattle.timefd_lint.specs.Lines.{IsEndOf, IsLineEnd}
 use Rattle.timefd_lint.specs.Marks.{IsNote, has_mark}
 
@@ -44,7 +44,7 @@ abbrev pub IsDrawing : Language → Style → Origin → Text → Text → Type 
 IsDrawing language style origin text message = (g : Diagnostic) × (further : List Diagnostic)
     × AreDiagnosed language text g further × (message ≡ drawn_all style origin text g further)
 
--- What is written of a file that can't be read is the note on what fails of it.
+-- What is written of a file that fails is the note on what fails of it.
 abbrev pub IsFailureNote : Style → Bor Text → Text → Type 0
 IsFailureNote style file message = (failure : Failure) × (message ≡ note_of style file failure)
 
@@ -66,10 +66,10 @@ abbrev pub Says : Language → Telling → Origin → Text → TextEnd → Optio
 Says language telling origin text end before behind = (message : Text)
     × IsMessageOn language telling origin text end message × Appends before behind message
 
--- The note on what fails of a file, and no other bytes.
-abbrev pub SaysFailed : Style → Bor Text → Option Text → Option Text → Type 0
-SaysFailed style file before behind =
-    (failure : Failure) × Appends before behind (note_of style file failure)
+-- The note on why a file can't be read, and no other bytes.
+abbrev pub SaysUnread : Style → Bor Text → Option Text → Option Text → Type 0
+SaysUnread style file before behind = (message : Text)
+    × IsUnreadNote style file message × Appends before behind message
 
 -- In front of the message stands the note on a byte-order mark, if there is one.
 abbrev pub IsMessageOf : Bool → Language → Telling → Origin → Text → TextEnd → Text → Type 0
@@ -147,6 +147,11 @@ text_in false bytes = without_newline bytes
 abbrev pub IsEndIn : Bool → Language → Option (Bor Text) → Telling → Text → TextEnd → Type 0
 IsEndIn true language comment telling line end = IsEndOf language telling line end
 IsEndIn false language comment telling line end = IsLineEnd language comment telling (without_newline line) end
+
+-- Where a file that was opened can't be read on, what is told is why.
+abbrev pub IsUnreadIfFailed : Telling → Told → Type 0
+IsUnreadIfFailed telling t =
+    IsTrue (is_failed t.end) → IsUnreadNote telling.style t.origin.file t.message
 
 -- Of a file that can't be read there is no line.
 pub record IsTold (is_whole : Bool) (language : Language) (comment : Option (Bor Text))
@@ -248,6 +253,7 @@ pub record IsRunOver (language : Language) (comment : Option (Bor Text)) (tellin
   pub read : IsFalse tally.failed → IsReadUp bytes rest
   pub marks : AreMarked run.told
   pub places : ArePlaced file 1 run.told
+  pub reasons : All (IsUnreadIfFailed telling) run.told
 
 -- The same of all bytes of a reader as one text. Where they are known, that text is what is told of,
 -- unless it can't be read.
@@ -257,6 +263,7 @@ pub record IsRunOfAll (language : Language) (comment : Option (Bor Text)) (telli
   pub is_told : IsTold true language comment telling told
   pub marked : told.is_marked ≡ has_mark told.line
   pub place : IsPlace file 1 told.origin
+  pub reason : IsUnreadIfFailed telling told
   pub whole : IsFalse (is_failed told.end) → IfSome bytes (λ all. told.line ≡ all)
   pub found : tally ≡ tally_of_one told.end
   pub written : Appends before behind told.message
@@ -270,7 +277,8 @@ IsRunOn true language comment telling file bytes rest before behind tally =
 IsRunOn false language comment telling file bytes rest before behind tally =
     IsRunOver language comment telling file bytes rest before behind tally
 
--- What one more line comes to, the first or another, at its place: nothing at the end of the bytes.
+-- What one more line comes to, the first or another, at its place: nothing at the end of the bytes. Where
+-- it can't be read, the note says why.
 abbrev pub IsNext : Bool → Language → Option (Bor Text) → Telling → Origin → Option Text → Option Text
     → Option Text → Option Text → Option TextEnd → Type 0
 IsNext is_first language comment telling origin bytes rest before behind None =
@@ -280,3 +288,4 @@ IsNext is_first language comment telling origin bytes rest before behind (Some e
     × (IsFalse (is_failed end) → IsEndIn false language comment telling line end
     × IsNextLine bytes line rest)
     × SaysOf (is_first && has_mark line) language telling origin (text_in false line) end before behind
+    × (IsTrue (is_failed end) → SaysUnread telling.style origin.file before behind)

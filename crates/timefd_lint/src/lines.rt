@@ -5,7 +5,7 @@ ghost use Rattle.std.specs.Io.KnownBytes.{Appends};
 ghost use Rattle.std.specs.IoError.{error_kind};
 ghost use Rattle.timefd_lint.specs.Failures as failures;
 ghost use Rattle.timefd_lint.specs.Failures.{note_of};
-ghost use Rattle.timefd_lint.specs.Told.{IsNext, IsRunOfAll, IsRunOver, SaysFailed};
+ghost use Rattle.timefd_lint.specs.Told.{IsNext, IsRunOfAll, IsRunOver, SaysUnread};
 ghost use Rattle.timefd_lint.specs.declared.line.TextEnd.TheVariants as ends;
 
 use crate::failure::{Failure, unread};
@@ -111,7 +111,7 @@ pub fn lint_whole<R: Read, W: Write>(
 }
 
 /// Memory that runs out in a read ends the run; any other error is noted.
-#[tactic(auto, using(crate::proofs::ToldLemmas::says_failed))]
+#[tactic(auto, using(crate::proofs::ToldLemmas::says_unread))]
 pub fn read_error<W: Write>(
     alloc: Global,
     options: Options<'_>,
@@ -120,7 +120,7 @@ pub fn read_error<W: Write>(
     writer: &mut W,
 ) -> Result<TextEnd, RunError>
     ensures end { IfOk result (λ end. end ≡ ends.Failed) }
-    ensures said { OnOk result (SaysFailed options.entry.telling.style name.entry
+    ensures said { OnOk result (SaysUnread options.entry.telling.style name.entry
         (W.contents writer.old) (W.contents writer.new)) }
     ensures noted { OnOk result (Appends (W.contents writer.old) (W.contents writer.new)
         (note_of options.entry.telling.style name.entry (failures.unread (error_kind error)))) }

@@ -1,4 +1,5 @@
-use Rattle.timefd_lint.specs.declared.failure.Failure.TheVariants.{Unread}
+use Rattle.std.proofs.Common.{refl}
+use Rattle.std.specs.declared.io.ErrorKind.TheVariants.{Other}
 use Rattle.timefd_lint.proofs.ToldLemmas.{ends_here, goes_on, fails_here, fails_last}
 use Rattle.timefd_lint.proofs.lines.lint_lines.Goals as goal
 
@@ -45,5 +46,5 @@ returns g c =
     (g.W.Write.contents c.args.writer.now)
     (g.W.Write.contents c.lines.writer) (g.W.Write.contents c.failed.new.writer) c.lines.tally
     c.of-2.result c.and.result c.in_ok-end.end c.in_ok-end.ensures.end c.lines.invariant
-    (Unread, c.in_ok-end.ensures.noted)
+    (_, (Other, refl), c.in_ok-end.ensures.noted)
     c.of-2.ensures c.and.ensures
