@@ -4,12 +4,13 @@ use std::alloc::{AllocError, Global};
 use std::io::ErrorKind;
 use std::{fs, str};
 use timefd_drawing::shown::safe;
-use timefd_lint_config::{ConfigError, OwnedKey, keys_of_config};
+use timefd_lint_config::{Config, ConfigError, OwnedKey, config_of};
+use timefd_lint_options::Settings;
 use toml::de;
 
 const NAME: &str = ".timefd.toml";
 
-/// What comes of the file of settings where it gives no keys.
+/// Why nothing is known of the file of settings.
 #[derive(Drop)]
 pub enum ConfigFailure {
     /// Memory ran out.
@@ -24,24 +25,37 @@ impl From<AllocError> for ConfigFailure {
     }
 }
 
-/// The keys of the file of settings in the working directory: none, where there is no such file.
-pub fn config_keys(rt: &HostRuntime, alloc: Global) -> Result<Vec<OwnedKey>, ConfigFailure> {
+/// What a file of settings says that is empty.
+pub fn no_config(alloc: Global) -> Config {
+    Config {
+        keys: Vec::new(alloc),
+        exclude: String::new(alloc),
+    }
+}
+
+/// What the file of settings in the working directory says: nothing, where there is no such file.
+pub fn read_config(rt: &HostRuntime, alloc: Global) -> Result<Config, ConfigFailure> {
     match fs::read(rt, NAME) {
-        Ok(bytes) => keys_of_bytes(alloc, &bytes),
+        Ok(bytes) => config_of_bytes(alloc, &bytes),
         Err(error) => match error.kind() {
-            ErrorKind::NotFound => Ok(Vec::new(alloc)),
+            ErrorKind::NotFound => Ok(no_config(alloc)),
             ErrorKind::OutOfMemory => Err(ConfigFailure::Memory),
             kind => Err(wrong(alloc, unreadable(kind))),
         },
     }
 }
 
-fn keys_of_bytes(alloc: Global, bytes: &[u8]) -> Result<Vec<OwnedKey>, ConfigFailure> {
+/// The keys of the file of settings that count in a run: none, where files are mended.
+pub fn counted_keys<'a>(settings: Settings<'_>, config: &'a Config) -> &'a [OwnedKey] {
+    if settings.fixes { &[] } else { &config.keys }
+}
+
+fn config_of_bytes(alloc: Global, bytes: &[u8]) -> Result<Config, ConfigFailure> {
     let Ok(text) = str::from_utf8(bytes) else {
         return Err(wrong(alloc, "the bytes are no UTF-8"));
     };
-    match keys_of_config(alloc, text) {
-        Ok(keys) => Ok(keys),
+    match config_of(alloc, text) {
+        Ok(config) => Ok(config),
         Err(error) => Err(failure(alloc, text, error)),
     }
 }
@@ -73,10 +87,12 @@ fn failure(alloc: Global, text: &str, error: ConfigError) -> ConfigFailure {
             about(
                 alloc,
                 &name,
-                "stands for nothing here: the one table is `[keys]`",
+                "stands for nothing here: there are `exclude` and `[keys]`",
             )
         }
         ConfigError::NotATable => wrong(alloc, "`keys` is no table"),
+        ConfigError::NotAList => wrong(alloc, "`exclude` is no list"),
+        ConfigError::NotAPattern => wrong(alloc, "`exclude` has a pattern that is no string"),
         ConfigError::EmptyName => wrong(alloc, "a key has no name"),
         ConfigError::WrongType(name) => {
             about(

@@ -17,6 +17,7 @@ mod progress;
 mod rewriting;
 mod run;
 mod rust;
+mod sought;
 mod source;
 mod stamp;
 mod status;
@@ -25,12 +26,13 @@ mod tally;
 mod usage;
 
 use color::is_colored;
-use config::{ConfigFailure, config_keys};
+use config::{ConfigFailure, counted_keys, no_config, read_config};
 use line::RunError;
 use options::{Options, run_options};
 use progress::Watched;
 use rewriting::{rewrite_files, rewriting_of};
 use run::run;
+use sought::sought;
 use source::BUFFER;
 use status::{
     FAILED, NOT_TEXT, WRONG_ARGUMENTS, no_memory, told, walk_failed, write_failed, wrong_arguments,
@@ -42,7 +44,7 @@ use std::process::ExitCode;
 use summary::summary;
 use tally::Tally;
 use timefd_keys::Key;
-use timefd_lint_config::{OwnedKey, same_keys, with_keys};
+use timefd_lint_config::{Config, OwnedKey, same_keys, with_keys};
 use timefd_lint_files::{WalkError, expanded};
 use timefd_lint_options::{Asked, Settings, keys_of, options_of};
 
@@ -77,29 +79,32 @@ fn words_status(rt: &HostRuntime, words: &[&str]) -> u8 {
     }
 }
 
-// The keys of the file of settings, which counts where files are looked at.
-fn looked_at_keys(
-    rt: &HostRuntime,
-    settings: Settings<'_>,
-) -> Result<Vec<OwnedKey>, ConfigFailure> {
-    match rewriting_of(settings) {
-        Some(_) => Ok(Vec::new(rt.alloc())),
-        None => config_keys(rt, rt.alloc()),
+// Whether a folder stands for the sources below it: unless it is lines that are rewritten.
+fn walks(settings: Settings<'_>) -> bool {
+    rewriting_of(settings).is_none() || settings.fixes
+}
+
+// What the file of settings says, which counts where folders may be named.
+fn counted_config(rt: &HostRuntime, settings: Settings<'_>) -> Result<Config, ConfigFailure> {
+    if walks(settings) {
+        read_config(rt, rt.alloc())
+    } else {
+        Ok(no_config(rt.alloc()))
     }
 }
 
 // The status of a run over what is named, with the keys of these words, and behind them those of the file of settings.
 fn keys_status(rt: &HostRuntime, settings: Settings<'_>, words: &[&str], names: &[&str]) -> u8 {
-    let more = match looked_at_keys(rt, settings) {
-        Ok(more) => more,
+    let config = match counted_config(rt, settings) {
+        Ok(config) => config,
         Err(ConfigFailure::Memory) => return no_memory(rt),
         Err(ConfigFailure::Wrong(sentence)) => return told(rt, WRONG_ARGUMENTS, &sentence),
     };
     let Ok(keys) = keys_of(rt.alloc(), words) else {
         return no_memory(rt);
     };
-    match all_keys(rt.alloc(), &keys, &more) {
-        Ok(keys) => names_status(rt, settings, &keys, names),
+    match all_keys(rt.alloc(), &keys, counted_keys(settings, &config)) {
+        Ok(keys) => names_status(rt, settings, &keys, &config.exclude, names),
         Err(AllocError) => no_memory(rt),
     }
 }
@@ -112,13 +117,18 @@ fn all_keys<'a>(
     with_keys(same_keys(alloc, keys)?, more)
 }
 
-// The status of a run over what is named. A folder stands for the sources below it, unless it is lines that are
-// rewritten.
-fn names_status(rt: &HostRuntime, settings: Settings<'_>, keys: &[Key<'_>], names: &[&str]) -> u8 {
-    if rewriting_of(settings).is_some() && !settings.fixes {
+// The status of a run over what is named, but for what is excluded below folders.
+fn names_status(
+    rt: &HostRuntime,
+    settings: Settings<'_>,
+    keys: &[Key<'_>],
+    excluded: &str,
+    names: &[&str],
+) -> u8 {
+    if !walks(settings) {
         return files_status(rt, settings, keys, names);
     }
-    let files = match expanded(rt, rt.alloc(), names) {
+    let files = match expanded(rt, rt.alloc(), sought(settings, keys, excluded), names) {
         Ok(files) => files,
         Err(WalkError::Memory) => return no_memory(rt),
         Err(WalkError::Failed { path, reason }) => return walk_failed(rt, &path, reason),

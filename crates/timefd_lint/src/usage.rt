@@ -16,7 +16,8 @@ Reads format descriptions, one a line, from the files or from the standard input
 are none, where, why, and what to write in their place. The file - is the standard input. In a file
 whose name ends in .rs, a source of Rust, they are the string literals in calls of time and chrono.
 With --key they are, in files whose names end in .toml, .json, .yaml or .yml, strings of these keys.
-A folder stands for the sources below it, but hidden ones and those that .gitignore files name.
+A folder stands for the sources below it, and with --key for those files too, but not for hidden ones
+and those that .gitignore files name, or the list exclude in a file .timefd.toml.
 
   --language 1|2|3|strftime    the language of all lines; version 3 if it isn't given
   --format human|json|short|github

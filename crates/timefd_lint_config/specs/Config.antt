@@ -1,12 +1,13 @@
--- The keys that a file of settings gives.
-use Rattle.std.specs.Prelude.{ℤ, pos, ◌==◌, Option, Some, None, Result, Ok, Err, List, [], ◌∷◌, codes, bytes_eq, length, map, if◌then◌else◌, string_bytes}
+-- What a file of settings says.
+use Rattle.std.specs.Prelude.{ℤ, pos, ◌==◌, Option, Some, None, Result, Ok, Err, Bool, ◌||◌, List, [], ◌∷◌, ◌++◌, codes, bytes_eq, length, map, if◌then◌else◌, string_bytes}
 use Rattle.std.specs.Ordering.{int_eq}
 use Rattle.timefd_sources.specs.declared.dialect.Dialect.{Dialect}
 use Rattle.timefd_sources.specs.declared.dialect.Dialect.TheVariants.{One, Two, Three}
 use Rattle.timefd_sources.specs.Bytes.{Text}
 use Rattle.timefd_keys.specs.Keys.{Named, dialect_named}
-use Rattle.toml.specs.Data.{Data, string, integer, float, boolean, datetime, array, table, Members, no_members, member, get_member}
+use Rattle.toml.specs.Data.{Data, string, integer, float, boolean, datetime, array, table, Items, no_items, item, Members, no_members, member, get_member}
 use Rattle.toml.specs.Parse.{parse_document}
+use Rattle.timefd_lint_config.specs.declared.config.Config.{Config}
 use Rattle.timefd_lint_config.specs.declared.error.ConfigError.{ConfigError}
 use Rattle.timefd_lint_config.specs.declared.error.ConfigError.TheVariants as error
 use Rattle.timefd_lint_config.specs.declared.keys.OwnedKey.{OwnedKey}
@@ -21,6 +22,8 @@ pub data Fault : Type 0 where
   EmptyName : Fault
   WrongType : Text → Fault
   UnknownLanguage : Text → Fault
+  NotAList : Fault
+  NotAPattern : Fault
 
 -- what an error says of the text: nothing, where memory ran out
 abbrev pub fault : ConfigError → Option Fault
@@ -31,6 +34,8 @@ fault error.NotATable = Some NotATable
 fault error.EmptyName = Some EmptyName
 fault (error.WrongType name) = Some (WrongType (string_bytes name))
 fault (error.UnknownLanguage name) = Some (UnknownLanguage (string_bytes name))
+fault error.NotAList = Some NotAList
+fault error.NotAPattern = Some NotAPattern
 
 -- a key by the bytes of its name
 abbrev pub named : OwnedKey → Named
@@ -84,11 +89,14 @@ abbrev pub keys_in : Members → Result (List Named) Fault
 keys_in no_members = Ok []
 keys_in (member name value rest) = with_key (key_of name value) (keys_in rest)
 
+abbrev pub is_known : Text → Bool
+is_known name = bytes_eq name (codes "keys") || bytes_eq name (codes "exclude")
+
 -- the first name that stands for nothing
 abbrev pub unknown_name : Members → Option Text
 unknown_name no_members = None
 unknown_name (member name value rest) =
-    if bytes_eq name (codes "keys") then unknown_name rest else Some name
+    if is_known name then unknown_name rest else Some name
 
 abbrev pub keys_at : Option Data → Result (List Named) Fault
 keys_at None = Ok []
@@ -100,19 +108,69 @@ keys_at (Some (boolean value)) = Err NotATable
 keys_at (Some (datetime value)) = Err NotATable
 keys_at (Some (array items)) = Err NotATable
 
-abbrev pub unless_unknown : Option Text → Result (List Named) Fault → Result (List Named) Fault
-unless_unknown (Some name) keys = Err (UnknownName name)
-unless_unknown None keys = keys
+-- a pattern, and a line feed
+abbrev pub pattern_line : Data → Option Text
+pattern_line (string pattern) = Some (pattern ++ 10 ∷ [])
+pattern_line (integer number) = None
+pattern_line (float number) = None
+pattern_line (boolean value) = None
+pattern_line (datetime value) = None
+pattern_line (array items) = None
+pattern_line (table rows) = None
 
--- The keys of a document: it has the table `keys`, or nothing.
-abbrev pub keys_of_document : Members → Result (List Named) Fault
-keys_of_document document =
-    unless_unknown (unknown_name document) (keys_at (get_member (codes "keys") document))
+abbrev pub pushed : Text → Option Text → Option Text
+pushed text None = None
+pushed text (Some line) = Some (text ++ line)
 
-abbrev pub keys_of_parsed : Option Members → Result (List Named) Fault
-keys_of_parsed (Some document) = keys_of_document document
-keys_of_parsed None = Err NotToml
+abbrev pub before : Text → Result Text Fault → Result Text Fault
+before line (Ok lines) = Ok (line ++ lines)
+before line (Err fault) = Err fault
 
--- the keys that a text gives
-abbrev pub keys_of_config : Text → Result (List Named) Fault
-keys_of_config text = keys_of_parsed (parse_document text)
+abbrev pub with_line : Option Text → Result Text Fault → Result Text Fault
+with_line (Some line) behind = before line behind
+with_line None behind = Err NotAPattern
+
+-- the patterns of a list, a line each
+abbrev pub patterns_in : Items → Result Text Fault
+patterns_in no_items = Ok []
+patterns_in (item value rest) = with_line (pattern_line value) (patterns_in rest)
+
+abbrev pub exclude_at : Option Data → Result Text Fault
+exclude_at None = Ok []
+exclude_at (Some (array items)) = patterns_in items
+exclude_at (Some (string word)) = Err NotAList
+exclude_at (Some (integer number)) = Err NotAList
+exclude_at (Some (float number)) = Err NotAList
+exclude_at (Some (boolean value)) = Err NotAList
+exclude_at (Some (datetime value)) = Err NotAList
+exclude_at (Some (table rows)) = Err NotAList
+
+-- what a file says: keys, and the patterns of what is passed over, a line each
+pub record Said : Type 0 where
+  pub keys : List Named
+  pub exclude : Text
+
+abbrev pub said : Config → Said
+said config = record { keys = named_all config.keys.items; exclude = string_bytes config.exclude }
+
+abbrev pub both : Result (List Named) Fault → Result Text Fault → Result Said Fault
+both (Err fault) exclude = Err fault
+both (Ok keys) (Err fault) = Err fault
+both (Ok keys) (Ok exclude) = Ok (record { keys = keys; exclude = exclude })
+
+abbrev pub unless_unknown : Option Text → Result Said Fault → Result Said Fault
+unless_unknown (Some name) config = Err (UnknownName name)
+unless_unknown None config = config
+
+-- What a document says: it has the table `keys` and the list `exclude`, or one of the two, or nothing.
+abbrev pub config_of_document : Members → Result Said Fault
+config_of_document document = unless_unknown (unknown_name document)
+    (both (keys_at (get_member (codes "keys") document)) (exclude_at (get_member (codes "exclude") document)))
+
+abbrev pub config_of_parsed : Option Members → Result Said Fault
+config_of_parsed (Some document) = config_of_document document
+config_of_parsed None = Err NotToml
+
+-- what a text says
+abbrev pub config_of : Text → Result Said Fault
+config_of text = config_of_parsed (parse_document text)

@@ -1,4 +1,4 @@
-//! Why a text gives no keys.
+//! Why a text is no file of settings.
 
 ghost use Rattle.std.specs.Prelude.{◌≡◌};
 ghost use Rattle.timefd_lint_config.specs.declared.error.ConfigError.TheVariants.{Memory};
@@ -6,14 +6,14 @@ ghost use Rattle.timefd_lint_config.specs.declared.error.ConfigError.TheVariants
 use std::alloc::AllocError;
 use toml::de;
 
-/// Why a text gives no keys.
+/// Why a text is no file of settings.
 #[derive(Drop)]
 pub enum ConfigError {
     /// Memory ran out.
     Memory,
     /// It is no TOML, for this reason.
     NotToml(de::Error),
-    /// A table or a key of this name stands beside the table of keys.
+    /// A table or a key of this name stands for nothing.
     UnknownName(String),
     /// `keys` is no table.
     NotATable,
@@ -23,6 +23,10 @@ pub enum ConfigError {
     WrongType(String),
     /// The number or the string behind the key of this name is no language.
     UnknownLanguage(String),
+    /// `exclude` is no list.
+    NotAList,
+    /// What stands in the list `exclude` isn't all strings.
+    NotAPattern,
 }
 
 impl From<AllocError> for ConfigError {

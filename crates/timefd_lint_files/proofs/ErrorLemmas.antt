@@ -19,7 +19,7 @@ use Rattle.timefd_lint_files.specs.declared.walk_error.WalkError.TheVariants.{Me
 use Rattle.timefd_lint_files.specs.Entries.{role}
 use Rattle.timefd_lint_files.specs.Errors.{IsBelow, IsBelowAny, IsFailureOf, IsReadError, IsUnread, IsUnreadOf, IsWalkError, slashes}
 use Rattle.timefd_lint_files.specs.Matching.{Text, slash}
-use Rattle.timefd_lint_files.specs.Rules.{is_ignored}
+use Rattle.timefd_lint_files.specs.Rules.{is_passed_over}
 use Rattle.timefd_lint_files.specs.Walks.{IsLeft, IsLookedAt, as_folder, entered, found_as, passed, taken}
 
 -- what one byte adds to the slashes of a path
@@ -27,18 +27,18 @@ abbrev one_if_slash : ℕ → ℕ
 one_if_slash byte = cond (nat_eq slash byte) 1 0
 
 -- the folder that is gone into
-entered_as : (ignores : List IgnoreFile) (folder name : Text) (r : Role) (before behind : List Text) (path : Text)
-    → IsLeft (found_as ignores (folder ++ name) r) before behind (Some path) → path ≡ (folder ++ name) ++ slash ∷ []
-entered_as ignores folder name roles.None before behind path left = absurd cc
-entered_as ignores folder name roles.Source before behind path left =
-    cases_bool (is_ignored ignores (folder ++ name) false) left
+entered_as : (excluded ignores : List IgnoreFile) (folder name : Text) (r : Role) (before behind : List Text) (path : Text)
+    → IsLeft (found_as excluded ignores (folder ++ name) r) before behind (Some path) → path ≡ (folder ++ name) ++ slash ∷ []
+entered_as excluded ignores folder name roles.None before behind path left = absurd cc
+entered_as excluded ignores folder name roles.Source before behind path left =
+    cases_bool (is_passed_over excluded ignores (folder ++ name) false) left
   where
     cases_bool : (is : Bool) → IsLeft (if is then passed else taken (folder ++ name)) before behind (Some path)
         → path ≡ (folder ++ name) ++ slash ∷ []
     cases_bool true left = absurd cc
     cases_bool false left = absurd cc
-entered_as ignores folder name roles.Folder before behind path left =
-    cases_bool (is_ignored ignores (folder ++ name) true) left
+entered_as excluded ignores folder name roles.Folder before behind path left =
+    cases_bool (is_passed_over excluded ignores (folder ++ name) true) left
   where
     same : {own : Text} → ◌≡◌ {A = Option Text} (Some path) (Some own) → path ≡ own
     same e = cc
@@ -73,14 +73,14 @@ as_deep fails Below Other depth more (Failed path (Unread kind)) each deep is = 
 as_deep fails Below Other depth more (Failed path TooDeep) each deep is = deep (string_bytes path) is
 
 -- What fails below a folder that is gone into fails below that in which it stands.
-pub deeper : (fails : Text → ErrorKind → Type 0) (ignores : List IgnoreFile) (folder : Text) (entry : Entry)
+pub deeper : (fails : Text → ErrorKind → Type 0) (endings : List (Bor Text)) (excluded ignores : List IgnoreFile) (folder : Text) (entry : Entry)
     (before behind : List Text) (path named : Text) (below : Option Text) (depth : ℕ) (e : WalkError) → 0 < depth
-    → IsLookedAt ignores folder entry before behind below → below ≡ Some path → named ≡ path
+    → IsLookedAt endings excluded ignores folder entry before behind below → below ≡ Some path → named ≡ path
     → IsWalkError fails (IsBelow named) (depth - 1) e → IsWalkError fails (IsBelow folder) depth e
-deeper fails ignores folder entry before behind path named below depth e some left is same error =
+deeper fails endings excluded ignores folder entry before behind path named below depth e some left is same error =
     let name = string_bytes entry.name in
-    let own : path ≡ (folder ++ name) ++ slash ∷ [] = entered_as ignores folder name (role entry) before behind path
-    (subst (λ (b : Option Text). IsLookedAt ignores folder entry before behind b) is left) in
+    let own : path ≡ (folder ++ name) ++ slash ∷ [] = entered_as excluded ignores folder name (role endings entry) before behind path
+    (subst (λ (b : Option Text). IsLookedAt endings excluded ignores folder entry before behind b) is left) in
     as_deep fails (IsBelow named) (IsBelow folder) (depth - 1) depth e
     (λ told in_it. outside folder name told 0 (outside (folder ++ name) (slash ∷ []) told 0
     (subst (λ (f : Text). IsBelow f 0 told) (same ∙ own) in_it)))

@@ -1,11 +1,33 @@
 -- What a name of the command line gives.
-use Rattle.std.proofs.Common.{◌≡◌, ℕ, ◌+◌, ◌<◌, List, [], ◌∷◌, ◌++◌, length, get_or, refl, sym, subst, zero, suc, arith}
+use Rattle.std.proofs.Common.{◌≡◌, ℕ, ◌+◌, ◌<◌, List, [], ◌∷◌, ◌++◌, length, get_or, refl, sym, ap, ◌∙◌, subst, zero, suc, arith}
 use Rattle.std.specs.Prelude.{Bool, true, false}
 use denote.Ref.{Bor}
 use Rattle.timefd_lint_files.specs.Matching.{Text}
-use Rattle.timefd_lint_files.specs.Walks.{AreExpanded, IsExpanded, as_folder, is_input}
+use Rattle.timefd_lint_files.specs.declared.ignore_file.IgnoreFile.{IgnoreFile}
+use Rattle.timefd_lint_files.specs.IgnoreFiles.{IsReadAs}
+use Rattle.timefd_lint_files.specs.declared.entry.Entry.{Entry}
+use Rattle.timefd_lint_files.specs.Walks.{AreExcluded, AreExpanded, IsExpanded, IsWalk, IsWalkBut, as_folder, here_len, is_input}
 use Rattle.timefd_lint_files.proofs.WalkLemmas.{GoesOn}
 use Rattle.timefd_lint_files.proofs.WalkLemmas as walks
+
+-- a file that is pushed to none
+pub alone : (text folder : Text) (file : IgnoreFile) (before files : List IgnoreFile)
+    → IsReadAs (here_len folder) text file → before ≡ [] → files ≡ before ++ file ∷ [] → AreExcluded text folder files
+alone text folder file before files read none is = (file, read, is ∙ ap (λ fs. fs ++ file ∷ []) none)
+
+-- names below a folder, where these files are those of what is excluded
+pub walked_but : (endings : List (Bor Text)) (text : Text) (lists : Text → List Entry → Type 0)
+    (holds : Text → Text → Type 0) (folder : Text) (excluded lent above : List IgnoreFile) (before behind : List Text)
+    → AreExcluded text folder excluded → lent ≡ excluded → above ≡ []
+    → ((names : List Text) × (behind ≡ before ++ names) × IsWalk endings lent lists holds 255 above folder names)
+    → (names : List Text) × (behind ≡ before ++ names) × IsWalkBut endings text lists holds folder names
+unfolding IsWalkBut
+walked_but endings text lists holds folder excluded lent above before behind are same none found =
+    let inside : IsWalk endings excluded lists holds 255 above folder found.0 =
+    subst (λ (files : List IgnoreFile). IsWalk endings files lists holds 255 above folder found.0) same found.2 in
+    let walked : IsWalk endings excluded lists holds 255 [] folder found.0 =
+    subst (λ (files : List IgnoreFile). IsWalk endings excluded lists holds 255 files folder found.0) none inside in
+    (found.0, found.1, (excluded, are, walked))
 
 -- one name more
 abbrev pub OneMore : (Text → List Text → Type 0) → (Text → Bool → Type 0) → Bor Text → List Text → List Text → Type 0

@@ -2,6 +2,7 @@
 use Rattle.std.proofs.Common.{◌≡◌, ℕ, ◌+◌, ◌<◌, suc, List, [], ◌∷◌, ◌++◌, length, get_or, drop, refl, sym, ap, subst, ◌∙◌, append_assoc, append-nil, add-one}
 use Rattle.std.specs.Prelude.{Option, Some, None, Bool, true, codes}
 use Rattle.std.proofs.Math.Seq.{drop-cons, drop-length}
+use denote.Ref.{Bor}
 use Rattle.timefd_lint_files.specs.declared.entry.Entry.{Entry}
 use Rattle.timefd_lint_files.specs.declared.entry.Kind.TheVariants as kinds
 use Rattle.timefd_lint_files.specs.declared.ignore_file.IgnoreFile.{IgnoreFile}
@@ -48,18 +49,19 @@ no_folder Below (taken path) before behind left = (path ∷ [], refl, left.0)
 no_folder Below (entered path) before behind left = absurd cc
 
 -- an entry that is passed over, or whose name is taken
-pub one_looked_at : (Below : List IgnoreFile → Text → List Text → Type 0) (ignores held : List IgnoreFile) (folder : Text)
+pub one_looked_at : (endings : List (Bor Text)) (excluded : List IgnoreFile)
+    (Below : List IgnoreFile → Text → List Text → Type 0) (ignores held : List IgnoreFile) (folder : Text)
     (entries : List Entry) (entry : Entry) (at : ℕ) (before now behind : List Text) (below : Option Text)
     → at < length entries → entry ≡ get_or entries at entry
-    → GoesOn (Gives Below ignores folder) entries at before now → held ≡ ignores
-    → IsLookedAt held folder entry now behind below → below ≡ None
-    → GoesOn (Gives Below ignores folder) entries (at + 1) before behind
-one_looked_at Below ignores held folder entries entry at before now behind below lt read so_far same left none =
-    let here : IsLookedAt ignores folder entry now behind None =
-    subst (λ (b : Option Text). IsLookedAt ignores folder entry now behind b) none
-    (subst (λ (files : List IgnoreFile). IsLookedAt files folder entry now behind below) same left) in
-    let own = no_folder (Below ignores) (found ignores folder entry) now behind here in
-    one_more (Gives Below ignores folder) entries entry at before now behind own.0 lt read so_far own.1 own.2
+    → GoesOn (Gives endings excluded Below ignores folder) entries at before now → held ≡ ignores
+    → IsLookedAt endings excluded held folder entry now behind below → below ≡ None
+    → GoesOn (Gives endings excluded Below ignores folder) entries (at + 1) before behind
+one_looked_at endings excluded Below ignores held folder entries entry at before now behind below lt read so_far same left none =
+    let here : IsLookedAt endings excluded ignores folder entry now behind None =
+    subst (λ (b : Option Text). IsLookedAt endings excluded ignores folder entry now behind b) none
+    (subst (λ (files : List IgnoreFile). IsLookedAt endings excluded files folder entry now behind below) same left) in
+    let own = no_folder (Below ignores) (found endings excluded ignores folder entry) now behind here in
+    one_more (Gives endings excluded Below ignores folder) entries entry at before now behind own.0 lt read so_far own.1 own.2
 
 a_folder : (Below : Text → List Text → Type 0) (f : Found) (path : Text) (before behind names : List Text)
     → IsLeft f before behind (Some path) → Below path names → AreOf Below f names × (behind ≡ before)
@@ -72,33 +74,34 @@ a_folder Below (entered own) path before behind names left is =
     same e = cc
 
 -- a folder that is gone into
-pub one_walked : (Below : List IgnoreFile → Text → List Text → Type 0) (ignores held inside : List IgnoreFile) (folder : Text)
+pub one_walked : (endings : List (Bor Text)) (excluded : List IgnoreFile)
+    (Below : List IgnoreFile → Text → List Text → Type 0) (ignores held inside : List IgnoreFile) (folder : Text)
     (entries : List Entry) (entry : Entry) (at : ℕ) (path name : Text) (before now between behind names : List Text)
     (below : Option Text)
     → at < length entries → entry ≡ get_or entries at entry
-    → GoesOn (Gives Below ignores folder) entries at before now → held ≡ ignores → inside ≡ held
-    → IsLookedAt held folder entry now between below → below ≡ Some path → name ≡ path
+    → GoesOn (Gives endings excluded Below ignores folder) entries at before now → held ≡ ignores → inside ≡ held
+    → IsLookedAt endings excluded held folder entry now between below → below ≡ Some path → name ≡ path
     → Below inside name names → behind ≡ between ++ names
-    → GoesOn (Gives Below ignores folder) entries (at + 1) before behind
-one_walked Below ignores held inside folder entries entry at path name before now between behind names below lt read so_far same kept left some named is more =
-    let here : IsLookedAt ignores folder entry now between (Some path) =
-    subst (λ (b : Option Text). IsLookedAt ignores folder entry now between b) some
-    (subst (λ (files : List IgnoreFile). IsLookedAt files folder entry now between below) same left) in
+    → GoesOn (Gives endings excluded Below ignores folder) entries (at + 1) before behind
+one_walked endings excluded Below ignores held inside folder entries entry at path name before now between behind names below lt read so_far same kept left some named is more =
+    let here : IsLookedAt endings excluded ignores folder entry now between (Some path) =
+    subst (λ (b : Option Text). IsLookedAt endings excluded ignores folder entry now between b) some
+    (subst (λ (files : List IgnoreFile). IsLookedAt endings excluded files folder entry now between below) same left) in
     let there : Below ignores path names =
     subst (λ (files : List IgnoreFile). Below files path names) (kept ∙ same)
     (subst (λ (p : Text). Below inside p names) named is) in
-    let own = a_folder (Below ignores) (found ignores folder entry) path now between names here there in
-    one_more (Gives Below ignores folder) entries entry at before now behind names lt read so_far own.0
+    let own = a_folder (Below ignores) (found endings excluded ignores folder entry) path now between names here there in
+    one_more (Gives endings excluded Below ignores folder) entries entry at before now behind names lt read so_far own.0
     (more ∙ ap (λ (ns : List Text). ns ++ names) own.1)
 
 -- all entries of a folder
-pub walked : (lists : Text → List Entry → Type 0) (holds : Text → Text → Type 0) (depth below : ℕ)
+pub walked : (endings : List (Bor Text)) (excluded : List IgnoreFile) (lists : Text → List Entry → Type 0) (holds : Text → Text → Type 0) (depth below : ℕ)
     (above ignores : List IgnoreFile) (folder : Text) (entries lent : List Entry) (names : List Text)
     → depth ≡ suc below → AreListed (lists folder) entries → lent ≡ entries → HasOwn lists holds folder lent above ignores
-    → AllGive (Gives (IsWalk lists holds below) ignores folder) entries names
-    → IsWalk lists holds depth above folder names
+    → AllGive (Gives endings excluded (IsWalk endings excluded lists holds below) ignores folder) entries names
+    → IsWalk endings excluded lists holds depth above folder names
 unfolding IsWalk
-walked lists holds depth below above ignores folder entries lent names deep listed same own are =
+walked endings excluded lists holds depth below above ignores folder entries lent names deep listed same own are =
     rw deep (
       entries,
       ignores,

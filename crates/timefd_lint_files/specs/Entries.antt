@@ -1,5 +1,6 @@
 -- What a walk makes of the entries of a folder.
-use Rattle.std.specs.Prelude.{Bool, true, false, not, ◌&&◌, ◌||◌, ◌==◌, if◌then◌else◌, List, [], ◌∷◌, codes, nat_eq, string_bytes}
+use Rattle.std.specs.Prelude.{Bool, true, false, not, ◌&&◌, ◌||◌, ◌==◌, if◌then◌else◌, List, [], ◌∷◌, nat_eq, string_bytes}
+use denote.Ref.{Bor}
 use Rattle.std.specs.Cmp.Lexicographic.{pointwise}
 use Rattle.std.specs.List.{ends_with}
 use Rattle.timefd_lint_files.specs.declared.entry.Entry.{Entry}
@@ -14,18 +15,19 @@ abbrev pub is_hidden : Text → Bool
 is_hidden [] = false
 is_hidden (byte ∷ bytes) = byte == 46
 
--- Sources of Rust end in `.rs`.
-abbrev pub is_source : Text → Bool
-is_source name = ends_with nat_eq name (codes ".rs")
+-- The names of sources end in one of these.
+abbrev pub is_source : List (Bor Text) → Text → Bool
+is_source [] name = false
+is_source (ending ∷ endings) name = ends_with nat_eq name ending.now || is_source endings name
 
-abbrev pub role_of : Kind → Text → Role
-role_of kinds.Folder name = if is_hidden name then roles.None else roles.Folder
-role_of kinds.File name =
-    if not (is_hidden name) && is_source name then roles.Source else roles.None
-role_of kinds.Other name = roles.None
+abbrev pub role_of : List (Bor Text) → Kind → Text → Role
+role_of endings kinds.Folder name = if is_hidden name then roles.None else roles.Folder
+role_of endings kinds.File name =
+    if not (is_hidden name) && is_source endings name then roles.Source else roles.None
+role_of endings kinds.Other name = roles.None
 
-abbrev pub role : Entry → Role
-role entry = role_of entry.kind (string_bytes entry.name)
+abbrev pub role : List (Bor Text) → Entry → Role
+role endings entry = role_of endings entry.kind (string_bytes entry.name)
 
 abbrev pub is_file : Kind → Bool
 is_file kinds.File = true

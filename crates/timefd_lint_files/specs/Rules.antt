@@ -1,5 +1,5 @@
 -- What `.gitignore` files say of a path: the last pattern that matches it, of the deepest file that has one.
-use Rattle.std.specs.Prelude.{Bool, true, false, if◌then◌else◌, List, [], ◌∷◌, drop, Option, Some, None}
+use Rattle.std.specs.Prelude.{Bool, true, false, ◌||◌, if◌then◌else◌, List, [], ◌∷◌, drop, Option, Some, None}
 use Rattle.timefd_lint_files.specs.declared.pattern.Pattern.{Pattern}
 use Rattle.timefd_lint_files.specs.declared.ignore_file.IgnoreFile.{IgnoreFile}
 use Rattle.timefd_lint_files.specs.declared.rules.Verdict.{Verdict}
@@ -42,3 +42,7 @@ ignores (Some Kept) = false
 
 abbrev pub is_ignored : List IgnoreFile → Text → Bool → Bool
 is_ignored files path is_folder = ignores (deepest_verdict files path is_folder)
+
+-- A walk passes over what is excluded, whatever these files say, and over what they ignore.
+abbrev pub is_passed_over : List IgnoreFile → List IgnoreFile → Text → Bool → Bool
+is_passed_over excluded ignores path is_folder = is_ignored excluded path is_folder || is_ignored ignores path is_folder

@@ -1,5 +1,5 @@
 -- Which sources stand below a folder.
-use Rattle.std.specs.Prelude.{ℕ, zero, suc, ◌≡◌, ◌==◌, nat_eq, Bool, true, false, if◌then◌else◌, List, [], ◌∷◌, ◌++◌, map, length, codes, Option, Some, None, String, string_bytes}
+use Rattle.std.specs.Prelude.{ℕ, zero, suc, ◌≡◌, ◌==◌, nat_eq, Bool, true, false, ◌&&◌, if◌then◌else◌, List, [], ◌∷◌, ◌++◌, map, length, codes, Option, Some, None, String, string_bytes}
 use denote.Ref.{Bor}
 use Rattle.std.specs.Cmp.Lexicographic.{pointwise}
 use Rattle.std.specs.List.Sorted.{IsPermutation, IsSortedByKey}
@@ -15,7 +15,7 @@ use Rattle.timefd_lint_files.specs.Entries.{has_entry, role}
 use Rattle.timefd_lint_files.specs.IgnoreFiles.{IsReadAs}
 use Rattle.timefd_lint_files.specs.Lines.{last}
 use Rattle.timefd_lint_files.specs.Matching.{Text, slash}
-use Rattle.timefd_lint_files.specs.Rules.{is_ignored}
+use Rattle.timefd_lint_files.specs.Rules.{is_passed_over}
 
 abbrev pub texts : List (String Global) → List Text
 texts names = map string_bytes names
@@ -77,15 +77,17 @@ pub data Found : Type 0 where
   taken : Text → Found
   entered : Text → Found
 
--- What is ignored is passed over, and so all below it.
-abbrev pub found_as : List IgnoreFile → Text → Role → Found
-found_as ignores path roles.None = passed
-found_as ignores path roles.Source = if is_ignored ignores path false then passed else taken path
-found_as ignores path roles.Folder =
-    if is_ignored ignores path true then passed else entered (path ++ slash ∷ [])
+-- What is excluded or ignored is passed over, and so all below it.
+abbrev pub found_as : List IgnoreFile → List IgnoreFile → Text → Role → Found
+found_as excluded ignores path roles.None = passed
+found_as excluded ignores path roles.Source =
+    if is_passed_over excluded ignores path false then passed else taken path
+found_as excluded ignores path roles.Folder =
+    if is_passed_over excluded ignores path true then passed else entered (path ++ slash ∷ [])
 
-abbrev pub found : List IgnoreFile → Text → Entry → Found
-found ignores folder entry = found_as ignores (folder ++ string_bytes entry.name) (role entry)
+abbrev pub found : List (Bor Text) → List IgnoreFile → List IgnoreFile → Text → Entry → Found
+found endings excluded ignores folder entry =
+    found_as excluded ignores (folder ++ string_bytes entry.name) (role endings entry)
 
 -- One name more, or none, and the folder to go into.
 abbrev pub IsLeft : Found → List Text → List Text → Option Text → Type 0
@@ -93,8 +95,10 @@ IsLeft passed before behind below = (behind ≡ before) × (below ≡ None)
 IsLeft (taken path) before behind below = (behind ≡ before ++ path ∷ []) × (below ≡ None)
 IsLeft (entered path) before behind below = (behind ≡ before) × (below ≡ Some path)
 
-abbrev pub IsLookedAt : List IgnoreFile → Text → Entry → List Text → List Text → Option Text → Type 0
-IsLookedAt ignores folder entry before behind below = IsLeft (found ignores folder entry) before behind below
+abbrev pub IsLookedAt : List (Bor Text) → List IgnoreFile → List IgnoreFile → Text → Entry → List Text → List Text
+    → Option Text → Type 0
+IsLookedAt endings excluded ignores folder entry before behind below =
+    IsLeft (found endings excluded ignores folder entry) before behind below
 
 -- the names that an entry gives, where folders give these
 abbrev pub AreOf : (Text → List Text → Type 0) → Found → List Text → Type 0
@@ -109,18 +113,39 @@ AllGive Gives (x ∷ xs) names = (own : List Text) × (more : List Text)
     × Gives x own × AllGive Gives xs more × (names ≡ own ++ more)
 
 -- the names that an entry of a folder gives, under the files that hold in it
-abbrev pub Gives : (List IgnoreFile → Text → List Text → Type 0) → List IgnoreFile → Text
-    → Entry → List Text → Type 0
-Gives Below ignores folder entry names = AreOf (Below ignores) (found ignores folder entry) names
+abbrev pub Gives : List (Bor Text) → List IgnoreFile → (List IgnoreFile → Text → List Text → Type 0) → List IgnoreFile
+    → Text → Entry → List Text → Type 0
+Gives endings excluded Below ignores folder entry names =
+    AreOf (Below ignores) (found endings excluded ignores folder entry) names
 
--- The names of the sources below a folder, in the order of the names of its entries, if no more than so
--- many folders stand in one another.
-unfoldable pub IsWalk : (Text → List Entry → Type 0) → (Text → Text → Type 0) → ℕ → List IgnoreFile
-    → Text → List Text → Type 0
-IsWalk lists holds zero above folder names = ⊥
-IsWalk lists holds (suc depth) above folder names = (entries : List Entry) × (ignores : List IgnoreFile)
-    × AreListed (lists folder) entries × HasOwn lists holds folder entries above ignores
-    × AllGive (Gives (IsWalk lists holds depth) ignores folder) entries names
+-- The names of the sources below a folder, which end in one of these, in the order of the names of its entries, if no
+-- more than so many folders stand in one another. What is excluded is passed over.
+unfoldable pub IsWalk : List (Bor Text) → List IgnoreFile → (Text → List Entry → Type 0) → (Text → Text → Type 0) → ℕ
+    → List IgnoreFile → Text → List Text → Type 0
+IsWalk endings excluded lists holds zero above folder names = ⊥
+IsWalk endings excluded lists holds (suc depth) above folder names = (entries : List Entry)
+    × (ignores : List IgnoreFile) × AreListed (lists folder) entries × HasOwn lists holds folder entries above ignores
+    × AllGive (Gives endings excluded (IsWalk endings excluded lists holds depth) ignores folder) entries names
+
+abbrev pub begins_with : ℕ → Text → Bool
+begins_with byte [] = false
+begins_with byte (first ∷ bytes) = first == byte
+
+-- How many bytes of a name only name the working directory: those of `./` in front.
+abbrev pub here_len : Text → ℕ
+here_len [] = 0
+here_len (byte ∷ bytes) = if (byte == 46) && begins_with slash bytes then 2 else 0
+
+-- The one file of what is excluded has the patterns of this text, for paths from the working directory on.
+abbrev pub AreExcluded : Text → Text → List IgnoreFile → Type 0
+AreExcluded text folder files =
+    (file : IgnoreFile) × IsReadAs (here_len folder) text file × (files ≡ file ∷ [])
+
+-- The same where a text says what is excluded, and up to 255 folders stand in one another.
+unfoldable pub IsWalkBut : List (Bor Text) → Text → (Text → List Entry → Type 0) → (Text → Text → Type 0) → Text
+    → List Text → Type 0
+IsWalkBut endings text lists holds folder names = (excluded : List IgnoreFile) × AreExcluded text folder excluded
+    × IsWalk endings excluded lists holds 255 [] folder names
 
 -- the name of the standard input
 abbrev pub is_input : Text → Bool

@@ -36,15 +36,15 @@ pub enum Role {
 }
 
 impl Entry {
-    /// What a walk makes of it: it passes over links, hidden entries, and files that are no sources of
-    /// Rust.
-    pub fn role(&self) -> Role
-        ensures { result ≡ spec.role self.now }
+    /// What a walk makes of it: it passes over links, hidden entries, and files whose names don't end in
+    /// one of these.
+    pub fn role(&self, endings: &[&str]) -> Role
+        ensures { result ≡ spec.role endings.now self.now }
     {
         let name = self.name.as_str().as_bytes();
         match self.kind {
             Kind::Folder if !is_hidden(name) => Role::Folder,
-            Kind::File if !is_hidden(name) && name.ends_with(b".rs") => Role::Source,
+            Kind::File if !is_hidden(name) && ends_in_any(name, endings) => Role::Source,
             Kind::Folder | Kind::File | Kind::Other => Role::None,
         }
     }
@@ -76,6 +76,18 @@ pub fn joined(alloc: Global, folder: &str, name: &str) -> Result<String, AllocEr
     let mut path = String::from_str(alloc, folder)?;
     path.push_str(name)?;
     Ok(path)
+}
+
+/// Whether a name ends in one of these.
+fn ends_in_any(name: &[u8], endings: &[&str]) -> bool
+    ensures { result ≡ spec.is_source endings.now name.now }
+{
+    for ending in endings {
+        if name.ends_with(ending.as_bytes()) {
+            return true;
+        }
+    }
+    false
 }
 
 /// Whether a name begins with a dot.

@@ -1,4 +1,4 @@
-//! The sources of Rust below folders, but those that `.gitignore` files ignore.
+//! The sources below folders, but those that `.gitignore` files ignore, or that are excluded.
 #![tactic(auto)]
 
 mod class;
@@ -21,9 +21,9 @@ pub use class::{ByteRange, Class};
 pub use entry::{Entry, Kind, Role};
 pub use ignore_file::IgnoreFile;
 pub use matching::matches;
-pub use names::expanded;
+pub use names::{Sought, expanded};
 pub use pattern::{Pattern, pattern_of};
-pub use rules::{Verdict, is_ignored};
+pub use rules::{Verdict, is_ignored, is_passed_over};
 pub use system::{FileSystem, ReadError};
 pub use token::Token;
 pub use walk_error::{Reason, WalkError};

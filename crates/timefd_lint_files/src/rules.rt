@@ -105,3 +105,24 @@ pub fn is_ignored(
         Some(Verdict::Kept) | None => Ok(false),
     }
 }
+
+/// Whether a walk passes over a path: by these files, whatever those behind them say, or by those. The
+/// row is room to work in.
+///
+/// # Errors
+///
+/// That memory ran out.
+pub fn is_passed_over(
+    excluded: &[IgnoreFile],
+    ignores: &[IgnoreFile],
+    path: &[u8],
+    is_folder: bool,
+    row: &mut Vec<bool>,
+) -> Result<bool, AllocError>
+    ensures { IfOk result (λ passed. passed ≡ spec.is_passed_over excluded.now ignores.now path.now is_folder) }
+{
+    if is_ignored(excluded, path, is_folder, row)? {
+        return Ok(true);
+    }
+    is_ignored(ignores, path, is_folder, row)
+}

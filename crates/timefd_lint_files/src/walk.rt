@@ -1,4 +1,4 @@
-//! The sources of Rust below a folder.
+//! The sources below a folder.
 
 ghost use Rattle.std.specs.Prelude.{◌≡◌, ◌++◌, [], List, length, string_bytes, IfOk, OnOk};
 ghost use Rattle.std.specs.Result.{IfErr};
@@ -9,13 +9,22 @@ ghost use Rattle.timefd_lint_files.specs.Walks.{AreListed, IsLookedAt, IsWalk, t
 use crate::entry::{Entry, Role, joined};
 use crate::ignore_file::IgnoreFile;
 use crate::own::add_own;
-use crate::rules::is_ignored;
+use crate::rules::is_passed_over;
 use crate::system::FileSystem;
 use crate::walk_error::{Reason, WalkError, failed, unread};
 use std::alloc::{AllocError, Global};
 
 /// How many folders may stand in one another.
 pub const DEPTH_LIMIT: usize = 255;
+
+/// What a walk takes.
+#[derive(Clone, Copy)]
+pub struct Choice<'a> {
+    /// How the names of sources end.
+    pub endings: &'a [&'a str],
+    /// What is passed over, whatever other files with patterns say.
+    pub excluded: &'a [IgnoreFile],
+}
 
 /// Where a walk is, and what it has found.
 #[derive(Drop)]
@@ -68,24 +77,33 @@ fn sorted_entries<S: FileSystem>(
 }
 
 /// Adds the name of an entry that is a source, or answers the name of a folder to go into. What is
-/// ignored it passes over.
+/// excluded or ignored it passes over.
 fn look_at(
     alloc: Global,
+    choice: Choice<'_>,
     walk: &mut Walk,
     folder: &str,
     entry: &Entry,
 ) -> Result<Option<String>, AllocError>
-    ensures looked { IfOk result (λ below. IsLookedAt walk.old.ignores.items folder.now entry.now
+    ensures looked { IfOk result (λ below. IsLookedAt choice.entry.endings.now choice.entry.excluded.now
+        walk.old.ignores.items folder.now entry.now
         (texts walk.old.names.items) (texts walk.new.names.items) (text_any below)) }
     ensures ignores { walk.new.ignores.items ≡ walk.old.ignores.items }
 {
-    let role = entry.role();
+    let role = entry.role(choice.endings);
     if role == Role::None {
         return Ok(None);
     }
     let mut path = joined(alloc, folder, &entry.name)?;
     let is_folder = role == Role::Folder;
-    if is_ignored(&walk.ignores, path.as_bytes(), is_folder, &mut walk.row)? {
+    let bytes = path.as_bytes();
+    if is_passed_over(
+        choice.excluded,
+        &walk.ignores,
+        bytes,
+        is_folder,
+        &mut walk.row,
+    )? {
         return Ok(None);
     }
     if is_folder {
@@ -101,14 +119,15 @@ fn look_at(
 pub fn walk_folder<S: FileSystem>(
     system: &S,
     alloc: Global,
+    choice: Choice<'_>,
     walk: &mut Walk,
     folder: &str,
     depth: usize,
 ) -> Result<(), WalkError>
     ensures found { OnOk result ((names : List Text)
         × (texts walk.new.names.items ≡ texts walk.old.names.items ++ names)
-        × IsWalk (S.lists system.now) (S.holds system.now) depth walk.old.ignores.items
-        folder.now names) }
+        × IsWalk choice.entry.endings.now choice.entry.excluded.now (S.lists system.now) (S.holds system.now)
+        depth walk.old.ignores.items folder.now names) }
     ensures ignores { OnOk result (walk.new.ignores.items ≡ walk.old.ignores.items) }
     ensures error { IfErr result (IsWalkError (S.fails system.now) (IsBelow folder.now) depth) }
 {
@@ -119,10 +138,10 @@ pub fn walk_folder<S: FileSystem>(
     let outer = walk.ignores.len();
     add_own(system, alloc, folder, &entries, &mut walk.ignores)?;
     'entries: for at in 0..entries.len() {
-        let Some(below) = look_at(alloc, walk, folder, &entries[at])? else {
+        let Some(below) = look_at(alloc, choice, walk, folder, &entries[at])? else {
             continue;
         };
-        walk_folder(system, alloc, walk, &below, depth - 1)?;
+        walk_folder(system, alloc, choice, walk, &below, depth - 1)?;
     }
     walk.ignores.truncate(outer);
     Ok(())

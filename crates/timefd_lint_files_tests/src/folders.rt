@@ -4,7 +4,13 @@ use crate::fake::Fake;
 use std::alloc::{AllocError, Global};
 use std::io::ErrorKind;
 use std::process::Abort;
-use timefd_lint_files::{Reason, WalkError, expanded};
+use timefd_lint_files::{Reason, Sought, WalkError, expanded};
+
+/// Sources of Rust, and nothing excluded.
+const RUST: Sought<'static> = Sought {
+    endings: &[".rs"],
+    excluded: "",
+};
 
 /// The names, each behind a bar.
 fn shown(alloc: Global, names: &[String]) -> Result<String, AllocError> {
@@ -17,14 +23,14 @@ fn shown(alloc: Global, names: &[String]) -> Result<String, AllocError> {
 }
 
 fn expect(rt: &impl Abort, alloc: Global, names: &[&str], all: &str) {
-    let found = expanded(&Fake, alloc, names).expect(rt, "names");
+    let found = expanded(&Fake, alloc, RUST, names).expect(rt, "names");
     let found = shown(alloc, &found).expect(rt, "memory");
     assert_eq!(rt; found.as_str(), all);
 }
 
 /// Whether a name fails, for this reason, and which name is told.
 fn fails(alloc: Global, name: &str, path: &str, reason: Reason) -> bool {
-    match expanded(&Fake, alloc, &[name]) {
+    match expanded(&Fake, alloc, RUST, &[name]) {
         Err(
             WalkError::Failed {
                 path: told,
@@ -83,7 +89,7 @@ fn folders_that_fail(rt: HostRuntime) {
 
 /// How long the name of the folder is that stands in too many others below this one.
 fn length_too_deep(alloc: Global, name: &str) -> Option<usize> {
-    match expanded(&Fake, alloc, &[name]) {
+    match expanded(&Fake, alloc, RUST, &[name]) {
         Err(WalkError::Failed { path, reason }) => {
             if reason == Reason::TooDeep {
                 Some(path.len())

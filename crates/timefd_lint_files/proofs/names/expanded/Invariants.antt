@@ -1,5 +1,5 @@
 use Rattle.std.proofs.Common.{◌≡◌, []}
-use Rattle.timefd_lint_files.specs.Walks.{IsWalk, texts}
+use Rattle.timefd_lint_files.specs.Walks.{IsWalkBut, texts}
 use Rattle.timefd_lint_files.proofs.NameLemmas.{NamesGoOn}
 use Rattle.timefd_lint_files.proofs.names.expanded.Given as goal
 
@@ -7,6 +7,6 @@ use Rattle.timefd_lint_files.proofs.names.expanded.Given as goal
 abbrev pub invariant-loop-name : goal.invariant-loop-name
 invariant-loop-name g l = record {
   outside : l.walk.ignores.items ≡ [];
-  so_far : NamesGoOn (IsWalk (g.S.FileSystem.lists l.system) (g.S.FileSystem.holds l.system) 255 [])
+  so_far : NamesGoOn (IsWalkBut l.sought.endings.now l.sought.excluded.now (g.S.FileSystem.lists l.system) (g.S.FileSystem.holds l.system))
       (g.S.FileSystem.tells l.system) l.names l.name-index (texts l.walk.names.items);
 }

@@ -8,7 +8,7 @@ abbrev pub invariant-entries : goal.invariant-entries
 invariant-entries g l =
     let inside = l.initial.walk.ignores.items in record {
       kept : l.walk.ignores.items ≡ inside;
-      so_far : GoesOn (Gives (IsWalk (g.S.FileSystem.lists l.system) (g.S.FileSystem.holds l.system) (l.depth - 1)) inside l.folder)
+      so_far : GoesOn (Gives l.choice.endings.now l.choice.excluded.now (IsWalk l.choice.endings.now l.choice.excluded.now (g.S.FileSystem.lists l.system) (g.S.FileSystem.holds l.system) (l.depth - 1)) inside l.folder)
           l.entries.items l.at (texts l.initial.walk.names.items) (texts l.walk.names.items);
     }
 
