@@ -12,7 +12,7 @@ use crate::name::{Name, name_at, value_place};
 use crate::passing::{depth_behind, passed_len};
 use crate::reading::{Reading, string_at};
 use std::alloc::{AllocError, Global};
-use timefd_sources::{Description, Dialect, Encoding, Kind, Piece, Token};
+use timefd_sources::{Description, Dialect, Encoding, Kind, Piece, Token, VersionPlace};
 
 /// What is looked at, and for which keys.
 #[derive(Clone, Copy)]
@@ -55,6 +55,7 @@ fn described(
         piece,
         kind,
         dialect,
+        version: VersionPlace::Elsewhere,
         unescaped,
     })
 }

@@ -7,7 +7,7 @@ use Rattle.timefd_component.specs.Tree.{Text}
 use Rattle.timefd_drawing.specs.declared.draw.Style.{Style}
 use Rattle.timefd_drawing.specs.Drawing.{note}
 use Rattle.timefd_lint.specs.declared.failure.Failure.{Failure}
-use Rattle.timefd_lint.specs.declared.failure.Failure.TheVariants.{Absent, Folder, Forbidden, Unread, NotRegular, Special, Foreign, Occupied, Changed, Rust, Unwritten}
+use Rattle.timefd_lint.specs.declared.failure.Failure.TheVariants.{Absent, Folder, Forbidden, Unread, NotRegular, Special, Foreign, Occupied, Changed, Unwritten}
 
 abbrev pub code : Failure → Text
 code Absent = codes "unreadable"
@@ -19,7 +19,6 @@ code Special = codes "unwritable"
 code Foreign = codes "unwritable"
 code Occupied = codes "unwritable"
 code Changed = codes "unwritable"
-code Rust = codes "unwritable"
 code Unwritten = codes "unwritable"
 
 abbrev pub sentence : Failure → Text
@@ -33,7 +32,6 @@ sentence Foreign = codes "the file can't be written back: it is another user's o
 sentence Occupied =
     codes "the file can't be written back: there is one of its name and .timefd_lint"
 sentence Changed = codes "the file can't be rewritten: it has changed meanwhile"
-sentence Rust = codes "the file can't be rewritten: it is a source of Rust"
 sentence Unwritten = codes "the file can't be written back"
 
 -- What fails of a file that can't be read, by what the system says.

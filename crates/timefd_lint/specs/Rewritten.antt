@@ -1,11 +1,11 @@
 -- A source that is rewritten.
 use Rattle.std.specs.Prelude.{◌≡◌, List, [], count_by, length, IsUtf8}
 use Rattle.timefd_component.specs.Tree.{Text}
-use Rattle.timefd_fix.specs.declared.fixes.Fixes.{Fixes}
 use Rattle.timefd_rewrite.specs.declared.counts.Counts.{Counts}
+use Rattle.timefd_rewrite_sources.specs.declared.change.Change.{Change}
 use Rattle.timefd_rewrite_sources.specs.declared.outcome.Outcome.{Outcome}
-use Rattle.timefd_rewrite_sources.specs.declared.source.Mended.{Mended}
-use Rattle.timefd_rewrite_sources.specs.Mended.{IsSourceMended, is_refusing, is_rewriting}
+use Rattle.timefd_rewrite_sources.specs.declared.source.NewSource.{NewSource}
+use Rattle.timefd_rewrite_sources.specs.Written.{IsSourceRewritten, is_refusing, is_rewriting}
 
 -- how many descriptions there are, how many are rewritten, and how many stay at fault
 pub record AreCounted (outcomes : List Outcome) (counts : Counts) : Type 0 where
@@ -13,13 +13,13 @@ pub record AreCounted (outcomes : List Outcome) (counts : Counts) : Type 0 where
   pub rewritten : counts.rewritten ≡ count_by is_rewriting outcomes
   pub refused : counts.refused ≡ count_by is_refusing outcomes
 
-pub record IsMendedAs (fixes : Fixes) (source : Text) (counts : Counts) (new : Text) : Type 0 where
-  pub mended : Mended
-  pub is : IsSourceMended fixes source mended
-  pub counted : AreCounted mended.outcomes.items counts
-  pub written : new ≡ mended.bytes.items
+pub record IsRewrittenAs (change : Change) (source : Text) (counts : Counts) (new : Text) : Type 0 where
+  pub all : NewSource
+  pub is : IsSourceRewritten change source all
+  pub counted : AreCounted all.outcomes.items counts
+  pub written : new ≡ all.bytes.items
 
--- A source is mended, and one that is no text is left alone.
-pub record IsSourceRewritten (fixes : Fixes) (source : Text) (counts : Counts) (new : Text) : Type 0 where
-  pub text : IsUtf8 source → IsMendedAs fixes source counts new
+-- A source is mended or converted, and one that is no text is left alone.
+pub record IsFileRewritten (change : Change) (source : Text) (counts : Counts) (new : Text) : Type 0 where
+  pub text : IsUtf8 source → IsRewrittenAs change source counts new
   pub no_text : (¬ IsUtf8 source) → AreCounted [] counts

@@ -182,6 +182,7 @@ tally_of_one end = record {
   warnings = warnings_in end;
   not_text = is_not_text end;
   failed = is_failed end;
+  is_left = false;
 }
 
 -- what is found in all that is told
@@ -192,6 +193,7 @@ tally_of told = record {
   warnings = u64_saturate (warnings_of told);
   not_text = list_any (λ t. is_not_text t.end) told;
   failed = list_any (λ t. is_failed t.end) told;
+  is_left = false;
 }
 
 -- what is found in these texts or in those
@@ -203,6 +205,7 @@ both a b =
       warnings = u64_saturate (a.warnings + b.warnings);
       not_text = a.not_text || b.not_text;
       failed = a.failed || b.failed;
+      is_left = a.is_left || b.is_left;
     }
 
 -- all messages in turn

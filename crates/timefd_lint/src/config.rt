@@ -1,5 +1,6 @@
 //! The file of settings in the working directory.
 
+use crate::rewriting::rewriting_of;
 use std::alloc::{AllocError, Global};
 use std::io::ErrorKind;
 use std::{fs, str};
@@ -25,8 +26,8 @@ impl From<AllocError> for ConfigFailure {
     }
 }
 
-/// What a file of settings says that is empty.
-pub fn no_config(alloc: Global) -> Config {
+// What a file of settings says that is empty.
+fn no_config(alloc: Global) -> Config {
     Config {
         keys: Vec::new(alloc),
         exclude: String::new(alloc),
@@ -45,9 +46,13 @@ pub fn read_config(rt: &HostRuntime, alloc: Global) -> Result<Config, ConfigFail
     }
 }
 
-/// The keys of the file of settings that count in a run: none, where files are mended.
+/// The keys of the file of settings that count in a run: none, where files are mended or rewritten.
 pub fn counted_keys<'a>(settings: Settings<'_>, config: &'a Config) -> &'a [OwnedKey] {
-    if settings.fixes { &[] } else { &config.keys }
+    if rewriting_of(settings).is_some() {
+        &[]
+    } else {
+        &config.keys
+    }
 }
 
 fn config_of_bytes(alloc: Global, bytes: &[u8]) -> Result<Config, ConfigFailure> {

@@ -26,8 +26,6 @@ pub enum Failure {
     Occupied,
     /// It is no longer what was read.
     Changed,
-    /// It is a source of Rust.
-    Rust,
     /// It can't be written back for another reason.
     Unwritten,
 }
@@ -67,7 +65,6 @@ impl Failure {
             | Failure::Foreign
             | Failure::Occupied
             | Failure::Changed
-            | Failure::Rust
             | Failure::Unwritten => "unwritable",
         }
     }
@@ -92,7 +89,6 @@ impl Failure {
                 "the file can't be written back: there is one of its name and .timefd_lint"
             }
             Failure::Changed => "the file can't be rewritten: it has changed meanwhile",
-            Failure::Rust => "the file can't be rewritten: it is a source of Rust",
             Failure::Unwritten => "the file can't be written back",
         }
     }

@@ -2,11 +2,12 @@
 
 ghost use Rattle.std.specs.Prelude.{Option, Some, [], IfOk};
 ghost use Rattle.timefd_component.specs.Tree.{Text};
-ghost use Rattle.timefd_lint.specs.Rewritten.{AreCounted, IsSourceRewritten};
+ghost use Rattle.timefd_lint.specs.Rewritten.{AreCounted, IsFileRewritten};
 ghost use Rattle.timefd_lint.specs.Sources.{IsRunOfSource, finder_of};
 ghost use Rattle.timefd_lint.specs.Told.{IsRunOver};
 ghost use Rattle.timefd_rewrite.specs.Rewriting.{AreRewritten};
 
+use crate::by_hand::notes;
 use crate::line::RunError;
 use crate::lines::lint_lines;
 use crate::options::Options;
@@ -15,9 +16,8 @@ use crate::tally::Tally;
 use std::alloc::Global;
 use std::io::Write;
 use std::str;
-use timefd_fix::Fixes;
 use timefd_rewrite::{Counts, Layout, rewrite_lines};
-use timefd_rewrite_sources::{Outcome, count_refused, count_rewritten, mend_source};
+use timefd_rewrite_sources::{Change, Outcome, count_refused, count_rewritten, rewrite_source};
 
 /// What is counted in a file.
 #[derive(Clone, Copy)]
@@ -37,6 +37,8 @@ pub struct Found {
     pub counts: Counts,
     /// The bytes that are to stand in place of the file's.
     pub bytes: Vec<u8>,
+    /// What is to be told of descriptions that want changing by hand.
+    pub by_hand: String,
 }
 
 /// Looks at the lines of a file, and rewrites those that can be.
@@ -64,17 +66,18 @@ pub fn looked_at<W: Write>(
             unit: Unit::Line,
             counts,
             bytes,
+            by_hand: String::new(alloc),
         }),
         // What is read stands in memory, and so does what is written.
         Err(_) => Err(RunError::Memory),
     }
 }
 
-/// Looks at the descriptions of a source, and mends those that can be; none where it is no text.
+/// Looks at the descriptions of a source, and mends or converts those that can be; none where it is no text.
 pub fn source_looked_at<W: Write>(
     alloc: Global,
     options: Options<'_>,
-    fixes: Fixes,
+    change: Change,
     name: &str,
     old: &[u8],
     writer: &mut W,
@@ -82,19 +85,20 @@ pub fn source_looked_at<W: Write>(
     ensures told { IfOk result (λ found. (rest : Option Text)
         × IsRunOfSource (finder_of options.entry name.now) options.entry.telling name.now
         (Some old.now) rest (W.contents writer.old) (W.contents writer.new) found.tally) }
-    ensures mended { IfOk result (λ found. IsSourceRewritten fixes old.now found.counts found.bytes.items) }
+    ensures rewritten { IfOk result (λ found. IsFileRewritten change old.now found.counts found.bytes.items) }
 {
     let mut bytes = old;
     let tally = lint_source(alloc, options, name, &mut bytes, writer)?;
     let unit = Unit::Description;
     match str::from_utf8(old) {
         Ok(source) => {
-            let mended = mend_source(alloc, fixes, source)?;
+            let new = rewrite_source(alloc, change, source)?;
             Ok(Found {
                 tally,
                 unit,
-                counts: counts_of(&mended.outcomes),
-                bytes: mended.bytes,
+                counts: counts_of(&new.outcomes),
+                by_hand: notes(alloc, change, name, source, &new.outcomes)?,
+                bytes: new.bytes,
             })
         }
         Err(_) => Ok(Found {
@@ -102,6 +106,7 @@ pub fn source_looked_at<W: Write>(
             unit,
             counts: counts_of(&[]),
             bytes: Vec::new(alloc),
+            by_hand: String::new(alloc),
         }),
     }
 }

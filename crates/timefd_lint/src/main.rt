@@ -3,6 +3,7 @@
 //! `docs/LINTER.md` has the options and the names of the faults.
 #![tactic(auto)]
 
+mod by_hand;
 mod color;
 mod config;
 mod failure;
@@ -26,12 +27,13 @@ mod tally;
 mod usage;
 
 use color::is_colored;
-use config::{ConfigFailure, counted_keys, no_config, read_config};
+use config::{ConfigFailure, counted_keys, read_config};
 use line::RunError;
 use options::{Options, run_options};
 use progress::Watched;
 use rewriting::{rewrite_files, rewriting_of};
 use run::run;
+use rust::are_sources;
 use sought::sought;
 use source::BUFFER;
 use status::{
@@ -44,9 +46,9 @@ use std::process::ExitCode;
 use summary::summary;
 use tally::Tally;
 use timefd_keys::Key;
-use timefd_lint_config::{Config, OwnedKey, same_keys, with_keys};
+use timefd_lint_config::{OwnedKey, same_keys, with_keys};
 use timefd_lint_files::{WalkError, expanded};
-use timefd_lint_options::{Asked, Settings, keys_of, options_of};
+use timefd_lint_options::{Asked, OptionError, Settings, keys_of, lines_conflict, options_of};
 
 // The words, each lent.
 fn lent<'a>(alloc: Global, words: &'a [String]) -> Result<Vec<&'a str>, AllocError> {
@@ -79,23 +81,9 @@ fn words_status(rt: &HostRuntime, words: &[&str]) -> u8 {
     }
 }
 
-// Whether a folder stands for the sources below it: unless it is lines that are rewritten.
-fn walks(settings: Settings<'_>) -> bool {
-    rewriting_of(settings).is_none() || settings.fixes
-}
-
-// What the file of settings says, which counts where folders may be named.
-fn counted_config(rt: &HostRuntime, settings: Settings<'_>) -> Result<Config, ConfigFailure> {
-    if walks(settings) {
-        read_config(rt, rt.alloc())
-    } else {
-        Ok(no_config(rt.alloc()))
-    }
-}
-
 // The status of a run over what is named, with the keys of these words, and behind them those of the file of settings.
 fn keys_status(rt: &HostRuntime, settings: Settings<'_>, words: &[&str], names: &[&str]) -> u8 {
-    let config = match counted_config(rt, settings) {
+    let config = match read_config(rt, rt.alloc()) {
         Ok(config) => config,
         Err(ConfigFailure::Memory) => return no_memory(rt),
         Err(ConfigFailure::Wrong(sentence)) => return told(rt, WRONG_ARGUMENTS, &sentence),
@@ -117,7 +105,7 @@ fn all_keys<'a>(
     with_keys(same_keys(alloc, keys)?, more)
 }
 
-// The status of a run over what is named, but for what is excluded below folders.
+// The status of a run over what is named. A folder stands for the sources below it, but for what is excluded.
 fn names_status(
     rt: &HostRuntime,
     settings: Settings<'_>,
@@ -125,9 +113,6 @@ fn names_status(
     excluded: &str,
     names: &[&str],
 ) -> u8 {
-    if !walks(settings) {
-        return files_status(rt, settings, keys, names);
-    }
     let files = match expanded(rt, rt.alloc(), sought(settings, keys, excluded), names) {
         Ok(files) => files,
         Err(WalkError::Memory) => return no_memory(rt),
@@ -144,7 +129,14 @@ fn names_status(
 
 fn files_status(rt: &HostRuntime, settings: Settings<'_>, keys: &[Key<'_>], files: &[&str]) -> u8 {
     let colored = is_colored(rt, settings.color);
-    run_status(rt, settings, run_options(settings, colored, keys, files))
+    let options = run_options(settings, colored, keys, files);
+    match lines_conflict(settings) {
+        Some(conflict) if !are_sources(options) => wrong_arguments(
+            rt,
+            OptionError::Conflict(conflict),
+        ),
+        Some(_) | None => run_status(rt, settings, options),
+    }
 }
 
 fn run_status(rt: &HostRuntime, settings: Settings<'_>, options: Options<'_>) -> u8 {

@@ -1,7 +1,6 @@
 //! The named files in a later version of the language, in the normal form of version 3, or mended: shown
 //! as changes, or written back.
 
-use crate::failure::Failure;
 use crate::fix::{FixError, Original};
 use crate::found::{Found, Unit, looked_at, source_looked_at};
 use crate::line::RunError;
@@ -18,13 +17,17 @@ use timefd_convert::conversion_between;
 use timefd_drawing::shown::safe;
 use timefd_fix::Fixes;
 use timefd_lint_options::{Settings, target};
-use timefd_parse::Language;
+use timefd_parse::{DescriptionVersion, Language};
 use timefd_rewrite::{Counts, Layout, RewriteError, write_diff};
+use timefd_rewrite_sources::Change;
 
 /// How files are rewritten.
 #[derive(Clone, Copy)]
 pub struct Rewriting {
-    pub layout: Layout,
+    /// How lines are laid out; none where no conversion leads from their language.
+    pub lines: Option<Layout>,
+    /// What is made of the descriptions of sources.
+    pub sources: Change,
     /// Whether they are written back, and not shown as changes.
     pub writes: bool,
     /// Whether a file is also rewritten where some of its lines or descriptions are refused.
@@ -40,13 +43,9 @@ fn fixes_of(settings: Settings<'_>) -> Fixes {
     }
 }
 
-// How descriptions are laid out, where they are rewritten or mended.
-fn layout_of(settings: Settings<'_>) -> Option<Layout> {
-    if settings.fixes {
-        return Some(Layout::Fixed(settings.language, fixes_of(settings)));
-    }
-    let to = Language::Version(target(settings)?);
-    let conversion = conversion_between(settings.language, to)?;
+// How lines are laid out in a version.
+fn layout_in(settings: Settings<'_>, version: DescriptionVersion) -> Option<Layout> {
+    let conversion = conversion_between(settings.language, Language::Version(version))?;
     if settings.is_normal {
         Some(Layout::Normal(conversion))
     } else {
@@ -54,10 +53,28 @@ fn layout_of(settings: Settings<'_>) -> Option<Layout> {
     }
 }
 
+// How lines are laid out, and what is made of sources.
+fn changes_of(settings: Settings<'_>) -> Option<(Option<Layout>, Change)> {
+    if settings.fixes {
+        let fixes = fixes_of(settings);
+        let layout = Layout::Fixed(settings.language, fixes);
+        return Some((Some(layout), Change::Mended(fixes)));
+    }
+    let version = target(settings)?;
+    let change = if settings.is_normal {
+        Change::Normal
+    } else {
+        Change::Least(version)
+    };
+    Some((layout_in(settings, version), change))
+}
+
 /// How files are rewritten, where they are.
 pub fn rewriting_of(settings: Settings<'_>) -> Option<Rewriting> {
+    let (lines, sources) = changes_of(settings)?;
     Some(Rewriting {
-        layout: layout_of(settings)?,
+        lines,
+        sources,
         writes: settings.writes,
         is_partial: settings.is_partial,
     })
@@ -132,37 +149,32 @@ fn rewrite_file<R: Files + Eprint, W: Write>(
     name: &str,
     writer: &mut W,
 ) -> Result<Tally, RunError> {
-    let is_source = is_source(options, name);
-    if is_source && !is_mending(rewriting.layout) {
-        return noted(
-            alloc,
-            options,
-            name,
-            FixError::Failed(Failure::Rust),
-            writer,
-        );
-    }
     let old = match Original::read(rt, alloc, name) {
         Ok(old) => old,
         Err(error) => return noted(alloc, options, name, error, writer),
     };
-    let found = match rewriting.layout {
-        Layout::Fixed(_, fixes) if is_source => {
-            source_looked_at(alloc, options, fixes, name, &old.bytes, writer)?
-        }
-        layout => looked_at(alloc, options, layout, name, &old.bytes, writer)?,
+    let found = if is_source(options, name) {
+        source_looked_at(alloc, options, rewriting.sources, name, &old.bytes, writer)?
+    } else {
+        // Files of lines are refused before where no conversion leads from their language.
+        let Some(layout) = rewriting.lines else {
+            return Ok(Tally::new());
+        };
+        looked_at(alloc, options, layout, name, &old.bytes, writer)?
     };
+    let tally = found.tally.and(by_hand(rt, &found));
     match shown_or_written(rt, alloc, rewriting, name, &old, &found, writer) {
-        Ok(()) => Ok(found.tally),
-        Err(error) => Ok(found.tally.and(noted(alloc, options, name, error, writer)?)),
+        Ok(()) => Ok(tally),
+        Err(error) => Ok(tally.and(noted(alloc, options, name, error, writer)?)),
     }
 }
 
-// Whether what is at fault is mended, and the language stays.
-fn is_mending(layout: Layout) -> bool {
-    match layout {
-        Layout::Fixed(_, _) => true,
-        Layout::Least(_) | Layout::Normal(_) => false,
+// Tells which descriptions want changing by hand.
+fn by_hand<R: Eprint>(rt: &R, found: &Found) -> Tally {
+    let _ = rt.eprint(format_args!("{}", found.by_hand));
+    Tally {
+        is_left: !found.by_hand.is_empty(),
+        ..Tally::new()
     }
 }
 

@@ -36,6 +36,11 @@ pub fn is_source(options: Options<'_>, name: &str) -> bool
     is_rust(options, name) || has_keys(options, name)
 }
 
+/// Whether all files of a run are read as sources.
+pub fn are_sources(options: Options<'_>) -> bool {
+    options.files.iter().all(|name| is_source(options, name))
+}
+
 /// How the descriptions in the file of a name are found, which is read as a source.
 fn finder_of<'a>(options: Options<'a>, name: &str) -> Finder<'a>
     ensures { result ≡ spec.finder_of options.entry name.now }

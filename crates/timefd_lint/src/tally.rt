@@ -19,6 +19,8 @@ pub struct Tally {
     pub not_text: bool,
     /// A file was not read to its end, or not written back.
     pub failed: bool,
+    /// Something is left that wants changing by hand.
+    pub is_left: bool,
 }
 
 impl Tally {
@@ -32,6 +34,7 @@ impl Tally {
             warnings: 0,
             not_text: false,
             failed: false,
+            is_left: false,
         }
     }
 
@@ -45,6 +48,7 @@ impl Tally {
             warnings: warnings_in(end),
             not_text: matches!(end, TextEnd::NotText),
             failed: matches!(end, TextEnd::Failed),
+            is_left: false,
         }
     }
 
@@ -58,19 +62,21 @@ impl Tally {
             warnings: self.warnings.saturating_add(other.warnings),
             not_text: self.not_text || other.not_text,
             failed: self.failed || other.failed,
+            is_left: self.is_left || other.is_left,
         }
     }
 
-    /// The exit status: 1 where a text was refused, and all files were read and are text.
+    /// The exit status: 1 where a text was refused or something is left, and all files were read and are
+    /// text.
     pub fn status(self) -> u8
         ensures { result ≡ (if self.failed then 4 else if self.not_text then 5
-            else if nat_lt 0 self.refused then 1 else 0) }
+            else if nat_lt 0 self.refused || self.is_left then 1 else 0) }
     {
         if self.failed {
             4
         } else if self.not_text {
             5
-        } else if self.refused > 0 {
+        } else if self.refused > 0 || self.is_left {
             1
         } else {
             0

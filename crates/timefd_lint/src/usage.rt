@@ -33,7 +33,7 @@ and those that .gitignore files name, or the list exclude in a file .timefd.toml
   --warn                       tells what is suspect in an accepted text
   --deny CODE                  the same, and a text with this warning counts as refused
   --allow CODE                 the same, but for this warning
-  --to 2|3                     shows what has to change in a later version; writes no file
+  --to 2|3                     shows what has to change of lines and literals in a later version
   --normal                     shows what would change in the normal form of version 3
   --fix                        shows what mends refused lines and literals, where that is sure
   --unsafe                     with --fix: also by a guess, as the nearest word

@@ -41,13 +41,24 @@ is_three Three = true
 abbrev pub rewriting_conflict : Settings → DescriptionVersion → Names → Option Conflict
 rewriting_conflict s version names =
     if s.is_normal && not (is_three version) then Some NormalOfAnother
-    else if not s.is_normal && not (is_rewritten s.language version) then Some NoConversion
     else if s.warns then Some RewritesWarned
     else if s.is_whole then Some RewritesWhole
     else if s.is_source then Some RewritesSource
     else if names.count == 0 then Some RewritesNoFile
     else if names.has_input then Some RewritesInput
     else None
+
+abbrev pub conversion_conflict : Language → DescriptionVersion → Option Conflict
+conversion_conflict language version = if is_rewritten language version then None else Some NoConversion
+
+abbrev pub lines_conflict_by : Option DescriptionVersion → Bool → Language → Option Conflict
+lines_conflict_by None is_normal language = None
+lines_conflict_by (Some version) is_normal language =
+    if is_normal then None else conversion_conflict language version
+
+-- what is in the way of rewriting lines: no conversion leads from their language to the version
+abbrev pub lines_conflict : Settings → Option Conflict
+lines_conflict s = lines_conflict_by (target s) s.is_normal s.language
 
 abbrev pub fixing_conflict : Settings → Names → Option Conflict
 fixing_conflict s names =

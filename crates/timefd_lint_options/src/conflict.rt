@@ -66,9 +66,6 @@ fn rewriting_conflict(
     if settings.is_normal && !is_three(version) {
         return Some(Conflict::NormalOfAnother);
     }
-    if !settings.is_normal && !is_rewritten(settings.language, version) {
-        return Some(Conflict::NoConversion);
-    }
     if settings.warns {
         return Some(Conflict::RewritesWarned);
     }
@@ -85,6 +82,27 @@ fn rewriting_conflict(
         return Some(Conflict::RewritesInput);
     }
     None
+}
+
+/// What is in the way of rewriting lines, where there are files of them beside sources: no conversion
+/// leads from their language to the version.
+pub fn lines_conflict(settings: Settings<'_>) -> Option<Conflict>
+    ensures { result ≡ spec.lines_conflict settings.entry }
+{
+    match target(settings) {
+        Some(version) if !settings.is_normal => conversion_conflict(settings.language, version),
+        Some(_) | None => None,
+    }
+}
+
+fn conversion_conflict(language: Language, version: DescriptionVersion) -> Option<Conflict>
+    ensures { result ≡ spec.conversion_conflict language version }
+{
+    if is_rewritten(language, version) {
+        None
+    } else {
+        Some(Conflict::NoConversion)
+    }
 }
 
 fn is_drawn(format: Format) -> bool

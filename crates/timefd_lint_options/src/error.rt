@@ -45,13 +45,13 @@ pub enum Conflict {
     FixesInput,
     /// The normal form is one of version 3, and another is asked for.
     NormalOfAnother,
-    /// No rewriting leads from the language to the version.
+    /// No rewriting leads from the language of lines to the version.
     NoConversion,
     /// Warnings are told of descriptions that stay as they are.
     RewritesWarned,
     /// A file is rewritten line by line.
     RewritesWhole,
-    /// A source stays as it is.
+    /// Only what is named as a source is rewritten as one.
     RewritesSource,
     /// No file is named that could be rewritten.
     RewritesNoFile,

@@ -1,83 +1,128 @@
--- What one description is mended to.
-use Rattle.std.proofs.Common.{◌≡◌, ◌≢◌, true, false, inl, inr, refl, subst, ◌∙◌}
-use Rattle.std.specs.Prelude.{IsUtf8}
+-- What one description is mended or converted to.
+use Rattle.std.proofs.Common.{ℕ, ◌≡◌, ◌≢◌, true, false, inl, inr, refl, sym, subst, ◌∙◌}
+use Rattle.std.specs.Prelude.{IsUtf8, Option, None, Some}
+use Rattle.std.specs.declared.alloc.Global.{Global}
+use Rattle.std.specs.declared.vec.Vec.{Vec}
 use Rattle.timefd_component.specs.Tree.{Text}
 use Rattle.timefd_fault.specs.declared.invalid_format_description.InvalidFormatDescription.{InvalidFormatDescription}
-use Rattle.timefd_fault.specs.Faults.{fault_of}
-use Rattle.timefd_fix.specs.declared.fixes.Fixes.{Fixes}
-use Rattle.timefd_fix.specs.Chains.{IsFixed, IsLeft, IsLeftOf}
+use Rattle.timefd_fault.specs.Faults.{Fault, fault_of}
 use Rattle.timefd_language.specs.declared.parse_error.ParseError.{ParseError}
 use Rattle.timefd_language.specs.declared.parse_error.ParseError.TheVariants.{Invalid}
-use Rattle.timefd_parse.specs.declared.language.Language.{Language}
+use Rattle.timefd_rewrite.specs.declared.layout.Layout.{Layout}
+use Rattle.timefd_rewrite.specs.declared.layout.Layout.TheVariants.{Least, Normal, Fixed}
+use Rattle.timefd_rewrite.specs.Layouts.{IsConverted, IsRefusal, IsRefusedFor}
 use Rattle.timefd_sources.specs.declared.description.Description.{Description}
 use Rattle.timefd_sources.specs.Written.{IsBodyFor, has_body}
-use Rattle.timefd_lint_sources.specs.Judged.{is_passed_over, language_in, text_of}
-use Rattle.timefd_rewrite_sources.specs.declared.answer.Answer.TheVariants.{Stays}
-use Rattle.timefd_rewrite_sources.specs.declared.outcome.Outcome.TheVariants.{PassedOver, Same, Rewritten, Refused, NotText, NotALiteral}
-use Rattle.timefd_rewrite_sources.specs.Mended.{IsAnswer, IsMendedTo, IsOutcome, line_ends, old_line_ends}
+use Rattle.timefd_lint_sources.specs.Judged.{text_of}
+use Rattle.timefd_rewrite_sources.specs.declared.answer.Anew.{Anew}
+use Rattle.timefd_rewrite_sources.specs.declared.answer.Answer.TheVariants.{Stays, Becomes}
+use Rattle.timefd_rewrite_sources.specs.declared.change.Change.{Change}
+use Rattle.timefd_rewrite_sources.specs.declared.outcome.Outcome.TheVariants.{PassedOver, Same, Rewritten, Refused, NotText, NotALiteral, ByHand}
+use Rattle.timefd_rewrite_sources.specs.Changes.{layout_of, new_digit}
+use Rattle.timefd_rewrite_sources.specs.Written.{Becoming, IsAnswer, IsAnew, IsChange, IsLaidOutBy, is_sayable, items_of, line_ends, old_line_ends}
 
-pub passed_over : (fixes : Fixes) (source : Text) (d : Description) (text : Text) → text ≡ text_of d
-    → is_passed_over d.dialect text ≡ true → IsAnswer fixes source d (Stays PassedOver)
-passed_over fixes source d text same is = (refl, subst (λ (t : Text). is_passed_over d.dialect t ≡ true) same is)
+pub passed_over : (change : Change) (source : Text) (d : Description) (text : Text) → text ≡ text_of d
+    → layout_of change d.dialect text ≡ None → IsAnswer change source d (Stays PassedOver)
+passed_over change source d text same none =
+    (refl, subst (λ (t : Text). layout_of change d.dialect t ≡ None) same none)
 
-pub no_text : (fixes : Fixes) (source : Text) (d : Description) (text : Text) → text ≡ text_of d
-    → is_passed_over d.dialect text ≡ false → (¬ IsUtf8 text) → IsAnswer fixes source d (Stays NotText)
-no_text fixes source d text same judges none = (
+laid_out : (change : Change) (d : Description) (text : Text) (layout : Layout) → text ≡ text_of d
+    → layout_of change d.dialect text ≡ Some layout → IsLaidOutBy change d layout
+laid_out change d text layout same is =
+    subst (λ (t : Text). layout_of change d.dialect t ≡ Some layout) same is
+
+pub no_text : (change : Change) (source : Text) (d : Description) (text : Text) (layout : Layout) → text ≡ text_of d
+    → layout_of change d.dialect text ≡ Some layout → (¬ IsUtf8 text) → IsAnswer change source d (Stays NotText)
+no_text change source d text layout same is none = (
   refl,
-  (
-    subst (λ (t : Text). is_passed_over d.dialect t ≡ false) same judges,
-    subst (λ (t : Text). ¬ IsUtf8 t) same none,
-  ),
+  (subst (λ (t : Text). ¬ IsUtf8 t) same none, (layout, laid_out change d text layout same is)),
 )
 
-pub becomes : (fixes : Fixes) (source : Text) (d : Description) (answer body : Text)
-    → is_passed_over d.dialect (text_of d) ≡ false → IsMendedTo fixes d answer → answer ≢ text_of d
-    → IsBodyFor d.kind answer body → line_ends body ≡ old_line_ends source d
-    → IsOutcome fixes source d Rewritten body
-becomes fixes source d answer body judges mended other is lines = (judges, (answer, mended, other, is, lines))
+pub becoming : (change : Change) (d : Description) (layout : Layout) (text answer : Text) → text ≡ text_of d
+    → IsLaidOutBy change d layout → IsConverted layout text answer → Becoming change d answer
+becoming change d layout text answer same by is = record {
+  layout = layout;
+  chosen = by;
+  converted = subst (λ (t : Text). IsConverted layout t answer) same is;
+}
 
-pub no_body : (fixes : Fixes) (source : Text) (d : Description) (answer : Text)
-    → is_passed_over d.dialect (text_of d) ≡ false → IsMendedTo fixes d answer → answer ≢ text_of d
-    → has_body d.kind answer ≡ false → IsAnswer fixes source d (Stays NotALiteral)
-no_body fixes source d answer judges mended other none = (refl, (judges, (answer, mended, other, inl none)))
+-- An error that says that a text is refused has its fault.
+refused_for : (layout : Layout) (text : Text) (f : InvalidFormatDescription) → IsRefusal layout text (Invalid f)
+    → IsRefusedFor layout text (fault_of f)
+refused_for (Least conversion) text f is = is
+refused_for (Normal conversion) text f is = is
+refused_for (Fixed language fixes) text f is = is
 
-pub other_lines : (fixes : Fixes) (source : Text) (d : Description) (answer body : Text)
-    → is_passed_over d.dialect (text_of d) ≡ false → IsMendedTo fixes d answer → answer ≢ text_of d
-    → IsBodyFor d.kind answer body → line_ends body ≢ old_line_ends source d
-    → IsAnswer fixes source d (Stays NotALiteral)
-other_lines fixes source d answer body judges mended other is lines =
-    (refl, (judges, (answer, mended, other, inr (body, is, lines))))
-
-pub mended_to : (fixes : Fixes) (d : Description) (language : Language) (text answer : Text)
-    → language ≡ language_in d → text ≡ text_of d → IsFixed language fixes text answer
-    → IsMendedTo fixes d answer
-mended_to fixes d language text answer of same is =
-    subst (λ (x : Language). IsFixed x fixes (text_of d) answer) of
-    (subst (λ (x : Text). IsFixed language fixes x answer) same is)
-
-pub same : (fixes : Fixes) (source : Text) (d : Description) (language : Language) (text answer : Text)
-    → is_passed_over d.dialect (text_of d) ≡ false → language ≡ language_in d → text ≡ text_of d
-    → answer ≡ text → IsFixed language fixes text answer → IsAnswer fixes source d (Stays Same)
-same fixes source d language text answer judges of means equal is = (
-  refl,
-  (judges, subst (IsMendedTo fixes d) (equal ∙ means) (mended_to fixes d language text answer of means is)),
-)
-
-pub refused : (fixes : Fixes) (source : Text) (d : Description) (language : Language) (text : Text) (e : ParseError)
-    (f : InvalidFormatDescription) → is_passed_over d.dialect (text_of d) ≡ false
-    → language ≡ language_in d → text ≡ text_of d → IsUtf8 text → e ≡ Invalid f
-    → IsLeftOf language fixes text e → IsAnswer fixes source d (Stays Refused)
-refused fixes source d language text e f judges of same utf8 which left =
-    let one : IsLeft language fixes text (fault_of f) =
-    subst (λ (x : ParseError). IsLeftOf language fixes text x) which left in
-    let two : IsLeft (language_in d) fixes text (fault_of f) =
-    subst (λ (x : Language). IsLeft x fixes text (fault_of f)) of one in (
+pub refused : (change : Change) (source : Text) (d : Description) (layout : Layout) (text : Text) (e : ParseError)
+    (f : InvalidFormatDescription) → IsLaidOutBy change d layout → text ≡ text_of d → IsUtf8 text → e ≡ Invalid f
+    → IsRefusal layout text e → IsAnswer change source d (Stays Refused)
+refused change source d layout text e f by same utf8 which is =
+    let for : IsRefusedFor layout text (fault_of f) =
+    refused_for layout text f (subst (λ (x : ParseError). IsRefusal layout text x) which is) in (
       refl,
       (
-        judges,
+        subst (λ (x : Text). IsUtf8 x) same utf8,
         (
-          subst (λ (x : Text). IsUtf8 x) same utf8,
-          (fault_of f, subst (λ (x : Text). IsLeft (language_in d) fixes x (fault_of f)) same two),
+          layout,
+          by,
+          (fault_of f, subst (λ (x : Text). IsRefusedFor layout x (fault_of f)) same for),
         ),
       ),
     )
+
+pub by_hand : (change : Change) (source : Text) (d : Description) (answer : Text) (digit : Option ℕ)
+    → Becoming change d answer → digit ≡ new_digit change d.dialect → is_sayable d.version digit ≡ false
+    → IsAnswer change source d (Stays ByHand)
+by_hand change source d answer digit becoming is none = (
+  refl,
+  ((answer, becoming), subst (λ (x : Option ℕ). is_sayable d.version x ≡ false) is none),
+)
+
+pub stays_the_text : (change : Change) (d : Description) (text answer : Text) → Becoming change d answer
+    → answer ≡ text → text ≡ text_of d → Becoming change d (text_of d)
+stays_the_text change d text answer becoming equal same = subst (Becoming change d) (equal ∙ same) becoming
+
+pub same : (change : Change) (source : Text) (d : Description) (digit : Option ℕ)
+    → Becoming change d (text_of d) → digit ≡ new_digit change d.dialect → digit ≡ None
+    → IsAnswer change source d (Stays Same)
+same change source d digit becoming is none = (refl, (becoming, sym is ∙ none))
+
+pub renumbered : (change : Change) (source : Text) (d : Description) (digit : Option ℕ) (new : ℕ)
+    → Becoming change d (text_of d) → digit ≡ new_digit change d.dialect
+    → is_sayable d.version digit ≡ true → digit ≡ Some new → IsAnew change source d digit None
+renumbered change source d digit new becoming is says some = record {
+  answer = text_of d;
+  becoming = becoming;
+  version = is;
+  sayable = says;
+  body_of = refl;
+  changes = subst (λ (x : Option ℕ). IsChange x None) (sym some) tt;
+}
+
+changed : (digit : Option ℕ) (body : Text) → IsChange digit (Some body)
+changed None body = tt
+changed (Some digit) body = tt
+
+pub becomes : (change : Change) (source : Text) (d : Description) (answer body : Text) (digit : Option ℕ)
+    → Becoming change d answer → answer ≢ text_of d → digit ≡ new_digit change d.dialect
+    → is_sayable d.version digit ≡ true → IsBodyFor d.kind answer body → line_ends body ≡ old_line_ends source d
+    → IsAnew change source d digit (Some body)
+becomes change source d answer body digit becoming other is says stands lines = record {
+  answer = answer;
+  becoming = becoming;
+  version = is;
+  sayable = says;
+  body_of = (other, stands, lines);
+  changes = changed digit body;
+}
+
+pub no_body : (change : Change) (source : Text) (d : Description) (answer : Text)
+    → Becoming change d answer → answer ≢ text_of d → has_body d.kind answer ≡ false
+    → IsAnswer change source d (Stays NotALiteral)
+no_body change source d answer becoming other none = (refl, (answer, becoming, other, inl none))
+
+pub other_lines : (change : Change) (source : Text) (d : Description) (answer body : Text)
+    → Becoming change d answer → answer ≢ text_of d → IsBodyFor d.kind answer body
+    → line_ends body ≢ old_line_ends source d → IsAnswer change source d (Stays NotALiteral)
+other_lines change source d answer body becoming other is lines =
+    (refl, (answer, becoming, other, inr (body, is, lines)))

@@ -1,23 +1,29 @@
 -- Several descriptions of a source, one after another.
 use Rattle.std.proofs.Common.{ℕ, ◌≡◌, ◌<◌, ◌≤◌, ◌+◌, ◌-◌, List, [], ◌∷◌, ◌++◌, length, take, drop, get_or, refl, sym, ap, subst, ◌∙◌, arith, take_all}
-use Rattle.std.specs.Prelude.{false, Option, None, Some}
+use Rattle.std.specs.Prelude.{false, true, Option, None, Some}
 use Rattle.std.proofs.lemmas.List.{append_assoc, append-nil, drop-drop, drop_all, drop_more, take-append-drop, length-drop}
 use Rattle.std.specs.declared.alloc.Global.{Global}
 use Rattle.std.specs.declared.vec.Vec.{Vec}
 use denote.Ref.{Bor}
 use Rattle.timefd_component.specs.Tree.{Text}
-use Rattle.timefd_fix.specs.declared.fixes.Fixes.{Fixes}
 use Rattle.timefd_sources.specs.declared.description.Description.{Description}
+use Rattle.timefd_sources.specs.declared.dialect.Dialect.{Dialect}
+use Rattle.timefd_sources.specs.declared.piece.Piece.{Piece}
 use Rattle.timefd_sources.specs.declared.token.Kind.{Kind}
 use Rattle.timefd_sources.specs.Bytes.{seen}
 use Rattle.timefd_sources.specs.Escapes.{Placed, placed}
-use Rattle.timefd_sources.specs.Found.{AllStandIn, AreInOrder, StandsIn}
+use Rattle.timefd_sources.specs.declared.version.VersionPlace.{VersionPlace}
+use Rattle.timefd_sources.specs.declared.version.VersionPlace.TheVariants.{Digit, Unsaid, Call, Elsewhere}
+use Rattle.timefd_sources.specs.Found.{AllStandIn, AreInOrder, StandsIn, begin_of}
+use Rattle.timefd_sources.specs.Versions.{IsSaid, digit_of, first_place}
 use Rattle.timefd_sources.specs.Literals.{EndsAt, body, body_end, body_text, cut, inside, inside_of, text_of}
+use Rattle.timefd_rewrite_sources.specs.declared.answer.Anew.{Anew}
 use Rattle.timefd_rewrite_sources.specs.declared.answer.Answer.{Answer}
 use Rattle.timefd_rewrite_sources.specs.declared.answer.Answer.TheVariants.{Stays, Becomes}
 use Rattle.timefd_rewrite_sources.specs.declared.outcome.Outcome.{Outcome}
-use Rattle.timefd_rewrite_sources.specs.declared.outcome.Outcome.TheVariants.{PassedOver, Same, Rewritten, Refused, NotText, NotALiteral}
-use Rattle.timefd_rewrite_sources.specs.Mended.{AddsMended, AreMended, IsAnswer, IsOutcome, IsPlaced, Replaces, is_rewriting}
+use Rattle.timefd_rewrite_sources.specs.declared.outcome.Outcome.TheVariants.{PassedOver, Same, Rewritten, Refused, NotText, NotALiteral, ByHand}
+use Rattle.timefd_rewrite_sources.specs.declared.change.Change.{Change}
+use Rattle.timefd_rewrite_sources.specs.Written.{AddsRewritten, AreRewritten, IsAnew, IsAnswer, IsOutcome, IsPlaced, IsPut, IsRenumbered, IsReplaced, IsRespelled, IsSaidAnew, IsSpliced, Puts, Renumbers, Replaces, argument, can_say, is_rewriting, is_sayable, items_of}
 
 -- A description's literal has an inside.
 no_text : (kind : Kind) (end : ℕ) (p : Placed) (r : Option Text)
@@ -70,24 +76,158 @@ replaced source d from next body old kept bytes between behind r b is which lent
   second ∙ ap (λ (t : Text). t ++ body) first ∙ append_assoc bytes kept body,
 )
 
+-- What is written so far of a source stands in front of other bytes than those at a place.
+spliced : (source old new bytes between behind kept : Text) (from start next : ℕ) → from ≤ start
+    → drop start source ≡ old ++ drop next source → kept ≡ take (start - from) (drop from source)
+    → between ≡ bytes ++ kept → behind ≡ between ++ new
+    → IsSpliced source from old new (kept ++ new) next × (behind ≡ bytes ++ (kept ++ new))
+spliced source old new bytes between behind kept from start next order stands is first second =
+    let rest : drop (start - from) (drop from source) ≡ old ++ drop next source =
+    drop-drop (start - from) from source ∙ ap (λ (n : ℕ). drop n source) (omega (arith, order)) ∙ stands in (
+      record {
+        kept = kept;
+        cut = sym (take-append-drop (start - from) (drop from source))
+            ∙ ap (λ (t : Text). take (start - from) (drop from source) ++ t) rest
+            ∙ ap (λ (t : Text). t ++ (old ++ drop next source)) (sym is);
+        written = refl;
+      },
+      second ∙ ap (λ (t : Text). t ++ new) first ∙ append_assoc bytes kept new,
+    )
+
+-- The first place that belongs to a description isn't behind the begin of its literal.
+first_in_front : (source : Text) (p : Piece) (dialect : Dialect) (place : VersionPlace)
+    → IsSaid source p dialect place → first_place place p.start ≤ p.start
+first_in_front source p dialect (Digit at) said = omega (arith, said.before)
+first_in_front source p dialect Unsaid said = omega arith
+first_in_front source p dialect Call said = omega arith
+first_in_front source p dialect Elsewhere said = omega arith
+
+pub begins : (source : Text) (d : Description) (from : ℕ) → StandsIn source d → from ≤ begin_of d
+    → from ≤ d.piece.start
+begins source d from stands order =
+    omega (arith, order, first_in_front source d.piece d.dialect d.version stands.version)
+
+pub digit_stands : (source : Text) (d : Description) (from at : ℕ) → StandsIn source d → from ≤ begin_of d
+    → d.version ≡ Digit at → (from ≤ at) × (at + 1 ≤ d.piece.start) × (at ≤ length source)
+digit_stands source d from at stands order which =
+    let said : IsSaid source d.piece d.dialect (Digit at) =
+    subst (IsSaid source d.piece d.dialect) which stands.version in (
+      subst (λ (p : VersionPlace). from ≤ first_place p d.piece.start) which order,
+      omega (arith, said.before),
+      omega (arith, said.before, stands.between.start.0),
+    )
+
+pub start_within : (source : Text) (d : Description) → StandsIn source d → d.piece.start ≤ length source
+start_within source d stands = stands.between.start.0
+
+pub same_version : (source : Text) (d : Description) (from : ℕ) (digit : Option ℕ) (bytes : Text) → digit ≡ None
+    → Renumbers source d from digit bytes bytes from
+same_version source d from digit bytes none = (
+  [],
+  subst (λ (x : Option ℕ). IsRenumbered source from d x [] from) (sym none) (refl, refl),
+  sym (append-nil bytes),
+)
+
+said_anew : (source : Text) (d : Description) (from next new : ℕ) (digit : Option ℕ) (front bytes behind : Text)
+    → digit ≡ Some new → IsSaidAnew source from d d.version new front next → behind ≡ bytes ++ front
+    → Renumbers source d from digit bytes behind next
+said_anew source d from next new digit front bytes behind some anew more =
+    (front, subst (λ (x : Option ℕ). IsRenumbered source from d x front next) (sym some) anew, more)
+
+pub digit_said : (source : Text) (d : Description) (from at new : ℕ) (digit : Option ℕ)
+    (bytes between behind : Text) → StandsIn source d → from ≤ begin_of d → digit ≡ Some new
+    → d.version ≡ Digit at → between ≡ bytes ++ take (at - from) (drop from source)
+    → behind ≡ between ++ (new ∷ []) → Renumbers source d from digit bytes behind (at + 1)
+digit_said source d from at new digit bytes between behind stands order some which first second =
+    let said : IsSaid source d.piece d.dialect (Digit at) =
+    subst (IsSaid source d.piece d.dialect) which stands.version in
+    let before : from ≤ at = (digit_stands source d from at stands order which).0 in
+    let kept : Text = take (at - from) (drop from source) in
+    let cut = spliced source (said.digit ∷ []) (new ∷ []) bytes between behind kept from at (at + 1) before
+    said.stands refl first second in
+    said_anew source d from (at + 1) new digit (kept ++ (new ∷ [])) bytes behind some
+    (subst (λ (p : VersionPlace). IsSaidAnew source from d p new (kept ++ (new ∷ [])) (at + 1)) (sym which)
+    (refl, (said.digit, said.is, cut.0))) cut.1
+
+pub argument_said : (source : Text) (d : Description) (from new : ℕ) (digit : Option ℕ)
+    (bytes between behind : Text) → StandsIn source d → from ≤ begin_of d → digit ≡ Some new
+    → d.version ≡ Unsaid → between ≡ bytes ++ take (d.piece.start - from) (drop from source)
+    → behind ≡ between ++ argument new → Renumbers source d from digit bytes behind d.piece.start
+argument_said source d from new digit bytes between behind stands order some which first second =
+    let kept : Text = take (d.piece.start - from) (drop from source) in
+    let cut = spliced source [] (argument new) bytes between behind kept from d.piece.start d.piece.start
+    (begins source d from stands order) refl refl first second in
+    said_anew source d from d.piece.start new digit (kept ++ argument new) bytes behind some
+    (subst (λ (p : VersionPlace). IsSaidAnew source from d p new (kept ++ argument new) d.piece.start) (sym which)
+    (refl, cut.0)) cut.1
+
+-- A version that no number says isn't to be said anew.
+pub unsayable : (place other : VersionPlace) (digit : Option ℕ) (new : ℕ) → is_sayable place digit ≡ true
+    → digit ≡ Some new → place ≡ other → can_say other ≡ false → ⊥
+unsayable place other digit new says some which none =
+    let other_says : can_say other ≡ true =
+    subst (λ (p : VersionPlace). can_say p ≡ true) which
+    (subst (λ (x : Option ℕ). is_sayable place x ≡ true) some says) in cc
+
+-- The version alone is another.
+pub renumbered_alone : (source : Text) (d : Description) (from next : ℕ) (digit : Option ℕ)
+    (body : Option (Vec ℕ Global)) (bytes behind : Text) → Renumbers source d from digit bytes behind next
+    → body ≡ None → Puts source d from digit (items_of body) bytes behind next
+renumbered_alone source d from next digit body bytes behind (front, renumbered, more) none = (
+  front,
+  record {
+    first = front;
+    middle = next;
+    second = [];
+    renumbered = renumbered;
+    respelled = subst (λ (x : Option (Vec ℕ Global)). IsRespelled source next d (items_of x) [] next)
+        (sym none) (refl, refl);
+    whole = sym (append-nil front);
+  },
+  more,
+)
+
+pub both_put : (source : Text) (d : Description) (from middle next : ℕ) (digit : Option ℕ)
+    (body : Option (Vec ℕ Global)) (v : Vec ℕ Global) (inner bytes between behind : Text)
+    → Renumbers source d from digit bytes between middle → body ≡ Some v → inner ≡ v.items
+    → Replaces source d middle inner between behind next
+    → Puts source d from digit (items_of body) bytes behind next
+both_put source d from middle next digit body v inner bytes between behind (first, renumbered, before) some same
+    (second, replaced, more) = (
+      first ++ second,
+      record {
+        first = first;
+        middle = middle;
+        second = second;
+        renumbered = renumbered;
+        respelled = subst (λ (x : Option (Vec ℕ Global)). IsRespelled source middle d (items_of x) second next)
+            (sym some)
+            (subst (λ (t : Text). IsReplaced source middle d t second next) same replaced);
+        whole = refl;
+      },
+      more ∙ ap (λ (t : Text). t ++ second) before ∙ append_assoc bytes first second,
+    )
+
 -- A literal that stays.
 stays_placed : (source : Text) (from : ℕ) (d : Description) (o : Outcome) → is_rewriting o ≡ false
-    → IsPlaced source from d o [] [] from
+    → IsPlaced source from d o None None [] from
 stays_placed source from d PassedOver e = (refl, refl)
 stays_placed source from d Same e = (refl, refl)
 stays_placed source from d Rewritten e = absurd cc
 stays_placed source from d Refused e = (refl, refl)
 stays_placed source from d NotText e = (refl, refl)
 stays_placed source from d NotALiteral e = (refl, refl)
+stays_placed source from d ByHand e = (refl, refl)
 
-pub stays : (fixes : Fixes) (source : Text) (d : Description) (from : ℕ) (outcomes outcomes' : List Outcome)
-    (bytes : Text) (a : Answer) (o : Outcome) → IsAnswer fixes source d a → a ≡ Stays o
+pub stays : (change : Change) (source : Text) (d : Description) (from : ℕ) (outcomes outcomes' : List Outcome)
+    (bytes : Text) (a : Answer) (o : Outcome) → IsAnswer change source d a → a ≡ Stays o
     → outcomes' ≡ outcomes ++ (o ∷ [])
-    → AddsMended fixes source d from outcomes bytes outcomes' bytes from
-stays fixes source d from outcomes outcomes' bytes a o answer which pushed =
-    let is : IsAnswer fixes source d (Stays o) = subst (IsAnswer fixes source d) which answer in record {
+    → AddsRewritten change source d from outcomes bytes outcomes' bytes from
+stays change source d from outcomes outcomes' bytes a o answer which pushed =
+    let is : IsAnswer change source d (Stays o) = subst (IsAnswer change source d) which answer in record {
       outcome = o;
-      body = [];
+      digit = None;
+      body = None;
       front = [];
       is = is.1;
       placed = stays_placed source from d o is.0;
@@ -95,33 +235,37 @@ stays fixes source d from outcomes outcomes' bytes a o answer which pushed =
       more_bytes = sym (append-nil bytes);
     }
 
-pub becomes : (fixes : Fixes) (source : Text) (d : Description) (from next : ℕ)
-    (outcomes outcomes' : List Outcome) (bytes bytes' body : Text) (a : Answer) (v : Vec ℕ Global)
-    → IsAnswer fixes source d a → a ≡ Becomes v → body ≡ v.items
-    → outcomes' ≡ outcomes ++ (Rewritten ∷ [])
-    → Replaces source d from body bytes bytes' next
-    → AddsMended fixes source d from outcomes bytes outcomes' bytes' next
-becomes fixes source d from next outcomes outcomes' bytes bytes' body a v answer which same pushed (front, replaced, more) = record {
+pub anew_of : (change : Change) (source : Text) (d : Description) (a : Answer) (anew : Anew)
+    → IsAnswer change source d a → a ≡ Becomes anew → IsAnew change source d anew.digit (items_of anew.body)
+anew_of change source d a anew answer which = subst (IsAnswer change source d) which answer
+
+pub becomes : (change : Change) (source : Text) (d : Description) (from next : ℕ)
+    (outcomes outcomes' : List Outcome) (bytes bytes' : Text) (a : Answer) (anew : Anew)
+    → IsAnswer change source d a → a ≡ Becomes anew → outcomes' ≡ outcomes ++ (Rewritten ∷ [])
+    → Puts source d from anew.digit (items_of anew.body) bytes bytes' next
+    → AddsRewritten change source d from outcomes bytes outcomes' bytes' next
+becomes change source d from next outcomes outcomes' bytes bytes' a anew answer which pushed (front, put, more) = record {
   outcome = Rewritten;
-  body = body;
+  digit = anew.digit;
+  body = items_of anew.body;
   front = front;
-  is = subst (IsOutcome fixes source d Rewritten) (sym same) (subst (IsAnswer fixes source d) which answer);
-  placed = replaced;
+  is = anew_of change source d a anew answer which;
+  placed = put;
   more_outcomes = pushed;
   more_bytes = more;
 }
 
 -- What is written for those that are left stands behind what is written so far.
-pub record AreMendedTo (fixes : Fixes) (source : Text) (all left : List Description) (outcomes : List Outcome)
+pub record AreRewrittenTo (change : Change) (source : Text) (all left : List Description) (outcomes : List Outcome)
     (bytes : Text) (from : ℕ) : Type 0 where
-  pub others : (os : List Outcome) (new : Text) → AreMended fixes source from left os new
-      → AreMended fixes source 0 all (outcomes ++ os) (bytes ++ new)
+  pub others : (os : List Outcome) (new : Text) → AreRewritten change source from left os new
+      → AreRewritten change source 0 all (outcomes ++ os) (bytes ++ new)
   pub in_order : AreInOrder from left
   pub within : from ≤ length source
 
-pub at_first : (fixes : Fixes) (source : Text) (all : List Description) → AreInOrder 0 all
-    → AreMendedTo fixes source all all [] [] 0
-at_first fixes source all ordered = record {
+pub at_first : (change : Change) (source : Text) (all : List Description) → AreInOrder 0 all
+    → AreRewrittenTo change source all all [] [] 0
+at_first change source all ordered = record {
   others = λ os new are. are;
   in_order = ordered;
   within = omega arith;
@@ -132,30 +276,58 @@ pub stands_at : (source : Text) (all : List Description) (i : ℕ) (d other : De
 stands_at source all i d other below is stand = subst (StandsIn source) (sym is) (stand i other below)
 
 -- The next one begins behind the place.
-pub next_behind : (fixes : Fixes) (source : Text) (all : List Description) (i : ℕ) (d other : Description)
+pub next_behind : (change : Change) (source : Text) (all : List Description) (i : ℕ) (d other : Description)
     (outcomes : List Outcome) (bytes : Text) (from : ℕ) → i < length all → d ≡ get_or all i other
-    → AreMendedTo fixes source all (drop i all) outcomes bytes from → from ≤ d.piece.start
-next_behind fixes source all i d other outcomes bytes from below is so_far =
+    → AreRewrittenTo change source all (drop i all) outcomes bytes from → from ≤ begin_of d
+next_behind change source all i d other outcomes bytes from below is so_far =
     let left : drop i all ≡ d ∷ drop (i + 1) all =
     drop_more all i other below ∙ ap (λ x. x ∷ drop (i + 1) all) (sym is) in
     let order : AreInOrder from (d ∷ drop (i + 1) all) = subst (AreInOrder from) left so_far.in_order in
     order.0
 
+-- Where a version said anew ends.
+said_within : (source : Text) (d : Description) (place : VersionPlace) (from next digit : ℕ) (front : Text)
+    → IsSaid source d.piece d.dialect place → IsSaidAnew source from d place digit front next
+    → next ≤ d.piece.start
+said_within source d (Digit at) from next digit front said anew = omega (arith, anew.0, said.before)
+said_within source d Unsaid from next digit front said anew = omega (arith, anew.0)
+said_within source d Call from next digit front said anew = absurd anew
+said_within source d Elsewhere from next digit front said anew = absurd anew
+
+renumbered_within : (source : Text) (d : Description) (from next : ℕ) (digit : Option ℕ) (front : Text)
+    → StandsIn source d → from ≤ d.piece.start → IsRenumbered source from d digit front next
+    → next ≤ d.piece.start
+renumbered_within source d from next None front stands behind anew = omega (arith, anew.1, behind)
+renumbered_within source d from next (Some digit) front stands behind anew =
+    said_within source d d.version from next digit front stands.version anew
+
+respelled_within : (source : Text) (d : Description) (from next : ℕ) (body : Option Text) (front : Text)
+    → StandsIn source d → from ≤ d.piece.start → IsRespelled source from d body front next → next ≤ d.piece.end
+respelled_within source d from next None front stands behind anew =
+    omega (arith, behind, anew.1, stands.between.end_inside.behind, stands.between.end_inside.before)
+respelled_within source d from next (Some body) front stands behind anew =
+    omega (arith, anew.at_quote, stands.between.end_inside.before)
+
 -- Where what is written ends lies in the source, and not behind the literal.
-ends_within : (source : Text) (d : Description) (from next : ℕ) (o : Outcome) (body front : Text)
-    → StandsIn source d → from ≤ d.piece.start → IsPlaced source from d o body front next
+ends_within : (source : Text) (d : Description) (from next : ℕ) (o : Outcome) (digit : Option ℕ)
+    (body : Option Text) (front : Text)
+    → StandsIn source d → from ≤ d.piece.start → IsPlaced source from d o digit body front next
     → next ≤ d.piece.end
-ends_within source d from next PassedOver body front stands behind placed =
+ends_within source d from next PassedOver digit body front stands behind placed =
     omega (arith, placed.1, stands.between.end_inside.behind, stands.between.end_inside.before)
-ends_within source d from next Same body front stands behind placed =
+ends_within source d from next Same digit body front stands behind placed =
     omega (arith, placed.1, stands.between.end_inside.behind, stands.between.end_inside.before)
-ends_within source d from next Rewritten body front stands behind placed =
-    omega (arith, placed.at_quote, stands.between.end_inside.before)
-ends_within source d from next Refused body front stands behind placed =
+ends_within source d from next Rewritten digit body front stands behind placed =
+    respelled_within source d placed.middle next body placed.second stands
+    (renumbered_within source d from placed.middle digit placed.first stands behind placed.renumbered)
+    placed.respelled
+ends_within source d from next Refused digit body front stands behind placed =
     omega (arith, placed.1, stands.between.end_inside.behind, stands.between.end_inside.before)
-ends_within source d from next NotText body front stands behind placed =
+ends_within source d from next NotText digit body front stands behind placed =
     omega (arith, placed.1, stands.between.end_inside.behind, stands.between.end_inside.before)
-ends_within source d from next NotALiteral body front stands behind placed =
+ends_within source d from next NotALiteral digit body front stands behind placed =
+    omega (arith, placed.1, stands.between.end_inside.behind, stands.between.end_inside.before)
+ends_within source d from next ByHand digit body front stands behind placed =
     omega (arith, placed.1, stands.between.end_inside.behind, stands.between.end_inside.before)
 
 earlier : (from to : ℕ) (ds : List Description) → from ≤ to → AreInOrder to ds → AreInOrder from ds
@@ -166,40 +338,41 @@ earlier from to (d ∷ ds) le order = (omega (arith, le, order.0), order.1)
 in_source : (source : Text) (d : Description) → StandsIn source d → d.piece.end ≤ length source
 in_source source d stands = stands.between.end.0
 
-pub one_more : (fixes : Fixes) (source : Text) (all : List Description) (i : ℕ) (d other : Description)
+pub one_more : (change : Change) (source : Text) (all : List Description) (i : ℕ) (d other : Description)
     (outcomes outcomes' : List Outcome) (bytes bytes' : Text) (from next : ℕ)
     → i < length all → d ≡ get_or all i other → StandsIn source d
-    → AreMendedTo fixes source all (drop i all) outcomes bytes from
-    → AddsMended fixes source d from outcomes bytes outcomes' bytes' next
-    → AreMendedTo fixes source all (drop (i + 1) all) outcomes' bytes' next
-one_more fixes source all i d other outcomes outcomes' bytes bytes' from next below is stands so_far adds =
+    → AreRewrittenTo change source all (drop i all) outcomes bytes from
+    → AddsRewritten change source d from outcomes bytes outcomes' bytes' next
+    → AreRewrittenTo change source all (drop (i + 1) all) outcomes' bytes' next
+one_more change source all i d other outcomes outcomes' bytes bytes' from next below is stands so_far adds =
     let left : drop i all ≡ d ∷ drop (i + 1) all =
     drop_more all i other below ∙ ap (λ x. x ∷ drop (i + 1) all) (sym is) in
-    let before : AreMendedTo fixes source all (d ∷ drop (i + 1) all) outcomes bytes from =
-    subst (λ l. AreMendedTo fixes source all l outcomes bytes from) left so_far in
+    let before : AreRewrittenTo change source all (d ∷ drop (i + 1) all) outcomes bytes from =
+    subst (λ l. AreRewrittenTo change source all l outcomes bytes from) left so_far in
     let end : next ≤ d.piece.end =
-    ends_within source d from next adds.outcome adds.body adds.front stands before.in_order.0 adds.placed in
+    ends_within source d from next adds.outcome adds.digit adds.body adds.front stands
+    (begins source d from stands before.in_order.0) adds.placed in
     record {
       others = λ os new are.
-          subst (λ x. AreMended fixes source 0 all x (bytes' ++ new))
+          subst (λ x. AreRewritten change source 0 all x (bytes' ++ new))
           (sym (append_assoc outcomes (adds.outcome ∷ []) os) ∙ ap (λ x. x ++ os) (sym adds.more_outcomes))
-          (subst (λ x. AreMended fixes source 0 all (outcomes ++ adds.outcome ∷ os) x)
+          (subst (λ x. AreRewritten change source 0 all (outcomes ++ adds.outcome ∷ os) x)
           (sym (append_assoc bytes adds.front new) ∙ ap (λ x. x ++ new) (sym adds.more_bytes))
           (before.others (adds.outcome ∷ os) (adds.front ++ new)
-          (adds.body, adds.front, next, new, adds.is, adds.placed, are, refl)));
+          (adds.digit, adds.body, adds.front, next, new, adds.is, adds.placed, are, refl)));
       in_order = earlier next d.piece.end (drop (i + 1) all) end before.in_order.1;
       within = omega (arith, end, in_source source d stands);
     }
 
-pub at_last : (fixes : Fixes) (source : Text) (all : List Description) (i : ℕ) (outcomes : List Outcome)
+pub at_last : (change : Change) (source : Text) (all : List Description) (i : ℕ) (outcomes : List Outcome)
     (bytes bytes' rest : Text) (from : ℕ) → length all ≤ i
-    → AreMendedTo fixes source all (drop i all) outcomes bytes from
+    → AreRewrittenTo change source all (drop i all) outcomes bytes from
     → rest ≡ take (length source - from) (drop from source) → bytes' ≡ bytes ++ rest
-    → AreMended fixes source 0 all outcomes bytes'
-at_last fixes source all i outcomes bytes bytes' rest from none so_far is written =
+    → AreRewritten change source 0 all outcomes bytes'
+at_last change source all i outcomes bytes bytes' rest from none so_far is written =
     let end : rest ≡ drop from source =
     is ∙ take_all (length source - from) (drop from source) (omega (arith, length-drop from source)) in
-    let last : AreMended fixes source 0 all (outcomes ++ []) (bytes ++ rest) =
-    (subst (λ l. AreMendedTo fixes source all l outcomes bytes from) (drop_all i all none) so_far).others [] rest end in
-    subst (λ x. AreMended fixes source 0 all x bytes') (append-nil outcomes)
-    (subst (λ x. AreMended fixes source 0 all (outcomes ++ []) x) (sym written) last)
+    let last : AreRewritten change source 0 all (outcomes ++ []) (bytes ++ rest) =
+    (subst (λ l. AreRewrittenTo change source all l outcomes bytes from) (drop_all i all none) so_far).others [] rest end in
+    subst (λ x. AreRewritten change source 0 all x bytes') (append-nil outcomes)
+    (subst (λ x. AreRewritten change source 0 all (outcomes ++ []) x) (sym written) last)

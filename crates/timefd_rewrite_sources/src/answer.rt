@@ -1,95 +1,165 @@
-//! What one description is mended to.
+//! What one description is mended or converted to.
 
-ghost use Rattle.std.specs.Prelude.{◌≡◌, ◌≢◌, IfOk, IsUtf8, false};
-ghost use Rattle.timefd_lint_sources.specs.Judged as spec;
+ghost use Rattle.std.specs.Prelude.{◌≡◌, ◌≢◌, IfOk, IsTrue, IsUtf8, None};
 ghost use Rattle.timefd_lint_sources.specs.Judged.{text_of};
-ghost use Rattle.timefd_rewrite_sources.specs.Mended.{IsAnswer, IsMendedTo, line_ends, old_line_ends};
+ghost use Rattle.timefd_rewrite.specs.Layouts.{IsConverted};
+ghost use Rattle.timefd_rewrite_sources.specs.Changes as changes;
+ghost use Rattle.timefd_rewrite_sources.specs.Written.{Becoming, IsAnswer, IsLaidOutBy, is_sayable, line_ends, old_line_ends};
+ghost use Rattle.timefd_rewrite_sources.specs.Written as spec;
 
+use crate::change::{Change, layout_of, new_digit};
 use crate::outcome::Outcome;
 use std::alloc::{AllocError, Global};
 use std::str;
-use timefd_fix::{Fixes, fixed};
-use timefd_lint_sources::{is_passed_over, language_of};
 use timefd_parse::ParseError;
-use timefd_sources::{Description, body_alike, inside};
+use timefd_rewrite::{Layout, lay_out};
+use timefd_sources::{Description, VersionPlace, body_alike, inside};
 
-/// What stands in the place of a literal's inside.
+/// What stands anew in a literal or beside it.
+#[derive(Drop)]
+pub struct Anew {
+    /// The digit of its version, where that changes.
+    pub digit: Option<u8>,
+    /// What stands between its quotes, where that changes.
+    pub body: Option<Vec<u8>>,
+}
+
+/// What becomes of a literal.
 #[derive(Drop)]
 pub enum Answer {
     /// It stays as it is.
     Stays(Outcome),
-    /// These bytes do.
-    Becomes(Vec<u8>),
+    /// This changes.
+    Becomes(Anew),
 }
 
-/// What a description of a source is mended to by such fixes. An `Err` says that memory ran out.
+/// What a description of a source is mended or converted to. An `Err` says that memory ran out.
 #[tactic(auto, using(crate::proofs::AnswerLemmas::passed_over, crate::proofs::AnswerLemmas::no_text))]
 pub fn answer_to(
     alloc: Global,
-    fixes: Fixes,
+    change: Change,
     source: &str,
     description: &Description,
 ) -> Result<Answer, AllocError>
-    ensures { IfOk result (IsAnswer fixes source.now description.now) }
+    ensures { IfOk result (IsAnswer change source.now description.now) }
 {
     let bytes = description.unescaped.text.as_slice();
-    if is_passed_over(description.dialect, bytes) {
+    let Some(layout) = layout_of(change, description.dialect, bytes) else {
         return Ok(Answer::Stays(Outcome::PassedOver));
-    }
+    };
     match str::from_utf8(bytes) {
-        Ok(text) => mended(alloc, fixes, source, description, text),
+        Ok(text) => laid_out(alloc, change, layout, source, description, text),
         Err(_) => Ok(Answer::Stays(Outcome::NotText)),
     }
 }
 
-// What a description that is this text is mended to.
-#[tactic(auto, using(crate::proofs::AnswerLemmas::same, crate::proofs::AnswerLemmas::refused, crate::proofs::AnswerLemmas::mended_to))]
-fn mended(
+// What a description that is this text becomes in this layout.
+#[tactic(auto, using(crate::proofs::AnswerLemmas::becoming, crate::proofs::AnswerLemmas::refused))]
+fn laid_out(
     alloc: Global,
-    fixes: Fixes,
+    change: Change,
+    layout: Layout,
     source: &str,
     description: &Description,
     text: &str,
 ) -> Result<Answer, AllocError>
-    requires judges { spec.is_passed_over description.now.dialect (text_of description.now) ≡ false }
+    requires layout { IsLaidOutBy change description.now layout }
     requires text { text.now ≡ text_of description.now }
-    ensures { IfOk result (IsAnswer fixes source.now description.now) }
+    ensures { IfOk result (IsAnswer change source.now description.now) }
 {
-    match fixed(alloc, language_of(description.dialect), fixes, text) {
-        Ok(answer) => {
-            let answer = answer.as_str();
-            if answer == text {
-                return Ok(Answer::Stays(Outcome::Same));
-            }
-            written(alloc, fixes, source, description, answer)
-        }
+    match lay_out(alloc, layout, text) {
+        Ok(answer) => becoming(alloc, change, source, description, text, answer.as_str()),
         Err(ParseError::Invalid(_)) => Ok(Answer::Stays(Outcome::Refused)),
         Err(ParseError::Memory(error)) => Err(error),
     }
 }
 
-// The inside of a description's literal that stands for what it is mended to, if it has as many
-// line ends as the old one.
-#[tactic(auto, using(crate::proofs::AnswerLemmas::becomes, crate::proofs::AnswerLemmas::no_body, crate::proofs::AnswerLemmas::other_lines))]
-fn written(
+// What a description that is this text becomes, which is to be another: it stays where its new version
+// can't be said.
+#[tactic(auto, using(crate::proofs::AnswerLemmas::by_hand, crate::proofs::AnswerLemmas::stays_the_text))]
+fn becoming(
     alloc: Global,
-    fixes: Fixes,
+    change: Change,
     source: &str,
     description: &Description,
+    text: &str,
     answer: &str,
 ) -> Result<Answer, AllocError>
-    requires judges { spec.is_passed_over description.now.dialect (text_of description.now) ≡ false }
-    requires mended { IsMendedTo fixes description.now answer.now }
+    requires text { text.now ≡ text_of description.now }
+    requires becoming { Becoming change description.now answer.now }
+    ensures { IfOk result (IsAnswer change source.now description.now) }
+{
+    let digit = new_digit(change, description.dialect);
+    if !is_sayable(description.version, digit) {
+        return Ok(Answer::Stays(Outcome::ByHand));
+    }
+    if answer == text {
+        return Ok(renumbered(change, source, description, digit));
+    }
+    respelled(alloc, change, source, description, digit, answer)
+}
+
+// What a description becomes whose text stays.
+#[tactic(auto, using(crate::proofs::AnswerLemmas::same, crate::proofs::AnswerLemmas::renumbered))]
+fn renumbered(change: Change, source: &str, description: &Description, digit: Option<u8>) -> Answer
+    requires becoming { Becoming change description.now (text_of description.now) }
+    requires version { digit ≡ changes.new_digit change description.now.dialect }
+    requires sayable { IsTrue (is_sayable description.now.version digit) }
+    ensures { IsAnswer change source.now description.now result }
+{
+    match digit {
+        Some(_) => Answer::Becomes(Anew { digit, body: None }),
+        None => Answer::Stays(Outcome::Same),
+    }
+}
+
+// The body of a description's literal that stands for what it is to be, if it has as many line ends as the
+// old one.
+#[tactic(auto, using(crate::proofs::AnswerLemmas::becomes, crate::proofs::AnswerLemmas::no_body, crate::proofs::AnswerLemmas::other_lines))]
+fn respelled(
+    alloc: Global,
+    change: Change,
+    source: &str,
+    description: &Description,
+    digit: Option<u8>,
+    answer: &str,
+) -> Result<Answer, AllocError>
+    requires becoming { Becoming change description.now answer.now }
     requires other { answer.now ≢ text_of description.now }
-    ensures { IfOk result (IsAnswer fixes source.now description.now) }
+    requires version { digit ≡ changes.new_digit change description.now.dialect }
+    requires sayable { IsTrue (is_sayable description.now.version digit) }
+    ensures { IfOk result (IsAnswer change source.now description.now) }
 {
     let Some(body) = body_alike(alloc, source, description, answer.as_bytes())? else {
         return Ok(Answer::Stays(Outcome::NotALiteral));
     };
     if line_ends(&body) == old_line_ends(source, description) {
-        Ok(Answer::Becomes(body))
+        Ok(Answer::Becomes(Anew {
+            digit,
+            body: Some(body),
+        }))
     } else {
         Ok(Answer::Stays(Outcome::NotALiteral))
+    }
+}
+
+// Whether the new digit, where the version changes, has a place.
+fn is_sayable(place: VersionPlace, digit: Option<u8>) -> bool
+    ensures { result ≡ is_sayable place digit }
+{
+    match digit {
+        Some(_) => can_say(place),
+        None => true,
+    }
+}
+
+// Whether a number can say a version there.
+fn can_say(place: VersionPlace) -> bool
+    ensures { result ≡ spec.can_say place }
+{
+    match place {
+        VersionPlace::Digit(_) | VersionPlace::Unsaid => true,
+        VersionPlace::Call | VersionPlace::Elsewhere => false,
     }
 }
 

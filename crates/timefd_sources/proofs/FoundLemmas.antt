@@ -6,7 +6,7 @@ use Rattle.std.proofs.lemmas.Bool.Decides.{nat_tests}
 use Rattle.std.proofs.lemmas.List.Elements.{All-nil, All-push}
 use Rattle.timefd_sources.specs.declared.description.Description.{Description}
 use Rattle.timefd_sources.specs.Bytes.{Text}
-use Rattle.timefd_sources.specs.Found.{AllStandIn, AreInOrder, StandsIn, begun_behind, end_behind, listed}
+use Rattle.timefd_sources.specs.Found.{AllStandIn, AreInOrder, StandsIn, begin_of, begun_behind, end_behind, listed}
 
 pub at_first : (source : Text) → AllStandIn source []
 at_first source = All-nil (StandsIn source)
@@ -25,7 +25,7 @@ end_of from [] = from
 end_of from (d ∷ ds) = end_of d.piece.end ds
 
 ordered : (from : ℕ) (ds : List Description) (d : Description) → AreInOrder from ds
-    → end_of from ds ≤ d.piece.start → AreInOrder from (ds ++ d ∷ [])
+    → end_of from ds ≤ begin_of d → AreInOrder from (ds ++ d ∷ [])
 ordered from [] d so_far behind = (behind, tt)
 ordered from (c ∷ ds) d so_far behind = (so_far.0, ordered c.piece.end ds d so_far.1 behind)
 
@@ -45,7 +45,7 @@ none_yet source = record { stand = at_first source; in_order = tt; up_to = refl 
 below : (source : Text) (end : ℕ) (found : Option Description) → MatchOption found ⊤ (StandsIn source)
     → MatchOption (begun_behind end found) ⊤ (StandsIn source)
 below source end None stands = tt
-below source end (Some d) stands = elim (cases_Bool (nat_le end d.piece.start)) [
+below source end (Some d) stands = elim (cases_Bool (nat_le end (begin_of d))) [
   | inl pass ↦ rw pass stands
   | inr fail ↦ rw fail tt
 ]
@@ -55,10 +55,10 @@ in_turn : (ds : List Description) (end : ℕ) (found : Option Description) → A
     × (end_behind end (begun_behind end found) ≡ end_of 0 (ds ++ listed (begun_behind end found)))
 in_turn ds end None so_far up_to =
     (subst (AreInOrder 0) (sym (append-nil ds)) so_far, up_to ∙ ap (end_of 0) (sym (append-nil ds)))
-in_turn ds end (Some d) so_far up_to = elim (cases_Bool (nat_le end d.piece.start)) [
+in_turn ds end (Some d) so_far up_to = elim (cases_Bool (nat_le end (begin_of d))) [
   | inl pass ↦
-      let behind : end ≤ d.piece.start = grind (arith, nat_tests) in
-      rw pass (ordered 0 ds d so_far (subst (λ (n : ℕ). n ≤ d.piece.start) up_to behind), sym (last_end 0 ds d))
+      let behind : end ≤ begin_of d = grind (arith, nat_tests) in
+      rw pass (ordered 0 ds d so_far (subst (λ (n : ℕ). n ≤ begin_of d) up_to behind), sym (last_end 0 ds d))
   | inr fail ↦ rw fail
       (subst (AreInOrder 0) (sym (append-nil ds)) so_far, up_to ∙ ap (end_of 0) (sym (append-nil ds)))
 ]

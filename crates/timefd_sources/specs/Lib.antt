@@ -5,6 +5,7 @@ pub mod Escapes
 pub mod Sources
 pub mod Literals
 pub mod Between
+pub mod Versions
 pub mod Found
 pub mod Chrono
 pub mod Grammar

@@ -11,6 +11,7 @@ use crate::literal::{body_end, inside};
 use crate::token::Kind;
 use crate::unescape::unescape;
 use crate::written::{body_for, closes_nowhere, push_byte};
+use memchr::memchr;
 use std::alloc::{AllocError, Global};
 
 /// The body of a description's literal that stands for another text. What of that stands in the old
@@ -194,14 +195,33 @@ struct Change {
     come: usize,
 }
 
-// What changes at the front of two texts: a mark that is written before what is at fault, or else a word.
+// What changes at the front of two texts: a doubled bracket that is escaped instead, a mark that is written
+// before what is at fault, the end of a component, or else a word.
 fn change_between(old: &[u8], new: &[u8]) -> Change {
+    if old.starts_with(b"[[") && new.starts_with(b"\\[") {
+        return Change { gone: 1, come: 1 };
+    }
     match new {
         [b' ' | b'\\' | b'%', ..] => Change { gone: 0, come: 1 },
-        _ => Change {
-            gone: word_len(old),
-            come: word_len(new),
+        [b']', ..] => match memchr(b']', old) {
+            Some(gone) => Change { gone, come: 0 },
+            None => Change { gone: 0, come: 1 },
         },
+        _ => word_change(old, new),
+    }
+}
+
+// Another word, or at least one byte more.
+fn word_change(old: &[u8], new: &[u8]) -> Change {
+    let gone = word_len(old);
+    let come = word_len(new);
+    if gone == 0 && come == 0 {
+        Change {
+            gone,
+            come: new.len().min(1),
+        }
+    } else {
+        Change { gone, come }
     }
 }
 

@@ -3,6 +3,7 @@
 
 use crate::dialect::{Dialect, version_named};
 use crate::piece::Piece;
+use crate::version::VersionPlace;
 
 /// What a call makes of its arguments.
 #[derive(Clone, Copy)]
@@ -114,11 +115,14 @@ fn call_with_version(source: &str, pieces: &[Piece], opening: usize) -> Call {
     }
 }
 
+fn says_version(source: &str, pieces: &[Piece], opening: usize) -> bool {
+    text_at(source, pieces, opening.saturating_add(1)) == "version"
+        && text_at(source, pieces, opening.saturating_add(2)) == "="
+}
+
 /// The version that the arguments of a macro begin with; 1 where they begin with none.
 fn macro_version(source: &str, pieces: &[Piece], opening: usize) -> Option<Dialect> {
-    let is_told = text_at(source, pieces, opening.saturating_add(1)) == "version"
-        && text_at(source, pieces, opening.saturating_add(2)) == "=";
-    if is_told {
+    if says_version(source, pieces, opening) {
         version_named(text_at(source, pieces, opening.saturating_add(3)))
     } else {
         Some(Dialect::One)
@@ -140,14 +144,44 @@ fn is_argument(source: &str, pieces: &[Piece], index: usize) -> bool {
     (is_opening(before) || before == ",") && (is_closing(behind) || behind == ",")
 }
 
+/// Whether a token is the last argument of its bracket.
+fn is_last(source: &str, pieces: &[Piece], index: usize) -> bool {
+    let behind = text_at(source, pieces, index.saturating_add(1));
+    let further = text_at(source, pieces, index.saturating_add(2));
+    is_closing(behind) || (behind == "," && is_closing(further))
+}
+
+/// A token's first byte, as the digit of a version.
+fn digit_at(pieces: &[Piece], index: usize) -> VersionPlace {
+    match pieces.get(index) {
+        Some(piece) => VersionPlace::Digit(piece.start),
+        None => VersionPlace::Elsewhere,
+    }
+}
+
+/// Where the version of a macro's only description is said; nowhere where there are other arguments.
+fn macro_place(source: &str, pieces: &[Piece], opening: usize, index: usize) -> VersionPlace {
+    if !is_last(source, pieces, index) {
+        VersionPlace::Call
+    } else if index == opening.saturating_add(1) {
+        VersionPlace::Unsaid
+    } else if says_version(source, pieces, opening) && index == opening.saturating_add(5) {
+        digit_at(pieces, opening.saturating_add(3))
+    } else {
+        VersionPlace::Call
+    }
+}
+
+/// Where the version of a call's description is said: `parse_borrowed::<2>(`, or nowhere.
+fn call_place(source: &str, pieces: &[Piece], opening: usize) -> VersionPlace {
+    match opening.checked_sub(2) {
+        Some(at) if text_before(source, pieces, opening, 1) == ">" => digit_at(pieces, at),
+        Some(_) | None => VersionPlace::Call,
+    }
+}
+
 /// The language of a literal, by the bracket that it stands in; none where it isn't known to be a description.
-pub fn dialect_in(
-    source: &str,
-    pieces: &[Piece],
-    index: usize,
-    frame: Option<Frame>,
-) -> Option<Dialect> {
-    let frame = frame?;
+fn dialect_in(source: &str, pieces: &[Piece], index: usize, frame: Frame) -> Option<Dialect> {
     if !is_argument(source, pieces, index) {
         return None;
     }
@@ -158,4 +192,29 @@ pub fn dialect_in(
         (Call::Format, 0) => Some(Dialect::Chrono),
         (Call::First(_) | Call::Second(_) | Call::Format | Call::Other, _) => None,
     }
+}
+
+/// What is told of a literal: its language, where its version is said, and whether it is a description only
+/// with a `%`.
+#[derive(Clone, Copy)]
+pub struct Told {
+    pub dialect: Dialect,
+    pub version: VersionPlace,
+    pub wants_percent: bool,
+}
+
+/// What the bracket that a literal stands in tells of it; none where it isn't known to be a description.
+pub fn told_in(source: &str, pieces: &[Piece], index: usize, frame: Option<Frame>) -> Option<Told> {
+    let frame = frame?;
+    let dialect = dialect_in(source, pieces, index, frame)?;
+    let version = match frame.call {
+        Call::Macro => macro_place(source, pieces, frame.opened, index),
+        Call::First(_) => call_place(source, pieces, frame.opened),
+        Call::Second(_) | Call::Format | Call::Other => VersionPlace::Elsewhere,
+    };
+    Some(Told {
+        dialect,
+        version,
+        wants_percent: matches!(frame.call, Call::Format),
+    })
 }

@@ -4,7 +4,7 @@ ghost use Rattle.std.specs.Prelude.{◌≡◌, ◌++◌, IfOk, MatchOption, OnOk
 ghost use Rattle.timefd_sources.specs.Found.{AllStandIn, AreInOrder, StandsIn, begun_behind, end_behind, listed};
 
 use crate::between::is_between;
-use crate::calls::{Call, Frame, call_of, dialect_in, text_at};
+use crate::calls::{Frame, Told, call_of, text_at, told_in};
 use crate::dialect::Dialect;
 use crate::literal::literal_text;
 use crate::marks::{Mark, first_open, marks_of};
@@ -12,6 +12,7 @@ use crate::names::may_describe;
 use crate::piece::{Piece, pieces_of};
 use crate::token::{Kind, Token};
 use crate::unescape::Unescaped;
+use crate::version::{VersionPlace, first_place, tested};
 use std::alloc::{AllocError, Global};
 
 /// A description that is a string literal of a source.
@@ -23,6 +24,8 @@ pub struct Description {
     pub kind: Kind,
     /// Its language.
     pub dialect: Dialect,
+    /// Where its version is said.
+    pub version: VersionPlace,
     /// What it stands for, and where that stands in the source.
     pub unescaped: Unescaped,
 }
@@ -75,40 +78,34 @@ fn pass_sign(
     Ok(())
 }
 
-/// The language of a literal that a comment names it for.
-fn dialect_marked(marks: &[Mark], at: usize, place: usize) -> Option<Dialect> {
+/// What a comment tells of a literal: the language that it names.
+fn told_by(marks: &[Mark], at: usize, place: usize) -> Option<Told> {
     let mark = marks.get(at)?;
     if mark.from <= place && place < mark.to {
-        Some(mark.dialect)
+        Some(Told {
+            dialect: mark.dialect,
+            version: VersionPlace::Elsewhere,
+            wants_percent: false,
+        })
     } else {
         None
     }
 }
 
-/// Whether a literal in this bracket is a description only with a `%`.
-fn wants_percent(frame: Option<Frame>) -> bool {
-    match frame {
-        Some(frame) => matches!(frame.call, Call::Format),
-        None => false,
-    }
-}
-
-/// A literal as a description of this language; none where an escape isn't one, or a `%` is wanted and
-/// there is none.
+/// A literal as a description; none where an escape isn't one, or a `%` is wanted and there is none.
 fn described(
     alloc: Global,
     source: &str,
     piece: Piece,
     kind: Kind,
-    dialect: Dialect,
-    wants_percent: bool,
+    told: Told,
 ) -> Result<Option<Description>, AllocError>
     ensures { IfOk result (λ found. MatchOption found ⊤ (StandsIn source.now)) }
 {
     let Some(unescaped) = literal_text(alloc, source, piece, kind)? else {
         return Ok(None);
     };
-    if wants_percent && !unescaped.text.contains(&b'%') {
+    if told.wants_percent && !unescaped.text.contains(&b'%') {
         return Ok(None);
     }
     if !is_between(source, piece, kind, &unescaped) {
@@ -117,7 +114,8 @@ fn described(
     Ok(Some(Description {
         piece,
         kind,
-        dialect,
+        dialect: told.dialect,
+        version: tested(source, piece, told.dialect, told.version),
         unescaped,
     }))
 }
@@ -129,7 +127,7 @@ fn found(
     pieces: &[Piece],
     index: usize,
     frame: Option<Frame>,
-    told: Option<Dialect>,
+    told: Option<Told>,
 ) -> Result<Option<Description>, AllocError>
     ensures { IfOk result (λ found. MatchOption found ⊤ (StandsIn source.now)) }
 {
@@ -139,11 +137,8 @@ fn found(
     let Token::Literal(kind) = piece.token else {
         return Ok(None);
     };
-    if let Some(dialect) = told {
-        return described(alloc, source, *piece, kind, dialect, false);
-    }
-    match dialect_in(source, pieces, index, frame) {
-        Some(dialect) => described(alloc, source, *piece, kind, dialect, wants_percent(frame)),
+    match told.or(told_in(source, pieces, index, frame)) {
+        Some(told) => described(alloc, source, *piece, kind, told),
         None => Ok(None),
     }
 }
@@ -161,12 +156,8 @@ fn push_any(
 {
     match found {
         Some(description) => {
-            let Piece {
-                start,
-                end: next,
-                ..
-            } = description.piece;
-            if start < end {
+            let next = description.piece.end;
+            if first_place(description.version, description.piece.start) < end {
                 return Ok(end);
             }
             descriptions.push(description)?;
@@ -196,7 +187,7 @@ pub fn descriptions_of(alloc: Global, source: &str) -> Result<Vec<Description>, 
     for (index, piece) in pieces.iter().enumerate() {
         pass_sign(&mut frames, source, &pieces, index)?;
         open = first_open(&marks, open, piece.start);
-        let told = dialect_marked(&marks, open, piece.start);
+        let told = told_by(&marks, open, piece.start);
         let frame = frames.last().copied();
         let description = found(alloc, source, &pieces, index, frame, told)?;
         end = push_any(&mut descriptions, description, end)?;

@@ -20,6 +20,7 @@ mod place;
 mod string;
 mod token;
 mod unescape;
+pub mod version;
 mod written;
 
 pub use alike::body_alike;
@@ -31,4 +32,5 @@ pub use piece::{Piece, pieces_of};
 pub use place::place_of;
 pub use token::{Encoding, Kind, Token};
 pub use unescape::Unescaped;
+pub use version::{VersionPlace, digit_of};
 pub use written::body_for;

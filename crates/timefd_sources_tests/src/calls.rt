@@ -1,6 +1,6 @@
 //! Which literals are descriptions, and in which language.
 
-use crate::shown::descriptions;
+use crate::shown::{descriptions, version_places};
 use std::alloc::Global;
 use std::process::Abort;
 
@@ -165,4 +165,36 @@ fn what_is_no_description(rt: HostRuntime) {
     expect(&rt, alloc, r#"'"'; format_description!("a"); '"'"#, "1 a|");
     expect(&rt, alloc, r#")]} format_description!("a""#, "");
     expect(&rt, alloc, r#")]} format_description!("a")"#, "1 a|");
+}
+
+/// Sources, and where the versions of their descriptions are said.
+const PLACES: &[(&str, &str)] = &[
+    (r#"format_description!("a")"#, "unsaid|"),
+    (r#"format_description! [ /* 2 */ "a", ]"#, "unsaid|"),
+    (r#"format_description!(version = 2, "a")"#, "30|"),
+    (r#"format_description!(version=3,"a",)"#, "28|"),
+    (r#"format_description!("a", "b")"#, "call|call|"),
+    (
+        r#"format_description!(version = 2, "a", "b")"#,
+        "call|call|",
+    ),
+    (r#"format_description!(day, Date, "a")"#, "call|"),
+    (r#"parse_borrowed::<2>("a")"#, "17|"),
+    (r#"é parse_owned :: < 1 > ("a", f)"#, "20|"),
+    (r#"format_description::parse("a")"#, "call|"),
+    (r#"parse_owned("a")"#, "call|"),
+    (r#"parse_strftime_owned("%d")"#, "call|"),
+    (
+        r#"D::parse_from_str(s, "%Y"); now.format("%Y")"#,
+        "elsewhere|elsewhere|",
+    ),
+    ("parse_owned::<1>(\"a\") // timefd: 2", "elsewhere|"),
+];
+
+#[test]
+fn places_of_versions(rt: HostRuntime) {
+    for &(source, places) in PLACES {
+        let shown = version_places(rt.alloc(), source).expect(&rt, "memory");
+        assert_eq!(rt; shown.as_str(), places, "{source}");
+    }
 }

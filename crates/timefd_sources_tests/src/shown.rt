@@ -1,7 +1,9 @@
 //! Tokens and descriptions, as the tests write them.
 
 use std::alloc::{AllocError, Global};
-use timefd_sources::{Description, Dialect, Encoding, Kind, Token, descriptions_of, pieces_of};
+use timefd_sources::{
+    Description, Dialect, Encoding, Kind, Token, VersionPlace, descriptions_of, pieces_of,
+};
 
 fn encoding_mark(encoding: Encoding) -> &'static str {
     match encoding {
@@ -61,6 +63,25 @@ pub fn descriptions(alloc: Global, source: &str) -> Result<String, AllocError> {
     let mut shown = String::new(alloc);
     for description in &descriptions_of(alloc, source)? {
         push_description(&mut shown, description)?;
+    }
+    Ok(shown)
+}
+
+fn place_mark(alloc: Global, version: VersionPlace) -> Result<String, AllocError> {
+    match version {
+        VersionPlace::Digit(at) => format!(in alloc; "{at}"),
+        VersionPlace::Unsaid => String::from_str(alloc, "unsaid"),
+        VersionPlace::Call => String::from_str(alloc, "call"),
+        VersionPlace::Elsewhere => String::from_str(alloc, "elsewhere"),
+    }
+}
+
+/// Where the versions of a source's descriptions are said: a byte, or a word, between bars.
+pub fn version_places(alloc: Global, source: &str) -> Result<String, AllocError> {
+    let mut shown = String::new(alloc);
+    for description in &descriptions_of(alloc, source)? {
+        shown.push_str(&place_mark(alloc, description.version)?)?;
+        shown.push_str("|")?;
     }
     Ok(shown)
 }

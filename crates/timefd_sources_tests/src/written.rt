@@ -46,6 +46,21 @@ const ALIKE: &[(&str, &str, &str)] = &[
     ("parse_owned(\"[a\\\n  ]]\")", "[a]\\]", "[a\\\n  ]\\\\]"),
     ("parse_owned(\"a\\\n b\")", "a  b", "a  b"),
     ("parse_owned(\"\")", "\"", "\\\""),
+    (
+        "parse_owned(\"\\x5b[\\x5bday]\")",
+        "\\[[day]",
+        "\\\\[\\x5bday]",
+    ),
+    (
+        "parse_owned(\"[year]\\x2d[ day]\\\n\")",
+        "[year range:extended]-[ day]",
+        "[year range:extended]\\x2d[ day]\\\n",
+    ),
+    (
+        "parse_owned(\"[hour padding:none padding:zero]\\x2d\")",
+        "[hour]-",
+        "[hour]\\x2d",
+    ),
 ];
 
 fn first_alike(alloc: Global, source: &str, text: &str) -> Result<Option<Vec<u8>>, AllocError> {

@@ -3,9 +3,9 @@ use Rattle.timefd_lint.specs.Rewritten.{AreCounted}
 use Rattle.timefd_lint.proofs.RewrittenLemmas.{text_rewritten}
 use Rattle.timefd_lint.proofs.found.source_looked_at.Goals as goal
 
-pub returns-in_ok-mended-in-Ok-clause-mended : goal.returns-in_ok-mended-in-Ok-clause-mended
-returns-in_ok-mended-in-Ok-clause-mended g c =
-    text_rewritten c.args.fixes c.args.old.now c.in-Ok.source.now c.in_ok-mended-in-Ok.mended
-    c.counts_of.result c.in_ok-mended-in-Ok.mended.bytes.items c.in-Ok.ensures.cases.0
-    c.in-Ok.ensures.cases.1 c.in_ok-mended-in-Ok.ensures
+pub returns-in_ok-new-in-Ok-clause-rewritten : goal.returns-in_ok-new-in-Ok-clause-rewritten
+returns-in_ok-new-in-Ok-clause-rewritten g c =
+    text_rewritten c.args.change c.args.old.now c.in-Ok.source.now c.in_ok-new-in-Ok.new
+    c.counts_of.result c.in_ok-new-in-Ok.new.bytes.items c.in-Ok.ensures.cases.0
+    c.in-Ok.ensures.cases.1 c.in_ok-new-in-Ok.ensures
     (subst (λ os. AreCounted os c.counts_of.result) c.deref.ensures.value c.counts_of.ensures) refl

@@ -1,0 +1,196 @@
+//! What is told of descriptions that would be converted, and want changing by hand.
+
+use std::alloc::{AllocError, Global};
+use std::str;
+use timefd_drawing::shown::safe;
+use timefd_lint_sources::{Position, position_of};
+use timefd_parse::{DescriptionVersion, ParseError};
+use timefd_rewrite::lay_out;
+use timefd_rewrite_sources::{Change, Outcome, layout_of};
+use timefd_sources::{Description, VersionPlace, body_alike, body_end, descriptions_of, inside};
+
+/// A line for each description of a source that would be converted, and whose version no number says, or
+/// whose literal can't hold what it would be: where it stands, why it stays, and what it would be.
+pub fn notes(
+    alloc: Global,
+    change: Change,
+    name: &str,
+    source: &str,
+    outcomes: &[Outcome],
+) -> Result<String, AllocError> {
+    let mut told = String::new(alloc);
+    let Some(version) = version_of(change) else {
+        return Ok(told);
+    };
+    if !outcomes.iter().any(|it| wants_hand(*it)) {
+        return Ok(told);
+    }
+    let descriptions = descriptions_of(alloc, source)?;
+    for (description, outcome) in descriptions.iter().zip(outcomes) {
+        if wants_hand(*outcome) {
+            push_note(alloc, change, version, name, source, description, &mut told)?;
+        }
+    }
+    Ok(told)
+}
+
+// The version that descriptions are converted to, where they are.
+fn version_of(change: Change) -> Option<&'static str> {
+    match change {
+        Change::Mended(_) => None,
+        Change::Least(DescriptionVersion::One) => Some("1"),
+        Change::Least(DescriptionVersion::Two) => Some("2"),
+        Change::Least(DescriptionVersion::Three) | Change::Normal => Some("3"),
+    }
+}
+
+fn wants_hand(outcome: Outcome) -> bool {
+    match outcome {
+        Outcome::ByHand | Outcome::NotALiteral => true,
+        Outcome::PassedOver
+        | Outcome::Same
+        | Outcome::Rewritten
+        | Outcome::Refused
+        | Outcome::NotText => false,
+    }
+}
+
+fn push_note(
+    alloc: Global,
+    change: Change,
+    version: &str,
+    name: &str,
+    source: &str,
+    description: &Description,
+    told: &mut String,
+) -> Result<(), AllocError> {
+    let Some(new) = new_literal(alloc, change, source, description)? else {
+        return Ok(());
+    };
+    let new = safe(alloc, &new)?;
+    let reason = reason(alloc, version, source, description, &new)?;
+    told.push_str(&place(alloc, name, source, description)?)?;
+    told.push_str(": change by hand: ")?;
+    told.push_str(&reason)?;
+    told.push_str("\n")
+}
+
+// Where a literal begins, as `FILE:LINE:COLUMN`.
+fn place(
+    alloc: Global,
+    name: &str,
+    source: &str,
+    description: &Description,
+) -> Result<String, AllocError> {
+    let file = safe(alloc, name)?;
+    let Position { line, column } = position_of(alloc, source, description.piece.start)?;
+    format!(in alloc; "{file}:{line}:{column}")
+}
+
+// Why a description stays that is this literal in another version.
+fn reason(
+    alloc: Global,
+    version: &str,
+    source: &str,
+    description: &Description,
+    new: &str,
+) -> Result<String, AllocError> {
+    match description.version {
+        VersionPlace::Call => match call_of(source, description) {
+            Some(call) => said_by_call(alloc, version, call, new),
+            None => format!(in alloc;
+                "its call has no number for the version; in version {version} it is `{new}`"
+            ),
+        },
+        VersionPlace::Elsewhere => format!(in alloc;
+            "a comment says the version; in version {version} it is `{new}`"
+        ),
+        VersionPlace::Digit(_) | VersionPlace::Unsaid => format!(in alloc;
+            "in version {version} it is `{new}`, which has other lines or needs another literal"
+        ),
+    }
+}
+
+fn said_by_call(alloc: Global, version: &str, call: Call, new: &str) -> Result<String, AllocError> {
+    let Call { name, numbered } = call;
+    let means = format!(in alloc; "`{numbered}::<{version}>({new})` means the same")?;
+    format!(in alloc; "`{name}` has no number for the version; {means}")
+}
+
+// The literal of what a description is converted to: of its own kind, or else with escapes.
+fn new_literal(
+    alloc: Global,
+    change: Change,
+    source: &str,
+    description: &Description,
+) -> Result<Option<String>, AllocError> {
+    let bytes = description.unescaped.text.as_slice();
+    let (Some(layout), Ok(text)) = (
+        layout_of(change, description.dialect, bytes),
+        str::from_utf8(bytes),
+    ) else {
+        return Ok(None);
+    };
+    let answer = match lay_out(alloc, layout, text) {
+        Ok(answer) => answer,
+        Err(ParseError::Invalid(_)) => return Ok(None),
+        Err(ParseError::Memory(error)) => return Err(error),
+    };
+    let body = body_alike(alloc, source, description, answer.as_bytes())?;
+    match body {
+        Some(body) => Ok(Some(quoted(alloc, source, description, &body)?)),
+        None => Ok(Some(format!(in alloc; "{answer:?}")?)),
+    }
+}
+
+// A literal as it stands in a source, with another body.
+fn quoted(
+    alloc: Global,
+    source: &str,
+    description: &Description,
+    body: &[u8],
+) -> Result<String, AllocError> {
+    let piece = description.piece;
+    let end = body_end(piece, description.kind);
+    let old_len = match inside(source, piece, description.kind) {
+        Some(old) => old.len(),
+        None => 0,
+    };
+    let opening = source
+        .get(piece.start..end.saturating_sub(old_len))
+        .unwrap_or("");
+    let body = str::from_utf8(body).unwrap_or("");
+    let closing = source.get(end..piece.end).unwrap_or("");
+    format!(in alloc; "{opening}{body}{closing}")
+}
+
+// A call without a number for the version, and the one with a number that is otherwise the same.
+#[derive(Clone, Copy)]
+struct Call {
+    name: &'static str,
+    numbered: &'static str,
+}
+
+// The call in front of the bracket that a literal stands in.
+fn call_of(source: &str, description: &Description) -> Option<Call> {
+    let front = source.get(..description.piece.start)?;
+    let front = front.trim_end().strip_suffix('(')?.trim_end();
+    if front.ends_with("parse_borrowed") {
+        Some(Call {
+            name: "parse_borrowed",
+            numbered: "parse_borrowed",
+        })
+    } else if front.ends_with("parse_owned") {
+        Some(Call {
+            name: "parse_owned",
+            numbered: "parse_owned",
+        })
+    } else if front.ends_with("parse") {
+        Some(Call {
+            name: "parse",
+            numbered: "parse_borrowed",
+        })
+    } else {
+        None
+    }
+}
