@@ -31,7 +31,7 @@ hooked() {
 }
 same 'errors that the steps of a CI show' "$(steps)" 4
 same 'errors that the hook shows' "$(hooked)" 4
-# The same errors as a SARIF log: the level, the rule, the place, the bytes and the word to write.
+# The same errors as a SARIF log: the level, the rule, the place and its end, and the word to write.
 cat > "$room/results.py" << 'END'
 import json, sys
 log = json.load(sys.stdin)
@@ -40,14 +40,14 @@ for told in log["runs"][0]["results"]:
     place = told["locations"][0]["physicalLocation"]
     at = place["region"]
     words = [told["level"], told["ruleId"], place["artifactLocation"]["uri"]]
-    words += [at[name] for name in ("startLine", "startColumn", "byteOffset", "byteLength")]
+    words += [at[name] for name in ("startLine", "startColumn", "endLine", "endColumn")]
     for fix in told.get("fixes", []):
         words.append(fix["artifactChanges"][0]["replacements"][0]["insertedContent"]["text"])
     print(*words)
 END
 logged() {
-    (cd "$project" && clean "$prefix/bin/timefd_lint" --format json src/source.rs 2> /dev/null || true) |
-        "$top/examples/ci/sarif.py" | python3 "$room/results.py"
+    (cd "$project" && clean "$prefix/bin/timefd_lint" --format sarif src/source.rs 2> /dev/null || true) |
+        python3 "$room/results.py"
 }
 same 'the errors in a SARIF log' "$(logged)" '2.1.0
 error unknown-name src/source.rs 7 34 259 4 month

@@ -16,7 +16,7 @@ _timefd_lint() {
     done
     case $3 in
     --language) mapfile -t COMPREPLY < <(compgen -W '1 2 3 strftime' -- "$2") ;;
-    --format) mapfile -t COMPREPLY < <(compgen -W 'human json short github' -- "$2") ;;
+    --format) mapfile -t COMPREPLY < <(compgen -W 'human json short github sarif' -- "$2") ;;
     --color) mapfile -t COMPREPLY < <(compgen -W 'always never auto' -- "$2") ;;
     --to) mapfile -t COMPREPLY < <(compgen -W '2 3' -- "$2") ;;
     --deny | --allow)

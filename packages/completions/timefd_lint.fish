@@ -1,5 +1,5 @@
 complete -c timefd_lint -l language -x -a '1 2 3 strftime' -d 'the language of all lines'
-complete -c timefd_lint -l format -x -a 'human json short github' -d 'how a fault is written'
+complete -c timefd_lint -l format -x -a 'human json short github sarif' -d 'how a fault is written'
 complete -c timefd_lint -l color -x -a 'always never auto' -d 'whether the drawing is coloured'
 complete -c timefd_lint -l comment -x -d 'what lines begin with that are passed over'
 complete -c timefd_lint -l key -x -d 'look at the strings of this key in TOML, JSON and YAML'

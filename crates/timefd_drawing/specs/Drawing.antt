@@ -9,7 +9,7 @@ use Rattle.timefd_diagnosis.specs.Codes.{code_of, name_of}
 use Rattle.timefd_diagnosis.specs.declared.diagnostic.Diagnostic.{Diagnostic}
 use Rattle.timefd_diagnosis.specs.Helps.{nearest_in}
 use Rattle.timefd_drawing.specs.declared.draw.Format.{Format}
-use Rattle.timefd_drawing.specs.declared.draw.Format.TheVariants.{Human, Json, Short, Github}
+use Rattle.timefd_drawing.specs.declared.draw.Format.TheVariants.{Human, Json, Short, Github, Sarif}
 use Rattle.timefd_drawing.specs.declared.draw.Style.{Style}
 use Rattle.timefd_drawing.specs.declared.github.Command.TheVariants.{Error}
 use Rattle.timefd_drawing.specs.declared.position.Origin.{Origin}
@@ -17,7 +17,8 @@ use Rattle.timefd_drawing.specs.Github.{annotation}
 use Rattle.timefd_drawing.specs.HelpText.{help_text}
 use Rattle.timefd_drawing.specs.Json.{object, note_object}
 use Rattle.timefd_drawing.specs.Lines.{error_line, place_line, bar_line, text_line, caret_line, help_lines, short_line}
-use Rattle.timefd_drawing.specs.Positions.{line_number, column, before, spanned, after}
+use Rattle.timefd_drawing.specs.Positions.{line_number, column, char_column, before, spanned, after}
+use Rattle.timefd_drawing.specs.Sarif as sarifs
 use Rattle.timefd_drawing.specs.Sentence.{shown_sentence, told_sentence}
 use Rattle.timefd_drawing.specs.Shown.{cut_end, cut_start, most_shown, safe}
 
@@ -74,11 +75,19 @@ github further origin text d =
     annotation Error (code d) origin.file.now (line_number origin.line text d.span.start)
     (column text d.span.start) (told_sentence further (fault_of d.fault))
 
+-- The same sentence and help as in an object, with the place of what is at fault up to what stands behind it.
+abbrev pub sarif : Bool → Origin → Text → Diagnostic → Text
+sarif further origin text d =
+    sarifs.result further (code d) origin.file.now (line_number origin.line text d.span.start)
+    (char_column text d.span.start) (line_number origin.line text d.span.end) (char_column text d.span.end)
+    (sarifs.with_help (error_sentence d.fault) (help_text d.help)) (help_text d.help) (nearest_in d.help)
+
 abbrev pub drawn_in : Bool → Format → Bool → Origin → Text → Diagnostic → Text
 drawn_in further Human colored origin text d = human further colored origin text d
 drawn_in further Json colored origin text d = json further origin text d
 drawn_in further Short colored origin text d = short further origin text d
 drawn_in further Github colored origin text d = github further origin text d
+drawn_in further Sarif colored origin text d = sarif further origin text d
 
 abbrev pub drawn_as : Bool → Style → Origin → Text → Diagnostic → Text
 drawn_as further style origin text d = drawn_in further style.format style.is_colored origin text d
@@ -108,6 +117,8 @@ note_in Json colored origin code message =
 note_in Short colored origin code message = short_line origin.file.now origin.line 1 message
 note_in Github colored origin code message =
     annotation Error code origin.file.now origin.line 1 message
+note_in Sarif colored origin code message =
+    sarifs.note_result code origin.file.now origin.line 1 message (codes "error")
 
 abbrev pub note : Style → Origin → Text → Text → Text
 note style origin code message = note_in style.format style.is_colored origin code message

@@ -1,6 +1,7 @@
 pub mod Shown
 pub mod Json
 pub mod Github
+pub mod Sarif
 pub mod Positions
 pub mod HelpText
 pub mod Sentence

@@ -1,9 +1,11 @@
 -- Where in a file a byte of a text stands, and how a line is cut at a span.
-use Rattle.std.specs.Prelude.{ℕ, ◌+◌, ◌-◌, ◌^◌, ◌&&◌, ◌==◌, Bool, false, min, [], ◌∷◌, take, drop, chars, nat_le, nat_lt, slice_index, if◌then◌else◌}
+use Rattle.std.specs.Prelude.{ℕ, ◌+◌, ◌-◌, ◌^◌, ◌&&◌, ◌==◌, Bool, false, min, [], ◌∷◌, take, drop, chars, length, nat_le, nat_lt, slice_index, if◌then◌else◌}
 use Rattle.std.specs.List.{before_first, count_by, list_any}
 use Rattle.unicode_width.specs.Width.{str_width}
 use Rattle.timefd_component.specs.Tree.{Text}
 use Rattle.timefd_diagnosis.specs.declared.span.Span.{Span}
+use Rattle.timefd_drawing.specs.declared.draw.Format.{Format}
+use Rattle.timefd_drawing.specs.declared.draw.Format.TheVariants.{Human, Json, Short, Github, Sarif}
 use Rattle.timefd_drawing.specs.Shown.{safe}
 
 -- whether a byte goes on with a character that an earlier one begins
@@ -43,6 +45,18 @@ before at text = last_line (front at text)
 -- the column of an index: one more than what stands in front of it in its line takes in a terminal
 abbrev pub column : Text → ℕ → ℕ
 column text at = str_width false (chars (safe (before at text))) + 1
+
+-- the same where it counts the characters in front of it
+abbrev pub char_column : Text → ℕ → ℕ
+char_column text at = min (length (chars (before at text)) + 1) (2 ^ 64 - 1)
+
+-- SARIF counts characters, and each other form what a terminal shows.
+abbrev pub told_column : Format → Text → ℕ → ℕ
+told_column Human text at = column text at
+told_column Json text at = column text at
+told_column Short text at = column text at
+told_column Github text at = column text at
+told_column Sarif text at = char_column text at
 
 -- a span as far as it is of the line that it begins in, and what is behind it in that
 abbrev pub spanned : Span → Text → Text

@@ -3,12 +3,14 @@
 ghost use Rattle.std.specs.Prelude.{◌≡◌, ◌≢◌, ◌++◌, [], flat_map, IfOk, OnOk, string_bytes};
 ghost use Rattle.timefd_drawing.specs.Drawing as spec;
 
+use crate::as_sarif::sarif;
 use crate::github::{Command, annotation};
 use crate::help_text::help_text;
 use crate::human::human;
 use crate::json::{Detail, Entry, note_object, object};
 use crate::lines::{error_line, place_line, short_line};
 use crate::position::{Origin, Position, position_of};
+use crate::sarif::note_result;
 use crate::sentence::told_sentence;
 use std::alloc::{AllocError, Global};
 use timefd_diagnosis::{Diagnostic, code_of};
@@ -24,6 +26,8 @@ pub enum Format {
     Short,
     /// An annotation on a line, as GitHub reads it in what a step of a workflow writes.
     Github,
+    /// A result of SARIF behind a comma, on a line.
+    Sarif,
 }
 
 /// How diagnostics look.
@@ -129,6 +133,7 @@ fn drawn_as(
         }
         Format::Json => json(alloc, is_further, origin, text, diagnostic),
         Format::Github => github(alloc, is_further, origin, text, diagnostic),
+        Format::Sarif => sarif(alloc, is_further, origin, text, diagnostic),
     }
 }
 
@@ -234,6 +239,7 @@ pub fn note(
         }
         Format::Json => note_object(alloc, entry, "error"),
         Format::Github => annotation(alloc, Command::Error, entry),
+        Format::Sarif => note_result(alloc, entry, "error"),
     }
 }
 

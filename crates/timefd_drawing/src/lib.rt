@@ -1,6 +1,8 @@
-//! Diagnostics as they are written: drawn, on one line, as an object of JSON, or as an annotation of GitHub.
+//! Diagnostics as they are written: drawn, on one line, as an object of JSON, as an annotation of GitHub, or as a
+//! result of SARIF.
 #![tactic(auto)]
 
+mod as_sarif;
 mod draw;
 pub mod github;
 pub mod help_text;
@@ -9,6 +11,7 @@ pub mod json;
 pub mod laws;
 mod lines;
 mod position;
+pub mod sarif;
 mod sentence;
 pub mod shown;
 

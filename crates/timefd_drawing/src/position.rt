@@ -3,7 +3,7 @@
 ghost use Rattle.std.specs.Prelude.{◌≡◌, IfOk};
 ghost use Rattle.timefd_drawing.specs.Positions as spec;
 
-use crate::shown::columns;
+use crate::shown::{char_count, columns};
 use std::alloc::{AllocError, Global};
 use timefd_diagnosis::Span;
 
@@ -48,6 +48,18 @@ pub fn position_of(
         line: first.saturating_add(newlines(front) as u64),
         column: columns(alloc, last_line(front))? + 1,
     })
+}
+
+/// The same place where the column counts the characters in front.
+pub fn char_position_of(first: u64, text: &str, index: usize) -> Position
+    ensures line { result.line ≡ spec.line_number first text.now index }
+    ensures column { result.column ≡ spec.char_column text.now index }
+{
+    let (front, _) = cut_at(text, index);
+    Position {
+        line: first.saturating_add(newlines(front) as u64),
+        column: char_count(last_line(front)).saturating_add(1),
+    }
 }
 
 /// The line of a text that a span begins in.

@@ -81,7 +81,8 @@ pub fn columns(alloc: Global, text: &str) -> Result<usize, AllocError>
     Ok(text.width())
 }
 
-fn char_count(text: &str) -> usize
+/// How many characters a text has.
+pub fn char_count(text: &str) -> usize
     ensures { result ≡ length (chars text.now) }
 {
     text.chars().count()

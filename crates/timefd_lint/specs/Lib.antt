@@ -6,3 +6,4 @@ pub mod Files
 pub mod Summaries
 pub mod Marks
 pub mod Rewritten
+pub mod Logs

@@ -4,13 +4,14 @@ use Rattle.std.specs.Io.KnownBytes.{Appends}
 use Rattle.std.specs.List.{starts_with}
 use Rattle.timefd_component.specs.Tree.{Text}
 use Rattle.timefd_drawing.specs.declared.draw.Format.{Format}
-use Rattle.timefd_drawing.specs.declared.draw.Format.TheVariants.{Human, Json, Short, Github}
+use Rattle.timefd_drawing.specs.declared.draw.Format.TheVariants.{Human, Json, Short, Github, Sarif}
 use Rattle.timefd_drawing.specs.declared.draw.Style.{Style}
 use Rattle.timefd_drawing.specs.declared.github.Command.TheVariants.{Warning}
 use Rattle.timefd_drawing.specs.declared.position.Origin.{Origin}
 use Rattle.timefd_drawing.specs.Drawing.{note}
 use Rattle.timefd_drawing.specs.Github.{annotation}
 use Rattle.timefd_drawing.specs.Json.{note_object}
+use Rattle.timefd_drawing.specs.Sarif.{note_result}
 use Rattle.timefd_warnings.specs.declared.levels.Level.TheVariants.{Warned}
 use Rattle.timefd_lint_warnings.specs.Messages.{head, place}
 
@@ -38,6 +39,8 @@ mark_note_in Json style origin =
 mark_note_in Short style origin = note style origin code sentence
 mark_note_in Github style origin =
     annotation Warning code origin.file.now origin.line 1 sentence
+mark_note_in Sarif style origin =
+    note_result code origin.file.now origin.line 1 sentence (codes "warning")
 
 abbrev pub mark_note : Style → Origin → Text
 mark_note style origin = mark_note_in style.format style origin

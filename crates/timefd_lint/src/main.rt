@@ -12,11 +12,13 @@ mod folders;
 mod found;
 mod line;
 mod lines;
+mod log;
 mod mark;
 mod options;
 mod progress;
 mod rewriting;
 mod run;
+mod running;
 mod rust;
 mod sought;
 mod source;
@@ -29,26 +31,26 @@ mod usage;
 use color::is_colored;
 use config::{ConfigFailure, counted_keys, read_config};
 use line::RunError;
+use log::write_log;
 use options::{Options, run_options};
-use progress::Watched;
-use rewriting::{rewrite_files, rewriting_of};
-use run::run;
+use running::run_in_form;
 use rust::are_sources;
 use sought::sought;
-use source::BUFFER;
 use status::{
     FAILED, NOT_TEXT, WRONG_ARGUMENTS, no_memory, told, walk_failed, write_failed, wrong_arguments,
 };
 use std::alloc::{AllocError, Global};
 use std::env;
-use std::io::{BufReader, BufWriter, ErrorKind, Write};
+use std::io::{BufWriter, ErrorKind, Write};
 use std::process::ExitCode;
 use summary::summary;
 use tally::Tally;
 use timefd_keys::Key;
 use timefd_lint_config::{OwnedKey, same_keys, with_keys};
 use timefd_lint_files::{WalkError, expanded};
-use timefd_lint_options::{Asked, OptionError, Settings, keys_of, lines_conflict, options_of};
+use timefd_lint_options::{
+    Asked, OptionError, Settings, is_log, keys_of, lines_conflict, options_of,
+};
 
 // The words, each lent.
 fn lent<'a>(alloc: Global, words: &'a [String]) -> Result<Vec<&'a str>, AllocError> {
@@ -119,11 +121,23 @@ fn names_status(
         Err(WalkError::Failed { path, reason }) => return walk_failed(rt, &path, reason),
     };
     if files.is_empty() && !names.is_empty() {
-        return end_of(rt, settings, 0, Tally::new());
+        return nothing_status(rt, settings);
     }
     match lent(rt.alloc(), &files) {
         Ok(files) => files_status(rt, settings, keys, &files),
         Err(AllocError) => no_memory(rt),
+    }
+}
+
+// The status of a run in which no file is looked at.
+fn nothing_status(rt: &HostRuntime, settings: Settings<'_>) -> u8 {
+    if !is_log(settings.format) {
+        return end_of(rt, settings, 0, Tally::new());
+    }
+    match write_log(rt.alloc(), &[], &mut rt.stdout()) {
+        Ok(()) => end_of(rt, settings, 0, Tally::new()),
+        Err(RunError::Memory) => no_memory(rt),
+        Err(RunError::Write) => write_failed(rt),
     }
 }
 
@@ -143,30 +157,12 @@ fn run_status(rt: &HostRuntime, settings: Settings<'_>, options: Options<'_>) ->
     let Ok(mut writer) = BufWriter::new(rt.alloc(), rt.stdout()) else {
         return no_memory(rt);
     };
-    let end = run_and_rewrite(rt, settings, options, &mut writer);
+    let end = run_in_form(rt, settings, options, &mut writer);
     match (end, writer.flush()) {
         (Ok(tally), Ok(())) => end_of(rt, settings, options.file_count(), tally),
         (Err(RunError::Memory), _) => no_memory(rt),
         (Err(RunError::Write), _) | (Ok(_), Err(_)) => write_failed(rt),
     }
-}
-
-fn run_and_rewrite<W: Write>(
-    rt: &HostRuntime,
-    settings: Settings<'_>,
-    options: Options<'_>,
-    writer: &mut W,
-) -> Result<Tally, RunError> {
-    if let Some(rewriting) = rewriting_of(settings) {
-        return rewrite_files(rt, rt.alloc(), options, rewriting, writer);
-    }
-    let Ok(mut input) = BufReader::with_capacity(rt.alloc(), BUFFER, rt.stdin()) else {
-        return Err(RunError::Memory);
-    };
-    let watched = Watched::new(rt, options.file_count());
-    let end = run(&watched, rt.alloc(), options, &mut input, writer);
-    watched.end();
-    end
 }
 
 // Says why the status of a run that came to its end is no verdict.

@@ -10,6 +10,7 @@ use std::alloc::{AllocError, Global};
 use std::io::Write;
 use timefd_drawing::github::{Command, annotation};
 use timefd_drawing::json::{Entry, note_object};
+use timefd_drawing::sarif::note_result;
 use timefd_drawing::{Format, Origin, Style, note};
 use timefd_lint_warnings::{head, place};
 use timefd_warnings::Level;
@@ -64,6 +65,7 @@ fn warning(alloc: Global, style: Style, origin: Origin<'_>) -> Result<Vec<u8>, A
         }
         Format::Github => annotation(alloc, Command::Warning, entry),
         Format::Json => note_object(alloc, entry, "warning"),
+        Format::Sarif => note_result(alloc, entry, "warning"),
         Format::Short => note(alloc, style, origin, CODE, SENTENCE),
     }
 }

@@ -20,9 +20,9 @@ A folder stands for the sources below it, and with --key for those files too, bu
 and those that .gitignore files name, or the list exclude in a file .timefd.toml.
 
   --language 1|2|3|strftime    the language of all lines; version 3 if it isn't given
-  --format human|json|short|github
-                               drawn, an object of JSON on a line, FILE:LINE:COLUMN: MESSAGE, or an
-                               annotation of GitHub
+  --format human|json|short|github|sarif
+                               drawn, an object of JSON on a line, FILE:LINE:COLUMN: MESSAGE, an
+                               annotation of GitHub, or one log of SARIF 2.1.0
   --color always|never|auto    whether the drawing is coloured; auto asks the terminal
   --comment MARK               passes over the lines that begin with the mark
   --key KEY=LANGUAGE           looks at the strings of this key in TOML, JSON and YAML; may be repeated,
@@ -106,7 +106,7 @@ fn name(option: Valued) -> &'static str {
 fn values(alloc: Global, option: Valued) -> Result<String, AllocError> {
     match option {
         Valued::Language => String::from_str(alloc, "one of 1, 2, 3, strftime"),
-        Valued::Format => String::from_str(alloc, "one of human, json, short, github"),
+        Valued::Format => String::from_str(alloc, "one of human, json, short, github, sarif"),
         Valued::Color => String::from_str(alloc, "one of always, never, auto"),
         Valued::Comment => String::from_str(alloc, "a mark that is not empty"),
         Valued::Key => String::from_str(alloc, "a key and its language, as `time_format=3`"),
@@ -138,6 +138,8 @@ fn key_sentence(fault: KeyFault) -> &'static str {
 fn conflict_sentence(conflict: Conflict) -> &'static str {
     match conflict {
         Conflict::ExplainUndrawn => "`--explain` draws trees, and goes with `--format human` alone",
+        Conflict::LogRewritten =>
+            "`--format sarif` is one log, and doesn't go with `--to`, `--normal` and `--fix`",
         Conflict::WriteWithoutVersion =>
             "`--write` wants `--to 2`, `--to 3`, `--normal` or `--fix`",
         Conflict::KeysRewritten =>

@@ -1,13 +1,13 @@
 -- What doesn't go together in settings, and with the names of files.
 use Rattle.std.specs.Prelude.{Bool, true, false, ◌&&◌, ◌||◌, ◌==◌, not, Option, Some, None, is_some, if◌then◌else◌}
 use Rattle.timefd_drawing.specs.declared.draw.Format.{Format}
-use Rattle.timefd_drawing.specs.declared.draw.Format.TheVariants.{Human, Json, Short, Github}
+use Rattle.timefd_drawing.specs.declared.draw.Format.TheVariants.{Human, Json, Short, Github, Sarif}
 use Rattle.timefd_language.specs.declared.description_version.DescriptionVersion.{DescriptionVersion}
 use Rattle.timefd_language.specs.declared.description_version.DescriptionVersion.TheVariants.{One, Two, Three}
 use Rattle.timefd_parse.specs.declared.language.Language.{Language}
 use Rattle.timefd_parse.specs.declared.language.Language.TheVariants as languages
 use Rattle.timefd_lint_options.specs.declared.error.Conflict.{Conflict}
-use Rattle.timefd_lint_options.specs.declared.error.Conflict.TheVariants.{ExplainUndrawn, KeysRewritten, WriteWithoutVersion, PartialWithoutWrite, UnsafeWithoutFix, FixesRewritten, FixesWhole, FixesSource, FixesNoFile, FixesInput, NormalOfAnother, NoConversion, RewritesWarned, RewritesWhole, RewritesSource, RewritesNoFile, RewritesInput}
+use Rattle.timefd_lint_options.specs.declared.error.Conflict.TheVariants.{ExplainUndrawn, LogRewritten, KeysRewritten, WriteWithoutVersion, PartialWithoutWrite, UnsafeWithoutFix, FixesRewritten, FixesWhole, FixesSource, FixesNoFile, FixesInput, NormalOfAnother, NoConversion, RewritesWarned, RewritesWhole, RewritesSource, RewritesNoFile, RewritesInput}
 use Rattle.timefd_lint_options.specs.declared.names.Names.{Names}
 use Rattle.timefd_lint_options.specs.declared.settings.Settings.{Settings}
 use Rattle.timefd_lint_options.specs.Settings.{target}
@@ -17,6 +17,14 @@ is_drawn Human = true
 is_drawn Json = false
 is_drawn Short = false
 is_drawn Github = false
+is_drawn Sarif = false
+
+abbrev pub is_log : Format → Bool
+is_log Human = false
+is_log Json = false
+is_log Short = false
+is_log Github = false
+is_log Sarif = true
 
 -- from version 1 to 2, and from each other language to 3
 abbrev pub is_rewritten : Language → DescriptionVersion → Bool
@@ -78,6 +86,7 @@ conflict s names =
     if s.explains && not (is_drawn s.format) then Some ExplainUndrawn
     else if s.is_partial && not s.writes then Some PartialWithoutWrite
     else if s.is_unsafe && not s.fixes then Some UnsafeWithoutFix
+    else if is_log s.format && (s.fixes || is_some (target s)) then Some LogRewritten
     else if s.has_keys && (s.fixes || is_some (target s)) then Some KeysRewritten
     else if s.fixes then fixing_conflict s names
     else version_conflict s names (target s)

@@ -2,7 +2,7 @@
 use Rattle.std.specs.Prelude.{Option, Some, None, codes, bytes_eq, if◌then◌else◌}
 use Rattle.timefd_component.specs.Tree.{Text}
 use Rattle.timefd_drawing.specs.declared.draw.Format.{Format}
-use Rattle.timefd_drawing.specs.declared.draw.Format.TheVariants.{Human, Json, Short, Github}
+use Rattle.timefd_drawing.specs.declared.draw.Format.TheVariants.{Human, Json, Short, Github, Sarif}
 use Rattle.timefd_language.specs.declared.description_version.DescriptionVersion.{DescriptionVersion}
 use Rattle.timefd_language.specs.declared.description_version.DescriptionVersion.TheVariants.{One, Two, Three}
 use Rattle.timefd_parse.specs.declared.language.Language.{Language}
@@ -24,6 +24,7 @@ format_named word =
     else if bytes_eq word (codes "json") then Some Json
     else if bytes_eq word (codes "short") then Some Short
     else if bytes_eq word (codes "github") then Some Github
+    else if bytes_eq word (codes "sarif") then Some Sarif
     else None
 
 abbrev pub color_named : Text → Option Color

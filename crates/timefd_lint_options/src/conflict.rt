@@ -22,6 +22,9 @@ pub fn conflict(settings: Settings<'_>, names: Names) -> Option<Conflict>
     if settings.is_unsafe && !settings.fixes {
         return Some(Conflict::UnsafeWithoutFix);
     }
+    if is_log(settings.format) && (settings.fixes || target(settings).is_some()) {
+        return Some(Conflict::LogRewritten);
+    }
     if settings.has_keys && (settings.fixes || target(settings).is_some()) {
         return Some(Conflict::KeysRewritten);
     }
@@ -110,7 +113,17 @@ fn is_drawn(format: Format) -> bool
 {
     match format {
         Format::Human => true,
-        Format::Json | Format::Short | Format::Github => false,
+        Format::Json | Format::Short | Format::Github | Format::Sarif => false,
+    }
+}
+
+/// Whether a form is one document, in which no changes are shown.
+pub fn is_log(format: Format) -> bool
+    ensures { result ≡ spec.is_log format }
+{
+    match format {
+        Format::Sarif => true,
+        Format::Human | Format::Json | Format::Short | Format::Github => false,
     }
 }
 

@@ -25,6 +25,8 @@ pub enum OptionError<'a> {
 pub enum Conflict {
     /// Trees are drawn, and have no other form.
     ExplainUndrawn,
+    /// A log has no place for what is rewritten.
+    LogRewritten,
     /// `--write` with none of `--to`, `--normal` and `--fix`.
     WriteWithoutVersion,
     /// Strings of keys are looked at, and stay as they are.

@@ -12,7 +12,7 @@ mod values;
 mod word;
 
 pub use asked::{Asked, Options, options_of};
-pub use conflict::lines_conflict;
+pub use conflict::{is_log, lines_conflict};
 pub use error::{Conflict, OptionError};
 pub use keys::keys_of;
 pub use settings::{Color, Settings, target};

@@ -29,6 +29,7 @@ pub fn format_named(word: &str) -> Option<Format>
         "json" => Some(Format::Json),
         "short" => Some(Format::Short),
         "github" => Some(Format::Github),
+        "sarif" => Some(Format::Sarif),
         _ => None,
     }
 }

@@ -9,7 +9,7 @@ use Rattle.timefd_parse.specs.Language.{SpellsIn, FaultIn}
 use Rattle.timefd_diagnosis.specs.declared.diagnostic.Diagnostic.{Diagnostic}
 use Rattle.timefd_diagnosis.specs.Diagnoses.{IsDiagnosis}
 use Rattle.timefd_diagnosis.specs.Further.{AreDiagnosed, AreFurther, most_further, without}
-use Rattle.timefd_drawing.specs.Positions.{column, line_number}
+use Rattle.timefd_drawing.specs.Positions.{told_column, line_number}
 use Rattle.timefd_sources.specs.declared.description.Description.{Description}
 use Rattle.timefd_warnings.specs.declared.levels.Level.TheVariants.{Allowed}
 use Rattle.timefd_warnings.specs.declared.levels.Levels.{Levels}
@@ -111,7 +111,7 @@ with_list telling s d text list end message judges utf8 same spelled is told =
 -- The warnings stand behind the tree, at the literal.
 pub tree_and_warnings : (telling : Telling) (s : Source) (d : Description) (found : Levels)
     (tree told message : Text) (line col : ℕ) → IsTree telling.explains tree
-    → line ≡ line_number 1 s.text.now d.piece.start → col ≡ column s.text.now d.piece.start
+    → line ≡ line_number 1 s.text.now d.piece.start → col ≡ told_column telling.style.format s.text.now d.piece.start
     → told ≡ messages_at telling.style (record { file = s.file; line = line }) col found
     → message ≡ tree ++ told → IsMessageOn telling s d (Accepted found) message
 tree_and_warnings telling s d found tree told message line col asked at_line at_column are is = (

@@ -7,7 +7,7 @@ use Rattle.timefd_diagnosis.specs.Further.{AreDiagnosed}
 use Rattle.timefd_drawing.specs.declared.draw.Style.{Style}
 use Rattle.timefd_drawing.specs.declared.position.Origin.{Origin}
 use Rattle.timefd_drawing.specs.Drawing.{drawn_all, note}
-use Rattle.timefd_drawing.specs.Positions.{column, line_number}
+use Rattle.timefd_drawing.specs.Positions.{told_column, line_number}
 use Rattle.timefd_sources.specs.declared.description.Description.{Description}
 use Rattle.timefd_keys.specs.Found as keys
 use Rattle.timefd_sources.specs.Found.{StandsIn, place_of}
@@ -29,9 +29,9 @@ whole_origin s = record { file = s.file; line = 1 }
 abbrev pub origin_of : Source → Description → Origin
 origin_of s d = record { file = s.file; line = line_number 1 s.text.now d.piece.start }
 
--- the column of the literal
-abbrev pub column_of : Source → Description → ℕ
-column_of s d = column s.text.now d.piece.start
+-- the column of the literal, as a form counts it
+abbrev pub column_of : Style → Source → Description → ℕ
+column_of style s d = told_column style.format s.text.now d.piece.start
 
 -- A diagnostic of a description with its bytes as those of the source.
 abbrev pub placed_in : Description → Diagnostic → Diagnostic
@@ -49,7 +49,7 @@ IsTree explains tree = IsFalse explains → tree ≡ []
 -- that it has and that is told, at its literal, in the order of their codes.
 abbrev pub IsTreeAndWarnings : Telling → Source → Description → Levels → Text → Type 0
 IsTreeAndWarnings telling s d found message = (tree : Text) × IsTree telling.explains tree
-    × (message ≡ tree ++ messages_at telling.style (origin_of s d) (column_of s d) found)
+    × (message ≡ tree ++ messages_at telling.style (origin_of s d) (column_of telling.style s d) found)
 
 -- What is told of a refused one is the drawing of what is wrong with it, and those of what further,
 -- each at its place in the source.

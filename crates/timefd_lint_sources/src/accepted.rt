@@ -8,7 +8,7 @@ ghost use Rattle.timefd_lint_sources.specs.declared.told.End.TheVariants as ends
 ghost use Rattle.timefd_lint_warnings.specs.Found.{found_by};
 ghost use Rattle.timefd_lint_sources.specs.Told.{IsMessageOn, IsTree};
 
-use crate::position::position_of;
+use crate::position::told_position_of;
 use crate::told::{End, Source, Telling, Told};
 use std::alloc::{AllocError, Global};
 use timefd_drawing::Origin;
@@ -57,7 +57,8 @@ fn explained_and_warned(
     ensures message { IfOk result (λ told. IsMessageOn telling source.entry description.now
         told.end told.message.items) }
 {
-    let place = position_of(alloc, source.text, description.piece.start)?;
+    let format = telling.style.format;
+    let place = told_position_of(alloc, format, source.text, description.piece.start)?;
     let origin = Origin {
         file: source.file,
         line: place.line,

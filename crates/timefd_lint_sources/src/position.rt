@@ -4,7 +4,8 @@ ghost use Rattle.std.specs.Prelude.{◌≡◌, IfOk};
 ghost use Rattle.timefd_drawing.specs.Positions as spec;
 
 use std::alloc::{AllocError, Global};
-use timefd_drawing::shown::columns;
+use timefd_drawing::Format;
+use timefd_drawing::shown::{char_count, columns};
 
 /// A place in a source: its line and its column, both from 1.
 #[derive(Clone, Copy)]
@@ -25,6 +26,36 @@ pub fn position_of(alloc: Global, source: &str, index: usize) -> Result<Position
         line: first.saturating_add(newlines(front) as u64),
         column: columns(alloc, last_line(front))? + 1,
     })
+}
+
+/// The same place, with its column as a form counts it: SARIF counts characters.
+pub fn told_position_of(
+    alloc: Global,
+    format: Format,
+    source: &str,
+    index: usize,
+) -> Result<Position, AllocError>
+    ensures line { IfOk result (λ place. place.line ≡ spec.line_number 1 source.now index) }
+    ensures column { IfOk result (λ place. place.column ≡ spec.told_column format source.now index) }
+{
+    match format {
+        Format::Human | Format::Json | Format::Short | Format::Github => position_of(
+            alloc, source, index,
+        ),
+        Format::Sarif => Ok(char_position_of(source, index)),
+    }
+}
+
+fn char_position_of(source: &str, index: usize) -> Position
+    ensures line { result.line ≡ spec.line_number 1 source.now index }
+    ensures column { result.column ≡ spec.char_column source.now index }
+{
+    let front = front(source, index);
+    let first: u64 = 1;
+    Position {
+        line: first.saturating_add(newlines(front) as u64),
+        column: char_count(last_line(front)).saturating_add(1),
+    }
 }
 
 // What stands in front of a byte index; inside of a character a text isn't cut.

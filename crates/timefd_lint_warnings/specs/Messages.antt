@@ -2,13 +2,14 @@
 use Rattle.std.specs.Prelude.{ℕ, Bool, true, false, List, [], ◌∷◌, ◌++◌, codes, decimal, flat_map}
 use Rattle.timefd_component.specs.Tree.{Text}
 use Rattle.timefd_drawing.specs.declared.draw.Format.{Format}
-use Rattle.timefd_drawing.specs.declared.draw.Format.TheVariants.{Human, Json, Short, Github}
+use Rattle.timefd_drawing.specs.declared.draw.Format.TheVariants.{Human, Json, Short, Github, Sarif}
 use Rattle.timefd_drawing.specs.declared.draw.Style.{Style}
 use Rattle.timefd_drawing.specs.declared.github.Command.{Command}
 use Rattle.timefd_drawing.specs.declared.github.Command.TheVariants as commands
 use Rattle.timefd_drawing.specs.declared.position.Origin.{Origin}
 use Rattle.timefd_drawing.specs.Github.{annotation}
 use Rattle.timefd_drawing.specs.Json.{text_field, number_field}
+use Rattle.timefd_drawing.specs.Sarif.{note_result, with_help}
 use Rattle.timefd_drawing.specs.Shown.{safe}
 use Rattle.timefd_warnings.specs.declared.levels.Level.{Level}
 use Rattle.timefd_warnings.specs.declared.levels.Level.TheVariants.{Allowed, Warned, Denied}
@@ -93,11 +94,18 @@ abbrev pub github : Origin → ℕ → Level → Warning → Text
 github origin column level w =
     annotation (command level) (name_of w) origin.file.now origin.line column (sentence_of w)
 
+-- a result of SARIF
+abbrev pub sarif : Origin → ℕ → Level → Warning → Text
+sarif origin column level w =
+    note_result (name_of w) origin.file.now origin.line column (with_help (sentence_of w) (explanation_of w))
+    (severity level)
+
 abbrev pub message_in : Format → Bool → Origin → ℕ → Level → Warning → Text
 message_in Human colored origin column level w = human colored origin column level w
 message_in Json colored origin column level w = json origin column level w
 message_in Short colored origin column level w = short origin column level w
 message_in Github colored origin column level w = github origin column level w
+message_in Sarif colored origin column level w = sarif origin column level w
 
 abbrev pub message : Style → Origin → ℕ → Level → Warning → Text
 message style origin column level w =

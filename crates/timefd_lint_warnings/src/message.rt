@@ -6,6 +6,7 @@ ghost use Rattle.timefd_lint_warnings.specs.Messages as spec;
 use std::alloc::{AllocError, Global};
 use timefd_drawing::github::{Command, annotation};
 use timefd_drawing::json::{Entry, push_number, push_text};
+use timefd_drawing::sarif::{note_result, with_help};
 use timefd_drawing::shown::safe;
 use timefd_drawing::{Format, Origin, Style};
 use timefd_warnings::{Level, Warning};
@@ -33,6 +34,7 @@ pub fn message(
         }
         Format::Json => json(alloc, origin, column, level, warning),
         Format::Github => github(alloc, origin, column, level, warning),
+        Format::Sarif => sarif(alloc, origin, column, level, warning),
     }
 }
 
@@ -179,6 +181,27 @@ fn github(
         message: warning.sentence(),
     };
     annotation(alloc, command(level), entry)
+}
+
+fn sarif(
+    alloc: Global,
+    origin: Origin<'_>,
+    column: usize,
+    level: Level,
+    warning: Warning,
+) -> Result<Vec<u8>, AllocError>
+    ensures { IfOk result (λ told. told.items ≡ spec.sarif origin.entry column level warning) }
+{
+    let column = column as u64;
+    let message = with_help(alloc, warning.sentence(), warning.explanation())?;
+    let entry = Entry {
+        code: warning.name(),
+        file: origin.file,
+        line: origin.line,
+        column,
+        message: &message,
+    };
+    note_result(alloc, entry, severity(level))
 }
 
 // The texts of a warning that its object has.

@@ -1,0 +1,45 @@
+//! A diagnostic as a result of SARIF.
+
+ghost use Rattle.std.specs.Prelude.{◌≡◌, ◌≢◌, [], IfOk};
+ghost use Rattle.timefd_drawing.specs.Drawing as spec;
+
+use crate::help_text::help_text;
+use crate::json::Entry;
+use crate::position::{Origin, char_position_of};
+use crate::sarif::{Fault, result, with_help};
+use std::alloc::{AllocError, Global};
+use timefd_diagnosis::{Diagnostic, code_of};
+
+/// The result on a diagnostic of a text. An `Err` says that memory ran out.
+pub fn sarif(
+    alloc: Global,
+    is_further: bool,
+    origin: Origin<'_>,
+    text: &str,
+    diagnostic: &Diagnostic,
+) -> Result<Vec<u8>, AllocError>
+    ensures exact { IfOk result (λ told. told.items
+        ≡ spec.sarif is_further origin.entry text.now diagnostic.now) }
+    ensures some { IfOk result (λ told. told.items ≢ []) }
+{
+    let start = char_position_of(origin.line, text, diagnostic.span.start);
+    let end = char_position_of(origin.line, text, diagnostic.span.end);
+    let sentence = format!(in alloc; "{}", diagnostic.fault)?;
+    let help = help_text(alloc, diagnostic.help)?;
+    let message = with_help(alloc, &sentence, &help)?;
+    let entry = Entry {
+        code: code_of(&diagnostic.fault),
+        file: origin.file,
+        line: start.line,
+        column: start.column as u64,
+        message: &message,
+    };
+    let fault = Fault {
+        end_line: end.line,
+        end_column: end.column as u64,
+        help: &help,
+        replacement: diagnostic.help.nearest(),
+        is_further,
+    };
+    result(alloc, entry, fault)
+}
