@@ -3,8 +3,8 @@ use Rattle.timefd_lint.specs.Rewritten.{AreCounted}
 use Rattle.timefd_lint.proofs.RewrittenLemmas.{text_rewritten}
 use Rattle.timefd_lint.proofs.found.source_looked_at.Goals as goal
 
-pub returns-in_ok-new-in-Ok-clause-rewritten : goal.returns-in_ok-new-in-Ok-clause-rewritten
-returns-in_ok-new-in-Ok-clause-rewritten g c =
+pub returns-in_ok-notes-in-Ok-clause-rewritten : goal.returns-in_ok-notes-in-Ok-clause-rewritten
+returns-in_ok-notes-in-Ok-clause-rewritten g c =
     text_rewritten c.args.change c.args.old.now c.in-Ok.source.now c.in_ok-new-in-Ok.new
     c.counts_of.result c.in_ok-new-in-Ok.new.bytes.items c.in-Ok.ensures.cases.0
     c.in-Ok.ensures.cases.1 c.in_ok-new-in-Ok.ensures
