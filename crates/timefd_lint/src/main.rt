@@ -84,9 +84,19 @@ fn words_status(rt: &HostRuntime, words: &[&str]) -> u8 {
     }
 }
 
+// Whether one of these names is a folder's.
+fn names_a_folder(rt: &HostRuntime, names: &[&str]) -> bool {
+    'names: for name in names.iter() {
+        if rt.is_folder(name) {
+            return true;
+        }
+    }
+    false
+}
+
 // Whether the file of settings counts: where lines are rewritten, only for what is below folders.
 fn is_settled(rt: &HostRuntime, settings: Settings<'_>, names: &[&str]) -> bool {
-    rewriting_of(settings).is_none() || settings.fixes || names.iter().any(|it| rt.is_folder(it))
+    rewriting_of(settings).is_none() || settings.fixes || names_a_folder(rt, names)
 }
 
 // What the file of settings says, where it counts.
