@@ -36,7 +36,7 @@ use options::{Options, run_options};
 use rewriting::rewriting_of;
 use running::run_in_form;
 use rust::are_sources;
-use sought::sought;
+use sought::{names_a_folder, sought};
 use status::{
     FAILED, NOT_TEXT, WRONG_ARGUMENTS, no_memory, told, walk_failed, write_failed, wrong_arguments,
 };
@@ -48,7 +48,7 @@ use summary::summary;
 use tally::Tally;
 use timefd_keys::Key;
 use timefd_lint_config::{Config, OwnedKey, same_keys, with_keys};
-use timefd_lint_files::{FileSystem, WalkError, expanded};
+use timefd_lint_files::{WalkError, expanded};
 use timefd_lint_options::{
     Asked, OptionError, Settings, is_log, keys_of, lines_conflict, options_of,
 };
@@ -82,16 +82,6 @@ fn words_status(rt: &HostRuntime, words: &[&str]) -> u8 {
         }
         Err(error) => wrong_arguments(rt, error),
     }
-}
-
-// Whether one of these names is a folder's.
-fn names_a_folder(rt: &HostRuntime, names: &[&str]) -> bool {
-    'names: for name in names.iter() {
-        if rt.is_folder(name) {
-            return true;
-        }
-    }
-    false
 }
 
 // Whether the file of settings counts: where lines are rewritten, only for what is below folders.
