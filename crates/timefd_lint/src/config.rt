@@ -26,8 +26,8 @@ impl From<AllocError> for ConfigFailure {
     }
 }
 
-/// What a file of settings says that is empty.
-pub fn no_config(alloc: Global) -> Config {
+// What a file of settings says that is empty.
+fn no_config(alloc: Global) -> Config {
     Config {
         keys: Vec::new(alloc),
         exclude: String::new(alloc),

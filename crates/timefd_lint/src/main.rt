@@ -29,14 +29,13 @@ mod tally;
 mod usage;
 
 use color::is_colored;
-use config::{ConfigFailure, counted_keys, no_config, read_config};
+use config::{ConfigFailure, counted_keys, read_config};
 use line::RunError;
 use log::write_log;
 use options::{Options, run_options};
-use rewriting::rewriting_of;
 use running::run_in_form;
 use rust::are_sources;
-use sought::{names_a_folder, sought};
+use sought::sought;
 use status::{
     FAILED, NOT_TEXT, WRONG_ARGUMENTS, no_memory, told, walk_failed, write_failed, wrong_arguments,
 };
@@ -47,7 +46,7 @@ use std::process::ExitCode;
 use summary::summary;
 use tally::Tally;
 use timefd_keys::Key;
-use timefd_lint_config::{Config, OwnedKey, same_keys, with_keys};
+use timefd_lint_config::{OwnedKey, same_keys, with_keys};
 use timefd_lint_files::{WalkError, expanded};
 use timefd_lint_options::{
     Asked, OptionError, Settings, is_log, keys_of, lines_conflict, options_of,
@@ -84,27 +83,9 @@ fn words_status(rt: &HostRuntime, words: &[&str]) -> u8 {
     }
 }
 
-// Whether the file of settings counts: where lines are rewritten, only for what is below folders.
-fn is_settled(rt: &HostRuntime, settings: Settings<'_>, names: &[&str]) -> bool {
-    rewriting_of(settings).is_none() || settings.fixes || names_a_folder(rt, names)
-}
-
-// What the file of settings says, where it counts.
-fn counted_config(
-    rt: &HostRuntime,
-    settings: Settings<'_>,
-    names: &[&str],
-) -> Result<Config, ConfigFailure> {
-    if is_settled(rt, settings, names) {
-        read_config(rt, rt.alloc())
-    } else {
-        Ok(no_config(rt.alloc()))
-    }
-}
-
 // The status of a run over what is named, with the keys of these words, and behind them those of the file of settings.
 fn keys_status(rt: &HostRuntime, settings: Settings<'_>, words: &[&str], names: &[&str]) -> u8 {
-    let config = match counted_config(rt, settings, names) {
+    let config = match read_config(rt, rt.alloc()) {
         Ok(config) => config,
         Err(ConfigFailure::Memory) => return no_memory(rt),
         Err(ConfigFailure::Wrong(sentence)) => return told(rt, WRONG_ARGUMENTS, &sentence),

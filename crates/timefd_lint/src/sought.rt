@@ -1,7 +1,7 @@
 //! Which files below folders are looked at.
 
 use timefd_keys::Key;
-use timefd_lint_files::{FileSystem, Sought};
+use timefd_lint_files::Sought;
 use timefd_lint_options::Settings;
 
 /// How the names of sources of Rust end.
@@ -21,14 +21,4 @@ pub fn sought<'a>(settings: Settings<'_>, keys: &[Key<'_>], excluded: &'a str) -
         },
         excluded,
     }
-}
-
-/// Whether one of these names is a folder's.
-pub fn names_a_folder<S: FileSystem>(system: &S, names: &[&str]) -> bool {
-    'names: for name in names.iter() {
-        if system.is_folder(name) {
-            return true;
-        }
-    }
-    false
 }
