@@ -50,10 +50,10 @@ logged() {
         python3 "$room/results.py"
 }
 same 'the errors in a SARIF log' "$(logged)" '2.1.0
-error unknown-name src/source.rs 7 34 259 4 month
-error invalid-modifier src/source.rs 12 38 459 3 zero
-error unknown-name src/source.rs 14 37 509 1
-error unclosed-bracket src/source.rs 16 21 551 1'
+error unknown-name src/source.rs 7 34 7 38 month
+error invalid-modifier src/source.rs 12 38 12 41 zero
+error unknown-name src/source.rs 14 37 14 38
+error unclosed-bracket src/source.rs 16 21 16 22'
 printf 'fn main() {}\n' > "$project/src/source.rs"
 same 'no error in a SARIF log' "$(logged)" '2.1.0'
 same 'the steps of a CI where there are none' "$(steps)" 1
