@@ -10,7 +10,7 @@ use std::io::Write;
 /// What stands in front of the results: the program, and all codes of its results.
 const HEAD: &str =
     "{\"$schema\":\"https://json.schemastore.org/sarif-2.1.0.json\",\"version\":\"2.1.0\",\"runs\":[
-{\"columnKind\":\"unicodeCodePoints\",\"tool\":{\"driver\":{\"name\":\"timefd_lint\",\"version\":\"0.1.0\",\"rules\":[
+{\"columnKind\":\"unicodeCodePoints\",\"tool\":{\"driver\":{\"name\":\"timefd_lint\",\"version\":\"0.2.0\",\"rules\":[
 {\"id\":\"unclosed-bracket\"},{\"id\":\"unknown-name\"},{\"id\":\"invalid-modifier\"},{\"id\":\"missing-name\"},
 {\"id\":\"missing-modifier\"},{\"id\":\"invalid-escape\"},{\"id\":\"unescaped-bracket\"},
 {\"id\":\"missing-space\"},{\"id\":\"missing-description\"},{\"id\":\"missing-alternative\"},
