@@ -29,7 +29,7 @@ _timefd_lint() {
     *)
         case $2 in
         -*)
-            word='--language --format --color --comment --key --whole --source --explain --warn --deny --allow --to --normal --fix --unsafe --write --partial --quiet --help --version --'
+            word='--language --format --color --comment --key --whole --source --explain --warn --deny --allow --to --normal --fix --unsafe --write --partial --lsp --quiet --help --version --'
             mapfile -t COMPREPLY < <(compgen -W "$word" -- "$2")
             ;;
         *) mapfile -t COMPREPLY < <(compgen -f -- "$2") ;;

@@ -15,6 +15,7 @@ complete -c timefd_lint -l fix -d 'show what mends refused lines'
 complete -c timefd_lint -l unsafe -d 'mend lines also by a guess'
 complete -c timefd_lint -l write -d 'write the named files back'
 complete -c timefd_lint -l partial -d 'write files back some of whose lines are refused'
+complete -c timefd_lint -l lsp -d 'serve an editor on the standard input and output'
 complete -c timefd_lint -s q -l quiet -d 'leave out the last line, on how much was looked at'
 complete -c timefd_lint -s h -l help -d 'write the usage'
 complete -c timefd_lint -s V -l version -d "write the program's version"

@@ -1,12 +1,16 @@
 -- Descriptions that are strings of a file with keys.
-use Rattle.std.specs.Prelude.{ℕ, ◌≡◌, ◌<◌, ◌≤◌, List, Some, length, slice_index}
+use Rattle.std.specs.Prelude.{ℕ, ◌≡◌, ◌<◌, ◌≤◌, ◌-◌, List, Option, None, Some, length, slice_index}
 use Rattle.std.specs.List.{All}
 use Rattle.std.specs.Str.{IsCharBoundary}
 use Rattle.timefd_sources.specs.declared.description.Description.{Description}
 use Rattle.timefd_sources.specs.Between.{AllBetween}
 use Rattle.timefd_sources.specs.Bytes.{Text}
 use Rattle.timefd_sources.specs.Literals.{body_end}
+use Rattle.timefd_sources.specs.declared.dialect.Dialect.{Dialect}
 use Rattle.timefd_keys.specs.declared.format.Format.{Format}
+use Rattle.timefd_keys.specs.declared.key.Key.{Key}
+use Rattle.timefd_keys.specs.Keys.{dialect_of}
+use Rattle.timefd_keys.specs.Names.{Name, name_at, value_behind}
 use Rattle.timefd_keys.specs.Strings.{Reading, string_at}
 
 -- what is told of a description: its bytes, their places, and that of what closes it
@@ -38,5 +42,26 @@ pub record StandsIn (format : Format) (source : Text) (d : Description) : Type 0
   pub lies : Lies source d.piece.start (body_end d.piece d.kind) d.unescaped.text.items
       d.unescaped.places.items
 
-abbrev pub AllStandIn : Format → Text → List Description → Type 0
-AllStandIn format source ds = All (StandsIn format source) ds
+-- a string at a place, of a language
+pub record IsString (format : Format) (source : Text) (start : ℕ) (dialect : Dialect) (d : Description) : Type 0 where
+  pub stands : StandsIn format source d
+  pub begins : d.piece.start ≡ start
+  pub language : d.dialect ≡ dialect
+
+abbrev pub IsStringOf : Format → Text → ℕ → Option Dialect → Description → Type 0
+IsStringOf format source start None d = ⊥
+IsStringOf format source start (Some dialect) d = IsString format source start dialect d
+
+-- It is the value of a key, whose name stands at a place in front of it, and of the language of that key.
+pub record IsValueOf (format : Format) (source : Text) (keys : List Key) (at : ℕ) (name : Name) (value : Text)
+    (d : Description) : Type 0 where
+  pub named : Some name ≡ name_at format source at
+  pub behind : Some value ≡ value_behind format name.behind
+  pub string : IsStringOf format source (length source - length value) (dialect_of keys name.text) d
+
+abbrev pub IsValue : Format → Text → List Key → Description → Type 0
+IsValue format source keys d = (at : ℕ) × (name : Name) × (value : Text)
+    × IsValueOf format source keys at name value d
+
+abbrev pub AllValues : Format → Text → List Key → List Description → Type 0
+AllValues format source keys ds = All (IsValue format source keys) ds

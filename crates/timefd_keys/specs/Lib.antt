@@ -3,4 +3,5 @@ pub mod Keys
 pub mod Styles
 pub mod Escapes
 pub mod Strings
+pub mod Names
 pub mod Found

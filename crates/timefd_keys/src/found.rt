@@ -1,17 +1,19 @@
 //! The descriptions in a file with keys.
 
-ghost use Rattle.std.specs.Prelude.{◌≡◌, ◌++◌, IfOk, MatchOption, OnOk, Some, ⊤};
-ghost use Rattle.timefd_keys.specs.Found.{AllStandIn, StandsIn};
+ghost use Rattle.std.specs.Prelude.{◌≡◌, IfOk, MatchOption, Some, ⊤};
+ghost use Rattle.timefd_keys.specs.Found.{AllValues, IsString, IsStringOf, IsValue};
+ghost use Rattle.timefd_keys.specs.Names.{name_at as name_of, seen as named};
 ghost use Rattle.timefd_keys.specs.Strings.{seen, string_at as string_of};
-ghost use Rattle.timefd_sources.specs.Found.{listed};
+ghost use Rattle.timefd_sources.specs.Found.{AreInOrder};
 
 use crate::format::Format;
 use crate::key::{Key, dialect_of};
 use crate::lies::lies;
-use crate::name::{Name, name_at, value_place};
+use crate::name::{Name, name_at, value_behind};
 use crate::passing::{depth_behind, passed_len};
 use crate::reading::{Reading, string_at};
 use std::alloc::{AllocError, Global};
+use timefd_sources::description::push_any;
 use timefd_sources::{Description, Dialect, Encoding, Kind, Piece, Token, VersionPlace};
 
 /// What is looked at, and for which keys.
@@ -39,7 +41,7 @@ fn described(
     dialect: Dialect,
 ) -> Option<Description>
     requires { Some (seen reading) ≡ string_of format source.now start }
-    ensures { MatchOption result ⊤ (StandsIn format source.now) }
+    ensures { MatchOption result ⊤ (IsString format source.now start dialect) }
 {
     let Reading { unescaped, closing } = reading;
     if !lies(source, start, closing, &unescaped) {
@@ -78,7 +80,7 @@ fn value_step(
     depth: usize,
 ) -> Result<Step, AllocError>
     ensures { IfOk result (λ step. MatchOption step.found ⊤
-        (StandsIn scan.entry.format scan.entry.source.now)) }
+        (IsStringOf scan.entry.format scan.entry.source.now value dialect)) }
 {
     let nothing = Step {
         found: None,
@@ -99,44 +101,43 @@ fn value_step(
     Ok(Step { found, next, depth })
 }
 
+/// What is found behind the name that stands at a place.
+fn name_step(
+    alloc: Global,
+    scan: Scan<'_>,
+    at: usize,
+    name: Name<'_>,
+    depth: usize,
+) -> Result<Step, AllocError>
+    requires { Some (named name) ≡ name_of scan.format scan.source.now at }
+    ensures { IfOk result (λ step. MatchOption step.found ⊤
+        (IsValue scan.entry.format scan.entry.source.now scan.entry.keys.now)) }
+{
+    let Some(value) = value_behind(scan.format, name.behind) else {
+        return Ok(Step {
+            found: None,
+            next: scan.source.len().saturating_sub(name.behind.len()),
+            depth,
+        });
+    };
+    let dialect = dialect_of(scan.keys, &name.text);
+    let value = scan.source.len().saturating_sub(value.len());
+    value_step(alloc, scan, dialect, value, depth)
+}
+
 /// What is found at a place.
 fn step_at(alloc: Global, scan: Scan<'_>, at: usize, depth: usize) -> Result<Step, AllocError>
     ensures { IfOk result (λ step. MatchOption step.found ⊤
-        (StandsIn scan.entry.format scan.entry.source.now)) }
+        (IsValue scan.entry.format scan.entry.source.now scan.entry.keys.now)) }
 {
     let bytes = scan.source.as_bytes();
-    let Some(Name { text, end }) = name_at(alloc, scan.format, bytes, at)? else {
-        return Ok(Step {
+    match name_at(alloc, scan.format, bytes, at)? {
+        Some(name) => name_step(alloc, scan, at, name, depth),
+        None => Ok(Step {
             found: None,
             next: at.saturating_add(passed_len(scan.format, bytes, at)),
             depth: depth_behind(bytes, at, depth),
-        });
-    };
-    match value_place(scan.format, bytes, end) {
-        Some(value) => {
-            let dialect = dialect_of(scan.keys, &text);
-            value_step(alloc, scan, dialect, value, depth)
-        }
-        None => Ok(Step {
-            found: None,
-            next: end,
-            depth,
         }),
-    }
-}
-
-fn push_any(
-    descriptions: &mut Vec<Description>,
-    found: Option<Description>,
-) -> Result<(), AllocError>
-    ensures { OnOk result (descriptions.new.items ≡ descriptions.old.items ++ listed found) }
-{
-    match found {
-        Some(description) => {
-            descriptions.push(description)?;
-            Ok(())
-        }
-        None => Ok(()),
     }
 }
 
@@ -147,14 +148,15 @@ fn push_any(
 /// Passed over are also strings of several lines, and in YAML: values in another line than their key,
 /// behind tags or anchors, and without quotes in brackets or with two blanks in a row. What stands in a
 /// block of text of YAML is read as if it stood outside, and a number without quotes as a string.
-#[tactic(auto, using(crate::proofs::FoundLemmas::at_first))]
+#[tactic(auto, using(crate::proofs::FoundLemmas::none_yet))]
 pub fn descriptions_by(
     alloc: Global,
     format: Format,
     source: &str,
     keys: &[Key<'_>],
 ) -> Result<Vec<Description>, AllocError>
-    ensures { IfOk result (λ found. AllStandIn format source.now found.items) }
+    ensures values { IfOk result (λ found. AllValues format source.now keys.now found.items) }
+    ensures in_order { IfOk result (λ found. AreInOrder 0 found.items) }
 {
     let scan = Scan {
         format,
@@ -163,10 +165,11 @@ pub fn descriptions_by(
     };
     let mut descriptions = Vec::new(alloc);
     let mut depth = 0;
+    let mut end = 0;
     let mut at = 0;
     'steps: while at < source.len() {
         let step = step_at(alloc, scan, at, depth)?;
-        push_any(&mut descriptions, step.found)?;
+        end = push_any(&mut descriptions, step.found, end)?;
         depth = step.depth;
         at = step.next.max(at + 1);
     }

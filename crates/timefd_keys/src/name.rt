@@ -1,6 +1,11 @@
 //! Names of keys, and where their values stand.
 
-use crate::bytes::{begins_space, is_blank, is_line_end};
+ghost use Rattle.std.specs.Prelude.{◌≡◌, ◌≤◌, length, drop, IfOk};
+ghost use Rattle.timefd_keys.specs.Names as spec;
+ghost use Rattle.timefd_keys.specs.Names.{now_any, seen_any};
+ghost use Rattle.timefd_keys.specs.Strings.{string_at as string_of};
+
+use crate::bytes::{Class, begins_space, behind_run, is_blank, is_line_end};
 use crate::format::Format;
 use crate::reading::string_at;
 use crate::style::{begins_plain, is_flow};
@@ -8,65 +13,77 @@ use std::alloc::{AllocError, Global};
 
 /// What may be the name of a key.
 #[derive(Drop)]
-pub struct Name {
+pub struct Name<'a> {
     /// The bytes that it stands for.
     pub text: Vec<u8>,
-    /// The place behind it.
-    pub end: usize,
+    /// What stands behind it.
+    pub behind: &'a [u8],
 }
 
 /// The bytes of a text from a place on.
-pub fn from(text: &[u8], at: usize) -> &[u8] {
+pub fn from(text: &[u8], at: usize) -> &[u8]
+    ensures { result.now ≡ drop at text.now }
+{
     text.get(at..).unwrap_or(&[])
 }
 
-fn is_quote(format: Format, byte: u8) -> bool {
+fn is_quote(format: Format, byte: u8) -> bool
+    ensures { result ≡ spec.is_quote format byte }
+{
     match format {
         Format::Json => byte == b'"',
         Format::Toml | Format::Yaml => byte == b'"' || byte == b'\'',
     }
 }
 
-/// Whether a byte may stand in a key of TOML without quotes.
-fn is_bare(byte: u8) -> bool {
-    byte.is_ascii_alphanumeric() || byte == b'_' || byte == b'-'
-}
-
-fn bare_len(text: &[u8]) -> usize {
-    text.iter()
-        .position(|byte| !is_bare(*byte))
-        .unwrap_or(text.len())
+fn begins_comment(text: &[u8]) -> bool
+    ensures { result ≡ spec.begins_comment text.now }
+{
+    match text {
+        [] => false,
+        [byte, ..] => *byte == b'#',
+    }
 }
 
 /// Whether a name of YAML without quotes ends in front of this byte.
-fn ends_name(byte: u8, behind: &[u8]) -> bool {
+fn ends_name(byte: u8, behind: &[u8]) -> bool
+    ensures { result ≡ spec.ends_name byte behind.now }
+{
     is_flow(byte)
         || is_line_end(byte)
         || byte == b':' && begins_space(behind)
-        || is_blank(byte) && behind.starts_with(b"#")
+        || is_blank(byte) && begins_comment(behind)
 }
 
-fn plain_len(text: &[u8]) -> usize {
+fn behind_plain(text: &[u8]) -> &[u8]
+    ensures rest { result.now ≡ spec.behind_plain text.now }
+    ensures within { length result.now ≤ length text.now }
+{
     let mut rest = text;
     'bytes: while let [byte, behind @ ..] = rest {
         if ends_name(*byte, behind) {
-            return text.len().saturating_sub(rest.len());
+            return rest;
         }
         rest = behind;
     }
-    text.len()
+    rest
 }
 
-/// How many bytes a name without quotes takes that a text begins with: 0 where it begins with none.
-fn unquoted_len(format: Format, text: &[u8]) -> usize {
+/// What stands behind the name without quotes that a text begins with; all of it where it begins with none.
+fn behind_unquoted(format: Format, text: &[u8]) -> &[u8]
+    ensures rest { result.now ≡ spec.behind_unquoted format text.now }
+    ensures within { length result.now ≤ length text.now }
+{
     match (format, text) {
-        (Format::Toml, _) => bare_len(text),
-        (Format::Yaml, [byte, behind @ ..]) if begins_plain(*byte, behind) => plain_len(text),
-        (Format::Json | Format::Yaml, _) => 0,
+        (Format::Toml, _) => behind_run(Class::Bare, text),
+        (Format::Yaml, [byte, behind @ ..]) if begins_plain(*byte, behind) => behind_plain(text),
+        (Format::Json | Format::Yaml, _) => text,
     }
 }
 
-fn without_blanks(text: &[u8]) -> &[u8] {
+fn without_blanks(text: &[u8]) -> &[u8]
+    ensures { result.now ≡ spec.without_blanks text.now }
+{
     let mut rest = text;
     'bytes: while let [front @ .., byte] = rest {
         if !is_blank(*byte) {
@@ -77,58 +94,93 @@ fn without_blanks(text: &[u8]) -> &[u8] {
     rest
 }
 
-/// The name that stands at a place.
-pub fn name_at(
+fn behind_first(text: &[u8]) -> &[u8]
+    ensures { result.now ≡ drop 1 text.now }
+{
+    match text {
+        [] => text,
+        [_, behind @ ..] => behind,
+    }
+}
+
+fn quoted_name<'a>(
     alloc: Global,
     format: Format,
-    source: &[u8],
+    source: &'a [u8],
     at: usize,
-) -> Result<Option<Name>, AllocError> {
-    let text = from(source, at);
-    if let [byte, ..] = text
-        && is_quote(format, *byte)
-    {
-        let Some(reading) = string_at(alloc, format, source, at)? else {
-            return Ok(None);
-        };
-        let end = reading.closing.saturating_add(1);
-        let text = reading.unescaped.text;
-        return Ok(Some(Name { text, end }));
-    }
-    let len = unquoted_len(format, text);
+) -> Result<Option<Name<'a>>, AllocError>
+    ensures { IfOk result (λ name. seen_any name ≡ spec.quoted_name source.now (string_of format source.now at)) }
+{
+    let Some(reading) = string_at(alloc, format, source, at)? else {
+        return Ok(None);
+    };
+    let behind = behind_first(from(source, reading.closing));
+    let text = reading.unescaped.text;
+    Ok(Some(Name { text, behind }))
+}
+
+fn unquoted_name<'a>(
+    alloc: Global,
+    format: Format,
+    text: &'a [u8],
+) -> Result<Option<Name<'a>>, AllocError>
+    ensures { IfOk result (λ name. seen_any name ≡ spec.unquoted_name format text.now) }
+{
+    let behind = behind_unquoted(format, text);
+    let len = text.len() - behind.len();
     if len == 0 {
         return Ok(None);
     }
-    let word = without_blanks(text.get(..len).unwrap_or(text));
+    let word = without_blanks(&text[..len]);
     Ok(Some(Name {
         text: word.to_vec(alloc)?,
-        end: at.saturating_add(len),
+        behind,
     }))
 }
 
-/// The place of the first byte at or behind a place that isn't passed over between a name and its value.
-fn behind_space(format: Format, source: &[u8], at: usize) -> usize {
+/// The name that stands at a place.
+pub fn name_at<'a>(
+    alloc: Global,
+    format: Format,
+    source: &'a [u8],
+    at: usize,
+) -> Result<Option<Name<'a>>, AllocError>
+    ensures { IfOk result (λ name. seen_any name ≡ spec.name_at format source.now at) }
+{
     let text = from(source, at);
-    let len = text
-        .iter()
-        .position(|byte| !(is_blank(*byte) || matches!(format, Format::Json) && is_line_end(*byte)))
-        .unwrap_or(text.len());
-    at.saturating_add(len)
+    match text {
+        [] => Ok(None),
+        [byte, ..] if is_quote(format, *byte) => quoted_name(alloc, format, source, at),
+        [_, ..] => unquoted_name(alloc, format, text),
+    }
 }
 
-fn separator(format: Format) -> u8 {
+/// What may stand between a name and its value.
+fn between(format: Format) -> Class
+    ensures { result ≡ spec.between format }
+{
+    match format {
+        Format::Json => Class::White,
+        Format::Toml | Format::Yaml => Class::Blank,
+    }
+}
+
+fn separator(format: Format) -> u8
+    ensures { result ≡ spec.separator format }
+{
     match format {
         Format::Toml => b'=',
         Format::Json | Format::Yaml => b':',
     }
 }
 
-/// The place of the value behind a name that ends at a place; none where it isn't the name of a key.
-pub fn value_place(format: Format, source: &[u8], end: usize) -> Option<usize> {
-    let at = behind_space(format, source, end);
-    if source.get(at).copied() == Some(separator(format)) {
-        Some(behind_space(format, source, at.saturating_add(1)))
-    } else {
-        None
+/// What begins with the value, behind a name; none where it isn't the name of a key.
+pub fn value_behind(format: Format, text: &[u8]) -> Option<&[u8]>
+    ensures { now_any result ≡ spec.value_behind format text.now }
+{
+    let class = between(format);
+    match behind_run(class, text) {
+        [byte, behind @ ..] if *byte == separator(format) => Some(behind_run(class, behind)),
+        [_, ..] | [] => None,
     }
 }

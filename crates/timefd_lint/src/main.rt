@@ -20,6 +20,7 @@ mod rewriting;
 mod run;
 mod running;
 mod rust;
+mod session;
 mod sought;
 mod source;
 mod stamp;
@@ -35,31 +36,23 @@ use log::write_log;
 use options::{Options, run_options};
 use running::run_in_form;
 use rust::are_sources;
+use session::session_status;
 use sought::sought;
 use status::{
     FAILED, NOT_TEXT, WRONG_ARGUMENTS, no_memory, told, walk_failed, write_failed, wrong_arguments,
 };
 use std::alloc::{AllocError, Global};
-use std::env;
-use std::io::{BufWriter, ErrorKind, Write};
+use std::io::{BufWriter, Write};
 use std::process::ExitCode;
 use summary::summary;
 use tally::Tally;
+use timefd_command::{WordsError, all_words, lent};
 use timefd_keys::Key;
 use timefd_lint_config::{OwnedKey, same_keys, with_keys};
 use timefd_lint_files::{WalkError, expanded};
 use timefd_lint_options::{
     Asked, OptionError, Settings, is_log, keys_of, lines_conflict, options_of,
 };
-
-// The words, each lent.
-fn lent<'a>(alloc: Global, words: &'a [String]) -> Result<Vec<&'a str>, AllocError> {
-    let mut all = Vec::new(alloc);
-    for word in words {
-        all.push(word.as_str())?;
-    }
-    Ok(all)
-}
 
 // Writes a text to the standard output, and answers the status.
 fn written(rt: &HostRuntime, text: &str) -> u8 {
@@ -94,6 +87,7 @@ fn keys_status(rt: &HostRuntime, settings: Settings<'_>, words: &[&str], names: 
         return no_memory(rt);
     };
     match all_keys(rt.alloc(), &keys, counted_keys(settings, &config)) {
+        Ok(keys) if settings.serves => session_status(rt, settings, &keys),
         Ok(keys) => names_status(rt, settings, &keys, &config.exclude, names),
         Err(AllocError) => no_memory(rt),
     }
@@ -199,20 +193,11 @@ fn args_status(rt: &HostRuntime, args: &[String]) -> u8 {
     }
 }
 
-fn collected(rt: &HostRuntime, args: env::Args) -> Option<Vec<String>> {
-    args.collect(rt.alloc()).ok()
-}
-
 fn main(rt: HostRuntime) -> ExitCode {
-    let args = match env::args(&rt) {
-        Ok(args) => collected(&rt, args),
-        Err(error) if error.kind() == ErrorKind::OutOfMemory => None,
-        Err(_) => {
-            return ExitCode::from(told(&rt, WRONG_ARGUMENTS, "an argument is no UTF-8"));
-        }
+    let status = match all_words(&rt) {
+        Ok(words) => args_status(&rt, &words),
+        Err(WordsError::NotText) => told(&rt, WRONG_ARGUMENTS, "an argument is no UTF-8"),
+        Err(WordsError::Memory) => no_memory(&rt),
     };
-    match args {
-        Some(args) => ExitCode::from(args_status(&rt, &args)),
-        None => ExitCode::from(no_memory(&rt)),
-    }
+    ExitCode::from(status)
 }

@@ -74,8 +74,8 @@ pub fn run_options<'a>(
     }
 }
 
-// What is made of each warning, if they are told.
-fn told_levels(settings: Settings<'_>) -> Option<Levels>
+/// What is made of each warning, if they are told.
+pub fn told_levels(settings: Settings<'_>) -> Option<Levels>
     ensures { result ≡ (if settings.entry.warns then Some settings.entry.levels else None) }
 {
     if settings.warns {

@@ -39,6 +39,8 @@ and those that .gitignore files name, or the list exclude in a file .timefd.toml
   --unsafe                     with --fix: also by a guess, as the nearest word
   --write                      with --to, --normal or --fix: writes the named files back so
   --partial                    with --write: also files some of whose lines are refused
+  --lsp                        serves an editor on the standard input and output, by the Language
+                               Server Protocol, with --key, --warn, --deny, --allow
   --quiet, -q                  leaves out the last line, which tells how much was looked at
   --help, -h                   writes this
   --version, -V                writes the program's version
@@ -137,6 +139,11 @@ fn key_sentence(fault: KeyFault) -> &'static str {
 
 fn conflict_sentence(conflict: Conflict) -> &'static str {
     match conflict {
+        Conflict::ServesFiles =>
+            "`--lsp` serves an editor, which sends the texts, and wants no file",
+        Conflict::ServesAlone => {
+            "`--lsp` serves an editor, and doesn't go with options on how files are looked at or rewritten"
+        }
         Conflict::ExplainUndrawn => "`--explain` draws trees, and goes with `--format human` alone",
         Conflict::LogRewritten =>
             "`--format sarif` is one log, and doesn't go with `--to`, `--normal` and `--fix`",
@@ -148,7 +155,6 @@ fn conflict_sentence(conflict: Conflict) -> &'static str {
         Conflict::UnsafeWithoutFix => "`--unsafe` goes with `--fix` alone",
         Conflict::FixesRewritten => "`--fix` doesn't go with `--to` and `--normal`",
         Conflict::FixesWhole => "`--fix` mends line by line, and doesn't go with `--whole`",
-        Conflict::FixesSource => "`--fix` mends lines, and doesn't go with `--source`",
         Conflict::FixesNoFile => "`--fix` wants the name of a file",
         Conflict::FixesInput => "`--fix` mends files, and `-` is the standard input",
         Conflict::NormalOfAnother => {
@@ -162,8 +168,6 @@ fn conflict_sentence(conflict: Conflict) -> &'static str {
         }
         Conflict::RewritesWhole =>
             "`--to` and `--normal` rewrite line by line, and don't go with `--whole`",
-        Conflict::RewritesSource =>
-            "`--to` and `--normal` rewrite lines, and don't go with `--source`",
         Conflict::RewritesNoFile => "`--to` and `--normal` want the name of a file",
         Conflict::RewritesInput =>
             "`--to` and `--normal` rewrite files, and `-` is the standard input",

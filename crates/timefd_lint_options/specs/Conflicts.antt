@@ -7,7 +7,7 @@ use Rattle.timefd_language.specs.declared.description_version.DescriptionVersion
 use Rattle.timefd_parse.specs.declared.language.Language.{Language}
 use Rattle.timefd_parse.specs.declared.language.Language.TheVariants as languages
 use Rattle.timefd_lint_options.specs.declared.error.Conflict.{Conflict}
-use Rattle.timefd_lint_options.specs.declared.error.Conflict.TheVariants.{ExplainUndrawn, LogRewritten, KeysRewritten, WriteWithoutVersion, PartialWithoutWrite, UnsafeWithoutFix, FixesRewritten, FixesWhole, FixesSource, FixesNoFile, FixesInput, NormalOfAnother, NoConversion, RewritesWarned, RewritesWhole, RewritesSource, RewritesNoFile, RewritesInput}
+use Rattle.timefd_lint_options.specs.declared.error.Conflict.TheVariants.{ServesFiles, ServesAlone, ExplainUndrawn, LogRewritten, KeysRewritten, WriteWithoutVersion, PartialWithoutWrite, UnsafeWithoutFix, FixesRewritten, FixesWhole, FixesNoFile, FixesInput, NormalOfAnother, NoConversion, RewritesWarned, RewritesWhole, RewritesNoFile, RewritesInput}
 use Rattle.timefd_lint_options.specs.declared.names.Names.{Names}
 use Rattle.timefd_lint_options.specs.declared.settings.Settings.{Settings}
 use Rattle.timefd_lint_options.specs.Settings.{target}
@@ -51,7 +51,6 @@ rewriting_conflict s version names =
     if s.is_normal && not (is_three version) then Some NormalOfAnother
     else if s.warns then Some RewritesWarned
     else if s.is_whole then Some RewritesWhole
-    else if s.is_source then Some RewritesSource
     else if names.count == 0 then Some RewritesNoFile
     else if names.has_input then Some RewritesInput
     else None
@@ -72,7 +71,6 @@ abbrev pub fixing_conflict : Settings → Names → Option Conflict
 fixing_conflict s names =
     if is_some (target s) then Some FixesRewritten
     else if s.is_whole then Some FixesWhole
-    else if s.is_source then Some FixesSource
     else if names.count == 0 then Some FixesNoFile
     else if names.has_input then Some FixesInput
     else None
@@ -81,9 +79,26 @@ abbrev pub version_conflict : Settings → Names → Option DescriptionVersion �
 version_conflict s names (Some version) = rewriting_conflict s version names
 version_conflict s names None = if s.writes then Some WriteWithoutVersion else None
 
+-- whether it is set how files are looked at
+abbrev pub looks_at_files : Settings → Bool
+looks_at_files s =
+    s.is_whole || s.is_source || s.explains || is_some s.comment || not (is_drawn s.format)
+
+-- whether it is set how they are rewritten
+abbrev pub rewrites : Settings → Bool
+rewrites s = s.fixes || s.is_unsafe || s.writes || s.is_partial || is_some (target s)
+
+-- An editor is served alone: no file is named, looked at or rewritten.
+abbrev pub serving_conflict : Settings → Names → Option Conflict
+serving_conflict s names =
+    if not (names.count == 0) then Some ServesFiles
+    else if looks_at_files s || rewrites s then Some ServesAlone
+    else None
+
 abbrev pub conflict : Settings → Names → Option Conflict
 conflict s names =
-    if s.explains && not (is_drawn s.format) then Some ExplainUndrawn
+    if s.serves then serving_conflict s names
+    else if s.explains && not (is_drawn s.format) then Some ExplainUndrawn
     else if s.is_partial && not s.writes then Some PartialWithoutWrite
     else if s.is_unsafe && not s.fixes then Some UnsafeWithoutFix
     else if is_log s.format && (s.fixes || is_some (target s)) then Some LogRewritten

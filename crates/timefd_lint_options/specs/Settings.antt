@@ -12,7 +12,7 @@ use Rattle.timefd_lint_options.specs.declared.error.OptionError.TheVariants.{Not
 use Rattle.timefd_lint_options.specs.declared.settings.Color.TheVariants as colors
 use Rattle.timefd_lint_options.specs.declared.settings.Settings.{Settings}
 use Rattle.timefd_lint_options.specs.declared.word.Flag.{Flag}
-use Rattle.timefd_lint_options.specs.declared.word.Flag.TheVariants.{Whole, Source, Explain, Normal, Fix, Unsafe, Write, Partial, Warn, Quiet}
+use Rattle.timefd_lint_options.specs.declared.word.Flag.TheVariants.{Whole, Source, Explain, Normal, Fix, Unsafe, Write, Partial, Warn, Lsp, Quiet}
 use Rattle.timefd_lint_options.specs.declared.word.Valued.{Valued}
 use Rattle.timefd_lint_options.specs.declared.word.Valued.TheVariants.{Language, Format, Color, Comment, Key, To, Deny, Allow}
 use Rattle.timefd_lint_options.specs.Values.{language_named, format_named, color_named, version_named}
@@ -41,6 +41,7 @@ initial = record {
   is_partial = false;
   warns = false;
   levels = all_at Warned;
+  serves = false;
   is_quiet = false;
 }
 
@@ -62,6 +63,7 @@ with_flag s Unsafe = record s { is_unsafe = true }
 with_flag s Write = record s { writes = true }
 with_flag s Partial = record s { is_partial = true }
 with_flag s Warn = record s { warns = true }
+with_flag s Lsp = record s { serves = true }
 with_flag s Quiet = record s { is_quiet = true }
 
 abbrev pub with_language : Settings → Text → Option Settings

@@ -6,4 +6,4 @@ abbrev pub long_names : List Text
 long_names = codes "--language" ∷ codes "--format" ∷ codes "--color" ∷ codes "--comment" ∷ codes "--key"
     ∷ codes "--whole" ∷ codes "--source" ∷ codes "--explain" ∷ codes "--to" ∷ codes "--normal" ∷ codes "--fix" ∷ codes "--unsafe"
     ∷ codes "--write"
-    ∷ codes "--partial" ∷ codes "--warn" ∷ codes "--deny" ∷ codes "--allow" ∷ codes "--quiet" ∷ codes "--help" ∷ codes "--version" ∷ []
+    ∷ codes "--partial" ∷ codes "--warn" ∷ codes "--deny" ∷ codes "--allow" ∷ codes "--lsp" ∷ codes "--quiet" ∷ codes "--help" ∷ codes "--version" ∷ []

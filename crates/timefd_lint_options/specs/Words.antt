@@ -2,7 +2,7 @@
 use Rattle.std.specs.Prelude.{Bool, true, false, codes, bytes_eq, nat_eq, if◌then◌else◌}
 use Rattle.std.specs.List.{starts_with}
 use Rattle.timefd_component.specs.Tree.{Text}
-use Rattle.timefd_lint_options.specs.declared.word.Flag.TheVariants.{Whole, Source, Explain, Normal, Fix, Unsafe, Write, Partial, Warn, Quiet}
+use Rattle.timefd_lint_options.specs.declared.word.Flag.TheVariants.{Whole, Source, Explain, Normal, Fix, Unsafe, Write, Partial, Warn, Lsp, Quiet}
 use Rattle.timefd_lint_options.specs.declared.word.Valued.TheVariants.{Language, Format, Color, Comment, Key, To, Deny, Allow}
 use Rattle.timefd_lint_options.specs.declared.word.Word.{Word}
 use Rattle.timefd_lint_options.specs.declared.word.Word.TheVariants.{Flag, Valued, Help, Version, End, Unknown, File}
@@ -22,6 +22,7 @@ word_of word =
     else if bytes_eq word (codes "--write") then Flag Write
     else if bytes_eq word (codes "--partial") then Flag Partial
     else if bytes_eq word (codes "--warn") then Flag Warn
+    else if bytes_eq word (codes "--lsp") then Flag Lsp
     else if bytes_eq word (codes "--quiet") then Flag Quiet
     else if bytes_eq word (codes "-q") then Flag Quiet
     else if bytes_eq word (codes "--language") then Valued Language

@@ -13,6 +13,9 @@ use timefd_parse::{DescriptionVersion, Language};
 pub fn conflict(settings: Settings<'_>, names: Names) -> Option<Conflict>
     ensures { result ≡ spec.conflict settings.entry names }
 {
+    if settings.serves {
+        return serving_conflict(settings, names);
+    }
     if settings.explains && !is_drawn(settings.format) {
         return Some(Conflict::ExplainUndrawn);
     }
@@ -38,6 +41,41 @@ pub fn conflict(settings: Settings<'_>, names: Names) -> Option<Conflict>
     }
 }
 
+// What is in the way of serving an editor.
+fn serving_conflict(settings: Settings<'_>, names: Names) -> Option<Conflict>
+    ensures { result ≡ spec.serving_conflict settings.entry names }
+{
+    if names.count != 0 {
+        return Some(Conflict::ServesFiles);
+    }
+    if looks_at_files(settings) || rewrites(settings) {
+        return Some(Conflict::ServesAlone);
+    }
+    None
+}
+
+// Whether it is set how files are looked at.
+fn looks_at_files(settings: Settings<'_>) -> bool
+    ensures { result ≡ spec.looks_at_files settings.entry }
+{
+    settings.is_whole
+        || settings.is_source
+        || settings.explains
+        || settings.comment.is_some()
+        || !is_drawn(settings.format)
+}
+
+// Whether it is set how they are rewritten.
+fn rewrites(settings: Settings<'_>) -> bool
+    ensures { result ≡ spec.rewrites settings.entry }
+{
+    settings.fixes
+        || settings.is_unsafe
+        || settings.writes
+        || settings.is_partial
+        || target(settings).is_some()
+}
+
 // What is in the way of mending files.
 fn fixing_conflict(settings: Settings<'_>, names: Names) -> Option<Conflict>
     ensures { result ≡ spec.fixing_conflict settings.entry names }
@@ -47,9 +85,6 @@ fn fixing_conflict(settings: Settings<'_>, names: Names) -> Option<Conflict>
     }
     if settings.is_whole {
         return Some(Conflict::FixesWhole);
-    }
-    if settings.is_source {
-        return Some(Conflict::FixesSource);
     }
     match names.count {
         0 => Some(Conflict::FixesNoFile),
@@ -74,9 +109,6 @@ fn rewriting_conflict(
     }
     if settings.is_whole {
         return Some(Conflict::RewritesWhole);
-    }
-    if settings.is_source {
-        return Some(Conflict::RewritesSource);
     }
     if names.count == 0 {
         return Some(Conflict::RewritesNoFile);

@@ -25,6 +25,10 @@ pub enum OptionError<'a> {
 pub enum Conflict {
     /// Trees are drawn, and have no other form.
     ExplainUndrawn,
+    /// An editor is served, and no file looked at.
+    ServesFiles,
+    /// An editor is served, and nothing drawn or written.
+    ServesAlone,
     /// A log has no place for what is rewritten.
     LogRewritten,
     /// `--write` with none of `--to`, `--normal` and `--fix`.
@@ -39,8 +43,6 @@ pub enum Conflict {
     FixesRewritten,
     /// A file is mended line by line.
     FixesWhole,
-    /// A source isn't mended.
-    FixesSource,
     /// No file is named that could be mended.
     FixesNoFile,
     /// The standard input is no file that could be mended.
@@ -53,8 +55,6 @@ pub enum Conflict {
     RewritesWarned,
     /// A file is rewritten line by line.
     RewritesWhole,
-    /// Only what is named as a source is rewritten as one.
-    RewritesSource,
     /// No file is named that could be rewritten.
     RewritesNoFile,
     /// The standard input is no file that could be rewritten.

@@ -55,6 +55,8 @@ pub struct Settings<'a> {
     pub warns: bool,
     /// What is made of each warning, where they are.
     pub levels: Levels,
+    /// Whether an editor is served, in place of looking at files.
+    pub serves: bool,
     /// Whether the line is left out that tells how much was looked at.
     pub is_quiet: bool,
 }
@@ -81,6 +83,7 @@ impl Settings<'_> {
             is_partial: false,
             warns: false,
             levels: Levels::all_at(Level::Warned),
+            serves: false,
             is_quiet: false,
         }
     }
@@ -137,6 +140,10 @@ pub fn with_flag<'a>(settings: Settings<'a>, flag: Flag) -> Settings<'a>
         },
         Flag::Warn => Settings {
             warns: true,
+            ..settings
+        },
+        Flag::Lsp => Settings {
+            serves: true,
             ..settings
         },
         Flag::Quiet => Settings {

@@ -31,6 +31,7 @@ fn long_names() -> &'static [&'static str]
         "--warn",
         "--deny",
         "--allow",
+        "--lsp",
         "--quiet",
         "--help",
         "--version",

@@ -15,6 +15,7 @@ pub enum Flag {
     Write,
     Partial,
     Warn,
+    Lsp,
     Quiet,
 }
 
@@ -62,6 +63,7 @@ pub fn word_of(word: &str) -> Word
         "--write" => Word::Flag(Flag::Write),
         "--partial" => Word::Flag(Flag::Partial),
         "--warn" => Word::Flag(Flag::Warn),
+        "--lsp" => Word::Flag(Flag::Lsp),
         "--quiet" | "-q" => Word::Flag(Flag::Quiet),
         "--language" => Word::Valued(Valued::Language),
         "--format" => Word::Valued(Valued::Format),

@@ -16,5 +16,5 @@ pub by_rust : (s : Source) (ds : List Description) → s.finder ≡ Rust → All
 by_rust s ds is stand = subst (λ f. All (IsFoundBy f s.text.now) ds) (sym is) stand
 
 pub by_keys : (s : Source) (format : Format) (keys : Bor (List Key)) (ds : List Description)
-    → s.finder ≡ Keys format keys → keyed.AllStandIn format s.text.now ds → AllFound s ds
+    → s.finder ≡ Keys format keys → keyed.AllValues format s.text.now keys.now ds → AllFound s ds
 by_keys s format keys ds is stand = subst (λ f. All (IsFoundBy f s.text.now) ds) (sym is) stand

@@ -1,5 +1,5 @@
 -- What a description of a source is.
-use Rattle.std.specs.Prelude.{◌≡◌, Bool, false, List, Option, None, Some, IsUtf8, IsTrue, IsFalse}
+use Rattle.std.specs.Prelude.{◌≡◌, Bool, false, List, Option, IsUtf8, IsTrue, IsFalse}
 use Rattle.timefd_component.specs.Tree.{Text, Tree}
 use Rattle.timefd_fault.specs.Faults.{Fault}
 use Rattle.timefd_language.specs.Grammar.{nesting_limit}

@@ -10,7 +10,7 @@ use Rattle.timefd_drawing.specs.Drawing.{drawn_all, note}
 use Rattle.timefd_drawing.specs.Positions.{told_column, line_number}
 use Rattle.timefd_sources.specs.declared.description.Description.{Description}
 use Rattle.timefd_keys.specs.Found as keys
-use Rattle.timefd_sources.specs.Found.{StandsIn, place_of}
+use Rattle.timefd_sources.specs.Found.{AreInOrder, StandsIn, place_of}
 use Rattle.timefd_warnings.specs.declared.levels.Levels.{Levels}
 use Rattle.timefd_lint_warnings.specs.Messages.{messages_at}
 use Rattle.timefd_lint_sources.specs.declared.source.Report.{Report}
@@ -92,10 +92,10 @@ AreTold telling s (d ∷ ds) [] message = ⊥
 AreTold telling s (d ∷ ds) (e ∷ ends) message = (one : Text) × (rest : Text)
     × IsTold telling s d e one × AreTold telling s ds ends rest × (message ≡ one ++ rest)
 
--- A description is a literal of a source of Rust, or a string of a file with keys.
+-- A description is a literal of a source of Rust, or the value of a key, in the language of that.
 abbrev pub IsFoundBy : Finder → Text → Description → Type 0
 IsFoundBy Rust source d = StandsIn source d
-IsFoundBy (Keys format names) source d = keys.StandsIn format source d
+IsFoundBy (Keys format names) source d = keys.IsValue format source names.now d
 
 abbrev pub IsFound : Source → Description → Type 0
 IsFound s d = IsFoundBy s.finder s.text.now d
@@ -103,8 +103,9 @@ IsFound s d = IsFoundBy s.finder s.text.now d
 abbrev pub AllFound : Source → List Description → Type 0
 AllFound s ds = All (IsFound s) ds
 
--- The descriptions stand in the source.
+-- The descriptions stand in the source, one behind another.
 pub record IsSourceTold (telling : Telling) (s : Source) (r : Report) : Type 0 where
   pub descriptions : List Description
   pub stand : AllFound s descriptions
+  pub in_order : AreInOrder 0 descriptions
   pub told : AreTold telling s descriptions r.ends.items r.message.items

@@ -9,5 +9,5 @@ mod told;
 
 pub use language::{is_passed_over, language_of};
 pub use position::{Position, position_of};
-pub use source::{Report, lint_source, tell_all};
+pub use source::{Report, descriptions_in, lint_source, tell_all};
 pub use told::{End, Finder, Source, Telling, Told, tell};

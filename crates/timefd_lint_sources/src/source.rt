@@ -2,6 +2,7 @@
 
 ghost use Rattle.std.specs.Prelude.{IfOk, OnOk};
 ghost use Rattle.timefd_lint_sources.specs.Told.{AddsTold, AllFound, AreTold, IsSourceTold};
+ghost use Rattle.timefd_sources.specs.Found.{AreInOrder};
 
 use crate::told::{End, Finder, Source, Telling, Told, tell};
 use std::alloc::{AllocError, Global};
@@ -26,14 +27,15 @@ pub fn lint_source(
 ) -> Result<Report, AllocError>
     ensures { IfOk result (IsSourceTold telling source.entry) }
 {
-    let descriptions = found(alloc, source)?;
+    let descriptions = descriptions_in(alloc, source)?;
     tell_all(alloc, telling, source, &descriptions)
 }
 
-// The descriptions in a source.
-#[tactic(auto, using(crate::proofs::FinderLemmas::by_rust, crate::proofs::FinderLemmas::by_keys))]
-fn found(alloc: Global, source: Source<'_>) -> Result<Vec<Description>, AllocError>
-    ensures { IfOk result (λ found. AllFound source.entry found.items) }
+/// The descriptions in a source, one behind another. An `Err` says that memory ran out.
+#[tactic(auto, using(crate::proofs::FinderLemmas::by_rust))]
+pub fn descriptions_in(alloc: Global, source: Source<'_>) -> Result<Vec<Description>, AllocError>
+    ensures stand { IfOk result (λ found. AllFound source.entry found.items) }
+    ensures in_order { IfOk result (λ found. AreInOrder 0 found.items) }
 {
     match source.finder {
         Finder::Rust => Ok(descriptions_of(alloc, source.text)?),

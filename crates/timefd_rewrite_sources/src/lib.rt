@@ -11,6 +11,7 @@ mod source;
 #[cfg(test)]
 mod tests;
 
+pub use answer::{Anew, Answer, answer_to};
 pub use change::{Change, layout_of, new_digit};
 pub use counts::{count_refused, count_rewritten};
 pub use outcome::Outcome;

@@ -1,6 +1,7 @@
 -- One description more.
 use Rattle.std.proofs.Common.{ℕ, ◌≡◌, ◌≤◌, List, [], ◌∷◌, ◌++◌, nat_le, inl, inr, refl, sym, ap, subst, ◌∙◌, append-nil, arith}
 use Rattle.std.specs.Prelude.{Option, None, Some, MatchOption, ⊤}
+use Rattle.std.specs.List.{All}
 use Rattle.std.proofs.lemmas.Bool.{cases_Bool}
 use Rattle.std.proofs.lemmas.Bool.Decides.{nat_tests}
 use Rattle.std.proofs.lemmas.List.Elements.{All-nil, All-push}
@@ -10,14 +11,6 @@ use Rattle.timefd_sources.specs.Found.{AllStandIn, AreInOrder, StandsIn, begin_o
 
 pub at_first : (source : Text) → AllStandIn source []
 at_first source = All-nil (StandsIn source)
-
-one_stands : (source : Text) (ds more : List Description) (found : Option Description)
-    → AllStandIn source ds → MatchOption found ⊤ (StandsIn source) → more ≡ ds ++ listed found
-    → AllStandIn source more
-one_stands source ds more None so_far stands pushed =
-    subst (AllStandIn source) (sym (pushed ∙ append-nil ds)) so_far
-one_stands source ds more (Some d) so_far stands pushed =
-    subst (AllStandIn source) (sym pushed) (All-push (StandsIn source) ds d so_far stands)
 
 -- where these end, from a place on
 abbrev pub end_of : ℕ → List Description → ℕ
@@ -33,20 +26,30 @@ last_end : (from : ℕ) (ds : List Description) (d : Description) → end_of fro
 last_end from [] d = refl
 last_end from (c ∷ ds) d = last_end c.piece.end ds d
 
--- They stand in the source in turn, up to a place.
-pub record AreUpTo (source : Text) (ds : List Description) (end : ℕ) : Type 0 where
-  pub stand : AllStandIn source ds
+-- Something holds of each, and they stand in turn, up to a place.
+pub record AreUpTo (Holds : Description → Type 0) (ds : List Description) (end : ℕ) : Type 0 where
+  pub each : All Holds ds
   pub in_order : AreInOrder 0 ds
   pub up_to : end ≡ end_of 0 ds
 
-pub none_yet : (source : Text) → AreUpTo source [] 0
-none_yet source = record { stand = at_first source; in_order = tt; up_to = refl }
+pub none_yet : (Holds : Description → Type 0) → AreUpTo Holds [] 0
+none_yet Holds = record { each = All-nil Holds; in_order = tt; up_to = refl }
 
-below : (source : Text) (end : ℕ) (found : Option Description) → MatchOption found ⊤ (StandsIn source)
-    → MatchOption (begun_behind end found) ⊤ (StandsIn source)
-below source end None stands = tt
-below source end (Some d) stands = elim (cases_Bool (nat_le end (begin_of d))) [
-  | inl pass ↦ rw pass stands
+pub no_piece_yet : (source : Text) → AreUpTo (StandsIn source) [] 0
+no_piece_yet source = none_yet (StandsIn source)
+
+each_more : (Holds : Description → Type 0) (ds more : List Description) (found : Option Description)
+    → All Holds ds → MatchOption found ⊤ Holds → more ≡ ds ++ listed found → All Holds more
+each_more Holds ds more None so_far holds pushed =
+    subst (All Holds) (sym (pushed ∙ append-nil ds)) so_far
+each_more Holds ds more (Some d) so_far holds pushed =
+    subst (All Holds) (sym pushed) (All-push Holds ds d so_far holds)
+
+below : (Holds : Description → Type 0) (end : ℕ) (found : Option Description) → MatchOption found ⊤ Holds
+    → MatchOption (begun_behind end found) ⊤ Holds
+below Holds end None holds = tt
+below Holds end (Some d) holds = elim (cases_Bool (nat_le end (begin_of d))) [
+  | inl pass ↦ rw pass holds
   | inr fail ↦ rw fail tt
 ]
 
@@ -63,13 +66,13 @@ in_turn ds end (Some d) so_far up_to = elim (cases_Bool (nat_le end (begin_of d)
       (subst (AreInOrder 0) (sym (append-nil ds)) so_far, up_to ∙ ap (end_of 0) (sym (append-nil ds)))
 ]
 
-pub any_more : (source : Text) (ds more : List Description) (found : Option Description) (end next : ℕ)
-    → AreUpTo source ds end → MatchOption found ⊤ (StandsIn source)
+pub any_more : (Holds : Description → Type 0) (ds more : List Description) (found : Option Description)
+    (end next : ℕ) → AreUpTo Holds ds end → MatchOption found ⊤ Holds
     → more ≡ ds ++ listed (begun_behind end found) → next ≡ end_behind end (begun_behind end found)
-    → AreUpTo source more next
-any_more source ds more found end next so_far stands pushed ends =
+    → AreUpTo Holds more next
+any_more Holds ds more found end next so_far holds pushed ends =
     let turn = in_turn ds end found so_far.in_order so_far.up_to in record {
-      stand = one_stands source ds more (begun_behind end found) so_far.stand (below source end found stands) pushed;
+      each = each_more Holds ds more (begun_behind end found) so_far.each (below Holds end found holds) pushed;
       in_order = subst (AreInOrder 0) (sym pushed) turn.0;
       up_to = ends ∙ turn.1 ∙ ap (end_of 0) (sym pushed);
     }

@@ -145,7 +145,7 @@ fn found(
 
 /// Adds a description that begins behind the others, which end at a place, and answers where all end
 /// then. All that are found do: this is their test.
-fn push_any(
+pub fn push_any(
     descriptions: &mut Vec<Description>,
     found: Option<Description>,
     end: usize,
@@ -169,7 +169,7 @@ fn push_any(
 
 /// The descriptions in a source: arguments of the calls that are known, and literals for which a comment
 /// names a language, one behind another.
-#[tactic(auto, using(crate::proofs::FoundLemmas::at_first, crate::proofs::FoundLemmas::none_yet))]
+#[tactic(auto, using(crate::proofs::FoundLemmas::at_first, crate::proofs::FoundLemmas::no_piece_yet))]
 pub fn descriptions_of(alloc: Global, source: &str) -> Result<Vec<Description>, AllocError>
     ensures stand { IfOk result (λ found. AllStandIn source.now found.items) }
     ensures in_order { IfOk result (λ found. AreInOrder 0 found.items) }

@@ -25,10 +25,10 @@ use clock::moment_now;
 use end::RunEnd;
 use outcome::RunError;
 use run::run;
-use std::alloc::{AllocError, Global};
-use std::env;
-use std::io::{BufReader, BufWriter, ErrorKind, IsTerminal, Write};
+use std::alloc::AllocError;
+use std::io::{BufReader, BufWriter, IsTerminal, Write};
 use std::process::ExitCode;
+use timefd_command::{WordsError, all_words, lent, shows_colors};
 
 // The statuses of runs that did not come to their end.
 const WRONG_ARGUMENTS: u8 = 2;
@@ -61,33 +61,9 @@ fn wrong_arguments(rt: &HostRuntime, error: OptionError<'_>) -> u8 {
     }
 }
 
-// The words, each lent.
-fn lent<'a>(alloc: Global, words: &'a [String]) -> Result<Vec<&'a str>, AllocError> {
-    let mut all = Vec::new(alloc);
-    for word in words {
-        all.push(word.as_str())?;
-    }
-    Ok(all)
-}
-
-fn is_set(rt: &HostRuntime, name: &str) -> bool {
-    match env::var(rt, name) {
-        Ok(value) => !value.is_empty(),
-        Err(env::VarError::NotPresent) => false,
-        Err(_) => true,
-    }
-}
-
-fn is_dumb(rt: &HostRuntime) -> bool {
-    match env::var(rt, "TERM") {
-        Ok(value) => value.as_str() == "dumb",
-        Err(_) => false,
-    }
-}
-
 // Whether a fault is drawn in colours.
 fn is_colored(rt: &HostRuntime) -> bool {
-    rt.stderr().is_terminal() && !is_set(rt, "NO_COLOR") && !is_dumb(rt)
+    rt.stderr().is_terminal() && shows_colors(rt)
 }
 
 // Writes a text to the standard output, and answers the status.
@@ -165,20 +141,11 @@ fn args_status(rt: &HostRuntime, args: &[String]) -> u8 {
     }
 }
 
-fn collected(rt: &HostRuntime, args: env::Args) -> Option<Vec<String>> {
-    args.collect(rt.alloc()).ok()
-}
-
 fn main(rt: HostRuntime) -> ExitCode {
-    let args = match env::args(&rt) {
-        Ok(args) => collected(&rt, args),
-        Err(error) if error.kind() == ErrorKind::OutOfMemory => None,
-        Err(_) => {
-            return ExitCode::from(told(&rt, WRONG_ARGUMENTS, "an argument is no UTF-8"));
-        }
+    let status = match all_words(&rt) {
+        Ok(words) => args_status(&rt, &words),
+        Err(WordsError::NotText) => told(&rt, WRONG_ARGUMENTS, "an argument is no UTF-8"),
+        Err(WordsError::Memory) => no_memory(&rt),
     };
-    match args {
-        Some(args) => ExitCode::from(args_status(&rt, &args)),
-        None => ExitCode::from(no_memory(&rt)),
-    }
+    ExitCode::from(status)
 }

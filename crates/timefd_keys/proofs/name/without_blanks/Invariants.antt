@@ -1,5 +1,10 @@
-use Rattle.std.proofs.Common.{length}
+use Rattle.std.proofs.Common.{◌≡◌, length}
+use Rattle.timefd_keys.specs.Names.{without_blanks}
 use Rattle.timefd_keys.proofs.name.without_blanks.Given as goal
+
+-- What is left decides.
+abbrev pub invariant-bytes : goal.invariant-bytes
+invariant-bytes l = without_blanks l.rest ≡ without_blanks l.fn.text
 
 abbrev pub decreases-bytes : goal.decreases-bytes
 decreases-bytes l = length l.rest

@@ -1,0 +1,138 @@
+-- What is offered of one description.
+use Rattle.std.proofs.Common.{ℕ, ◌≡◌, Bool, true, false, Option, None, Some, List, [], ◌∷◌, ◌++◌, inl, inr, refl, sym, subst, ap, ◌∙◌}
+use Rattle.std.proofs.lemmas.List.{append-nil}
+use Rattle.std.specs.Prelude.{IfOk, IsUtf8, Result, Ok, Err, string_bytes}
+use Rattle.std.specs.declared.alloc.Global.{Global}
+use Rattle.std.specs.declared.vec.Vec.{Vec}
+use Rattle.timefd_component.specs.Tree.{Text}
+use Rattle.timefd_editor.proofs.EachLemmas.{both_added, none_added}
+use Rattle.timefd_editor.specs.declared.action.Action.{Action}
+use Rattle.timefd_editor.specs.declared.action.Edit.{Edit}
+use Rattle.timefd_editor.specs.Actions.{AreActionsBy, AreActionsIn, AreActionsOf, AreMends, AreOffers, AreOffersIf, IsBecoming, IsOffer, IsOfferOf, IsOneAction, IsWritable, kind_of, overlaps, title_of}
+use Rattle.timefd_editor.specs.Each.{Adds, AreOf}
+use Rattle.timefd_editor.specs.Edits.{AreEdits}
+use Rattle.timefd_fix.specs.declared.fixes.Fixes.TheVariants as fixes
+use Rattle.timefd_language.specs.declared.description_version.DescriptionVersion.TheVariants as versions
+use Rattle.timefd_lint_sources.specs.declared.told.Finder.TheVariants.{Rust, Keys}
+use Rattle.timefd_lint_sources.specs.declared.told.Source.{Source}
+use Rattle.timefd_keys.specs.declared.format.Format.{Format}
+use Rattle.timefd_keys.specs.declared.key.Key.{Key}
+use denote.Ref.{Bor}
+use Rattle.timefd_rewrite_sources.specs.declared.answer.Anew.{Anew}
+use Rattle.timefd_rewrite_sources.specs.declared.answer.Answer.{Answer}
+use Rattle.timefd_rewrite_sources.specs.declared.answer.Answer.TheVariants.{Stays, Becomes}
+use Rattle.timefd_rewrite_sources.specs.declared.change.Change.{Change}
+use Rattle.timefd_rewrite_sources.specs.declared.change.Change.TheVariants.{Mended, Least}
+use Rattle.timefd_rewrite_sources.specs.declared.outcome.Outcome.{Outcome}
+use Rattle.timefd_rewrite_sources.specs.Written.{IsAnswer, items_of}
+use Rattle.timefd_sources.specs.declared.description.Description.{Description}
+use Rattle.timefd_sources.specs.Found.{AllStandIn}
+
+pub same_text : (change : Change) (text : Text) (d : Description) (anew : Anew) (before after : List Action)
+    → anew.body ≡ None → Adds (IsOneAction change text d anew.digit None) before after
+    → Adds (IsBecoming change text d anew true) before after
+same_text change text d anew before after is added =
+    subst (λ b. Adds (IsOneAction change text d anew.digit (items_of b)) before after) (sym is) added
+
+pub other_text : (change : Change) (text : Text) (d : Description) (anew : Anew) (body : Vec ℕ Global)
+    (new : Text) (before after : List Action) → anew.body ≡ Some body → new ≡ body.items
+    → Adds (IsOneAction change text d anew.digit (Some new)) before after
+    → Adds (IsBecoming change text d anew true) before after
+other_text change text d anew body new before after is same added =
+    subst (λ b. Adds (IsOneAction change text d anew.digit (items_of b)) before after) (sym is)
+    (subst (λ t. Adds (IsOneAction change text d anew.digit (Some t)) before after) same added)
+
+pub no_text : (change : Change) (text : Text) (d : Description) (anew : Anew) (body : Vec ℕ Global)
+    (before : List Action) → anew.body ≡ Some body → ¬ IsUtf8 body.items
+    → Adds (IsBecoming change text d anew false) before before
+no_text change text d anew body before is not =
+    none_added (IsBecoming change text d anew false) before
+    ((λ utf8. not (subst (λ b. IsWritable (items_of b)) is utf8)), refl)
+
+pub stays : (change : Change) (text : Text) (d : Description) (outcome : Outcome) (before : List Action)
+    → IsAnswer change text d (Stays outcome) → Adds (IsOffer change text d false) before before
+stays change text d outcome before is =
+    none_added (IsOffer change text d false) before (record { answer = Stays outcome; is = is; offered = refl })
+
+pub becomes : {E : Type 0} (change : Change) (text : Text) (d : Description) (anew : Anew)
+    (before after : List Action) (done : Result Bool E) → IsAnswer change text d (Becomes anew)
+    → IfOk done (λ b. Adds (IsBecoming change text d anew b) before after)
+    → IfOk done (λ b. Adds (IsOffer change text d b) before after)
+becomes change text d anew before after (Ok b) is (more, offered, added) =
+    (more, record { answer = Becomes anew; is = is; offered = offered }, added)
+becomes change text d anew before after (Err e) is added = tt
+
+pub surely : (text : Text) (d : Description) (before after : List Action) (done : Bool) → done ≡ true
+    → Adds (IsOffer (Mended fixes.Sure) text d done) before after → Adds (AreMends text d) before after
+surely text d before after done is (more, offered, whole) =
+    (more, inl (subst (λ b. IsOffer (Mended fixes.Sure) text d b more) is offered), whole)
+
+none_offered : (change : Change) (text : Text) (d : Description) (answer : Answer) (actions : List Action)
+    → IsOfferOf change text d answer false actions → actions ≡ []
+none_offered change text d (Stays outcome) actions none = none
+none_offered change text d (Becomes anew) actions none = none.1
+
+pub by_guesses : (text : Text) (d : Description) (before middle after : List Action) (first second : Bool)
+    → first ≡ false → Adds (IsOffer (Mended fixes.Sure) text d first) before middle
+    → Adds (IsOffer (Mended fixes.All) text d second) middle after → Adds (AreMends text d) before after
+by_guesses text d before middle after first second is (none, sure, a) (more, guess, b) =
+    let sure' : IsOffer (Mended fixes.Sure) text d false none =
+    subst (λ x. IsOffer (Mended fixes.Sure) text d x none) is sure in
+    let empty : none ≡ [] = none_offered (Mended fixes.Sure) text d sure'.answer none sure'.offered in (
+      more,
+      inr (second, subst (λ l. IsOffer (Mended fixes.Sure) text d false l) empty sure', guess),
+      b ∙ ap (λ l. l ++ more) (a ∙ ap (λ l. before ++ l) empty ∙ append-nil before),
+    )
+
+pub mends_and_rewrites : (text : Text) (d : Description) (before middle after : List Action) (done : Bool)
+    → Adds (AreMends text d) before middle
+    → Adds (IsOffer (Least versions.Three) text d done) middle after → Adds (AreOffers text d) before after
+mends_and_rewrites text d before middle after done first second =
+    both_added (AreMends text d) (IsOffer (Least versions.Three) text d done) (AreOffers text d)
+    before middle after (λ one rest is are. (one, rest, is, (done, are), refl)) first second
+
+pub apart : (text : Text) (d : Description) (from to : ℕ) (before : List Action)
+    → overlaps d.piece from to ≡ false → Adds (AreActionsIn text from to d) before before
+apart text d from to before is =
+    subst (λ b. Adds (AreOffersIf b text d) before before) (sym is)
+    (none_added (AreOffersIf false text d) before refl)
+
+pub within : (text : Text) (d : Description) (from to : ℕ) (before after : List Action)
+    → overlaps d.piece from to ≡ true → Adds (AreOffers text d) before after
+    → Adds (AreActionsIn text from to d) before after
+within text d from to before after is added =
+    subst (λ b. Adds (AreOffersIf b text d) before after) (sym is) added
+
+pub by_rust : (s : Source) (from to : ℕ) (ds : List Description) (actions : List Action) → s.finder ≡ Rust
+    → AllStandIn s.text.now ds → Adds (AreOf (AreActionsIn s.text.now from to) ds) [] actions
+    → AreActionsOf from to s actions
+by_rust s from to ds actions is stand (more, offered, whole) =
+    subst (λ f. AreActionsBy f from to s.text.now actions) (sym is) (record {
+      descriptions = ds;
+      stand = stand;
+      offered = subst (λ a. AreOf (AreActionsIn s.text.now from to) ds a) (sym whole) offered;
+    })
+
+pub by_keys : (s : Source) (from to : ℕ) (format : Format) (keys : Bor (List Key)) (actions : List Action)
+    → s.finder ≡ Keys format keys → actions ≡ [] → AreActionsOf from to s actions
+by_keys s from to format keys actions is none =
+    subst (λ f. AreActionsBy f from to s.text.now actions) (sym is) none
+
+pub pushed : (change : Change) (text : Text) (d : Description) (digit : Option ℕ) (body : Option Text)
+    (a : Action) (empty : List Edit) (before after : List Action) → empty ≡ []
+    → string_bytes a.title ≡ title_of change → a.kind ≡ kind_of change
+    → Adds (AreEdits text d digit body) empty a.edits.items → after ≡ before ++ (a ∷ [])
+    → Adds (IsOneAction change text d digit body) before after
+pushed change text d digit body a empty before after none title kind (more, are, whole) added = (
+  a ∷ [],
+  (
+    a,
+    record {
+      title = title;
+      kind = kind;
+      edits = subst (λ e. AreEdits text d digit body e) (sym (whole ∙ ap (λ e. e ++ more) none)) are;
+    },
+    refl,
+  ),
+  added,
+)

@@ -1,0 +1,8 @@
+pub mod WalkLemmas
+pub mod PlaceLemmas
+pub mod EachLemmas
+pub mod WarningLemmas
+pub mod FindingLemmas
+pub mod EditLemmas
+pub mod ActionLemmas
+pub mod HoverLemmas

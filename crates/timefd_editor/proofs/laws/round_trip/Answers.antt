@@ -1,0 +1,5 @@
+use Rattle.timefd_editor.proofs.PlaceLemmas.{round_trip}
+use Rattle.timefd_editor.proofs.laws.round_trip.Goals as goal
+
+pub returns : goal.returns
+returns c = round_trip

@@ -1,0 +1,109 @@
+-- What can be done to the descriptions of a source.
+use Rattle.std.specs.Prelude.{ℕ, ◌≡◌, ◌&&◌, ◌⊎◌, Bool, true, false, nat_le, List, [], ◌∷◌, ◌++◌, codes, Option, None, Some, IsUtf8, string_bytes, ⊤}
+use Rattle.timefd_component.specs.Tree.{Text}
+use Rattle.timefd_editor.specs.declared.action.Action.{Action}
+use Rattle.timefd_editor.specs.declared.action.ActionKind.{ActionKind}
+use Rattle.timefd_editor.specs.declared.action.ActionKind.TheVariants.{QuickFix, Rewrite}
+use Rattle.timefd_editor.specs.Each.{AreOf}
+use Rattle.timefd_editor.specs.Edits.{AreEdits}
+use Rattle.timefd_fix.specs.declared.fixes.Fixes.TheVariants as fixes
+use Rattle.timefd_language.specs.declared.description_version.DescriptionVersion.TheVariants as versions
+use Rattle.timefd_lint_sources.specs.declared.told.Finder.{Finder}
+use Rattle.timefd_lint_sources.specs.declared.told.Finder.TheVariants.{Rust, Keys}
+use Rattle.timefd_lint_sources.specs.declared.told.Source.{Source}
+use Rattle.timefd_rewrite_sources.specs.declared.answer.Anew.{Anew}
+use Rattle.timefd_rewrite_sources.specs.declared.answer.Answer.{Answer}
+use Rattle.timefd_rewrite_sources.specs.declared.answer.Answer.TheVariants.{Stays, Becomes}
+use Rattle.timefd_rewrite_sources.specs.declared.change.Change.{Change}
+use Rattle.timefd_rewrite_sources.specs.declared.change.Change.TheVariants.{Mended, Least, Normal}
+use Rattle.timefd_rewrite_sources.specs.Written.{IsAnswer, items_of}
+use Rattle.timefd_sources.specs.declared.description.Description.{Description}
+use Rattle.timefd_sources.specs.declared.piece.Piece.{Piece}
+use Rattle.timefd_sources.specs.Found.{AllStandIn}
+
+abbrev pub kind_of : Change → ActionKind
+kind_of (Mended fixes) = QuickFix
+kind_of (Least version) = Rewrite
+kind_of Normal = Rewrite
+
+abbrev pub title_of : Change → Text
+title_of (Mended fixes.Sure) = codes "Mend the format description"
+title_of (Mended fixes.All) = codes "Mend the format description by a guess"
+title_of (Least version) = codes "Rewrite the format description in version 3"
+title_of Normal = codes "Rewrite the format description in version 3"
+
+-- A change is offered under its title, by these edits.
+pub record IsAction (change : Change) (text : Text) (d : Description) (digit : Option ℕ) (body : Option Text)
+    (a : Action) : Type 0 where
+  pub title : string_bytes a.title ≡ title_of change
+  pub kind : a.kind ≡ kind_of change
+  pub edits : AreEdits text d digit body a.edits.items
+
+abbrev pub IsOneAction : Change → Text → Description → Option ℕ → Option Text → List Action → Type 0
+IsOneAction change text d digit body actions =
+    (a : Action) × IsAction change text d digit body a × (actions ≡ a ∷ [])
+
+-- An inside that an editor can write is a text.
+abbrev pub IsWritable : Option Text → Type 0
+IsWritable None = ⊤
+IsWritable (Some body) = IsUtf8 body
+
+-- What a description becomes is offered where it can be written, and nothing where it stays.
+abbrev pub IsBecoming : Change → Text → Description → Anew → Bool → List Action → Type 0
+IsBecoming change text d anew true actions =
+    IsOneAction change text d anew.digit (items_of anew.body) actions
+IsBecoming change text d anew false actions = (¬ IsWritable (items_of anew.body)) × (actions ≡ [])
+
+abbrev pub IsStaying : Bool → List Action → Type 0
+IsStaying true actions = ⊥
+IsStaying false actions = actions ≡ []
+
+abbrev pub IsOfferOf : Change → Text → Description → Answer → Bool → List Action → Type 0
+IsOfferOf change text d (Stays outcome) done actions = IsStaying done actions
+IsOfferOf change text d (Becomes anew) done actions = IsBecoming change text d anew done actions
+
+-- What the linter would make of the description by this change, and whether that is offered.
+pub record IsOffer (change : Change) (text : Text) (d : Description) (done : Bool) (actions : List Action)
+    : Type 0 where
+  pub answer : Answer
+  pub is : IsAnswer change text d answer
+  pub offered : IsOfferOf change text d answer done actions
+
+-- A description is mended by what is sure, or else by guesses.
+abbrev pub AreMends : Text → Description → List Action → Type 0
+AreMends text d actions = IsOffer (Mended fixes.Sure) text d true actions
+    ⊎ ((done : Bool) × IsOffer (Mended fixes.Sure) text d false []
+    × IsOffer (Mended fixes.All) text d done actions)
+
+-- and rewritten in version 3
+abbrev pub AreRewrites : Text → Description → List Action → Type 0
+AreRewrites text d actions = (done : Bool) × IsOffer (Least versions.Three) text d done actions
+
+abbrev pub AreOffers : Text → Description → List Action → Type 0
+AreOffers text d actions = (mends : List Action) × (rewrites : List Action)
+    × AreMends text d mends × AreRewrites text d rewrites × (actions ≡ mends ++ rewrites)
+
+-- whether a literal has a place in common with these bytes, also where it only touches them
+abbrev pub overlaps : Piece → ℕ → ℕ → Bool
+overlaps p from to = nat_le p.start to && nat_le from p.end
+
+abbrev pub AreOffersIf : Bool → Text → Description → List Action → Type 0
+AreOffersIf true text d actions = AreOffers text d actions
+AreOffersIf false text d actions = actions ≡ []
+
+abbrev pub AreActionsIn : Text → ℕ → ℕ → Description → List Action → Type 0
+AreActionsIn text from to d actions = AreOffersIf (overlaps d.piece from to) text d actions
+
+-- All that can be done to the descriptions in a source of Rust that overlap these bytes, each in turn.
+pub record AreRustActions (from to : ℕ) (text : Text) (actions : List Action) : Type 0 where
+  pub descriptions : List Description
+  pub stand : AllStandIn text descriptions
+  pub offered : AreOf (AreActionsIn text from to) descriptions actions
+
+abbrev pub AreActionsBy : Finder → ℕ → ℕ → Text → List Action → Type 0
+AreActionsBy Rust from to text actions = AreRustActions from to text actions
+AreActionsBy (Keys format names) from to text actions = actions ≡ []
+
+-- In a file with keys nothing is offered.
+abbrev pub AreActionsOf : ℕ → ℕ → Source → List Action → Type 0
+AreActionsOf from to s actions = AreActionsBy s.finder from to s.text.now actions

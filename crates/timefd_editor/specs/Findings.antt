@@ -1,0 +1,50 @@
+-- All that is wrong in a document.
+use Rattle.std.specs.Prelude.{◌≡◌, Bool, true, false, List, [], ◌++◌, Option}
+use Rattle.timefd_component.specs.Tree.{Text}
+use Rattle.timefd_diagnosis.specs.declared.diagnostic.Diagnostic.{Diagnostic}
+use Rattle.timefd_diagnosis.specs.Codes.{code_of, name_of}
+use Rattle.timefd_diagnosis.specs.Further.{AreDiagnosed}
+use Rattle.timefd_drawing.specs.Sentence.{told_sentence}
+use Rattle.timefd_editor.specs.declared.finding.Finding.{Finding}
+use Rattle.timefd_editor.specs.declared.finding.Severity.TheVariants.{Error}
+use Rattle.timefd_editor.specs.Each.{AreOf}
+use Rattle.timefd_editor.specs.Finding.{AreWarnings, IsNote, IsOne}
+use Rattle.timefd_fault.specs.Faults.{fault_of}
+use Rattle.timefd_lint_sources.specs.declared.told.End.{End}
+use Rattle.timefd_lint_sources.specs.declared.told.End.TheVariants.{PassedOver, Accepted, Refused, NotText}
+use Rattle.timefd_lint_sources.specs.declared.told.Source.{Source}
+use Rattle.timefd_lint_sources.specs.Judged.{IsEndOf, language_in, text_of}
+use Rattle.timefd_lint_sources.specs.Told.{AllFound}
+use Rattle.timefd_sources.specs.declared.description.Description.{Description}
+use Rattle.timefd_sources.specs.Found.{place_of}
+use Rattle.timefd_warnings.specs.declared.levels.Levels.{Levels}
+
+-- A fault stands at its bytes, with the sentence that the linter tells.
+abbrev pub IsFault : Text → Description → Bool → Diagnostic → List Finding → Type 0
+IsFault text d further g found =
+    IsOne text (place_of d g.span.start) (place_of d g.span.end) Error
+    (name_of (code_of (fault_of g.fault).kind)) (told_sentence further (fault_of g.fault)) found
+
+-- the first fault, and behind it the further ones
+abbrev pub AreFaults : Text → Description → Diagnostic → List Diagnostic → List Finding → Type 0
+AreFaults text d g further found = (one : List Finding) × (rest : List Finding)
+    × IsFault text d false g one × AreOf (IsFault text d true) further rest × (found ≡ one ++ rest)
+
+-- What is wrong with a description, by what came of it.
+abbrev pub AreBy : Text → Description → End → List Finding → Type 0
+AreBy text d PassedOver found = found ≡ []
+AreBy text d (Accepted warned) found = AreWarnings text d warned found
+AreBy text d Refused found = (g : Diagnostic) × (further : List Diagnostic)
+    × AreDiagnosed (language_in d) (text_of d) g further × AreFaults text d g further found
+AreBy text d NotText found = IsNote text d found
+
+pub record AreOn (levels : Option Levels) (text : Text) (d : Description) (found : List Finding) : Type 0 where
+  pub end : End
+  pub is : IsEndOf levels d end
+  pub told : AreBy text d end found
+
+-- All that is wrong with the descriptions in a source, each in turn.
+pub record AreFindingsOf (levels : Option Levels) (s : Source) (found : List Finding) : Type 0 where
+  pub descriptions : List Description
+  pub stand : AllFound s descriptions
+  pub told : AreOf (AreOn levels s.text.now) descriptions found

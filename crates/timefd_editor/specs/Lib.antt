@@ -1,0 +1,7 @@
+pub mod Actions
+pub mod Each
+pub mod Edits
+pub mod Finding
+pub mod Findings
+pub mod Hovers
+pub mod Positions

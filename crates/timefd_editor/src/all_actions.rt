@@ -1,0 +1,210 @@
+//! What can be done to the descriptions of a source.
+
+ghost use Rattle.std.specs.Prelude.{◌≡◌, IfOk, OnOk, option_map};
+ghost use Rattle.timefd_editor.specs.Actions.{AreActionsIn, AreActionsOf, AreMends, AreOffers, IsBecoming, IsOffer, IsOneAction};
+ghost use Rattle.timefd_editor.specs.Actions as spec;
+ghost use Rattle.timefd_editor.specs.Each.{Adds, AreOf};
+ghost use Rattle.timefd_editor.specs.Positions.{IsCounted};
+
+use crate::action::{Action, ActionKind, push_edits};
+use crate::counter::{Counter, counted, none_counted};
+use crate::finding::Spot;
+use std::alloc::{AllocError, Global};
+use std::str;
+use timefd_fix::Fixes;
+use timefd_lint_sources::{Finder, Source};
+use timefd_parse::DescriptionVersion;
+use timefd_rewrite_sources::{Anew, Answer, Change, answer_to};
+use timefd_sources::version::first_place;
+use timefd_sources::{Description, Piece, descriptions_of};
+
+/// What can be done to the descriptions that overlap or touch the bytes from `start` up to `end`: each
+/// that is at fault is mended, by what is sure or else by guesses, and each of an older version is
+/// rewritten in version 3. In files with keys nothing is offered. An `Err` says that memory ran out.
+#[tactic(auto, using(crate::proofs::ActionLemmas::by_rust, crate::proofs::ActionLemmas::by_keys))]
+pub fn actions(
+    alloc: Global,
+    source: Source<'_>,
+    start: usize,
+    end: usize,
+) -> Result<Vec<Action>, AllocError>
+    ensures { IfOk result (λ actions. AreActionsOf start end source.entry actions.items) }
+{
+    let mut actions = Vec::new(alloc);
+    match source.finder {
+        Finder::Keys(_, _) => Ok(actions),
+        Finder::Rust => {
+            let descriptions = descriptions_of(alloc, source.text)?;
+            push_all(alloc, source.text, &descriptions, start, end, &mut actions)?;
+            Ok(actions)
+        }
+    }
+}
+
+// Adds what can be done to those of these descriptions that overlap some bytes.
+#[tactic(auto, using(crate::proofs::EachLemmas::at_first, crate::proofs::EachLemmas::at_last))]
+fn push_all(
+    alloc: Global,
+    text: &str,
+    descriptions: &[Description],
+    start: usize,
+    end: usize,
+    actions: &mut Vec<Action>,
+) -> Result<(), AllocError>
+    ensures { OnOk result (Adds (AreOf (AreActionsIn text.now start end) descriptions.now)
+        actions.old.items actions.new.items) }
+{
+    let mut counter = none_counted(text);
+    for description in descriptions {
+        counter = push_in(alloc, text, description, counter, (start, end), actions)?;
+    }
+    Ok(())
+}
+
+// Adds what can be done to a description, if it overlaps some bytes. It answers up to where the document
+// is counted then.
+#[tactic(auto, using(crate::proofs::ActionLemmas::apart, crate::proofs::ActionLemmas::within))]
+fn push_in(
+    alloc: Global,
+    text: &str,
+    description: &Description,
+    counter: Counter,
+    bytes: (usize, usize),
+    actions: &mut Vec<Action>,
+) -> Result<Counter, AllocError>
+    requires { IsCounted text.now counter }
+    ensures counted { IfOk result (λ next. IsCounted text.now next) }
+    ensures offered { OnOk result (Adds (AreActionsIn text.now bytes.0 bytes.1 description.now)
+        actions.old.items actions.new.items) }
+{
+    if !overlaps(description.piece, bytes.0, bytes.1) {
+        return Ok(counter);
+    }
+    let first = first_place(description.version, description.piece.start);
+    let counter = counted(text, counter, first);
+    let spot = Spot {
+        text,
+        description,
+        counter,
+    };
+    push_offers(alloc, spot, actions)?;
+    Ok(counter)
+}
+
+// Whether a literal has a place in common with some bytes, also where it only touches them.
+fn overlaps(piece: Piece, start: usize, end: usize) -> bool
+    ensures { result ≡ spec.overlaps piece start end }
+{
+    piece.start <= end && start <= piece.end
+}
+
+// Adds what can be done to a description.
+#[tactic(auto, using(crate::proofs::ActionLemmas::mends_and_rewrites))]
+fn push_offers(alloc: Global, spot: Spot<'_>, actions: &mut Vec<Action>) -> Result<(), AllocError>
+    requires { IsCounted spot.text.now spot.counter }
+    ensures { OnOk result (Adds (AreOffers spot.entry.text.now spot.entry.description.now)
+        actions.old.items actions.new.items) }
+{
+    push_mends(alloc, spot, actions)?;
+    let change = Change::Least(DescriptionVersion::Three);
+    push_offer(alloc, spot, change, actions)?;
+    Ok(())
+}
+
+// Adds how a description is mended: by guesses only where it isn't by what is sure.
+#[tactic(auto, using(crate::proofs::ActionLemmas::surely, crate::proofs::ActionLemmas::by_guesses))]
+fn push_mends(alloc: Global, spot: Spot<'_>, actions: &mut Vec<Action>) -> Result<(), AllocError>
+    requires { IsCounted spot.text.now spot.counter }
+    ensures { OnOk result (Adds (AreMends spot.entry.text.now spot.entry.description.now)
+        actions.old.items actions.new.items) }
+{
+    if push_offer(alloc, spot, Change::Mended(Fixes::Sure), actions)? {
+        return Ok(());
+    }
+    push_offer(alloc, spot, Change::Mended(Fixes::All), actions)?;
+    Ok(())
+}
+
+// Adds this change of a description, if it changes; whether it does.
+#[tactic(auto, using(crate::proofs::ActionLemmas::stays, crate::proofs::ActionLemmas::becomes))]
+fn push_offer(
+    alloc: Global,
+    spot: Spot<'_>,
+    change: Change,
+    actions: &mut Vec<Action>,
+) -> Result<bool, AllocError>
+    requires { IsCounted spot.text.now spot.counter }
+    ensures { IfOk result (λ done. Adds (IsOffer change spot.entry.text.now spot.entry.description.now done)
+        actions.old.items actions.new.items) }
+{
+    match answer_to(alloc, change, spot.text, spot.description)? {
+        Answer::Stays(_) => Ok(false),
+        Answer::Becomes(anew) => push_becoming(alloc, spot, change, &anew, actions),
+    }
+}
+
+// Adds what a description becomes, if an editor can write that; whether it can.
+#[tactic(auto, using(crate::proofs::ActionLemmas::same_text, crate::proofs::ActionLemmas::other_text, crate::proofs::ActionLemmas::no_text))]
+fn push_becoming(
+    alloc: Global,
+    spot: Spot<'_>,
+    change: Change,
+    anew: &Anew,
+    actions: &mut Vec<Action>,
+) -> Result<bool, AllocError>
+    requires { IsCounted spot.text.now spot.counter }
+    ensures { IfOk result (λ done. Adds (IsBecoming change spot.entry.text.now spot.entry.description.now anew.now done)
+        actions.old.items actions.new.items) }
+{
+    let Some(body) = &anew.body else {
+        push_action(alloc, spot, change, anew.digit, None, actions)?;
+        return Ok(true);
+    };
+    match str::from_utf8(body) {
+        Ok(text) => {
+            push_action(alloc, spot, change, anew.digit, Some(text), actions)?;
+            Ok(true)
+        }
+        Err(_) => Ok(false),
+    }
+}
+
+fn push_action(
+    alloc: Global,
+    spot: Spot<'_>,
+    change: Change,
+    digit: Option<u8>,
+    body: Option<&str>,
+    actions: &mut Vec<Action>,
+) -> Result<(), AllocError>
+    requires { IsCounted spot.text.now spot.counter }
+    ensures { OnOk result (Adds (IsOneAction change spot.entry.text.now spot.entry.description.now digit
+        (option_map (λ text. text.now) body.entry)) actions.old.items actions.new.items) }
+{
+    let mut edits = Vec::new(alloc);
+    push_edits(alloc, spot, digit, body, &mut edits)?;
+    Ok(actions.push(Action {
+        title: String::from_str(alloc, title_of(change))?,
+        kind: kind_of(change),
+        edits,
+    })?)
+}
+
+fn kind_of(change: Change) -> ActionKind
+    ensures { result ≡ spec.kind_of change }
+{
+    match change {
+        Change::Mended(_) => ActionKind::QuickFix,
+        Change::Least(_) | Change::Normal => ActionKind::Rewrite,
+    }
+}
+
+fn title_of(change: Change) -> &'static str
+    ensures { result.now ≡ spec.title_of change }
+{
+    match change {
+        Change::Mended(Fixes::Sure) => "Mend the format description",
+        Change::Mended(Fixes::All) => "Mend the format description by a guess",
+        Change::Least(_) | Change::Normal => "Rewrite the format description in version 3",
+    }
+}

@@ -1,0 +1,64 @@
+//! The faults of a description.
+
+ghost use Rattle.std.specs.Prelude.{OnOk, false, true};
+ghost use Rattle.timefd_editor.specs.Each.{Adds, AreOf};
+ghost use Rattle.timefd_editor.specs.Findings.{AreFaults, IsFault};
+ghost use Rattle.timefd_editor.specs.Positions.{IsCounted};
+
+use crate::finding::{Finding, Severity, Spot, push};
+use crate::sentence::sentence;
+use std::alloc::{AllocError, Global};
+use timefd_diagnosis::{Diagnostic, code_of};
+use timefd_sources::place_of;
+
+/// Adds the first fault of a description, and its further ones.
+pub fn push_faults(
+    alloc: Global,
+    spot: Spot<'_>,
+    diagnostic: &Diagnostic,
+    further: &[Diagnostic],
+    found: &mut Vec<Finding>,
+) -> Result<(), AllocError>
+    requires { IsCounted spot.text.now spot.counter }
+    ensures { OnOk result (Adds (AreFaults spot.entry.text.now spot.entry.description.now diagnostic.now further.now)
+        found.old.items found.new.items) }
+{
+    push_fault(alloc, spot, false, diagnostic, found)?;
+    push_further(alloc, spot, further, found)
+}
+
+#[tactic(auto, using(crate::proofs::EachLemmas::at_first, crate::proofs::EachLemmas::at_last))]
+fn push_further(
+    alloc: Global,
+    spot: Spot<'_>,
+    further: &[Diagnostic],
+    found: &mut Vec<Finding>,
+) -> Result<(), AllocError>
+    requires { IsCounted spot.text.now spot.counter }
+    ensures { OnOk result (Adds (AreOf (IsFault spot.entry.text.now spot.entry.description.now true) further.now)
+        found.old.items found.new.items) }
+{
+    for diagnostic in further {
+        push_fault(alloc, spot, true, diagnostic, found)?;
+    }
+    Ok(())
+}
+
+// Adds a fault, at its bytes in the document.
+fn push_fault(
+    alloc: Global,
+    spot: Spot<'_>,
+    is_further: bool,
+    diagnostic: &Diagnostic,
+    found: &mut Vec<Finding>,
+) -> Result<(), AllocError>
+    requires { IsCounted spot.text.now spot.counter }
+    ensures { OnOk result (Adds (IsFault spot.entry.text.now spot.entry.description.now is_further diagnostic.now)
+        found.old.items found.new.items) }
+{
+    let message = sentence(alloc, is_further, &diagnostic.fault)?;
+    let start = place_of(spot.description, diagnostic.span.start);
+    let end = place_of(spot.description, diagnostic.span.end);
+    let code = code_of(&diagnostic.fault);
+    push(found, spot, start, end, Severity::Error, code, message)
+}

@@ -1,0 +1,67 @@
+//! What is wrong in a document, and where.
+
+ghost use Rattle.std.specs.Prelude.{OnOk, string_bytes};
+ghost use Rattle.timefd_editor.specs.Each.{Adds};
+ghost use Rattle.timefd_editor.specs.Finding.{IsOne};
+ghost use Rattle.timefd_editor.specs.Positions.{IsCounted};
+
+use crate::counter::{Counter, range_from};
+use crate::position::Range;
+use std::alloc::AllocError;
+use timefd_sources::Description;
+
+/// How bad it is.
+#[derive(Clone, Copy)]
+pub enum Severity {
+    /// A fault, or a warning that is denied.
+    Error,
+    /// Any other warning.
+    Warning,
+}
+
+/// Something that is wrong.
+#[derive(Drop)]
+pub struct Finding {
+    /// Where it stands.
+    pub range: Range,
+    /// How bad it is.
+    pub severity: Severity,
+    /// Its stable name.
+    pub code: &'static str,
+    /// A sentence on it.
+    pub message: String,
+}
+
+/// A description of a document, and up to where the document is counted.
+#[derive(Clone, Copy)]
+pub struct Spot<'a> {
+    /// The document.
+    pub text: &'a str,
+    /// The description, which stands in it.
+    pub description: &'a Description,
+    /// Up to where it is counted.
+    pub counter: Counter,
+}
+
+/// Adds what is wrong with the bytes from an index up to another.
+pub fn push(
+    found: &mut Vec<Finding>,
+    spot: Spot<'_>,
+    start: usize,
+    end: usize,
+    severity: Severity,
+    code: &'static str,
+    message: String,
+) -> Result<(), AllocError>
+    requires { IsCounted spot.text.now spot.counter }
+    ensures { OnOk result (Adds (IsOne spot.entry.text.now start end severity code.now (string_bytes message))
+        found.old.items found.new.items) }
+{
+    let range = range_from(spot.text, spot.counter, start, end);
+    Ok(found.push(Finding {
+        range,
+        severity,
+        code,
+        message,
+    })?)
+}

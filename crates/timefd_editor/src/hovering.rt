@@ -1,0 +1,157 @@
+//! What a part of a description means.
+
+ghost use Rattle.std.specs.Prelude.{◌≡◌, ◌<◌, IfOk, IfSome, length, string_bytes};
+ghost use Rattle.timefd_editor.specs.Hovers.{IsHoverIn, IsHoverOf};
+ghost use Rattle.timefd_editor.specs.Hovers as spec;
+
+use crate::counter::{none_counted, range_from};
+use crate::hovered::Hover;
+use std::alloc::{AllocError, Global};
+use std::str;
+use timefd_diagnosis::diagnose;
+use timefd_drawing::shown::safe;
+use timefd_explain::{Node, explanation_of};
+use timefd_lint_sources::{Source, descriptions_in, is_passed_over, language_of};
+use timefd_parse::Language;
+use timefd_sources::{Description, Piece, place_of};
+
+/// What the part at a byte index means, in a description that its language accepts: the component with its
+/// modifiers, the bytes that it reserves, an example. An `Err` says that memory ran out.
+pub fn hover(alloc: Global, source: Source<'_>, index: usize) -> Result<Option<Hover>, AllocError>
+    ensures { IfOk result (λ found. IfSome found (IsHoverIn source.entry.text.now)) }
+{
+    let descriptions = descriptions_in(alloc, source)?;
+    for description in &descriptions {
+        if is_at(description.piece, index) {
+            return hover_on(alloc, source.text, description, index);
+        }
+    }
+    Ok(None)
+}
+
+// Whether a literal stands at an index.
+fn is_at(piece: Piece, index: usize) -> bool {
+    piece.start <= index && index < piece.end
+}
+
+// What is shown of the part of a description that stands at an index of its document.
+fn hover_on(
+    alloc: Global,
+    text: &str,
+    description: &Description,
+    index: usize,
+) -> Result<Option<Hover>, AllocError>
+    ensures { IfOk result (λ found. IfSome found (IsHoverIn text.now)) }
+{
+    let bytes = description.unescaped.text.as_slice();
+    if is_passed_over(description.dialect, bytes) {
+        return Ok(None);
+    }
+    match str::from_utf8(bytes) {
+        Ok(told) => {
+            let at = index_in(&description.unescaped.places, index);
+            hover_at(alloc, text, description, told, at)
+        }
+        Err(_) => Ok(None),
+    }
+}
+
+// The index of the last byte of a description that stands at a place of its document or in front of that.
+fn index_in(places: &[usize], place: usize) -> usize {
+    let mut at = 0;
+    for (index, other) in places.iter().enumerate() {
+        if *other <= place {
+            at = index;
+        }
+    }
+    at
+}
+
+// What is shown of the part of a description, which is this text, at an index of it.
+fn hover_at(
+    alloc: Global,
+    text: &str,
+    description: &Description,
+    told: &str,
+    at: usize,
+) -> Result<Option<Hover>, AllocError>
+    ensures { IfOk result (λ found. IfSome found (IsHoverIn text.now)) }
+{
+    let language = language_of(description.dialect);
+    match diagnose(alloc, language, told)? {
+        Some(_) => Ok(None),
+        None => shown(alloc, text, description, language, told, at),
+    }
+}
+
+fn shown(
+    alloc: Global,
+    text: &str,
+    description: &Description,
+    language: Language,
+    told: &str,
+    at: usize,
+) -> Result<Option<Hover>, AllocError>
+    ensures { IfOk result (λ found. IfSome found (IsHoverIn text.now)) }
+{
+    let nodes = explanation_of(alloc, language, told)?.nodes;
+    let Some(inner) = innermost(&nodes, at) else {
+        return Ok(None);
+    };
+    let hover = hover_of(alloc, text, description, &nodes[inner])?;
+    Ok(Some(hover))
+}
+
+// The last node that covers an index: each stands in front of those that it holds.
+fn innermost(nodes: &[Node], at: usize) -> Option<usize>
+    ensures { IfSome result (λ index. index < length nodes.now) }
+{
+    let mut left = nodes.len();
+    'nodes: while left > 0 {
+        left -= 1;
+        if covers(&nodes[left], at) {
+            return Some(left);
+        }
+    }
+    None
+}
+
+fn covers(node: &Node, at: usize) -> bool {
+    node.start <= at && at < node.end
+}
+
+// What is shown of a node.
+fn hover_of(
+    alloc: Global,
+    text: &str,
+    description: &Description,
+    node: &Node,
+) -> Result<Hover, AllocError>
+    ensures { IfOk result (IsHoverOf text.now description.now node.now) }
+{
+    let start = place_of(description, node.start);
+    let end = place_of(description, node.end);
+    Ok(Hover {
+        range: range_from(text, none_counted(text), start, end),
+        text: words_on(alloc, node)?,
+    })
+}
+
+fn words_on(alloc: Global, node: &Node) -> Result<String, AllocError>
+    ensures { IfOk result (λ words. string_bytes words ≡ spec.words_on node.now) }
+{
+    let example = example_in(alloc, &node.example)?;
+    let (words, bytes) = (node.words.as_str(), node.bytes);
+    format!(in alloc; "{words}\nat most {bytes} bytes{example}")
+}
+
+// What a part is written as, where that is said.
+fn example_in(alloc: Global, example: &str) -> Result<String, AllocError>
+    ensures { IfOk result (λ words. string_bytes words ≡ spec.example_in example.now) }
+{
+    if example.is_empty() {
+        return Ok(String::new(alloc));
+    }
+    let shown = safe(alloc, example)?;
+    format!(in alloc; ", as `{shown}`")
+}

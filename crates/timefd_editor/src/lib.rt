@@ -1,0 +1,26 @@
+//! What an editor shows of a document: what is wrong with the descriptions in it, and where.
+#![tactic(auto)]
+
+mod action;
+mod all_actions;
+mod all_findings;
+mod counter;
+mod faults;
+mod finding;
+mod hovered;
+mod hovering;
+pub mod laws;
+mod position;
+mod sentence;
+#[cfg(test)]
+mod tests;
+mod walk;
+mod warned;
+
+pub use action::{Action, ActionKind, Edit};
+pub use all_actions::actions;
+pub use all_findings::findings;
+pub use finding::{Finding, Severity};
+pub use hovered::Hover;
+pub use hovering::hover;
+pub use position::{Position, Range, index_of, position_of};

@@ -1,0 +1,12 @@
+pub mod Lengths
+pub mod Heads
+pub mod Contents
+pub mod Frames
+pub mod Envelopes
+pub mod Messages
+pub mod Kinds
+pub mod Documents
+pub mod Replies
+pub mod Servers
+pub mod Texts
+pub mod Sessions

@@ -1,0 +1,153 @@
+-- What a value of JSON is as a message of an editor.
+use Rattle.std.specs.Prelude.{◌≡◌, ℕ, List, Option, Some, None, codes, bytes_eq, option_and_then, string_bytes, if◌then◌else◌, IsUtf8, ◌⊎◌, ⊤}
+use Rattle.serde_json.specs.Data.{Data}
+use Rattle.serde_json.specs.Find.{pointer, as_str, as_number, as_u64}
+use Rattle.serde_json.specs.Read.{read}
+use Rattle.timefd_editor.specs.declared.position.Position.{Position}
+use Rattle.timefd_editor.specs.declared.position.Range.{Range}
+use Rattle.timefd_lsp.specs.Envelopes.{IdValue, seen_id, Shape, envelope_of}
+use Rattle.timefd_lsp.specs.Envelopes as shapes
+use Rattle.timefd_lsp.specs.declared.message.Message.{Message}
+use Rattle.timefd_lsp.specs.declared.message.Message.TheVariants as messages
+use Rattle.timefd_lsp.specs.declared.message.Notification.{Notification}
+use Rattle.timefd_lsp.specs.declared.message.Notification.TheVariants as told
+use Rattle.timefd_lsp.specs.declared.message.Request.{Request}
+use Rattle.timefd_lsp.specs.declared.message.Request.TheVariants as asked
+
+abbrev pub text_by : List ℕ → Data → Option (List ℕ)
+text_by path d = option_and_then as_str (pointer path d)
+
+abbrev pub count_by : List ℕ → Data → Option ℕ
+count_by path d = option_and_then (λ m. option_and_then as_u64 (as_number m)) (pointer path d)
+
+abbrev pub place_from : Option ℕ → Option ℕ → Option Position
+place_from (Some line) (Some character) = Some (record { line = line; character = character })
+place_from (Some line) None = None
+place_from None character = None
+
+abbrev pub place_by : List ℕ → List ℕ → Data → Option Position
+place_by line character d = place_from (count_by line d) (count_by character d)
+
+abbrev pub range_from : Option Position → Option Position → Option Range
+range_from (Some start) (Some end) = Some (record { start = start; end = end })
+range_from (Some start) None = None
+range_from None end = None
+
+abbrev pub range_of : Data → Option Range
+range_of d = range_from
+    (place_by (codes "/params/range/start/line") (codes "/params/range/start/character") d)
+    (place_by (codes "/params/range/end/line") (codes "/params/range/end/character") d)
+
+abbrev pub place_of : Data → Option Position
+place_of d = place_by (codes "/params/position/line") (codes "/params/position/character") d
+
+abbrev pub uri_of : Data → Option (List ℕ)
+uri_of d = text_by (codes "/params/textDocument/uri") d
+
+-- what is asked for, without where its texts lie
+pub data Asked : Type 0 where
+  initialize : Asked
+  hover : List ℕ → Position → Asked
+  actions : List ℕ → Range → Asked
+  shutdown : Asked
+  unknown : Asked
+  wrong_params : Asked
+
+abbrev pub seen_request : Request → Asked
+seen_request asked.Initialize = initialize
+seen_request (asked.Hover uri position) = hover (string_bytes uri) position
+seen_request (asked.Actions uri range) = actions (string_bytes uri) range
+seen_request asked.Shutdown = shutdown
+seen_request asked.Unknown = unknown
+seen_request asked.WrongParams = wrong_params
+
+abbrev pub hover_from : Option (List ℕ) → Option Position → Asked
+hover_from (Some uri) (Some position) = hover uri position
+hover_from (Some uri) None = wrong_params
+hover_from None position = wrong_params
+
+abbrev pub hover_of : Data → Asked
+hover_of d = hover_from (uri_of d) (place_of d)
+
+abbrev pub actions_from : Option (List ℕ) → Option Range → Asked
+actions_from (Some uri) (Some range) = actions uri range
+actions_from (Some uri) None = wrong_params
+actions_from None range = wrong_params
+
+abbrev pub actions_of : Data → Asked
+actions_of d = actions_from (uri_of d) (range_of d)
+
+abbrev pub request_of : List ℕ → Data → Asked
+request_of method d =
+    if bytes_eq method (codes "initialize") then initialize
+    else if bytes_eq method (codes "shutdown") then shutdown
+    else if bytes_eq method (codes "textDocument/hover") then hover_of d
+    else if bytes_eq method (codes "textDocument/codeAction") then actions_of d
+    else unknown
+
+-- what is told, without where its texts lie
+pub data Told : Type 0 where
+  opened : List ℕ → List ℕ → List ℕ → Told
+  changed : List ℕ → List ℕ → Told
+  closed : List ℕ → Told
+  exit : Told
+  other : Told
+
+abbrev pub seen_notification : Notification → Told
+seen_notification (told.Opened uri language text) =
+    opened (string_bytes uri) (string_bytes language) (string_bytes text)
+seen_notification (told.Changed uri text) = changed (string_bytes uri) (string_bytes text)
+seen_notification (told.Closed uri) = closed (string_bytes uri)
+seen_notification told.Exit = exit
+seen_notification told.Other = other
+
+abbrev pub opened_from : Option (List ℕ) → Option (List ℕ) → Option (List ℕ) → Told
+opened_from (Some uri) (Some language) (Some text) = opened uri language text
+opened_from (Some uri) (Some language) None = other
+opened_from (Some uri) None text = other
+opened_from None language text = other
+
+abbrev pub opened_of : Data → Told
+opened_of d = opened_from (uri_of d) (text_by (codes "/params/textDocument/languageId") d)
+    (text_by (codes "/params/textDocument/text") d)
+
+abbrev pub closed_from : Option (List ℕ) → Told
+closed_from (Some uri) = closed uri
+closed_from None = other
+
+abbrev pub closed_of : Data → Told
+closed_of d = closed_from (uri_of d)
+
+-- The change is one of the document of this name; which text it has, is only tested.
+abbrev pub IsChanged : Notification → Option (List ℕ) → Type 0
+IsChanged (told.Opened uri language text) name = ⊥
+IsChanged (told.Changed uri text) name = name ≡ Some (string_bytes uri)
+IsChanged (told.Closed uri) name = ⊥
+IsChanged told.Exit name = ⊥
+IsChanged told.Other name = ⊤
+
+-- The message is what a value of this shape is.
+abbrev pub IsOfShape : Message → Shape → Data → Type 0
+IsOfShape (messages.Request id request) (shapes.request value method) d =
+    (seen_id id ≡ value) × (seen_request request ≡ request_of method d)
+IsOfShape (messages.Notification notification) (shapes.notification method) d = ⊤
+IsOfShape (messages.Notification notification) shapes.response d = seen_notification notification ≡ other
+IsOfShape messages.NotMessage shapes.invalid d = ⊤
+IsOfShape (messages.Request id request) (shapes.notification method) d = ⊥
+IsOfShape (messages.Request id request) shapes.response d = ⊥
+IsOfShape (messages.Request id request) shapes.invalid d = ⊥
+IsOfShape (messages.Notification notification) (shapes.request value method) d = ⊥
+IsOfShape (messages.Notification notification) shapes.invalid d = ⊥
+IsOfShape messages.NotMessage (shapes.request value method) d = ⊥
+IsOfShape messages.NotMessage (shapes.notification method) d = ⊥
+IsOfShape messages.NotMessage shapes.response d = ⊥
+IsOfShape messages.NotJson shape d = ⊥
+
+abbrev pub IsMessage : Message → Data → Type 0
+IsMessage message d = IsOfShape message (envelope_of d) d
+
+-- What is no UTF-8 is no JSON.
+abbrev pub IsMessageOf : Message → List ℕ → Type 0
+IsMessageOf message content =
+    ((message ≡ messages.NotJson) × (IsUtf8 content → read content ≡ None))
+    ⊎ ((d : Data) × (read content ≡ Some d) × IsMessage message d)

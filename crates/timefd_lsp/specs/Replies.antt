@@ -1,0 +1,23 @@
+-- What the server says.
+use Rattle.std.specs.Prelude.{ℤ, negsuc, Option, Some, None}
+use Rattle.timefd_lsp.specs.declared.reply.Answer.{Answer}
+use Rattle.timefd_lsp.specs.declared.reply.Answer.TheVariants as answers
+use Rattle.timefd_lsp.specs.declared.reply.Refusal.{Refusal}
+use Rattle.timefd_lsp.specs.declared.reply.Refusal.TheVariants.{NotJson, InvalidRequest, UnknownMethod, WrongParams, NotInitialized, TooLong}
+
+-- negsuc n is -(n + 1)
+abbrev pub code_of : Refusal → ℤ
+code_of NotJson = negsuc 32699
+code_of InvalidRequest = negsuc 32599
+code_of UnknownMethod = negsuc 32600
+code_of WrongParams = negsuc 32601
+code_of NotInitialized = negsuc 32001
+code_of TooLong = negsuc 32599
+
+-- why a request isn't served, if it isn't
+abbrev pub refusal_of : Answer → Option Refusal
+refusal_of answers.Capabilities = None
+refusal_of answers.Nothing = None
+refusal_of (answers.Hover hover) = None
+refusal_of (answers.Actions uri actions) = None
+refusal_of (answers.Refused refusal) = Some refusal

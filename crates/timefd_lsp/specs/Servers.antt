@@ -1,0 +1,177 @@
+-- The server, one message after another.
+use Rattle.std.specs.Prelude.{◌≡◌, ◌⊎◌, ℕ, List, [], Option, Some, None, String, string_bytes}
+use Rattle.std.specs.BTreeMap.{BTreeMap, get_by_text}
+use Rattle.std.specs.declared.alloc.Global.{Global}
+use Rattle.std.specs.declared.vec.Vec.{Vec}
+use Rattle.timefd_lsp.specs.Kinds.{kind_of}
+use Rattle.timefd_lsp.specs.declared.documents.Document.{Document}
+use Rattle.timefd_lsp.specs.declared.documents.Kind.{Kind}
+use Rattle.timefd_lsp.specs.Replies.{refusal_of}
+use Rattle.timefd_lsp.specs.declared.envelope.Id.{Id}
+use Rattle.timefd_lsp.specs.declared.message.Message.{Message}
+use Rattle.timefd_lsp.specs.declared.message.Message.TheVariants as messages
+use Rattle.timefd_lsp.specs.declared.message.Notification.{Notification}
+use Rattle.timefd_lsp.specs.declared.message.Notification.TheVariants as told
+use Rattle.timefd_lsp.specs.declared.message.Request.{Request}
+use Rattle.timefd_lsp.specs.declared.message.Request.TheVariants as asked
+use Rattle.timefd_lsp.specs.declared.reply.Answer.TheVariants as answers
+use Rattle.timefd_lsp.specs.declared.reply.Refusal.{Refusal}
+use Rattle.timefd_lsp.specs.declared.reply.Refusal.TheVariants as refusals
+use Rattle.timefd_lsp.specs.declared.reply.Reply.TheVariants as replies
+use Rattle.timefd_editor.specs.declared.finding.Finding.{Finding}
+use Rattle.timefd_editor.specs.Findings.{AreFindingsOf}
+use Rattle.timefd_lint_sources.specs.declared.told.Finder.{Finder}
+use Rattle.timefd_lint_sources.specs.declared.told.Finder.TheVariants as finders
+use Rattle.timefd_lint_sources.specs.declared.told.Source.{Source}
+use Rattle.timefd_lsp.specs.declared.documents.Kind.TheVariants as kinds
+use Rattle.timefd_lsp.specs.declared.server.Settings.{Settings}
+use Rattle.timefd_lsp.specs.declared.server.Phase.{Phase}
+use Rattle.timefd_lsp.specs.declared.server.Phase.TheVariants.{New, Running, ShutDown}
+use Rattle.timefd_lsp.specs.declared.server.Step.{Step}
+use Rattle.timefd_lsp.specs.declared.server.Step.TheVariants.{Silent, Say, Exit}
+
+abbrev pub first : Phase
+first = New
+
+-- Nothing but `initialize` is served at first.
+abbrev pub first_refusal : Request → Option Refusal
+first_refusal asked.Initialize = None
+first_refusal (asked.Hover uri position) = Some refusals.NotInitialized
+first_refusal (asked.Actions uri range) = Some refusals.NotInitialized
+first_refusal asked.Shutdown = Some refusals.NotInitialized
+first_refusal asked.Unknown = Some refusals.NotInitialized
+first_refusal asked.WrongParams = Some refusals.NotInitialized
+
+-- Behind it another one is refused.
+abbrev pub running_refusal : Request → Option Refusal
+running_refusal asked.Initialize = Some refusals.InvalidRequest
+running_refusal (asked.Hover uri position) = None
+running_refusal (asked.Actions uri range) = None
+running_refusal asked.Shutdown = None
+running_refusal asked.Unknown = Some refusals.UnknownMethod
+running_refusal asked.WrongParams = Some refusals.WrongParams
+
+-- why a request isn't served, if it isn't
+abbrev pub refusal : Phase → Request → Option Refusal
+refusal New request = first_refusal request
+refusal Running request = running_refusal request
+refusal ShutDown request = Some refusals.InvalidRequest
+
+abbrev pub first_phase : Phase → Request → Phase
+first_phase phase asked.Initialize = Running
+first_phase phase (asked.Hover uri position) = phase
+first_phase phase (asked.Actions uri range) = phase
+first_phase phase asked.Shutdown = phase
+first_phase phase asked.Unknown = phase
+first_phase phase asked.WrongParams = phase
+
+abbrev pub running_phase : Phase → Request → Phase
+running_phase phase asked.Initialize = phase
+running_phase phase (asked.Hover uri position) = phase
+running_phase phase (asked.Actions uri range) = phase
+running_phase phase asked.Shutdown = ShutDown
+running_phase phase asked.Unknown = phase
+running_phase phase asked.WrongParams = phase
+
+abbrev pub phase_after_request : Phase → Request → Phase
+phase_after_request New request = first_phase New request
+phase_after_request Running request = running_phase Running request
+phase_after_request ShutDown request = ShutDown
+
+-- how far the editor has come behind a message
+abbrev pub phase_after : Phase → Message → Phase
+phase_after phase (messages.Request id request) = phase_after_request phase request
+phase_after phase (messages.Notification notification) = phase
+phase_after phase messages.NotJson = phase
+phase_after phase messages.NotMessage = phase
+
+-- the response to a content whose id isn't known
+abbrev pub unanswered : Refusal → Step
+unanswered why = Say (replies.Response None (answers.Refused why))
+
+-- The step is one response, to the request of this id.
+abbrev pub Responds : Id → Option Refusal → Step → Type 0
+Responds id why (Say (replies.Response other answer)) = (other ≡ Some id) × (refusal_of answer ≡ why)
+Responds id why (Say (replies.Findings uri findings)) = ⊥
+Responds id why Silent = ⊥
+Responds id why Exit = ⊥
+
+abbrev pub finder_of : Settings → Kind → Finder
+finder_of settings kinds.Rust = finders.Rust
+finder_of settings (kinds.Keys format) = finders.Keys format settings.keys
+
+-- All that is wrong in a document of this text, as the editor's crate defines it.
+pub record AreWrongIn (settings : Settings) (kind : Kind) (text : List ℕ) (findings : List Finding) : Type 0 where
+  pub source : Source
+  pub finder : source.finder ≡ finder_of settings kind
+  pub whole : source.text.now ≡ text
+  pub all : AreFindingsOf settings.levels source findings
+
+abbrev pub said : String Global → Vec Finding Global → Step
+said uri findings = Say (replies.Findings uri findings)
+
+-- The step tells all that is wrong in the document of this name and text.
+abbrev pub IsSaidOf : Settings → Kind → List ℕ → List ℕ → Step → Type 0
+IsSaidOf settings kind text name (Say (replies.Findings uri findings)) =
+    (string_bytes uri ≡ name) × AreWrongIn settings kind text findings.items
+IsSaidOf settings kind text name (Say (replies.Response other answer)) = ⊥
+IsSaidOf settings kind text name Silent = ⊥
+IsSaidOf settings kind text name Exit = ⊥
+
+abbrev pub IsSaidIf : Settings → Option Kind → List ℕ → List ℕ → Step → Type 0
+IsSaidIf settings (Some kind) text name step = IsSaidOf settings kind text name step
+IsSaidIf settings None text name step = step ≡ Silent
+
+-- What is wrong in a document is said when it is opened, if it is one that is looked at.
+abbrev pub IsOpened : Settings → List ℕ → List ℕ → List ℕ → Step → Type 0
+IsOpened settings name language text step = IsSaidIf settings (kind_of language name) text name step
+
+abbrev pub IsSaidOfOpen : Settings → Option Document → List ℕ → List ℕ → Step → Type 0
+IsSaidOfOpen settings (Some document) text name step = IsSaidOf settings document.kind text name step
+IsSaidOfOpen settings None text name step = step ≡ Silent
+
+-- It is said when an open document changes.
+abbrev pub IsChangedOf : Settings → List ℕ → List ℕ → BTreeMap (String Global) Document → Step → Type 0
+IsChangedOf settings name text documents step =
+    IsSaidOfOpen settings (get_by_text documents name) text name step
+
+-- The step takes back what was said of the document of this name.
+abbrev pub IsTakenBack : List ℕ → Step → Type 0
+IsTakenBack name (Say (replies.Findings uri findings)) = (string_bytes uri ≡ name) × (findings.items ≡ [])
+IsTakenBack name (Say (replies.Response other answer)) = ⊥
+IsTakenBack name Silent = ⊥
+IsTakenBack name Exit = ⊥
+
+-- That is so of one that was open.
+abbrev pub IsClosed : List ℕ → Step → Type 0
+IsClosed name step = (step ≡ Silent) ⊎ IsTakenBack name step
+
+-- No response comes to a notification, only what is wrong in the document that it is about.
+abbrev pub IsHeard : Settings → BTreeMap (String Global) Document → Notification → Step → Type 0
+IsHeard settings documents (told.Opened uri language text) step =
+    IsOpened settings (string_bytes uri) (string_bytes language) (string_bytes text) step
+IsHeard settings documents (told.Changed uri text) step =
+    IsChangedOf settings (string_bytes uri) (string_bytes text) documents step
+IsHeard settings documents (told.Closed uri) step = IsClosed (string_bytes uri) step
+IsHeard settings documents told.Exit step = step ≡ Exit
+IsHeard settings documents told.Other step = step ≡ Silent
+
+abbrev pub unheard : Notification → Step
+unheard (told.Opened uri language text) = Silent
+unheard (told.Changed uri text) = Silent
+unheard (told.Closed uri) = Silent
+unheard told.Exit = Exit
+unheard told.Other = Silent
+
+abbrev pub IsTold : Settings → Phase → BTreeMap (String Global) Document → Notification → Step → Type 0
+IsTold settings New documents notification step = step ≡ unheard notification
+IsTold settings Running documents notification step = IsHeard settings documents notification step
+IsTold settings ShutDown documents notification step = step ≡ unheard notification
+
+-- A request gets one response, which has its id. A notification gets none.
+abbrev pub IsStep : Settings → Phase → BTreeMap (String Global) Document → Message → Step → Type 0
+IsStep settings phase documents (messages.Request id request) step = Responds id (refusal phase request) step
+IsStep settings phase documents (messages.Notification notification) step =
+    IsTold settings phase documents notification step
+IsStep settings phase documents messages.NotJson step = step ≡ unanswered refusals.NotJson
+IsStep settings phase documents messages.NotMessage step = step ≡ unanswered refusals.InvalidRequest

@@ -1,0 +1,57 @@
+//! The content of a frame: as many bytes as its head says.
+
+ghost use Rattle.std.specs.Prelude.{◌≡◌, ◌++◌, IfOk, OnOk};
+ghost use Rattle.timefd_lsp.specs.Contents as spec;
+
+use std::alloc::{AllocError, Global};
+use timefd_streams::Source;
+use timefd_streams::transfer::ReadError;
+
+// How many bytes a read asks for at most.
+const PIECE: usize = 8192;
+
+/// The bytes that the source has next, as many as are wanted; fewer only at its end.
+pub fn read_content<R: Source>(
+    alloc: Global,
+    source: &mut R,
+    wanted: usize,
+) -> Result<Vec<u8>, ReadError>
+    ensures { IfOk result (λ content. spec.IsContent (R.remaining source.old)
+        (R.remaining source.new) wanted content.items) }
+{
+    let mut content = Vec::new(alloc);
+    let mut piece = [0; PIECE];
+    'pieces: while content.len() < wanted {
+        let most = (wanted - content.len()).min(PIECE);
+        let count = source.read(&mut piece[..most])?;
+        if count == 0 {
+            return Ok(content);
+        }
+        append(&mut content, &piece[..count])?;
+    }
+    Ok(content)
+}
+
+fn append(content: &mut Vec<u8>, bytes: &[u8]) -> Result<(), AllocError>
+    ensures { OnOk result (content.new.items ≡ content.old.items ++ bytes.now) }
+{
+    content.extend_from_slice(bytes)
+}
+
+/// Passes over the bytes that the source has next, as many as are wanted, and answers how many there were; fewer only at its end.
+pub fn skip_content<R: Source>(source: &mut R, wanted: u64) -> Result<u64, ReadError>
+    ensures { IfOk result (λ count. spec.IsSkipped (R.remaining source.old)
+        (R.remaining source.new) wanted count) }
+{
+    let mut piece = [0; PIECE];
+    let mut passed: u64 = 0;
+    'pieces: while passed < wanted {
+        let most = (wanted - passed).min(PIECE as u64) as usize;
+        let count = source.read(&mut piece[..most])?;
+        if count == 0 {
+            return Ok(passed);
+        }
+        passed += count as u64;
+    }
+    Ok(passed)
+}

@@ -1,0 +1,92 @@
+//! The head of a frame: its lines, up to an empty one.
+
+ghost use Rattle.std.specs.Prelude.{◌≡◌, ◌+◌, ◌++◌, ◌∷◌, [], vec_len, IfOk, OnOk};
+ghost use Rattle.timefd_lsp.specs.Heads as spec;
+
+use std::alloc::{AllocError, Global};
+use timefd_streams::Source;
+use timefd_streams::transfer::ReadError;
+
+// How many bytes a head has at most.
+const MOST_HEAD: usize = 4096;
+
+/// How a head ends.
+#[derive(Clone, Copy, Debug, PartialEq, Eq)]
+pub enum HeadEnd {
+    /// With an empty line.
+    Whole,
+    /// Nowhere: the source has no byte left.
+    NoByte,
+    /// Nowhere: the source has no byte left behind some.
+    Cut,
+    /// Not within its first 4096 bytes.
+    TooLong,
+}
+
+/// The bytes that were read of a head, and how it ends.
+#[derive(Drop)]
+pub struct Head {
+    pub bytes: Vec<u8>,
+    pub end: HeadEnd,
+}
+
+// What a source has next: `None` at its end.
+fn next_byte<R: Source>(source: &mut R) -> Result<Option<u8>, ReadError>
+    ensures { IfOk result (spec.IsNext (R.remaining source.old) (R.remaining source.new)) }
+{
+    let mut place = [0];
+    let count = source.read(&mut place)?;
+    if count == 0 {
+        return Ok(None);
+    }
+    Ok(Some(place[0]))
+}
+
+/// Reads a head, and no byte behind it.
+pub fn read_head<R: Source>(alloc: Global, source: &mut R) -> Result<Head, ReadError>
+    ensures { IfOk result (λ head. spec.IsHead (R.remaining source.old) (R.remaining source.new)
+        head.bytes.items head.end) }
+{
+    let mut bytes = Vec::new(alloc);
+    'bytes: while bytes.len() < MOST_HEAD {
+        let Some(byte) = next_byte(source)? else {
+            return Ok(at_end(bytes));
+        };
+        push(&mut bytes, byte)?;
+        if bytes.ends_with(b"\r\n\r\n") {
+            return Ok(Head {
+                bytes,
+                end: HeadEnd::Whole,
+            });
+        }
+    }
+    Ok(Head {
+        bytes,
+        end: HeadEnd::TooLong,
+    })
+}
+
+fn push(bytes: &mut Vec<u8>, byte: u8) -> Result<(), AllocError>
+    ensures items { OnOk result (bytes.new.items ≡ bytes.old.items ++ byte ∷ []) }
+    ensures len { OnOk result (vec_len bytes.new ≡ vec_len bytes.old + 1) }
+{
+    bytes.push(byte)?;
+    Ok(())
+}
+
+// What was read of a head, where no byte is left.
+fn at_end(bytes: Vec<u8>) -> Head
+    ensures bytes { result.bytes ≡ bytes }
+    ensures end { result.end ≡ spec.end_of bytes.items }
+{
+    if bytes.is_empty() {
+        return Head {
+            bytes,
+            end: HeadEnd::NoByte,
+        };
+    }
+    Head {
+        bytes,
+        end: HeadEnd::Cut,
+    }
+}

@@ -1,0 +1,25 @@
+//! A language server for the format descriptions in a document: frames on its input, messages in them, the open
+//! documents, and what is answered.
+#![tactic(auto)]
+
+mod content;
+mod documents;
+mod envelope;
+mod frame;
+mod head;
+mod length;
+mod message;
+mod reply;
+mod server;
+mod session;
+mod shown;
+mod text;
+
+pub use documents::{Document, Documents, Kind, change, close, kind_of, open};
+pub use envelope::{Envelope, Id, envelope_of, text_at};
+pub use frame::{Frame, MOST_CONTENT, WriteError, read_frame, write_frame};
+pub use message::{Message, Notification, Request, message_of};
+pub use reply::{Answer, Refusal, Reply, code_of, sentence_of};
+pub use server::{Phase, Server, Settings, Step, take, unanswered};
+pub use session::{End, serve};
+pub use text::text_of;

@@ -1,0 +1,274 @@
+//! Messages of an editor: what it asks for, and what it tells.
+
+ghost use Rattle.std.specs.Prelude.{◌≡◌, IfOk, option_map};
+ghost use Rattle.serde_json.specs.View.{view};
+ghost use Rattle.timefd_lsp.specs.Messages as spec;
+
+use crate::envelope::{Envelope, Id, envelope_of, text_at};
+use serde_json::Value;
+use std::alloc::{AllocError, Global};
+use timefd_editor::{Position, Range};
+
+/// What a request asks for.
+#[derive(Drop)]
+pub enum Request {
+    Initialize,
+    /// What the part of a document at a place means.
+    Hover { uri: String, position: Position },
+    /// What can be done to a range of a document.
+    Actions { uri: String, range: Range },
+    Shutdown,
+    /// What this server doesn't do.
+    Unknown,
+    /// One of these, but the parameters are none of its.
+    WrongParams,
+}
+
+/// What a notification tells.
+#[derive(Drop)]
+pub enum Notification {
+    Opened {
+        uri: String,
+        language: String,
+        text: String,
+    },
+    /// All of a document's text is another.
+    Changed {
+        uri: String,
+        text: String,
+    },
+    Closed {
+        uri: String,
+    },
+    Exit,
+    /// What changes nothing here.
+    Other,
+}
+
+/// What a content is.
+#[derive(Drop)]
+pub enum Message {
+    Request(Id, Request),
+    Notification(Notification),
+    /// It is no JSON.
+    NotJson,
+    /// It is JSON, but no message.
+    NotMessage,
+}
+
+// The text at a path.
+fn text_by<'a>(value: &'a Value, path: &str) -> Option<&'a str>
+    ensures { option_map (λ text. text.now) result ≡ spec.text_by path.now (view value.now) }
+{
+    match value.pointer(path) {
+        Some(member) => member.as_str(),
+        None => None,
+    }
+}
+
+// The number at a path, if it counts something.
+fn count_by(value: &Value, path: &str) -> Option<usize>
+    ensures { result ≡ spec.count_by path.now (view value.now) }
+{
+    match value.pointer(path) {
+        Some(member) => count_of(member.as_u64()),
+        None => None,
+    }
+}
+
+fn count_of(number: Option<u64>) -> Option<usize>
+    ensures { result ≡ number }
+{
+    match number {
+        Some(number) => Some(number as usize),
+        None => None,
+    }
+}
+
+// The place whose line and character stand at these paths.
+fn place_by(value: &Value, line: &str, character: &str) -> Option<Position>
+    ensures { result ≡ spec.place_by line.now character.now (view value.now) }
+{
+    let line = count_by(value, line)?;
+    let character = count_by(value, character)?;
+    Some(Position { line, character })
+}
+
+// The range between two places, if both are there.
+fn range_from(start: Option<Position>, end: Option<Position>) -> Option<Range>
+    ensures { result ≡ spec.range_from start end }
+{
+    let start = start?;
+    let end = end?;
+    Some(Range { start, end })
+}
+
+// The range of a request.
+fn range_of(value: &Value) -> Option<Range>
+    ensures { result ≡ spec.range_of (view value.now) }
+{
+    let start = place_by(
+        value,
+        "/params/range/start/line",
+        "/params/range/start/character",
+    );
+    let end = place_by(
+        value,
+        "/params/range/end/line",
+        "/params/range/end/character",
+    );
+    range_from(start, end)
+}
+
+// The place of a request.
+fn place_of(value: &Value) -> Option<Position>
+    ensures { result ≡ spec.place_of (view value.now) }
+{
+    place_by(value, "/params/position/line", "/params/position/character")
+}
+
+// The name of the document that a message is about.
+fn uri_of(value: &Value) -> Option<&str>
+    ensures { option_map (λ uri. uri.now) result ≡ spec.uri_of (view value.now) }
+{
+    text_by(value, "/params/textDocument/uri")
+}
+
+fn hover_of(alloc: Global, value: &Value) -> Result<Request, AllocError>
+    ensures { IfOk result (λ request. spec.seen_request request ≡ spec.hover_of (view value.now)) }
+{
+    let Some(uri) = uri_of(value) else {
+        return Ok(Request::WrongParams);
+    };
+    let Some(position) = place_of(value) else {
+        return Ok(Request::WrongParams);
+    };
+    Ok(Request::Hover {
+        uri: String::from_str(alloc, uri)?,
+        position,
+    })
+}
+
+fn actions_of(alloc: Global, value: &Value) -> Result<Request, AllocError>
+    ensures { IfOk result (λ request. spec.seen_request request
+        ≡ spec.actions_of (view value.now)) }
+{
+    let Some(uri) = uri_of(value) else {
+        return Ok(Request::WrongParams);
+    };
+    let Some(range) = range_of(value) else {
+        return Ok(Request::WrongParams);
+    };
+    Ok(Request::Actions {
+        uri: String::from_str(alloc, uri)?,
+        range,
+    })
+}
+
+/// What a request of a method asks for.
+pub fn request_of(alloc: Global, method: &str, value: &Value) -> Result<Request, AllocError>
+    ensures { IfOk result (λ request. spec.seen_request request
+        ≡ spec.request_of method.now (view value.now)) }
+{
+    match method {
+        "initialize" => Ok(Request::Initialize),
+        "shutdown" => Ok(Request::Shutdown),
+        "textDocument/hover" => hover_of(alloc, value),
+        "textDocument/codeAction" => actions_of(alloc, value),
+        _ => Ok(Request::Unknown),
+    }
+}
+
+fn opened_of(alloc: Global, value: &Value) -> Result<Notification, AllocError>
+    ensures { IfOk result (λ told. spec.seen_notification told ≡ spec.opened_of (view value.now)) }
+{
+    let Some(uri) = uri_of(value) else {
+        return Ok(Notification::Other);
+    };
+    let Some(language) = text_by(value, "/params/textDocument/languageId") else {
+        return Ok(Notification::Other);
+    };
+    let Some(text) = text_by(value, "/params/textDocument/text") else {
+        return Ok(Notification::Other);
+    };
+    Ok(Notification::Opened {
+        uri: String::from_str(alloc, uri)?,
+        language: String::from_str(alloc, language)?,
+        text: String::from_str(alloc, text)?,
+    })
+}
+
+// The text behind the last of some changes.
+fn last_text(value: &Value) -> Option<&str> {
+    let changes = value.pointer("/params/contentChanges")?.as_array()?;
+    text_at(changes.last()?, "text")
+}
+
+fn changed_of(alloc: Global, value: &Value) -> Result<Notification, AllocError>
+    ensures { IfOk result (λ told. spec.IsChanged told (spec.uri_of (view value.now))) }
+{
+    let Some(uri) = uri_of(value) else {
+        return Ok(Notification::Other);
+    };
+    let Some(text) = last_text(value) else {
+        return Ok(Notification::Other);
+    };
+    Ok(Notification::Changed {
+        uri: String::from_str(alloc, uri)?,
+        text: String::from_str(alloc, text)?,
+    })
+}
+
+fn closed_of(alloc: Global, value: &Value) -> Result<Notification, AllocError>
+    ensures { IfOk result (λ told. spec.seen_notification told ≡ spec.closed_of (view value.now)) }
+{
+    let Some(uri) = uri_of(value) else {
+        return Ok(Notification::Other);
+    };
+    Ok(Notification::Closed {
+        uri: String::from_str(alloc, uri)?,
+    })
+}
+
+/// What a notification of a method tells.
+pub fn notification_of(
+    alloc: Global,
+    method: &str,
+    value: &Value,
+) -> Result<Notification, AllocError> {
+    match method {
+        "exit" => Ok(Notification::Exit),
+        "textDocument/didOpen" => opened_of(alloc, value),
+        "textDocument/didChange" => changed_of(alloc, value),
+        "textDocument/didClose" => closed_of(alloc, value),
+        _ => Ok(Notification::Other),
+    }
+}
+
+// What a value of JSON is as a message.
+fn message_of_value(alloc: Global, value: &Value) -> Result<Message, AllocError>
+    ensures { IfOk result (λ message. spec.IsMessage message (view value.now)) }
+{
+    match envelope_of(alloc, value)? {
+        Envelope::Request(id, method) => Ok(Message::Request(
+            id,
+            request_of(alloc, method, value)?,
+        )),
+        Envelope::Notification(method) => Ok(Message::Notification(notification_of(
+            alloc, method, value,
+        )?)),
+        Envelope::Response => Ok(Message::Notification(Notification::Other)),
+        Envelope::Invalid => Ok(Message::NotMessage),
+    }
+}
+
+/// What the content of a frame is as a message.
+pub fn message_of(alloc: Global, content: &[u8]) -> Result<Message, AllocError>
+    ensures { IfOk result (λ message. spec.IsMessageOf message content.now) }
+{
+    match Value::from_slice(alloc, content) {
+        Ok(value) => message_of_value(alloc, &value),
+        Err(error) if error.is_memory() => Err(AllocError),
+        Err(_) => Ok(Message::NotJson),
+    }
+}

@@ -1,0 +1,103 @@
+//! What an editor is shown, as values of JSON.
+
+ghost use Rattle.std.specs.Prelude.{◌≡◌, IfOk};
+ghost use Rattle.serde_json.specs.View.{view};
+ghost use Rattle.timefd_lsp.specs.Texts as spec;
+
+use serde_json::{Map, Value, json};
+use std::alloc::{AllocError, Global};
+use timefd_editor::{Action, ActionKind, Edit, Finding, Hover, Position, Range, Severity};
+
+fn place_value(alloc: Global, place: Position) -> Result<Value, AllocError>
+    ensures { IfOk result (λ value. view value ≡ spec.place_data place) }
+{
+    let line = place.line as u64;
+    let character = place.character as u64;
+    json!(in alloc; {"character": character, "line": line})
+}
+
+fn range_value(alloc: Global, range: Range) -> Result<Value, AllocError>
+    ensures { IfOk result (λ value. view value ≡ spec.range_data range) }
+{
+    let start = place_value(alloc, range.start)?;
+    let end = place_value(alloc, range.end)?;
+    json!(in alloc; {"end": end, "start": start})
+}
+
+// The number of a severity in the protocol.
+fn severity_number(severity: Severity) -> u64 {
+    match severity {
+        Severity::Error => 1,
+        Severity::Warning => 2,
+    }
+}
+
+fn finding_value(alloc: Global, finding: &Finding) -> Result<Value, AllocError> {
+    let range = range_value(alloc, finding.range)?;
+    let severity = severity_number(finding.severity);
+    let code = finding.code;
+    let message = finding.message.as_str();
+    json!(in alloc; {
+        "code": code,
+        "message": message,
+        "range": range,
+        "severity": severity,
+        "source": "timefd_lint"
+    })
+}
+
+/// All that is wrong in a document.
+pub fn findings_value(alloc: Global, findings: &[Finding]) -> Result<Value, AllocError> {
+    let mut values = Vec::new(alloc);
+    for finding in findings {
+        values.push(finding_value(alloc, finding)?)?;
+    }
+    Ok(Value::Array(values))
+}
+
+/// What the part of a document at a place means.
+pub fn hover_value(alloc: Global, hover: &Hover) -> Result<Value, AllocError> {
+    let range = range_value(alloc, hover.range)?;
+    let text = hover.text.as_str();
+    json!(in alloc; {"contents": {"kind": "markdown", "value": text}, "range": range})
+}
+
+fn edit_value(alloc: Global, edit: &Edit) -> Result<Value, AllocError> {
+    let range = range_value(alloc, edit.range)?;
+    let text = edit.text.as_str();
+    json!(in alloc; {"newText": text, "range": range})
+}
+
+// The edits of one document.
+fn edits_value(alloc: Global, uri: &str, edits: &[Edit]) -> Result<Value, AllocError> {
+    let mut values = Vec::new(alloc);
+    for edit in edits {
+        values.push(edit_value(alloc, edit)?)?;
+    }
+    let mut changes = Map::new(alloc);
+    serde_json::put(&mut changes, alloc, uri, Value::Array(values))?;
+    Ok(Value::Object(changes))
+}
+
+fn kind_name(kind: ActionKind) -> &'static str {
+    match kind {
+        ActionKind::QuickFix => "quickfix",
+        ActionKind::Rewrite => "refactor.rewrite",
+    }
+}
+
+fn action_value(alloc: Global, uri: &str, action: &Action) -> Result<Value, AllocError> {
+    let changes = edits_value(alloc, uri, &action.edits)?;
+    let kind = kind_name(action.kind);
+    let title = action.title.as_str();
+    json!(in alloc; {"edit": {"changes": changes}, "kind": kind, "title": title})
+}
+
+/// What can be done to a document of this name.
+pub fn actions_value(alloc: Global, uri: &str, actions: &[Action]) -> Result<Value, AllocError> {
+    let mut values = Vec::new(alloc);
+    for action in actions {
+        values.push(action_value(alloc, uri, action)?)?;
+    }
+    Ok(Value::Array(values))
+}
