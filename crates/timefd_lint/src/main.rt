@@ -15,6 +15,7 @@ mod lines;
 mod log;
 mod mark;
 mod options;
+mod page;
 mod progress;
 mod rewriting;
 mod run;
@@ -34,6 +35,7 @@ use config::{ConfigFailure, counted_keys, read_config};
 use line::RunError;
 use log::write_log;
 use options::{Options, run_options};
+use page::{explained_in, page_on};
 use running::run_in_form;
 use rust::are_sources;
 use session::session_status;
@@ -53,6 +55,7 @@ use timefd_lint_files::{WalkError, expanded};
 use timefd_lint_options::{
     Asked, OptionError, Settings, is_log, keys_of, lines_conflict, options_of,
 };
+use timefd_warnings::Warning;
 
 // Writes a text to the standard output, and answers the status.
 fn written(rt: &HostRuntime, text: &str) -> u8 {
@@ -62,8 +65,23 @@ fn written(rt: &HostRuntime, text: &str) -> u8 {
     }
 }
 
+// Writes the page on a warning, and answers the status.
+fn page_status(rt: &HostRuntime, warning: Warning) -> u8 {
+    match page_on(rt.alloc(), warning) {
+        Ok(page) => written(rt, &page),
+        Err(AllocError) => no_memory(rt),
+    }
+}
+
 // The status of what the words behind the program's name ask for.
 fn words_status(rt: &HostRuntime, words: &[&str]) -> u8 {
+    match explained_in(words) {
+        Some(warning) => page_status(rt, warning),
+        None => options_status(rt, words),
+    }
+}
+
+fn options_status(rt: &HostRuntime, words: &[&str]) -> u8 {
     match options_of(words) {
         Ok(Asked::Help) => written(rt, usage::USAGE),
         Ok(Asked::Version) => written(rt, usage::VERSION),
