@@ -16,4 +16,5 @@ mod sentence;
 pub mod shown;
 
 pub use draw::{Format, Style, drawn, drawn_all, note};
-pub use position::Origin;
+pub use position::{Origin, Position, char_position_of, position_of};
+pub use sentence::told_sentence;

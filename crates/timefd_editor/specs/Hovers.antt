@@ -1,13 +1,23 @@
 -- What a part of a description means.
-use Rattle.std.specs.Prelude.{◌≡◌, [], ◌∷◌, ◌++◌, codes, decimal, string_bytes}
-use Rattle.timefd_component.specs.Tree.{Text}
+use Rattle.std.specs.Prelude.{ℕ, ◌+◌, ◌≡◌, Bool, ◌&&◌, nat_le, nat_lt, List, [], ◌∷◌, ◌++◌, Option, None, Some, codes, decimal, string_bytes, if◌then◌else◌, IsTrue}
+use Rattle.timefd_component.specs.Tree.{Text, Tree, trees}
 use Rattle.timefd_drawing.specs.Shown.{safe}
 use Rattle.timefd_editor.specs.declared.hovered.Hover.{Hover}
 use Rattle.timefd_editor.specs.Positions.{range_of}
 use Rattle.timefd_explain.specs.declared.node.Node.{Node}
-use Rattle.timefd_explain.specs.Examples.{HasExample}
+use Rattle.timefd_explain.specs.Examples.{Examples, HasExample}
+use Rattle.timefd_explain.specs.Parts.{AreParts, all_parts}
+use Rattle.timefd_language.specs.Grammar.{nesting_limit}
+use Rattle.timefd_lint_sources.specs.declared.told.End.{End}
+use Rattle.timefd_lint_sources.specs.declared.told.End.TheVariants.{PassedOver, Accepted, Refused, NotText}
+use Rattle.timefd_lint_sources.specs.declared.told.Source.{Source}
+use Rattle.timefd_lint_sources.specs.Judged.{IsEndOf, IsJudged, language_in, text_of}
+use Rattle.timefd_lint_sources.specs.Told.{AllFound, IsFound}
+use Rattle.timefd_parse.specs.declared.language.Language.{Language}
+use Rattle.timefd_parse.specs.Language.{SpellsIn}
 use Rattle.timefd_sources.specs.declared.description.Description.{Description}
-use Rattle.timefd_sources.specs.Found.{place_of}
+use Rattle.timefd_sources.specs.declared.piece.Piece.{Piece}
+use Rattle.timefd_sources.specs.Found.{AreInOrder, place_of}
 
 abbrev pub example_in : Text → Text
 example_in [] = []
@@ -23,7 +33,91 @@ pub record IsHoverOf (document : Text) (d : Description) (n : Node) (h : Hover) 
   pub range : h.range ≡ range_of document (place_of d n.start) (place_of d n.end)
   pub text : string_bytes h.text ≡ words_on n
 
--- It is of a node that has its example: that of a component is what the formatter writes of the component
--- which the words name.
-abbrev pub IsHoverIn : Text → Hover → Type 0
-IsHoverIn document h = (d : Description) × (n : Node) × HasExample n × IsHoverOf document d n h
+-- whether a literal stands at an index of its document
+abbrev pub is_at : Piece → ℕ → Bool
+is_at p index = nat_le p.start index && nat_lt index p.end
+
+-- the first description whose literal does
+abbrev pub first_at : List Description → ℕ → Option Description
+first_at [] index = None
+first_at (d ∷ ds) index = if is_at d.piece index then Some d else first_at ds index
+
+abbrev pub index_from : ℕ → ℕ → List ℕ → ℕ → ℕ
+index_from at next [] place = at
+index_from at next (other ∷ places) place =
+    index_from (if nat_le other place then next else at) (next + 1) places place
+
+-- the last of these places that isn't behind a place
+abbrev pub index_in : List ℕ → ℕ → ℕ
+index_in places place = index_from 0 0 places place
+
+-- the byte of a description that stands at an index of its document, or the last one in front of that
+abbrev pub byte_at : Description → ℕ → ℕ
+byte_at d index = index_in d.unescaped.places.items index
+
+-- whether a node came from a byte of the description, among others
+abbrev pub covers : Node → ℕ → Bool
+covers n at = nat_le n.start at && nat_lt at n.end
+
+abbrev pub innermost_from : Option Node → List Node → ℕ → Option Node
+innermost_from inner [] at = inner
+innermost_from inner (n ∷ ns) at = innermost_from (if covers n at then Some n else inner) ns at
+
+-- the last node that did: each stands in front of those that it holds
+abbrev pub innermost : List Node → ℕ → Option Node
+innermost ns at = innermost_from None ns at
+
+-- What is shown at an index of a document is a part of a description whose literal stands there, and the part
+-- came from the byte there. It has its example: that of a component is what the formatter writes of the
+-- component which the words name.
+pub record IsHoverIn (s : Source) (index : ℕ) (h : Hover) : Type 0 where
+  pub description : Description
+  pub node : Node
+  pub found : IsFound s description
+  pub stands : IsTrue (is_at description.piece index)
+  pub covered : IsTrue (covers node (byte_at description index))
+  pub example : HasExample node
+  pub shown : IsHoverOf s.text.now description node h
+
+-- The nodes show the parts of what a text spells.
+pub record AreNodesOf (language : Language) (text : Text) (nodes : List Node) : Type 0 where
+  pub parts : (list : List Tree) → SpellsIn language nesting_limit text list → AreParts (all_parts 0 (trees list)) nodes
+  pub examples : Examples nodes
+
+abbrev pub IsShownOf : Text → Description → Option Node → Option Hover → Type 0
+IsShownOf document d None found = found ≡ None
+IsShownOf document d (Some n) None = ⊥
+IsShownOf document d (Some n) (Some h) = IsHoverOf document d n h
+
+-- The innermost node at a byte is shown, if there is one.
+abbrev pub IsShownIn : Text → Description → Language → Text → ℕ → Option Hover → Type 0
+IsShownIn document d language text at found = (nodes : List Node) × AreNodesOf language text nodes
+    × IsShownOf document d (innermost nodes at) found
+
+-- That is so of an accepted description. Of any other nothing is shown.
+abbrev pub IsShownBy : Text → Description → Text → ℕ → End → Option Hover → Type 0
+IsShownBy document d text at PassedOver found = found ≡ None
+IsShownBy document d text at (Accepted warned) found = IsShownIn document d (language_in d) text at found
+IsShownBy document d text at Refused found = found ≡ None
+IsShownBy document d text at NotText found = found ≡ None
+
+abbrev pub IsShownWhere : Text → Description → Text → ℕ → Option Hover → Type 0
+IsShownWhere document d text at found = (end : End) × IsJudged None (language_in d) text end
+    × IsShownBy document d text at end found
+
+-- what is shown at an index of the document in which a description stands, by what comes of it
+pub record IsShownOn (document : Text) (d : Description) (index : ℕ) (h : Option Hover) : Type 0 where
+  pub end : End
+  pub is : IsEndOf None d end
+  pub shown : IsShownBy document d (text_of d) (byte_at d index) end h
+
+abbrev pub IsShownOfAny : Text → Option Description → ℕ → Option Hover → Type 0
+IsShownOfAny document None index found = found ≡ None
+IsShownOfAny document (Some d) index found = IsShownOn document d index found
+
+-- Of the descriptions of a source it is the first one whose literal stands at the index.
+pub record IsShownAt (s : Source) (index : ℕ) (h : Option Hover) : Type 0 where
+  pub descriptions : List Description
+  pub stand : AllFound s descriptions
+  pub in_order : AreInOrder 0 descriptions
+  pub shown : IsShownOfAny s.text.now (first_at descriptions index) index h

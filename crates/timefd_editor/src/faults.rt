@@ -6,9 +6,9 @@ ghost use Rattle.timefd_editor.specs.Findings.{AreFaults, IsFault};
 ghost use Rattle.timefd_editor.specs.Positions.{IsCounted};
 
 use crate::finding::{Finding, Severity, Spot, push};
-use crate::sentence::sentence;
 use std::alloc::{AllocError, Global};
 use timefd_diagnosis::{Diagnostic, code_of};
+use timefd_drawing::told_sentence;
 use timefd_sources::place_of;
 
 /// Adds the first fault of a description, and its further ones.
@@ -56,7 +56,7 @@ fn push_fault(
     ensures { OnOk result (Adds (IsFault spot.entry.text.now spot.entry.description.now is_further diagnostic.now)
         found.old.items found.new.items) }
 {
-    let message = sentence(alloc, is_further, &diagnostic.fault)?;
+    let message = told_sentence(alloc, is_further, &diagnostic.fault)?;
     let start = place_of(spot.description, diagnostic.span.start);
     let end = place_of(spot.description, diagnostic.span.end);
     let code = code_of(&diagnostic.fault);

@@ -1,7 +1,7 @@
 //! What a part of a description means.
 
-ghost use Rattle.std.specs.Prelude.{◌≡◌, ◌<◌, IfOk, IfSome, length, string_bytes};
-ghost use Rattle.timefd_editor.specs.Hovers.{IsHoverIn, IsHoverOf};
+ghost use Rattle.std.specs.Prelude.{◌≡◌, IfOk, IfSome, option_map, string_bytes};
+ghost use Rattle.timefd_editor.specs.Hovers.{IsHoverIn, IsHoverOf, IsShownAt, IsShownIn, IsShownOn, IsShownWhere};
 ghost use Rattle.timefd_editor.specs.Hovers as spec;
 
 use crate::counter::{none_counted, range_from};
@@ -18,19 +18,32 @@ use timefd_sources::{Description, Piece, place_of};
 /// What the part at a byte index means, in a description that its language accepts: the component with its
 /// modifiers, the bytes that it reserves, an example. An `Err` says that memory ran out.
 pub fn hover(alloc: Global, source: Source<'_>, index: usize) -> Result<Option<Hover>, AllocError>
-    ensures { IfOk result (λ found. IfSome found (IsHoverIn source.entry.text.now)) }
+    ensures part { IfOk result (λ found. IfSome found (IsHoverIn source.entry index)) }
+    ensures shown { IfOk result (IsShownAt source.entry index) }
 {
     let descriptions = descriptions_in(alloc, source)?;
-    for description in &descriptions {
+    match first_at(&descriptions, index) {
+        Some(description) => hover_on(alloc, source.text, description, index),
+        None => Ok(None),
+    }
+}
+
+// The first description whose literal stands at an index.
+fn first_at(descriptions: &[Description], index: usize) -> Option<&Description>
+    ensures { option_map (λ found. found.now) result ≡ spec.first_at descriptions.now index }
+{
+    for description in descriptions {
         if is_at(description.piece, index) {
-            return hover_on(alloc, source.text, description, index);
+            return Some(description);
         }
     }
-    Ok(None)
+    None
 }
 
 // Whether a literal stands at an index.
-fn is_at(piece: Piece, index: usize) -> bool {
+fn is_at(piece: Piece, index: usize) -> bool
+    ensures { result ≡ spec.is_at piece index }
+{
     piece.start <= index && index < piece.end
 }
 
@@ -41,7 +54,7 @@ fn hover_on(
     description: &Description,
     index: usize,
 ) -> Result<Option<Hover>, AllocError>
-    ensures { IfOk result (λ found. IfSome found (IsHoverIn text.now)) }
+    ensures { IfOk result (IsShownOn text.now description.now index) }
 {
     let bytes = description.unescaped.text.as_slice();
     if is_passed_over(description.dialect, bytes) {
@@ -57,7 +70,9 @@ fn hover_on(
 }
 
 // The index of the last byte of a description that stands at a place of its document or in front of that.
-fn index_in(places: &[usize], place: usize) -> usize {
+fn index_in(places: &[usize], place: usize) -> usize
+    ensures { result ≡ spec.index_in places.now place }
+{
     let mut at = 0;
     for (index, other) in places.iter().enumerate() {
         if *other <= place {
@@ -75,7 +90,7 @@ fn hover_at(
     told: &str,
     at: usize,
 ) -> Result<Option<Hover>, AllocError>
-    ensures { IfOk result (λ found. IfSome found (IsHoverIn text.now)) }
+    ensures { IfOk result (IsShownWhere text.now description.now told.now at) }
 {
     let language = language_of(description.dialect);
     match diagnose(alloc, language, told)? {
@@ -92,31 +107,34 @@ fn shown(
     told: &str,
     at: usize,
 ) -> Result<Option<Hover>, AllocError>
-    ensures { IfOk result (λ found. IfSome found (IsHoverIn text.now)) }
+    ensures { IfOk result (IsShownIn text.now description.now language told.now at) }
 {
     let nodes = explanation_of(alloc, language, told)?.nodes;
-    let Some(inner) = innermost(&nodes, at) else {
-        return Ok(None);
-    };
-    let hover = hover_of(alloc, text, description, &nodes[inner])?;
-    Ok(Some(hover))
+    match innermost(&nodes, at) {
+        Some(node) => {
+            let hover = hover_of(alloc, text, description, node)?;
+            Ok(Some(hover))
+        }
+        None => Ok(None),
+    }
 }
 
 // The last node that covers an index: each stands in front of those that it holds.
-fn innermost(nodes: &[Node], at: usize) -> Option<usize>
-    ensures { IfSome result (λ index. index < length nodes.now) }
+fn innermost(nodes: &[Node], at: usize) -> Option<&Node>
+    ensures { option_map (λ node. node.now) result ≡ spec.innermost nodes.now at }
 {
-    let mut left = nodes.len();
-    'nodes: while left > 0 {
-        left -= 1;
-        if covers(&nodes[left], at) {
-            return Some(left);
+    let mut inner = None;
+    for node in nodes {
+        if covers(node, at) {
+            inner = Some(node);
         }
     }
-    None
+    inner
 }
 
-fn covers(node: &Node, at: usize) -> bool {
+fn covers(node: &Node, at: usize) -> bool
+    ensures { result ≡ spec.covers node.now at }
+{
     node.start <= at && at < node.end
 }
 

@@ -11,7 +11,6 @@ mod hovered;
 mod hovering;
 pub mod laws;
 mod position;
-mod sentence;
 #[cfg(test)]
 mod tests;
 mod walk;

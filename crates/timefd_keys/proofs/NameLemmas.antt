@@ -1,9 +1,8 @@
 -- A name without the blanks at its end.
 use Rattle.std.proofs.Common.{ℕ, ◌≡◌, ◌≤◌, ◌-◌, ◌+◌, Bool, true, false, [], ◌∷◌, ◌++◌, length, get_or, take, refl, sym, ap, ◌∙◌, arith, take_all}
 use Rattle.std.proofs.lemmas.List.{take_more}
-use Rattle.timefd_sources.specs.Bytes.{Text}
+use Rattle.timefd_sources.specs.Bytes.{Text, is_blank}
 use Rattle.timefd_keys.specs.Names.{in_front, without_blanks}
-use Rattle.timefd_keys.specs.Styles.{is_blank}
 
 blank_behind : (front : Text) (b : ℕ) → is_blank b ≡ true
     → without_blanks (front ++ b ∷ []) ≡ without_blanks front

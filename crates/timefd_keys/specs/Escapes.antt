@@ -1,7 +1,7 @@
 -- Parts of a string: bytes that stand for themselves, and escapes.
 use Rattle.std.specs.Prelude.{ℕ, zero, suc, ◌+◌, ◌-◌, ◌*◌, Bool, true, false, not, ◌&&◌, ◌||◌, ◌==◌, nat_lt, if◌then◌else◌, [], ◌∷◌, Option, Some, None}
 use Rattle.std.specs.Char.{encode_utf8}
-use Rattle.timefd_sources.specs.Bytes.{Text, quote, apostrophe, slash, backslash, is_between}
+use Rattle.timefd_sources.specs.Bytes.{Text, quote, apostrophe, slash, backslash, is_between, is_blank}
 use Rattle.timefd_sources.specs.Escapes.{Part, char_part, character, hex_digit, next_value}
 use Rattle.timefd_keys.specs.declared.part.Part as code
 use Rattle.timefd_keys.specs.declared.part.Stands.{Stands}
@@ -9,7 +9,7 @@ use Rattle.timefd_keys.specs.declared.part.Stands.TheVariants.{Byte, Char}
 use Rattle.timefd_keys.specs.declared.number.Number as whole
 use Rattle.timefd_keys.specs.declared.style.Style.{Style}
 use Rattle.timefd_keys.specs.declared.style.Style.TheVariants.{Json, Basic, Literal, Double, Single, Plain}
-use Rattle.timefd_keys.specs.Styles.{begins_space, is_blank}
+use Rattle.timefd_keys.specs.Styles.{begins_space}
 
 abbrev pub stands_for : Stands → Text
 stands_for (Byte b) = b ∷ []

@@ -9,7 +9,9 @@ use Rattle.timefd_sources.specs.Literals.{body_end}
 use Rattle.timefd_sources.specs.declared.dialect.Dialect.{Dialect}
 use Rattle.timefd_keys.specs.declared.format.Format.{Format}
 use Rattle.timefd_keys.specs.declared.key.Key.{Key}
+use Rattle.timefd_keys.specs.Comments.{told_behind, told_in_front}
 use Rattle.timefd_keys.specs.Keys.{dialect_of}
+use Rattle.timefd_keys.specs.Lines.{line_start}
 use Rattle.timefd_keys.specs.Names.{Name, name_at, value_behind}
 use Rattle.timefd_keys.specs.Strings.{Reading, string_at}
 
@@ -42,6 +44,10 @@ pub record StandsIn (format : Format) (source : Text) (d : Description) : Type 0
   pub lies : Lies source d.piece.start (body_end d.piece d.kind) d.unescaped.text.items
       d.unescaped.places.items
 
+abbrev pub first_of : Option Dialect → Option Dialect → Option Dialect
+first_of (Some dialect) other = Some dialect
+first_of None other = other
+
 -- a string at a place, of a language
 pub record IsString (format : Format) (source : Text) (start : ℕ) (dialect : Dialect) (d : Description) : Type 0 where
   pub stands : StandsIn format source d
@@ -52,12 +58,26 @@ abbrev pub IsStringOf : Format → Text → ℕ → Option Dialect → Descripti
 IsStringOf format source start None d = ⊥
 IsStringOf format source start (Some dialect) d = IsString format source start dialect d
 
--- It is the value of a key, whose name stands at a place in front of it, and of the language of that key.
+abbrev pub told_of : Format → Text → Option Reading → Option Dialect
+told_of format source None = None
+told_of format source (Some r) = told_behind format source r.closing
+
+-- the language that a comment names behind the string at a place, or else this one
+abbrev pub language_at : Format → Text → ℕ → Option Dialect → Option Dialect
+language_at format source start other = first_of (told_of format source (string_at format source start)) other
+
+-- the language that a comment alone in the line in front names for a key, or else that of the key
+abbrev pub language_of : Format → Text → List Key → ℕ → Name → Option Dialect
+language_of format source keys at name =
+    first_of (told_in_front format source (line_start source at)) (dialect_of keys name.text)
+
+-- It is the value of a key, whose name stands at a place in front of it.
 pub record IsValueOf (format : Format) (source : Text) (keys : List Key) (at : ℕ) (name : Name) (value : Text)
     (d : Description) : Type 0 where
   pub named : Some name ≡ name_at format source at
   pub behind : Some value ≡ value_behind format name.behind
-  pub string : IsStringOf format source (length source - length value) (dialect_of keys name.text) d
+  pub string : IsStringOf format source (length source - length value)
+      (language_at format source (length source - length value) (language_of format source keys at name)) d
 
 abbrev pub IsValue : Format → Text → List Key → Description → Type 0
 IsValue format source keys d = (at : ℕ) × (name : Name) × (value : Text)

@@ -4,4 +4,6 @@ pub mod Styles
 pub mod Escapes
 pub mod Strings
 pub mod Names
+pub mod Lines
+pub mod Comments
 pub mod Found

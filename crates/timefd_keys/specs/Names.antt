@@ -2,14 +2,14 @@
 use Rattle.std.specs.Prelude.{ℕ, Bool, false, ◌&&◌, ◌||◌, ◌==◌, ◌-◌, if◌then◌else◌, [], ◌∷◌, length, drop, take, Option, Some, None}
 use denote.Ref.{Bor}
 use Rattle.timefd_sources.specs.Behind.{behind_run}
-use Rattle.timefd_sources.specs.Bytes.{Text, quote, apostrophe, hash}
-use Rattle.timefd_keys.specs.declared.bytes.Class.{Class}
-use Rattle.timefd_keys.specs.declared.bytes.Class.TheVariants.{Blank, White}
+use Rattle.timefd_sources.specs.Bytes.{Text, quote, apostrophe, hash, class_test, is_bare, is_blank, is_line_end}
+use Rattle.timefd_sources.specs.declared.class.Class.{Class}
+use Rattle.timefd_sources.specs.declared.class.Class.TheVariants.{Blank, Skipped}
 use Rattle.timefd_keys.specs.declared.format.Format.{Format}
 use Rattle.timefd_keys.specs.declared.format.Format.TheVariants.{Toml, Json, Yaml}
 use Rattle.timefd_keys.specs.declared.name.Name as code
 use Rattle.timefd_keys.specs.Strings.{Reading, string_at}
-use Rattle.timefd_keys.specs.Styles.{begins_plain, begins_space, class_test, is_bare, is_blank, is_flow, is_line_end}
+use Rattle.timefd_keys.specs.Styles.{begins_plain, begins_space, is_flow}
 
 -- the bytes that a name stands for, and what stands behind it
 pub record Name : Type 0 where
@@ -93,7 +93,7 @@ name_at format source at = name_in format source at (drop at source)
 -- what may stand between a name and its value: blanks, in JSON also ends of lines
 abbrev pub between : Format → Class
 between Toml = Blank
-between Json = White
+between Json = Skipped
 between Yaml = Blank
 
 -- `=` in TOML, else `:`

@@ -1,30 +1,11 @@
 -- How strings are written, and which bytes end them.
 use Rattle.std.specs.Prelude.{ℕ, Bool, true, false, not, ◌&&◌, ◌||◌, ◌==◌, nat_le, if◌then◌else◌, [], ◌∷◌, Option, Some, None}
-use Rattle.std.specs.Char.{is_ascii_alphanumeric}
 use Rattle.timefd_sources.specs.Behind.{behind_run}
-use Rattle.timefd_sources.specs.Bytes.{Text, quote, apostrophe, hash, line_feed, carriage_return}
-use Rattle.timefd_keys.specs.declared.bytes.Class.{Class}
-use Rattle.timefd_keys.specs.declared.bytes.Class.TheVariants.{Blank, White, Bare}
+use Rattle.timefd_sources.specs.Bytes.{Text, quote, apostrophe, hash, is_blank, is_line_end}
 use Rattle.timefd_keys.specs.declared.format.Format.{Format}
 use Rattle.timefd_keys.specs.declared.format.Format.TheVariants as formats
 use Rattle.timefd_keys.specs.declared.style.Style.{Style}
 use Rattle.timefd_keys.specs.declared.style.Style.TheVariants.{Json, Basic, Literal, Double, Single, Plain}
-
--- a space or a tab
-abbrev pub is_blank : ℕ → Bool
-is_blank b = (b == 32) || (b == 9)
-
-abbrev pub is_line_end : ℕ → Bool
-is_line_end b = (b == line_feed) || (b == carriage_return)
-
--- a byte of a key of TOML without quotes: a letter or a digit of ASCII, `_`, `-`
-abbrev pub is_bare : ℕ → Bool
-is_bare b = is_ascii_alphanumeric b || (b == 95) || (b == 45)
-
-abbrev pub class_test : Class → (ℕ → Bool)
-class_test Blank = is_blank
-class_test White = λ b. is_blank b || is_line_end b
-class_test Bare = is_bare
 
 -- white, a control character, or nothing
 abbrev pub begins_space : Text → Bool

@@ -4,11 +4,12 @@ ghost use Rattle.std.specs.Prelude.{◌≡◌, ◌≤◌, length, MatchOption, �
 ghost use Rattle.timefd_keys.specs.Escapes.{parted, parted_any};
 ghost use Rattle.timefd_keys.specs.Escapes as spec;
 
-use crate::bytes::{begins_space, is_blank};
+use crate::bytes::begins_space;
 use crate::letter::{digit_count, letter};
 use crate::part::{Part, Stands};
 use crate::scalar::{char_part, numeric};
 use crate::style::Style;
+use timefd_sources::class::is_blank;
 
 // The control character behind the letters of ASCII.
 const DELETE: u8 = b'\x7f';

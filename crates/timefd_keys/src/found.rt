@@ -1,11 +1,15 @@
 //! The descriptions in a file with keys.
 
-ghost use Rattle.std.specs.Prelude.{◌≡◌, IfOk, MatchOption, Some, ⊤};
+ghost use Rattle.std.specs.Prelude.{◌≡◌, ◌<◌, ◌≤◌, length, IfOk, MatchOption, Some, ⊤};
+ghost use Rattle.timefd_keys.specs.Comments.{told_in_front};
+ghost use Rattle.timefd_keys.specs.Found as spec;
 ghost use Rattle.timefd_keys.specs.Found.{AllValues, IsString, IsStringOf, IsValue};
+ghost use Rattle.timefd_keys.specs.Lines.{line_start};
 ghost use Rattle.timefd_keys.specs.Names.{name_at as name_of, seen as named};
 ghost use Rattle.timefd_keys.specs.Strings.{seen, string_at as string_of};
 ghost use Rattle.timefd_sources.specs.Found.{AreInOrder};
 
+use crate::comment::{Line, told_behind};
 use crate::format::Format;
 use crate::key::{Key, dialect_of};
 use crate::lies::lies;
@@ -30,6 +34,16 @@ struct Step {
     found: Option<Description>,
     next: usize,
     depth: usize,
+}
+
+/// The first of two languages that is one.
+fn first_of(told: Option<Dialect>, other: Option<Dialect>) -> Option<Dialect>
+    ensures { result ≡ spec.first_of told other }
+{
+    match told {
+        Some(_) => told,
+        None => other,
+    }
 }
 
 /// A string as a description; none where it doesn't lie in the source.
@@ -62,6 +76,27 @@ fn described(
     })
 }
 
+/// A string as a description of the language that a comment behind it names, or else of the other; none
+/// where neither is one.
+#[tactic(auto, using(crate::proofs::FoundLemmas::string_told))]
+fn told_or_other(
+    format: Format,
+    source: &str,
+    start: usize,
+    reading: Reading,
+    other: Option<Dialect>,
+) -> Option<Description>
+    requires { Some (seen reading) ≡ string_of format source.now start }
+    ensures { MatchOption result ⊤
+        (IsStringOf format source.now start (spec.language_at format source.now start other)) }
+{
+    let told = told_behind(format, source.as_bytes(), reading.closing);
+    match first_of(told, other) {
+        Some(dialect) => described(format, source, start, reading, dialect),
+        None => None,
+    }
+}
+
 /// Whether a value without quotes stands in brackets, where its end isn't known.
 fn is_unsure(scan: Scan<'_>, value: usize, depth: usize) -> bool {
     match scan.format {
@@ -71,16 +106,18 @@ fn is_unsure(scan: Scan<'_>, value: usize, depth: usize) -> bool {
     }
 }
 
-/// What is found in the value at a place, which is a description if a language is given.
+/// What is found in the value at a place, which is a description if a comment behind it names a language,
+/// or if another is given.
 fn value_step(
     alloc: Global,
     scan: Scan<'_>,
-    dialect: Option<Dialect>,
+    other: Option<Dialect>,
     value: usize,
     depth: usize,
 ) -> Result<Step, AllocError>
     ensures { IfOk result (λ step. MatchOption step.found ⊤
-        (IsStringOf scan.entry.format scan.entry.source.now value dialect)) }
+        (IsStringOf scan.entry.format scan.entry.source.now value
+        (spec.language_at scan.entry.format scan.entry.source.now value other))) }
 {
     let nothing = Step {
         found: None,
@@ -94,10 +131,7 @@ fn value_step(
         return Ok(nothing);
     };
     let next = reading.closing.saturating_add(1);
-    let found = match dialect {
-        Some(dialect) => described(scan.format, scan.source, value, reading, dialect),
-        None => None,
-    };
+    let found = told_or_other(scan.format, scan.source, value, reading, other);
     Ok(Step { found, next, depth })
 }
 
@@ -106,10 +140,12 @@ fn name_step(
     alloc: Global,
     scan: Scan<'_>,
     at: usize,
+    told: Option<Dialect>,
     name: Name<'_>,
     depth: usize,
 ) -> Result<Step, AllocError>
-    requires { Some (named name) ≡ name_of scan.format scan.source.now at }
+    requires named { Some (named name) ≡ name_of scan.format scan.source.now at }
+    requires told { told ≡ told_in_front scan.format scan.source.now (line_start scan.source.now at) }
     ensures { IfOk result (λ step. MatchOption step.found ⊤
         (IsValue scan.entry.format scan.entry.source.now scan.entry.keys.now)) }
 {
@@ -120,19 +156,26 @@ fn name_step(
             depth,
         });
     };
-    let dialect = dialect_of(scan.keys, &name.text);
+    let other = first_of(told, dialect_of(scan.keys, &name.text));
     let value = scan.source.len().saturating_sub(value.len());
-    value_step(alloc, scan, dialect, value, depth)
+    value_step(alloc, scan, other, value, depth)
 }
 
-/// What is found at a place.
-fn step_at(alloc: Global, scan: Scan<'_>, at: usize, depth: usize) -> Result<Step, AllocError>
+/// What is found at a place, in front of whose line a comment names this language.
+fn step_at(
+    alloc: Global,
+    scan: Scan<'_>,
+    at: usize,
+    told: Option<Dialect>,
+    depth: usize,
+) -> Result<Step, AllocError>
+    requires { told ≡ told_in_front scan.format scan.source.now (line_start scan.source.now at) }
     ensures { IfOk result (λ step. MatchOption step.found ⊤
         (IsValue scan.entry.format scan.entry.source.now scan.entry.keys.now)) }
 {
     let bytes = scan.source.as_bytes();
     match name_at(alloc, scan.format, bytes, at)? {
-        Some(name) => name_step(alloc, scan, at, name, depth),
+        Some(name) => name_step(alloc, scan, at, told, name, depth),
         None => Ok(Step {
             found: None,
             next: at.saturating_add(passed_len(scan.format, bytes, at)),
@@ -141,9 +184,20 @@ fn step_at(alloc: Global, scan: Scan<'_>, at: usize, depth: usize) -> Result<Ste
     }
 }
 
+/// A place behind another, and no later than the end: this one, if it is.
+fn later_place(source: &str, at: usize, next: usize) -> usize
+    requires { at < length source.now }
+    ensures later { at < result }
+    ensures within { result ≤ length source.now }
+{
+    next.max(at + 1).min(source.len())
+}
+
 /// The descriptions in a file of this format: each string that is the value of one of the keys, at any
-/// depth. Of two keys with one name the first counts. A string with an escape that the format hasn't is
-/// none. Comments are passed over, in JSON those of JavaScript.
+/// depth, and each value that a comment names a language for: `# timefd: 3` (in JSON `// timefd: 3`) in its
+/// line, or alone in the line in front of its key. Of two keys with one name the first counts, and a comment
+/// counts before a key. A string with an escape that the format hasn't is none. Other comments are passed
+/// over, in JSON those of JavaScript.
 ///
 /// Passed over are also strings of several lines, and in YAML: values in another line than their key,
 /// behind tags or anchors, and without quotes in brackets or with two blanks in a row. What stands in a
@@ -164,14 +218,17 @@ pub fn descriptions_by(
         keys,
     };
     let mut descriptions = Vec::new(alloc);
+    let mut line = Line::first(format, source.as_bytes());
     let mut depth = 0;
     let mut end = 0;
     let mut at = 0;
     'steps: while at < source.len() {
-        let step = step_at(alloc, scan, at, depth)?;
+        let step = step_at(alloc, scan, at, line.told, depth)?;
         end = push_any(&mut descriptions, step.found, end)?;
         depth = step.depth;
-        at = step.next.max(at + 1);
+        let next = later_place(source, at, step.next);
+        line = line.later(format, source.as_bytes(), at, next);
+        at = next;
     }
     Ok(descriptions)
 }

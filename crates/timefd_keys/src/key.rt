@@ -1,6 +1,6 @@
 //! Keys whose strings are descriptions.
 
-ghost use Rattle.std.specs.Prelude.{◌≡◌};
+ghost use Rattle.std.specs.Prelude.{◌≡◌, bytes_eq};
 ghost use Rattle.timefd_keys.specs.Keys as spec;
 
 use timefd_sources::Dialect;
@@ -16,12 +16,29 @@ pub struct Key<'a> {
 pub fn dialect_named(word: &str) -> Option<Dialect>
     ensures { result ≡ spec.dialect_named word.now }
 {
-    match word {
-        "1" => Some(Dialect::One),
-        "2" => Some(Dialect::Two),
-        "3" => Some(Dialect::Three),
-        "strftime" => Some(Dialect::Strftime),
-        _ => None,
+    dialect_of_word(word.as_bytes())
+}
+
+fn is(word: &[u8], name: &str) -> bool
+    ensures { result ≡ bytes_eq word.now name.now }
+{
+    word == name.as_bytes()
+}
+
+/// The language that the bytes of a word name.
+pub fn dialect_of_word(word: &[u8]) -> Option<Dialect>
+    ensures { result ≡ spec.dialect_named word.now }
+{
+    if is(word, "1") {
+        Some(Dialect::One)
+    } else if is(word, "2") {
+        Some(Dialect::Two)
+    } else if is(word, "3") {
+        Some(Dialect::Three)
+    } else if is(word, "strftime") {
+        Some(Dialect::Strftime)
+    } else {
+        None
     }
 }
 

@@ -2,12 +2,14 @@
 #![tactic(auto)]
 
 mod bytes;
+mod comment;
 mod escape;
 mod format;
 mod found;
 mod key;
 mod letter;
 mod lies;
+mod line;
 mod name;
 mod number;
 mod part;

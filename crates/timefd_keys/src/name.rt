@@ -5,11 +5,12 @@ ghost use Rattle.timefd_keys.specs.Names as spec;
 ghost use Rattle.timefd_keys.specs.Names.{now_any, seen_any};
 ghost use Rattle.timefd_keys.specs.Strings.{string_at as string_of};
 
-use crate::bytes::{Class, begins_space, behind_run, is_blank, is_line_end};
+use crate::bytes::begins_space;
 use crate::format::Format;
 use crate::reading::string_at;
 use crate::style::{begins_plain, is_flow};
 use std::alloc::{AllocError, Global};
+use timefd_sources::class::{Class, behind_run, is_blank, is_line_end};
 
 /// What may be the name of a key.
 #[derive(Drop)]
@@ -160,7 +161,7 @@ fn between(format: Format) -> Class
     ensures { result ≡ spec.between format }
 {
     match format {
-        Format::Json => Class::White,
+        Format::Json => Class::Skipped,
         Format::Toml | Format::Yaml => Class::Blank,
     }
 }

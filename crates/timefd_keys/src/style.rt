@@ -3,8 +3,9 @@
 ghost use Rattle.std.specs.Prelude.{◌≡◌};
 ghost use Rattle.timefd_keys.specs.Styles as spec;
 
-use crate::bytes::{begins_space, behind_blanks, is_blank, is_line_end};
+use crate::bytes::{begins_space, behind_blanks};
 use crate::format::Format;
+use timefd_sources::class::{is_blank, is_line_end};
 
 /// How a string is written.
 #[derive(Clone, Copy, Debug, PartialEq, Eq)]
@@ -112,7 +113,8 @@ pub fn style_of(format: Format, byte: u8, behind: &[u8]) -> Option<Style>
     }
 }
 
-fn ends_line(text: &[u8]) -> bool
+/// Whether a text begins with the end of a line, or with a comment, or is empty.
+pub fn ends_line(text: &[u8]) -> bool
     ensures { result ≡ spec.ends_line text.now }
 {
     match text {

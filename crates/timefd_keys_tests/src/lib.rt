@@ -2,6 +2,8 @@
 #![tactic(auto)]
 
 #[cfg(test)]
+mod comments;
+#[cfg(test)]
 mod json;
 #[cfg(test)]
 mod shown;

@@ -7,3 +7,5 @@ pub mod Summaries
 pub mod Marks
 pub mod Rewritten
 pub mod Logs
+pub mod ErrorCodes
+pub mod Pages

@@ -3,7 +3,8 @@
 use std::alloc::{AllocError, Global};
 use std::str;
 use timefd_drawing::shown::safe;
-use timefd_lint_sources::{Position, position_of};
+use timefd_drawing::{Position, position_of};
+use timefd_lint_sources::FIRST_LINE;
 use timefd_parse::{DescriptionVersion, ParseError};
 use timefd_rewrite::lay_out;
 use timefd_rewrite_sources::{Change, Outcome, layout_of};
@@ -83,7 +84,12 @@ fn place(
     description: &Description,
 ) -> Result<String, AllocError> {
     let file = safe(alloc, name)?;
-    let Position { line, column } = position_of(alloc, source, description.piece.start)?;
+    let Position { line, column } = position_of(
+        alloc,
+        FIRST_LINE,
+        source,
+        description.piece.start,
+    )?;
     format!(in alloc; "{file}:{line}:{column}")
 }
 

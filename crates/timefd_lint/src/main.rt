@@ -6,10 +6,13 @@
 mod by_hand;
 mod color;
 mod config;
+mod error_code;
+mod error_page;
 mod failure;
 mod fix;
 mod folders;
 mod found;
+mod identity;
 mod line;
 mod lines;
 mod log;
@@ -35,7 +38,7 @@ use config::{ConfigFailure, counted_keys, read_config};
 use line::RunError;
 use log::write_log;
 use options::{Options, run_options};
-use page::{explained_in, page_on};
+use page::{Subject, explained_in, page_on};
 use running::run_in_form;
 use rust::are_sources;
 use session::session_status;
@@ -55,7 +58,6 @@ use timefd_lint_files::{WalkError, expanded};
 use timefd_lint_options::{
     Asked, OptionError, Settings, is_log, keys_of, lines_conflict, options_of,
 };
-use timefd_warnings::Warning;
 
 // Writes a text to the standard output, and answers the status.
 fn written(rt: &HostRuntime, text: &str) -> u8 {
@@ -65,9 +67,9 @@ fn written(rt: &HostRuntime, text: &str) -> u8 {
     }
 }
 
-// Writes the page on a warning, and answers the status.
-fn page_status(rt: &HostRuntime, warning: Warning) -> u8 {
-    match page_on(rt.alloc(), warning) {
+// Writes the page on an error or a warning, and answers the status.
+fn page_status(rt: &HostRuntime, subject: Subject) -> u8 {
+    match page_on(rt.alloc(), subject) {
         Ok(page) => written(rt, &page),
         Err(AllocError) => no_memory(rt),
     }
@@ -76,7 +78,7 @@ fn page_status(rt: &HostRuntime, warning: Warning) -> u8 {
 // The status of what the words behind the program's name ask for.
 fn words_status(rt: &HostRuntime, words: &[&str]) -> u8 {
     match explained_in(words) {
-        Some(warning) => page_status(rt, warning),
+        Some(subject) => page_status(rt, subject),
         None => options_status(rt, words),
     }
 }

@@ -1,23 +1,51 @@
-//! The page on a warning.
+//! The page on an error or a warning.
 
+ghost use Rattle.std.specs.Prelude.{◌≡◌};
+ghost use Rattle.timefd_lint.specs.Pages as spec;
+
+use crate::error_code::ErrorCode;
+use crate::error_page::{explanation, summary};
 use std::alloc::{AllocError, Global};
 use timefd_warnings::Warning;
 
-/// The warning that is to be explained, if these words are `--explain` and its code.
-pub fn explained_in(words: &[&str]) -> Option<Warning> {
-    let [option, code] = words else {
+/// What has a page.
+#[derive(Clone, Copy)]
+pub enum Subject {
+    Error(ErrorCode),
+    Warning(Warning),
+}
+
+/// The error or the warning of a name.
+fn subject_named(name: &str) -> Option<Subject>
+    ensures { result ≡ spec.subject_named name.now }
+{
+    match ErrorCode::named(name) {
+        Some(code) => Some(Subject::Error(code)),
+        None => match Warning::named(name) {
+            Some(warning) => Some(Subject::Warning(warning)),
+            None => None,
+        },
+    }
+}
+
+/// What is to be explained, if these words are `--explain` and its code.
+pub fn explained_in(words: &[&str]) -> Option<Subject>
+    ensures { result ≡ spec.explained_in words.now }
+{
+    let [option, name] = words else {
         return None;
     };
     match *option {
-        "--explain" => Warning::named(code),
+        "--explain" => subject_named(name),
         _ => None,
     }
 }
 
-/// What a warning says, what it means, and what to write instead. An `Err` says that memory ran out.
-pub fn page_on(alloc: Global, warning: Warning) -> Result<String, AllocError> {
-    let name = warning.name();
-    let sentence = warning.sentence();
-    let explanation = warning.explanation();
+/// What it is named for and says, what it means, and what to write instead. An `Err` says that memory ran out.
+pub fn page_on(alloc: Global, subject: Subject) -> Result<String, AllocError> {
+    let (name, sentence, explanation) = match subject {
+        Subject::Error(code) => (code.name(), summary(code), explanation(code)),
+        Subject::Warning(warning) => (warning.name(), warning.sentence(), warning.explanation()),
+    };
     format!(in alloc; "{name}: {sentence}\n\n{explanation}\n")
 }

@@ -3,15 +3,14 @@
 
 use crate::fix::{FixError, Original};
 use crate::found::{Found, Unit, looked_at, source_looked_at};
+use crate::identity::{identity_of, is_among, meet};
 use crate::line::RunError;
 use crate::lines::failed;
 use crate::options::Options;
 use crate::rust::is_source;
 use crate::tally::Tally;
 use std::alloc::Global;
-use std::fs;
 use std::io::{Eprint, Write};
-use std::os::unix::fs::MetadataExt;
 use std::rt::Files;
 use timefd_convert::conversion_between;
 use timefd_drawing::shown::safe;
@@ -80,13 +79,6 @@ pub fn rewriting_of(settings: Settings<'_>) -> Option<Rewriting> {
     })
 }
 
-// Which file of the system a name stands for.
-#[derive(Clone, Copy)]
-struct Identity {
-    device: u64,
-    inode: u64,
-}
-
 /// Looks at the lines of each file in turn, or at the descriptions of a source, and shows what changes
 /// in it or writes it back. One that several names stand for is taken once. A file that can't be read
 /// or not be written back is noted, and the others are still looked at.
@@ -113,31 +105,6 @@ pub fn rewrite_files<R: Files + Eprint, W: Write>(
         }
     }
     Ok(tally)
-}
-
-fn meet(met: &mut Vec<Identity>, identity: Identity) -> Result<(), RunError> {
-    match met.push(identity) {
-        Ok(()) => Ok(()),
-        Err(_) => Err(RunError::Memory),
-    }
-}
-
-// `None` where there is no file.
-fn identity_of<R: Files>(rt: &R, name: &str) -> Option<Identity> {
-    let metadata = fs::metadata(rt, name).ok()?;
-    Some(Identity {
-        device: metadata.dev(),
-        inode: metadata.ino(),
-    })
-}
-
-fn is_among(met: &[Identity], identity: Identity) -> bool {
-    for other in met {
-        if other.device == identity.device && other.inode == identity.inode {
-            return true;
-        }
-    }
-    false
 }
 
 // Looks at a file, and shows what changes in it or writes it back.

@@ -30,7 +30,7 @@ and those that .gitignore files name, or the list exclude in a file .timefd.toml
   --whole                      takes a file as one text, each newline in it counted
   --source                     takes a file as a source of Rust, whatever its name
   --explain                    shows each accepted text as its tree
-  --explain CODE               alone: tells what the warning of this code means
+  --explain CODE               alone: tells what the error or warning of this code means
   --warn                       tells what is suspect in an accepted text
   --deny CODE                  the same, and a text with this warning counts as refused
   --allow CODE                 the same, but for this warning

@@ -5,8 +5,10 @@ ghost use Rattle.timefd_lint_options.specs.Asked as spec;
 
 use crate::conflict::conflict;
 use crate::error::OptionError;
+use crate::flags::with_flag;
 use crate::names::{Names, names_from, names_of};
-use crate::settings::{Settings, with_flag, with_value};
+use crate::settings::Settings;
+use crate::valued::with_value;
 use crate::word::{Valued, Word, is_option, word_of};
 
 /// The options of a run, and the names of its files.

@@ -4,10 +4,12 @@
 mod asked;
 mod conflict;
 mod error;
+mod flags;
 mod keys;
 mod names;
 mod settings;
 mod suggestion;
+mod valued;
 mod values;
 mod word;
 

@@ -8,6 +8,6 @@ mod source;
 mod told;
 
 pub use language::{is_passed_over, language_of};
-pub use position::{Position, position_of};
+pub use position::FIRST_LINE;
 pub use source::{Report, descriptions_in, lint_source, tell_all};
 pub use told::{End, Finder, Source, Telling, Told, tell};

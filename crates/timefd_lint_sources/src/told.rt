@@ -9,11 +9,11 @@ ghost use Rattle.timefd_lint_sources.specs.Told as spec;
 
 use crate::accepted::accepted;
 use crate::language::{is_passed_over, language_of};
-use crate::position::{Position, position_of};
+use crate::position::FIRST_LINE;
 use std::alloc::{AllocError, Global};
 use std::str;
 use timefd_diagnosis::{Diagnostic, MOST_FURTHER, Span, diagnose, further_faults};
-use timefd_drawing::{Origin, Style, drawn_all, note};
+use timefd_drawing::{Origin, Position, Style, drawn_all, note, position_of};
 use timefd_keys::{Format, Key};
 use timefd_sources::{Description, place_of};
 use timefd_warnings::Levels;
@@ -107,7 +107,12 @@ fn not_text(
     ensures message { IfOk result (λ told. told.message.items
         ≡ note_of style source.entry description.now) }
 {
-    let Position { line, .. } = position_of(alloc, source.text, description.piece.start)?;
+    let Position { line, .. } = position_of(
+        alloc,
+        FIRST_LINE,
+        source.text,
+        description.piece.start,
+    )?;
     let origin = Origin {
         file: source.file,
         line,
@@ -166,7 +171,7 @@ fn refused(
 {
     let origin = Origin {
         file: source.file,
-        line: 1,
+        line: FIRST_LINE,
     };
     let first = placed_in(description, diagnostic);
     let others = all_placed_in(alloc, description, further)?;

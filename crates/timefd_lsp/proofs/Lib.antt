@@ -1,1 +1,5 @@
 pub mod SessionLemmas
+pub mod ServedLemmas
+pub mod ClosedLemmas
+pub mod RetoldLemmas
+pub mod AnswerLemmas

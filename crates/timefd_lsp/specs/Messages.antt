@@ -126,11 +126,39 @@ IsChanged (told.Closed uri) name = ⊥
 IsChanged told.Exit name = ⊥
 IsChanged told.Other name = ⊤
 
+-- which of these a method is
+pub data Notice : Type 0 where
+  exits : Notice
+  opens : Notice
+  changes : Notice
+  closes : Notice
+  others : Notice
+
+abbrev pub notice_of : List ℕ → Notice
+notice_of method =
+    if bytes_eq method (codes "exit") then exits
+    else if bytes_eq method (codes "textDocument/didOpen") then opens
+    else if bytes_eq method (codes "textDocument/didChange") then changes
+    else if bytes_eq method (codes "textDocument/didClose") then closes
+    else others
+
+abbrev pub IsNoticed : Notice → Notification → Data → Type 0
+IsNoticed exits notification d = seen_notification notification ≡ exit
+IsNoticed opens notification d = seen_notification notification ≡ opened_of d
+IsNoticed changes notification d = IsChanged notification (uri_of d)
+IsNoticed closes notification d = seen_notification notification ≡ closed_of d
+IsNoticed others notification d = seen_notification notification ≡ other
+
+-- what a notification of a method tells
+abbrev pub IsNotification : List ℕ → Data → Notification → Type 0
+IsNotification method d notification = IsNoticed (notice_of method) notification d
+
 -- The message is what a value of this shape is.
 abbrev pub IsOfShape : Message → Shape → Data → Type 0
 IsOfShape (messages.Request id request) (shapes.request value method) d =
     (seen_id id ≡ value) × (seen_request request ≡ request_of method d)
-IsOfShape (messages.Notification notification) (shapes.notification method) d = ⊤
+IsOfShape (messages.Notification notification) (shapes.notification method) d =
+    IsNotification method d notification
 IsOfShape (messages.Notification notification) shapes.response d = seen_notification notification ≡ other
 IsOfShape messages.NotMessage shapes.invalid d = ⊤
 IsOfShape (messages.Request id request) (shapes.notification method) d = ⊥

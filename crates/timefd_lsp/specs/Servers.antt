@@ -1,5 +1,5 @@
 -- The server, one message after another.
-use Rattle.std.specs.Prelude.{◌≡◌, ◌⊎◌, ℕ, List, [], Option, Some, None, String, string_bytes}
+use Rattle.std.specs.Prelude.{◌≡◌, ℕ, List, [], Option, Some, None, String, string_bytes, ⊤}
 use Rattle.std.specs.BTreeMap.{BTreeMap, get_by_text}
 use Rattle.std.specs.declared.alloc.Global.{Global}
 use Rattle.std.specs.declared.vec.Vec.{Vec}
@@ -14,12 +14,20 @@ use Rattle.timefd_lsp.specs.declared.message.Notification.{Notification}
 use Rattle.timefd_lsp.specs.declared.message.Notification.TheVariants as told
 use Rattle.timefd_lsp.specs.declared.message.Request.{Request}
 use Rattle.timefd_lsp.specs.declared.message.Request.TheVariants as asked
+use Rattle.timefd_lsp.specs.declared.reply.Answer.{Answer}
 use Rattle.timefd_lsp.specs.declared.reply.Answer.TheVariants as answers
 use Rattle.timefd_lsp.specs.declared.reply.Refusal.{Refusal}
 use Rattle.timefd_lsp.specs.declared.reply.Refusal.TheVariants as refusals
 use Rattle.timefd_lsp.specs.declared.reply.Reply.TheVariants as replies
+use Rattle.timefd_editor.specs.declared.action.Action.{Action}
 use Rattle.timefd_editor.specs.declared.finding.Finding.{Finding}
+use Rattle.timefd_editor.specs.declared.hovered.Hover.{Hover}
+use Rattle.timefd_editor.specs.declared.position.Position.{Position}
+use Rattle.timefd_editor.specs.declared.position.Range.{Range}
+use Rattle.timefd_editor.specs.Actions.{AreActionsOf}
 use Rattle.timefd_editor.specs.Findings.{AreFindingsOf}
+use Rattle.timefd_editor.specs.Hovers.{IsShownAt}
+use Rattle.timefd_editor.specs.Positions.{index_of}
 use Rattle.timefd_lint_sources.specs.declared.told.Finder.{Finder}
 use Rattle.timefd_lint_sources.specs.declared.told.Finder.TheVariants as finders
 use Rattle.timefd_lint_sources.specs.declared.told.Source.{Source}
@@ -107,6 +115,62 @@ pub record AreWrongIn (settings : Settings) (kind : Kind) (text : List ℕ) (fin
   pub whole : source.text.now ≡ text
   pub all : AreFindingsOf settings.levels source findings
 
+-- The source is the text of an open document.
+pub record IsSourceOf (settings : Settings) (document : Document) (source : Source) : Type 0 where
+  pub finder : source.finder ≡ finder_of settings document.kind
+  pub whole : source.text.now ≡ string_bytes document.text
+
+abbrev pub hover_answer : Option Hover → Answer
+hover_answer None = answers.Nothing
+hover_answer (Some hover) = answers.Hover hover
+
+-- what is answered at a place of a document, if it is open
+abbrev pub IsHoverAnswer : Settings → Option Document → Position → Answer → Type 0
+IsHoverAnswer settings None position answer = answer ≡ answers.Nothing
+IsHoverAnswer settings (Some document) position answer = (source : Source) × IsSourceOf settings document source
+    × ((found : Option Hover) × IsShownAt source (index_of source.text.now position) found
+    × (answer ≡ hover_answer found))
+
+-- and in a range of it
+abbrev pub IsActionsAnswer : Settings → Option Document → String Global → Range → Answer → Type 0
+IsActionsAnswer settings None uri range answer = answer ≡ answers.Nothing
+IsActionsAnswer settings (Some document) uri range answer = (source : Source) × IsSourceOf settings document source
+    × ((actions : Vec Action Global)
+    × AreActionsOf (index_of source.text.now range.start) (index_of source.text.now range.end) source actions.items
+    × (answer ≡ answers.Actions uri actions))
+
+-- What a request is answered that isn't refused.
+abbrev pub IsFirstAnswer : Request → Answer → Type 0
+IsFirstAnswer asked.Initialize answer = answer ≡ answers.Capabilities
+IsFirstAnswer (asked.Hover uri position) answer = ⊤
+IsFirstAnswer (asked.Actions uri range) answer = ⊤
+IsFirstAnswer asked.Shutdown answer = ⊤
+IsFirstAnswer asked.Unknown answer = ⊤
+IsFirstAnswer asked.WrongParams answer = ⊤
+
+abbrev pub IsRunningAnswer : Settings → BTreeMap (String Global) Document → Request → Answer → Type 0
+IsRunningAnswer settings documents asked.Initialize answer = ⊤
+IsRunningAnswer settings documents (asked.Hover uri position) answer =
+    IsHoverAnswer settings (get_by_text documents (string_bytes uri)) position answer
+IsRunningAnswer settings documents (asked.Actions uri range) answer =
+    IsActionsAnswer settings (get_by_text documents (string_bytes uri)) uri range answer
+IsRunningAnswer settings documents asked.Shutdown answer = answer ≡ answers.Nothing
+IsRunningAnswer settings documents asked.Unknown answer = ⊤
+IsRunningAnswer settings documents asked.WrongParams answer = ⊤
+
+abbrev pub IsAnswer : Settings → Phase → BTreeMap (String Global) Document → Request → Answer → Type 0
+IsAnswer settings New documents request answer = IsFirstAnswer request answer
+IsAnswer settings Running documents request answer = IsRunningAnswer settings documents request answer
+IsAnswer settings ShutDown documents request answer = ⊤
+
+-- The step has that answer.
+abbrev pub Answers : Settings → Phase → BTreeMap (String Global) Document → Request → Step → Type 0
+Answers settings phase documents request (Say (replies.Response id answer)) =
+    IsAnswer settings phase documents request answer
+Answers settings phase documents request (Say (replies.Findings uri findings)) = ⊥
+Answers settings phase documents request Silent = ⊥
+Answers settings phase documents request Exit = ⊥
+
 abbrev pub said : String Global → Vec Finding Global → Step
 said uri findings = Say (replies.Findings uri findings)
 
@@ -142,9 +206,13 @@ IsTakenBack name (Say (replies.Response other answer)) = ⊥
 IsTakenBack name Silent = ⊥
 IsTakenBack name Exit = ⊥
 
--- That is so of one that was open.
-abbrev pub IsClosed : List ℕ → Step → Type 0
-IsClosed name step = (step ≡ Silent) ⊎ IsTakenBack name step
+abbrev pub IsTakenBackOf : Option Document → List ℕ → Step → Type 0
+IsTakenBackOf (Some document) name step = IsTakenBack name step
+IsTakenBackOf None name step = step ≡ Silent
+
+-- It is taken back when an open document is closed. Nothing is said of one that isn't open.
+abbrev pub IsClosed : List ℕ → BTreeMap (String Global) Document → Step → Type 0
+IsClosed name documents step = IsTakenBackOf (get_by_text documents name) name step
 
 -- No response comes to a notification, only what is wrong in the document that it is about.
 abbrev pub IsHeard : Settings → BTreeMap (String Global) Document → Notification → Step → Type 0
@@ -152,7 +220,7 @@ IsHeard settings documents (told.Opened uri language text) step =
     IsOpened settings (string_bytes uri) (string_bytes language) (string_bytes text) step
 IsHeard settings documents (told.Changed uri text) step =
     IsChangedOf settings (string_bytes uri) (string_bytes text) documents step
-IsHeard settings documents (told.Closed uri) step = IsClosed (string_bytes uri) step
+IsHeard settings documents (told.Closed uri) step = IsClosed (string_bytes uri) documents step
 IsHeard settings documents told.Exit step = step ≡ Exit
 IsHeard settings documents told.Other step = step ≡ Silent
 
@@ -170,7 +238,8 @@ IsTold settings ShutDown documents notification step = step ≡ unheard notifica
 
 -- A request gets one response, which has its id. A notification gets none.
 abbrev pub IsStep : Settings → Phase → BTreeMap (String Global) Document → Message → Step → Type 0
-IsStep settings phase documents (messages.Request id request) step = Responds id (refusal phase request) step
+IsStep settings phase documents (messages.Request id request) step =
+    Responds id (refusal phase request) step × Answers settings phase documents request step
 IsStep settings phase documents (messages.Notification notification) step =
     IsTold settings phase documents notification step
 IsStep settings phase documents messages.NotJson step = step ≡ unanswered refusals.NotJson

@@ -1,11 +1,22 @@
 -- A session with an editor.
-use Rattle.std.specs.Prelude.{ℕ, List, [], ◌∷◌, ◌++◌, Option, Some, None}
+use Rattle.std.specs.Prelude.{◌≡◌, ◌⊎◌, ℕ, ◌-◌, ◌^◌, List, [], ◌∷◌, ◌++◌, Option, Some, None, length}
 use Rattle.std.specs.Io.KnownBytes.{Appends}
-use Rattle.timefd_lsp.specs.Frames.{framed}
+use Rattle.timefd_lsp.specs.Documents.{AreBehind, NoneOpen}
+use Rattle.timefd_lsp.specs.Frames.{framed, IsFrame}
+use Rattle.timefd_lsp.specs.Messages.{IsMessageOf}
+use Rattle.timefd_lsp.specs.Servers.{IsStep, first, phase_after, unanswered}
+use Rattle.timefd_lsp.specs.declared.frame.Frame.{Frame}
+use Rattle.timefd_lsp.specs.declared.frame.Frame.TheVariants as got
+use Rattle.timefd_lsp.specs.declared.message.Message.{Message}
+use Rattle.timefd_lsp.specs.declared.reply.Refusal.TheVariants as refusals
 use Rattle.timefd_lsp.specs.declared.session.End.{End}
 use Rattle.timefd_lsp.specs.declared.session.End.TheVariants.{Done, Left, InputEnded, Cut, NoFrame, Unread, Unwritten, Memory}
 use Rattle.timefd_lsp.specs.declared.server.Phase.{Phase}
 use Rattle.timefd_lsp.specs.declared.server.Phase.TheVariants.{New, Running, ShutDown}
+use Rattle.timefd_lsp.specs.declared.server.Server.{Server}
+use Rattle.timefd_lsp.specs.declared.server.Settings.{Settings}
+use Rattle.timefd_lsp.specs.declared.server.Step.{Step}
+use Rattle.timefd_lsp.specs.declared.server.Step.TheVariants.{Silent, Say, Exit}
 
 -- how a session ends at `exit`
 abbrev pub exit : Phase → End
@@ -37,3 +48,93 @@ IsSession old new Memory = WritesFrames old new
 abbrev pub IsTurn : Option (List ℕ) → Option (List ℕ) → Option End → Type 0
 IsTurn old new None = WritesFrames old new
 IsTurn old new (Some end) = IsSession old new end
+
+-- A content leads to the step of its message, and the server goes on as that says.
+abbrev pub IsStepOn : Settings → Server → Server → List ℕ → Step → Type 0
+IsStepOn settings before after content step = (message : Message) × IsMessageOf message content
+    × IsStep settings before.phase before.documents message step
+    × (after.phase ≡ phase_after before.phase message)
+    × AreBehind before.phase message before.documents after.documents
+
+-- A reply is one frame, unless it isn't written.
+abbrev pub IsWritten : Option (List ℕ) → Option (List ℕ) → Option End → Type 0
+IsWritten old new None = (content : List ℕ) × Appends old new (framed content)
+IsWritten old new (Some Done) = ⊥
+IsWritten old new (Some Left) = ⊥
+IsWritten old new (Some InputEnded) = ⊥
+IsWritten old new (Some Cut) = ⊥
+IsWritten old new (Some NoFrame) = ⊥
+IsWritten old new (Some Unread) = ⊥
+IsWritten old new (Some Unwritten) = Unit {0}
+IsWritten old new (Some Memory) = new ≡ old
+
+-- Nothing is written, and the session goes on or ends so.
+abbrev pub IsStill : Option (List ℕ) → Option (List ℕ) → Option End → Option End → Type 0
+IsStill old new wanted end = (end ≡ wanted) × (new ≡ old)
+
+-- What a step says is written, and `exit` ends the session.
+abbrev pub IsDone : Phase → Step → Option (List ℕ) → Option (List ℕ) → Option End → Type 0
+IsDone phase Silent old new end = IsStill old new None end
+IsDone phase (Say reply) old new end = IsWritten old new end
+IsDone phase Exit old new end = IsStill old new (Some (exit phase)) end
+
+-- A content is answered, unless memory runs out.
+abbrev pub IsAnswered : Settings → Server → Server → List ℕ → Option (List ℕ) → Option (List ℕ) → Option End → Type 0
+IsAnswered settings before after content old new end =
+    ((step : Step) × IsStepOn settings before after content step × IsDone after.phase step old new end)
+    ⊎ IsStill old new (Some Memory) end
+
+-- So is a content that is too long. The input's end and a broken frame end the session.
+abbrev pub IsOnFrame : Settings → Server → Server → Frame → Option (List ℕ) → Option (List ℕ) → Option End → Type 0
+IsOnFrame settings before after (got.Content content) old new end =
+    IsAnswered settings before after content.items old new end
+IsOnFrame settings before after got.TooLong old new end =
+    (after ≡ before) × IsDone after.phase (unanswered refusals.TooLong) old new end
+IsOnFrame settings before after got.AtEnd old new end = IsStill old new (Some InputEnded) end
+IsOnFrame settings before after got.Cut old new end = IsStill old new (Some Cut) end
+IsOnFrame settings before after got.NoHead old new end = IsStill old new (Some NoFrame) end
+
+-- how far a session is: what is left of the input, what is written, and what the server knows
+pub record At : Type 0 where
+  pub input : Option (List ℕ)
+  pub output : Option (List ℕ)
+  pub server : Server
+
+abbrev pub at : Option (List ℕ) → Option (List ℕ) → Server → At
+at left written known = record { input = left; output = written; server = known }
+
+-- A frame is read and answered, unless the input can't be read or memory runs out.
+abbrev pub IsStepped : Settings → At → At → Option End → Type 0
+IsStepped settings a b end =
+    ((frame : Frame) × IsFrame a.input b.input frame
+    × IsOnFrame settings a.server b.server frame a.output b.output end)
+    ⊎ IsStill a.output b.output (Some Unread) end
+    ⊎ IsStill a.output b.output (Some Memory) end
+
+-- So is one frame after another, and none of them ends the session.
+abbrev pub AreStepped : Settings → At → List At → At → Type 0
+AreStepped settings a [] b = b ≡ a
+AreStepped settings a (m ∷ ms) b = IsStepped settings a m None × AreStepped settings m ms b
+
+-- The session ends with the frame that stands then; or so many were read, which no session comes to.
+abbrev pub IsEnd : Settings → ℕ → At → Option (List ℕ) → Option (List ℕ) → End → Type 0
+IsEnd settings count a left written end =
+    ((known : Server) × IsStepped settings a (at left written known) (Some end))
+    ⊎ ((count ≡ 2 ^ 64 - 1) × (end ≡ InputEnded) × (left ≡ a.input) × (written ≡ a.output))
+
+-- So many frames of a session are read and answered, and none of them ends it.
+pub record AreServed (settings : Settings) (left written : Option (List ℕ)) (b : At) (count : ℕ) : Type 0 where
+  pub start : Server
+  pub fresh : start.phase ≡ first
+  pub none_open : NoneOpen start.documents
+  pub turns : List At
+  pub counted : length turns ≡ count
+  pub each : AreStepped settings (at left written start) turns b
+
+-- Each frame of the input is read and answered in turn, until one ends the session.
+pub record IsServed (settings : Settings) (left written left_then written_then : Option (List ℕ)) (end : End)
+    : Type 0 where
+  pub count : ℕ
+  pub last : At
+  pub served : AreServed settings left written last count
+  pub ends : IsEnd settings count last left_then written_then end

@@ -1,7 +1,8 @@
 //! The content of a frame: as many bytes as its head says.
 
-ghost use Rattle.std.specs.Prelude.{◌≡◌, ◌++◌, IfOk, OnOk};
+ghost use Rattle.std.specs.Prelude.{◌≡◌, ◌++◌, IfErr, IfOk, IsTrue, OnOk};
 ghost use Rattle.timefd_lsp.specs.Contents as spec;
+ghost use Rattle.timefd_streams.specs.declared.transfer.ReadError.{ReadError};
 
 use std::alloc::{AllocError, Global};
 use timefd_streams::Source;
@@ -16,8 +17,9 @@ pub fn read_content<R: Source>(
     source: &mut R,
     wanted: usize,
 ) -> Result<Vec<u8>, ReadError>
-    ensures { IfOk result (λ content. spec.IsContent (R.remaining source.old)
+    ensures content { IfOk result (λ content. spec.IsContent (R.remaining source.old)
         (R.remaining source.new) wanted content.items) }
+    ensures fails { IfErr result (λ e. e ≡ ReadError.Failed → IsTrue (R.has_failed source.new)) }
 {
     let mut content = Vec::new(alloc);
     let mut piece = [0; PIECE];
@@ -40,8 +42,9 @@ fn append(content: &mut Vec<u8>, bytes: &[u8]) -> Result<(), AllocError>
 
 /// Passes over the bytes that the source has next, as many as are wanted, and answers how many there were; fewer only at its end.
 pub fn skip_content<R: Source>(source: &mut R, wanted: u64) -> Result<u64, ReadError>
-    ensures { IfOk result (λ count. spec.IsSkipped (R.remaining source.old)
+    ensures skipped { IfOk result (λ count. spec.IsSkipped (R.remaining source.old)
         (R.remaining source.new) wanted count) }
+    ensures fails { IfErr result (λ e. e ≡ ReadError.Failed → IsTrue (R.has_failed source.new)) }
 {
     let mut piece = [0; PIECE];
     let mut passed: u64 = 0;

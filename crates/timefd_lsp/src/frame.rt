@@ -4,6 +4,7 @@ ghost use Rattle.std.specs.Prelude.{◌≡◌, ◌≤◌, ◌<◌, ◌^◌, stri
 ghost use Rattle.std.specs.Io.KnownBytes.{Appends};
 ghost use Rattle.timefd_lsp.specs.Frames as spec;
 ghost use Rattle.timefd_lsp.specs.declared.frame.WriteError.{WriteError};
+ghost use Rattle.timefd_streams.specs.declared.transfer.ReadError.{ReadError};
 
 use crate::content::{read_content, skip_content};
 use crate::head::{HeadEnd, read_head};
@@ -32,7 +33,8 @@ pub enum Frame {
 
 /// Reads a frame. What stands behind `NoHead` can't be told apart any more.
 pub fn read_frame<R: Source>(alloc: Global, source: &mut R) -> Result<Frame, ReadError>
-    ensures { IfOk result (spec.IsFrame (R.remaining source.old) (R.remaining source.new)) }
+    ensures frame { IfOk result (spec.IsFrame (R.remaining source.old) (R.remaining source.new)) }
+    ensures fails { IfErr result (λ e. e ≡ ReadError.Failed → IsTrue (R.has_failed source.new)) }
 {
     let head = read_head(alloc, source)?;
     match head.end {
@@ -45,8 +47,9 @@ pub fn read_frame<R: Source>(alloc: Global, source: &mut R) -> Result<Frame, Rea
 
 // Reads what stands behind a head.
 fn behind_head<R: Source>(alloc: Global, source: &mut R, head: &[u8]) -> Result<Frame, ReadError>
-    ensures { IfOk result (spec.IsBehind head.now (R.remaining source.old)
+    ensures behind { IfOk result (spec.IsBehind head.now (R.remaining source.old)
         (R.remaining source.new)) }
+    ensures fails { IfErr result (λ e. e ≡ ReadError.Failed → IsTrue (R.has_failed source.new)) }
 {
     match length_in(head) {
         None => Ok(Frame::NoHead),
@@ -57,8 +60,9 @@ fn behind_head<R: Source>(alloc: Global, source: &mut R, head: &[u8]) -> Result<
 
 fn with_content<R: Source>(alloc: Global, source: &mut R, length: usize) -> Result<Frame, ReadError>
     requires { length ≤ 2 ^ 24 }
-    ensures { IfOk result (spec.IsOfLength length (R.remaining source.old)
+    ensures frame { IfOk result (spec.IsOfLength length (R.remaining source.old)
         (R.remaining source.new)) }
+    ensures fails { IfErr result (λ e. e ≡ ReadError.Failed → IsTrue (R.has_failed source.new)) }
 {
     let content = read_content(alloc, source, length)?;
     if content.len() < length {
@@ -69,8 +73,9 @@ fn with_content<R: Source>(alloc: Global, source: &mut R, length: usize) -> Resu
 
 fn without_content<R: Source>(source: &mut R, length: u64) -> Result<Frame, ReadError>
     requires { 2 ^ 24 < length }
-    ensures { IfOk result (spec.IsOfLength length (R.remaining source.old)
+    ensures frame { IfOk result (spec.IsOfLength length (R.remaining source.old)
         (R.remaining source.new)) }
+    ensures fails { IfErr result (λ e. e ≡ ReadError.Failed → IsTrue (R.has_failed source.new)) }
 {
     let passed = skip_content(source, length)?;
     if passed < length {
@@ -95,6 +100,7 @@ pub fn write_frame<W: Sink>(alloc: Global, sink: &mut W, content: &str) -> Resul
     ensures kept { IfErr result (λ e. e ≡ WriteError.Memory
         → W.contents sink.new ≡ W.contents sink.old) }
     ensures flushed { OnOk result (IsTrue (W.is_flushed sink.new)) }
+    ensures fails { IfErr result (λ e. e ≡ WriteError.Failed → IsTrue (W.has_failed sink.new)) }
 {
     let Ok(frame) = framed(alloc, content) else {
         return Err(WriteError::Memory);

@@ -1,7 +1,8 @@
 //! The head of a frame: its lines, up to an empty one.
 
-ghost use Rattle.std.specs.Prelude.{◌≡◌, ◌+◌, ◌++◌, ◌∷◌, [], vec_len, IfOk, OnOk};
+ghost use Rattle.std.specs.Prelude.{◌≡◌, ◌+◌, ◌++◌, ◌∷◌, [], vec_len, IfErr, IfOk, IsTrue, OnOk};
 ghost use Rattle.timefd_lsp.specs.Heads as spec;
+ghost use Rattle.timefd_streams.specs.declared.transfer.ReadError.{ReadError};
 
 use std::alloc::{AllocError, Global};
 use timefd_streams::Source;
@@ -32,7 +33,8 @@ pub struct Head {
 
 // What a source has next: `None` at its end.
 fn next_byte<R: Source>(source: &mut R) -> Result<Option<u8>, ReadError>
-    ensures { IfOk result (spec.IsNext (R.remaining source.old) (R.remaining source.new)) }
+    ensures next { IfOk result (spec.IsNext (R.remaining source.old) (R.remaining source.new)) }
+    ensures fails { IfErr result (λ e. e ≡ ReadError.Failed → IsTrue (R.has_failed source.new)) }
 {
     let mut place = [0];
     let count = source.read(&mut place)?;
@@ -44,8 +46,9 @@ fn next_byte<R: Source>(source: &mut R) -> Result<Option<u8>, ReadError>
 
 /// Reads a head, and no byte behind it.
 pub fn read_head<R: Source>(alloc: Global, source: &mut R) -> Result<Head, ReadError>
-    ensures { IfOk result (λ head. spec.IsHead (R.remaining source.old) (R.remaining source.new)
+    ensures head { IfOk result (λ head. spec.IsHead (R.remaining source.old) (R.remaining source.new)
         head.bytes.items head.end) }
+    ensures fails { IfErr result (λ e. e ≡ ReadError.Failed → IsTrue (R.has_failed source.new)) }
 {
     let mut bytes = Vec::new(alloc);
     'bytes: while bytes.len() < MOST_HEAD {

@@ -2,6 +2,7 @@
 //! documents, and what is answered.
 #![tactic(auto)]
 
+mod answering;
 mod content;
 mod documents;
 mod envelope;
@@ -13,6 +14,7 @@ mod reply;
 mod server;
 mod session;
 mod shown;
+mod telling;
 mod text;
 
 pub use documents::{Document, Documents, Kind, change, close, kind_of, open};

@@ -235,7 +235,9 @@ pub fn notification_of(
     alloc: Global,
     method: &str,
     value: &Value,
-) -> Result<Notification, AllocError> {
+) -> Result<Notification, AllocError>
+    ensures { IfOk result (spec.IsNotification method.now (view value.now)) }
+{
     match method {
         "exit" => Ok(Notification::Exit),
         "textDocument/didOpen" => opened_of(alloc, value),

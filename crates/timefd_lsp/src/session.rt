@@ -1,10 +1,8 @@
 //! A session with an editor, from its first byte to its last.
 
-ghost use Rattle.std.specs.Prelude.{◌≡◌, IfOk};
-ghost use Rattle.timefd_lsp.specs.Messages.{IsMessageOf};
-ghost use Rattle.timefd_lsp.specs.Servers.{IsStep};
-ghost use Rattle.timefd_lsp.specs.declared.message.Message.{Message};
+ghost use Rattle.std.specs.Prelude.{◌≡◌, Some, IfOk, IsTrue};
 ghost use Rattle.timefd_lsp.specs.Sessions as spec;
+ghost use Rattle.timefd_lsp.specs.declared.session.End.{End};
 
 use crate::frame::{Frame, WriteError, read_frame, write_frame};
 use crate::message::message_of;
@@ -44,7 +42,11 @@ pub fn serve<R: Source, W: Sink>(
     source: &mut R,
     sink: &mut W,
 ) -> End
-    ensures { spec.IsSession (W.contents sink.old) (W.contents sink.new) result }
+    ensures frames { spec.IsSession (W.contents sink.old) (W.contents sink.new) result }
+    ensures served { spec.IsServed settings.entry (R.remaining source.old) (W.contents sink.old)
+        (R.remaining source.new) (W.contents sink.new) result }
+    ensures unread { result ≡ End.Unread → IsTrue (R.has_failed source.new) }
+    ensures unwritten { result ≡ End.Unwritten → IsTrue (W.has_failed sink.new) }
 {
     let mut server = Server::new(alloc);
     'frames: for _ in 0..u64::MAX {
@@ -65,7 +67,11 @@ fn turn<R: Source, W: Sink>(
     source: &mut R,
     sink: &mut W,
 ) -> Option<End>
-    ensures { spec.IsTurn (W.contents sink.old) (W.contents sink.new) result }
+    ensures frames { spec.IsTurn (W.contents sink.old) (W.contents sink.new) result }
+    ensures turn { spec.IsStepped settings.entry (spec.at (R.remaining source.old) (W.contents sink.old) server.old)
+        (spec.at (R.remaining source.new) (W.contents sink.new) server.new) result }
+    ensures unread { result ≡ Some End.Unread → IsTrue (R.has_failed source.new) }
+    ensures unwritten { result ≡ Some End.Unwritten → IsTrue (W.has_failed sink.new) }
 {
     match read_frame(alloc, source) {
         Ok(Frame::Content(content)) => taken(alloc, settings, server, &content, sink),
@@ -87,7 +93,11 @@ fn taken<W: Sink>(
     content: &[u8],
     sink: &mut W,
 ) -> Option<End>
-    ensures { spec.IsTurn (W.contents sink.old) (W.contents sink.new) result }
+    ensures frames { spec.IsTurn (W.contents sink.old) (W.contents sink.new) result }
+    ensures answered { spec.IsAnswered settings.entry server.old server.new content.now (W.contents sink.old)
+        (W.contents sink.new) result }
+    ensures read { ¬ (result ≡ Some End.Unread) }
+    ensures unwritten { result ≡ Some End.Unwritten → IsTrue (W.has_failed sink.new) }
 {
     match step_of(alloc, settings, server, content) {
         Ok(step) => followed(alloc, server, step, sink),
@@ -101,8 +111,7 @@ fn step_of(
     server: &mut Server,
     content: &[u8],
 ) -> Result<Step, AllocError>
-    ensures { IfOk result (λ step. (message : Message) × IsMessageOf message content.now
-        × IsStep settings.entry server.old.phase server.old.documents message step) }
+    ensures { IfOk result (spec.IsStepOn settings.entry server.old server.new content.now) }
 {
     let message = message_of(alloc, content)?;
     take(alloc, settings, server, message)
@@ -111,7 +120,10 @@ fn step_of(
 // Does what a step says.
 #[tactic(auto, using(crate::proofs::SessionLemmas::none_written))]
 fn followed<W: Sink>(alloc: Global, server: &Server, step: Step, sink: &mut W) -> Option<End>
-    ensures { spec.IsTurn (W.contents sink.old) (W.contents sink.new) result }
+    ensures frames { spec.IsTurn (W.contents sink.old) (W.contents sink.new) result }
+    ensures done { spec.IsDone server.now.phase step (W.contents sink.old) (W.contents sink.new) result }
+    ensures read { ¬ (result ≡ Some End.Unread) }
+    ensures unwritten { result ≡ Some End.Unwritten → IsTrue (W.has_failed sink.new) }
 {
     match step {
         Step::Silent => None,
@@ -132,7 +144,10 @@ fn exit(phase: Phase) -> End
 // Writes a reply as a frame.
 #[tactic(auto, using(crate::proofs::SessionLemmas::none_written, crate::proofs::SessionLemmas::same_written, crate::proofs::SessionLemmas::one_written))]
 fn say<W: Sink>(alloc: Global, reply: &Reply, sink: &mut W) -> Option<End>
-    ensures { spec.IsTurn (W.contents sink.old) (W.contents sink.new) result }
+    ensures frames { spec.IsTurn (W.contents sink.old) (W.contents sink.new) result }
+    ensures written { spec.IsWritten (W.contents sink.old) (W.contents sink.new) result }
+    ensures read { ¬ (result ≡ Some End.Unread) }
+    ensures unwritten { result ≡ Some End.Unwritten → IsTrue (W.has_failed sink.new) }
 {
     let Ok(text) = text_of(alloc, reply) else {
         return Some(End::Memory);

@@ -10,10 +10,17 @@ ghost use Rattle.timefd_sources.specs.Behind.{behind_run};
 pub enum Class {
     /// White bytes.
     White,
-    /// White bytes that a backslash at the end of a line passes over.
+    /// Blanks and ends of lines: white bytes that a backslash at the end of a line passes over.
     Skipped,
+    /// A space or a tab.
+    Blank,
     /// Bytes of a word: letters, digits, `_`, and all that isn't ASCII.
     Word,
+    /// Bytes of a key of TOML without quotes.
+    Bare,
+    /// Bytes that may stand between the value of a key and a comment behind it: blanks, quotes, commas, and
+    /// what closes a list or a table.
+    Aside,
     /// Bytes of a line, without its end.
     Line,
     /// `#`.
@@ -26,10 +33,24 @@ pub enum Class {
     Quoted,
 }
 
+/// Whether a byte is a space or a tab.
+pub fn is_blank(byte: u8) -> bool
+    ensures { result ≡ spec.is_blank byte }
+{
+    byte == b' ' || byte == b'\t'
+}
+
+/// Whether a byte is a line feed or a carriage return.
+pub fn is_line_end(byte: u8) -> bool
+    ensures { result ≡ spec.is_line_end byte }
+{
+    byte == b'\n' || byte == b'\r'
+}
+
 fn is_skipped(byte: u8) -> bool
     ensures { result ≡ spec.is_skipped byte }
 {
-    byte == b'\t' || byte == b'\n' || byte == b'\r' || byte == b' '
+    is_blank(byte) || is_line_end(byte)
 }
 
 pub fn is_white(byte: u8) -> bool
@@ -48,13 +69,28 @@ pub fn is_word(byte: u8) -> bool
         || byte >= 128
 }
 
+fn is_bare(byte: u8) -> bool
+    ensures { result ≡ spec.is_bare byte }
+{
+    byte.is_ascii_alphanumeric() || byte == b'_' || byte == b'-'
+}
+
+fn is_aside(byte: u8) -> bool
+    ensures { result ≡ spec.is_aside byte }
+{
+    is_blank(byte) || byte == b'"' || byte == b'\'' || byte == b',' || byte == b']' || byte == b'}'
+}
+
 fn is_in(class: Class, byte: u8) -> bool
     ensures { result ≡ class_test class byte }
 {
     match class {
         Class::White => is_white(byte),
         Class::Skipped => is_skipped(byte),
+        Class::Blank => is_blank(byte),
         Class::Word => is_word(byte),
+        Class::Bare => is_bare(byte),
+        Class::Aside => is_aside(byte),
         Class::Line => byte != b'\n',
         Class::Hash => byte == b'#',
         Class::Continuation => 128 <= byte && byte <= 191,

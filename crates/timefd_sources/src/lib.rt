@@ -6,7 +6,7 @@ mod between;
 mod calls;
 mod character;
 mod chrono;
-mod class;
+pub mod class;
 mod comment;
 pub mod description;
 pub mod dialect;

@@ -33,7 +33,8 @@ pub fn digit_of(dialect: Dialect) -> Option<u8>
 }
 
 fn is_digit_of(dialect: Dialect, byte: u8) -> bool
-    ensures { IsTrue result → spec.digit_of dialect ≡ Some byte }
+    ensures so { IsTrue result → spec.digit_of dialect ≡ Some byte }
+    ensures all { spec.digit_of dialect ≡ Some byte → IsTrue result }
 {
     match digit_of(dialect) {
         Some(digit) => digit == byte,
@@ -42,14 +43,16 @@ fn is_digit_of(dialect: Dialect, byte: u8) -> bool
 }
 
 fn is_digit_at(source: &str, piece: Piece, dialect: Dialect, at: usize) -> bool
-    ensures { IsTrue result → IsDigitAt source.now piece dialect at }
+    ensures so { IsTrue result → IsDigitAt source.now piece dialect at }
+    ensures all { IsDigitAt source.now piece dialect at → IsTrue result }
 {
     let bytes = source.as_bytes();
     at < piece.start && at < bytes.len() && is_digit_of(dialect, bytes[at])
 }
 
 fn is_one(dialect: Dialect) -> bool
-    ensures { IsTrue result → dialect ≡ spec.unsaid }
+    ensures so { IsTrue result → dialect ≡ spec.unsaid }
+    ensures all { dialect ≡ spec.unsaid → IsTrue result }
 {
     match dialect {
         Dialect::One => true,
@@ -60,7 +63,8 @@ fn is_one(dialect: Dialect) -> bool
 /// A place where a description's version may be said, if it is said there. All that is found is: this is
 /// its test.
 pub fn tested(source: &str, piece: Piece, dialect: Dialect, place: VersionPlace) -> VersionPlace
-    ensures { IsSaid source.now piece dialect result }
+    ensures said { IsSaid source.now piece dialect result }
+    ensures kept { IsSaid source.now piece dialect place → result ≡ place }
 {
     match place {
         VersionPlace::Digit(at) if is_digit_at(source, piece, dialect, at) => VersionPlace::Digit(

@@ -1,8 +1,9 @@
-use Rattle.std.proofs.Common.{◌≤◌, length}
+use Rattle.std.proofs.Common.{◌≡◌, drop}
+use Rattle.std.specs.Prelude.{option_map}
+use Rattle.timefd_editor.specs.Hovers.{innermost, innermost_from}
 use Rattle.timefd_editor.proofs.hovering.innermost.Given as goal
 
-abbrev pub invariant-nodes : goal.invariant-nodes
-invariant-nodes l = l.left ≤ length l.nodes
-
-abbrev pub decreases-nodes : goal.decreases-nodes
-decreases-nodes l = l.left
+-- What is left decides.
+abbrev pub invariant-loop-node : goal.invariant-loop-node
+invariant-loop-node l =
+    innermost_from (option_map (λ node. node.now) l.inner) (drop l.node-index l.nodes) l.at ≡ innermost l.nodes l.at

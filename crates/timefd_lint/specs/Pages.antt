@@ -1,0 +1,30 @@
+-- Which error or warning is explained.
+use Rattle.std.specs.Prelude.{List, [], ◌∷◌, Option, Some, None, codes, bytes_eq, if◌then◌else◌}
+use denote.Ref.{Bor}
+use Rattle.timefd_component.specs.Tree.{Text}
+use Rattle.timefd_warnings.specs.declared.warning.Warning as warnings
+use Rattle.timefd_warnings.specs.Codes as of_warnings
+use Rattle.timefd_lint.specs.declared.error_code.ErrorCode.{ErrorCode}
+use Rattle.timefd_lint.specs.declared.page.Subject.{Subject}
+use Rattle.timefd_lint.specs.declared.page.Subject.TheVariants.{Error, Warning}
+use Rattle.timefd_lint.specs.ErrorCodes.{named}
+
+abbrev pub of_warning : Option warnings.Warning → Option Subject
+of_warning None = None
+of_warning (Some warning) = Some (Warning warning)
+
+abbrev pub or_warning : Text → Option ErrorCode → Option Subject
+or_warning name (Some code) = Some (Error code)
+or_warning name None = of_warning (of_warnings.named name)
+
+-- the error or the warning of a name
+abbrev pub subject_named : Text → Option Subject
+subject_named name = or_warning name (named name)
+
+-- that of two words, the option and a name
+abbrev pub explained_in : List (Bor Text) → Option Subject
+explained_in [] = None
+explained_in (option ∷ []) = None
+explained_in (option ∷ name ∷ []) =
+    if bytes_eq option.now (codes "--explain") then subject_named name.now else None
+explained_in (option ∷ name ∷ next ∷ words) = None

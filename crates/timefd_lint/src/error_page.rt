@@ -1,0 +1,111 @@
+//! What each error means, and what to write instead.
+
+use crate::error_code::ErrorCode;
+use timefd_diagnosis::Code;
+
+/// What an error is, in a few words.
+pub fn summary(code: ErrorCode) -> &'static str {
+    match code {
+        ErrorCode::Fault(code) => fault_summary(code),
+        ErrorCode::NotText => "bytes that aren't UTF-8",
+        ErrorCode::Unreadable => "a file that can't be read",
+        ErrorCode::Unwritable => "a file that can't be replaced",
+        ErrorCode::ByteOrderMark => "a byte-order mark in front of the first line",
+    }
+}
+
+fn fault_summary(code: Code) -> &'static str {
+    match code {
+        Code::UnclosedBracket => "a bracket that isn't closed",
+        Code::UnknownName => "a name that no component has",
+        Code::InvalidModifier => "a modifier that the component doesn't take",
+        Code::MissingName => "a bracket without a name",
+        Code::MissingModifier => "a component without a modifier that it needs",
+        Code::InvalidEscape => "an escape that isn't one",
+        Code::UnescapedBracket => "a closing bracket that closes nothing",
+        Code::MissingSpace => "no space in front of a nested description",
+        Code::MissingDescription => "`optional` without a description",
+        Code::MissingAlternative => "`first` without an alternative",
+        Code::NestedTooDeep => "descriptions nested too deep",
+        Code::SeveralDescriptions => "`optional` with more than one description",
+        Code::OptionalItem => "`optional` before version 3",
+        Code::FirstItem => "`first` before version 3",
+        Code::UnsupportedFlag => "a flag that isn't read",
+        Code::UnsupportedLetter => "a letter that isn't read",
+        Code::NestedInComponent => "a description nested in a component",
+        Code::DuplicateModifier => "a key that stands twice",
+        Code::RefusedModifier => "a modifier that another one refuses",
+    }
+}
+
+/// What it means, with an example, and what to write instead.
+pub fn explanation(code: ErrorCode) -> &'static str {
+    match code {
+        ErrorCode::Fault(code) => fault_explanation(code),
+        ErrorCode::NotText => "Save the file as UTF-8. The other lines are looked at.",
+        ErrorCode::Unreadable => {
+            "The message says why: there is no such file, it is a folder, or you may not read it. The other files are looked at."
+        }
+        ErrorCode::Unwritable => {
+            "The new text is written to `FILE.timefd_lint`, which then takes the file's place. Remove that file if an earlier run has left it, and see that you may write in its folder. The old file is as it was."
+        }
+        ErrorCode::ByteOrderMark => {
+            "Save the file without it. It is a literal of the first description, and hides a comment mark."
+        }
+    }
+}
+
+fn fault_explanation(code: Code) -> &'static str {
+    match code {
+        Code::UnclosedBracket => {
+            "`due [day` ends inside of a bracket. Write `due [day]`. For a bracket as text write `[[` in version 1, `\\[` in versions 2 and 3."
+        }
+        Code::UnknownName => {
+            "`[mnth]` is no component. Write `[month]`: the help has the nearest name. In strftime no directive has the letter."
+        }
+        Code::InvalidModifier => {
+            "`[day padding:zro]` has a value that `padding` doesn't take. Write `[day padding:zero]`: the help has all keys or values. A word without a colon is no modifier."
+        }
+        Code::MissingName => {
+            "`[]` is no component. Write a name. For a bracket as text write `[[` in version 1, `\\[` in versions 2 and 3."
+        }
+        Code::MissingModifier => {
+            "`[ignore]` doesn't say how many bytes it passes over. Write `[ignore count:2]`."
+        }
+        Code::InvalidEscape => {
+            "`a\\b` has a backslash before a letter; versions 2 and 3 take it before a bracket or a backslash. Write `a\\\\b`. In strftime a percent sign stands alone: write `%%`."
+        }
+        Code::UnescapedBracket => {
+            "`[day]]` has one bracket too many. Leave it out, or write `[day]\\]` where it is text."
+        }
+        Code::MissingSpace => "`[optional[day]]` lacks a space. Write `[optional [day]]`.",
+        Code::MissingDescription => {
+            "`[optional]` has nothing that is optional. Put it into brackets: `[optional [[day]]]`."
+        }
+        Code::MissingAlternative => {
+            "`[first]` has nothing to choose from. Put each alternative into brackets: `[first [[day]] [[month]]]`."
+        }
+        Code::NestedTooDeep =>
+            "More descriptions stand in one another than version 3 takes. Nest fewer.",
+        Code::SeveralDescriptions => {
+            "`[optional [a] [b]]` has two. Put all into one pair of brackets: `[optional [ab]]`."
+        }
+        Code::OptionalItem => {
+            "`[optional [x]]` is of version 3 alone. Leave it out, or use version 3."
+        }
+        Code::FirstItem => "`[first [x]]` is of version 3 alone. Leave it out, or use version 3.",
+        Code::UnsupportedFlag => "`%Od` has the flag `O`. Leave it out: write `%d`.",
+        Code::UnsupportedLetter => {
+            "`%Z` is the name of a time zone. Write `%z`, the offset from UTC."
+        }
+        Code::NestedInComponent => {
+            "`[day [x]]` has text inside of a component. Leave it out, or write it behind: `[day]x`."
+        }
+        Code::DuplicateModifier => {
+            "`[day padding:zero padding:none]` has `padding` twice. Leave one out. In versions 1 and 2 the last one counts."
+        }
+        Code::RefusedModifier => {
+            "`[month repr:long padding:none]` pads a name. Leave `padding` out, or write `repr:numerical`."
+        }
+    }
+}
