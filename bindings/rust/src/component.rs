@@ -242,22 +242,22 @@ impl Component {
             | Self::OffsetMinute { .. }
             | Self::OffsetSecond { .. } => 2,
             Self::MonthShort { .. }
-            | Self::WeekdayShort { .. }
             | Self::Ordinal { .. }
-            | Self::OffsetHour { .. }
+            | Self::WeekdayShort { .. }
             | Self::CalendarYearCenturyStandardRange { .. }
-            | Self::IsoYearCenturyStandardRange { .. } => 3,
+            | Self::IsoYearCenturyStandardRange { .. }
+            | Self::OffsetHour { .. } => 3,
             Self::CalendarYearFullStandardRange { .. }
-            | Self::IsoYearFullStandardRange { .. }
             | Self::CalendarYearCenturyExtendedRange { .. }
+            | Self::IsoYearFullStandardRange { .. }
             | Self::IsoYearCenturyExtendedRange { .. } => 5,
             Self::CalendarYearFullExtendedRange { .. } | Self::IsoYearFullExtendedRange { .. } => 7,
             Self::MonthLong { .. } | Self::WeekdayLong { .. } => 9,
-            Self::Subsecond { digits } => digits.at_most(),
             Self::UnixTimestampSecond { .. } => 15,
             Self::UnixTimestampMillisecond { .. } => 18,
             Self::UnixTimestampMicrosecond { .. } => 21,
             Self::UnixTimestampNanosecond { .. } => 24,
+            Self::Subsecond { digits } => digits.at_most(),
         }
     }
 }
