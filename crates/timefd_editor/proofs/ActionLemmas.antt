@@ -26,7 +26,7 @@ use Rattle.timefd_rewrite_sources.specs.declared.change.Change.TheVariants.{Mend
 use Rattle.timefd_rewrite_sources.specs.declared.outcome.Outcome.{Outcome}
 use Rattle.timefd_rewrite_sources.specs.Written.{IsAnswer, items_of}
 use Rattle.timefd_sources.specs.declared.description.Description.{Description}
-use Rattle.timefd_sources.specs.Found.{AllStandIn}
+use Rattle.timefd_sources.specs.Found.{AllStandIn, AreDescriptionsOf}
 
 pub same_text : (change : Change) (text : Text) (d : Description) (anew : Anew) (before after : List Action)
     → anew.body ≡ None → Adds (IsOneAction change text d anew.digit None) before after
@@ -104,11 +104,12 @@ within text d from to before after is added =
     subst (λ b. Adds (AreOffersIf b text d) before after) (sym is) added
 
 pub by_rust : (s : Source) (from to : ℕ) (ds : List Description) (actions : List Action) → s.finder ≡ Rust
-    → AllStandIn s.text.now ds → Adds (AreOf (AreActionsIn s.text.now from to) ds) [] actions
-    → AreActionsOf from to s actions
-by_rust s from to ds actions is stand (more, offered, whole) =
+    → AreDescriptionsOf s.text.now ds → AllStandIn s.text.now ds
+    → Adds (AreOf (AreActionsIn s.text.now from to) ds) [] actions → AreActionsOf from to s actions
+by_rust s from to ds actions is all stand (more, offered, whole) =
     subst (λ f. AreActionsBy f from to s.text.now actions) (sym is) (record {
       descriptions = ds;
+      all = all;
       stand = stand;
       offered = subst (λ a. AreOf (AreActionsIn s.text.now from to) ds a) (sym whole) offered;
     })

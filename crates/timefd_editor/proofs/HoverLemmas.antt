@@ -14,7 +14,7 @@ use Rattle.timefd_lint_sources.specs.declared.told.End.{End}
 use Rattle.timefd_lint_sources.specs.declared.told.End.TheVariants.{PassedOver, Accepted, Refused, NotText}
 use Rattle.timefd_lint_sources.specs.declared.told.Source.{Source}
 use Rattle.timefd_lint_sources.specs.Judged.{language_in, text_of}
-use Rattle.timefd_lint_sources.specs.Told.{AllFound, IsFound}
+use Rattle.timefd_lint_sources.specs.Told.{AllFound, AreAllOf, IsFound}
 use Rattle.timefd_lint_warnings.specs.Found.{found_by}
 use Rattle.timefd_parse.specs.declared.language.Language.{Language}
 use Rattle.timefd_parse.specs.Language.{FaultIn, SpellsIn}
@@ -101,15 +101,16 @@ parts_of s index (Ok found) at = part_of s index found at
 parts_of s index (Err e) at = tt
 
 pub at_first : {E : Type 0} (s : Source) (ds : List Description) (index : ℕ) (o : Option Description)
-    (done : Result (Option Hover) E) → AllFound s ds → AreInOrder 0 ds → o ≡ first_at ds index
+    (done : Result (Option Hover) E) → AreAllOf s ds → AllFound s ds → AreInOrder 0 ds → o ≡ first_at ds index
     → IfOk done (IsShownOfAny s.text.now o index) → IfOk done (IsShownAt s index)
-at_first s ds index o (Ok found) all in_order first shown = record {
+at_first s ds index o (Ok found) all stand in_order first shown = record {
   descriptions = ds;
-  stand = all;
+  all = all;
+  stand = stand;
   in_order = in_order;
   shown = subst (λ x. IsShownOfAny s.text.now x index found) first shown;
 }
-at_first s ds index o (Err e) all in_order first shown = tt
+at_first s ds index o (Err e) all stand in_order first shown = tt
 
 -- Of a refused text nothing is shown.
 pub refused : (document : Text) (d : Description) (language : Language) (text : Text) (at : ℕ)

@@ -19,7 +19,7 @@ use Rattle.timefd_rewrite_sources.specs.declared.change.Change.TheVariants.{Mend
 use Rattle.timefd_rewrite_sources.specs.Written.{IsAnswer, items_of}
 use Rattle.timefd_sources.specs.declared.description.Description.{Description}
 use Rattle.timefd_sources.specs.declared.piece.Piece.{Piece}
-use Rattle.timefd_sources.specs.Found.{AllStandIn}
+use Rattle.timefd_sources.specs.Found.{AllStandIn, AreDescriptionsOf}
 
 abbrev pub kind_of : Change → ActionKind
 kind_of (Mended fixes) = QuickFix
@@ -97,6 +97,7 @@ AreActionsIn text from to d actions = AreOffersIf (overlaps d.piece from to) tex
 -- All that can be done to the descriptions in a source of Rust that overlap these bytes, each in turn.
 pub record AreRustActions (from to : ℕ) (text : Text) (actions : List Action) : Type 0 where
   pub descriptions : List Description
+  pub all : AreDescriptionsOf text descriptions
   pub stand : AllStandIn text descriptions
   pub offered : AreOf (AreActionsIn text from to) descriptions actions
 

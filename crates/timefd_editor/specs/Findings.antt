@@ -14,7 +14,7 @@ use Rattle.timefd_lint_sources.specs.declared.told.End.{End}
 use Rattle.timefd_lint_sources.specs.declared.told.End.TheVariants.{PassedOver, Accepted, Refused, NotText}
 use Rattle.timefd_lint_sources.specs.declared.told.Source.{Source}
 use Rattle.timefd_lint_sources.specs.Judged.{IsEndOf, language_in, text_of}
-use Rattle.timefd_lint_sources.specs.Told.{AllFound}
+use Rattle.timefd_lint_sources.specs.Told.{AllFound, AreAllOf}
 use Rattle.timefd_sources.specs.declared.description.Description.{Description}
 use Rattle.timefd_sources.specs.Found.{place_of}
 use Rattle.timefd_warnings.specs.declared.levels.Levels.{Levels}
@@ -46,5 +46,6 @@ pub record AreOn (levels : Option Levels) (text : Text) (d : Description) (found
 -- All that is wrong with the descriptions in a source, each in turn.
 pub record AreFindingsOf (levels : Option Levels) (s : Source) (found : List Finding) : Type 0 where
   pub descriptions : List Description
+  pub all : AreAllOf s descriptions
   pub stand : AllFound s descriptions
   pub told : AreOf (AreOn levels s.text.now) descriptions found

@@ -12,7 +12,7 @@ use Rattle.timefd_lint_sources.specs.declared.told.End.{End}
 use Rattle.timefd_lint_sources.specs.declared.told.End.TheVariants.{PassedOver, Accepted, Refused, NotText}
 use Rattle.timefd_lint_sources.specs.declared.told.Source.{Source}
 use Rattle.timefd_lint_sources.specs.Judged.{IsEndOf, IsJudged, language_in, text_of}
-use Rattle.timefd_lint_sources.specs.Told.{AllFound, IsFound}
+use Rattle.timefd_lint_sources.specs.Told.{AllFound, AreAllOf, IsFound}
 use Rattle.timefd_parse.specs.declared.language.Language.{Language}
 use Rattle.timefd_parse.specs.Language.{SpellsIn}
 use Rattle.timefd_sources.specs.declared.description.Description.{Description}
@@ -118,6 +118,7 @@ IsShownOfAny document (Some d) index found = IsShownOn document d index found
 -- Of the descriptions of a source it is the first one whose literal stands at the index.
 pub record IsShownAt (s : Source) (index : ℕ) (h : Option Hover) : Type 0 where
   pub descriptions : List Description
+  pub all : AreAllOf s descriptions
   pub stand : AllFound s descriptions
   pub in_order : AreInOrder 0 descriptions
   pub shown : IsShownOfAny s.text.now (first_at descriptions index) index h

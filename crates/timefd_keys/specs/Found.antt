@@ -1,17 +1,18 @@
 -- Descriptions that are strings of a file with keys.
 use Rattle.std.specs.Prelude.{ℕ, ◌≡◌, ◌<◌, ◌≤◌, ◌-◌, List, Option, None, Some, length, slice_index}
 use Rattle.std.specs.List.{All}
+use Rattle.std.specs.Option.{option_or}
 use Rattle.std.specs.Str.{IsCharBoundary}
 use Rattle.timefd_sources.specs.declared.description.Description.{Description}
 use Rattle.timefd_sources.specs.Between.{AllBetween}
 use Rattle.timefd_sources.specs.Bytes.{Text}
+use Rattle.timefd_sources.specs.Lines.{line_start}
 use Rattle.timefd_sources.specs.Literals.{body_end}
 use Rattle.timefd_sources.specs.declared.dialect.Dialect.{Dialect}
 use Rattle.timefd_keys.specs.declared.format.Format.{Format}
 use Rattle.timefd_keys.specs.declared.key.Key.{Key}
 use Rattle.timefd_keys.specs.Comments.{told_behind, told_in_front}
 use Rattle.timefd_keys.specs.Keys.{dialect_of}
-use Rattle.timefd_keys.specs.Lines.{line_start}
 use Rattle.timefd_keys.specs.Names.{Name, name_at, value_behind}
 use Rattle.timefd_keys.specs.Strings.{Reading, string_at}
 
@@ -44,10 +45,6 @@ pub record StandsIn (format : Format) (source : Text) (d : Description) : Type 0
   pub lies : Lies source d.piece.start (body_end d.piece d.kind) d.unescaped.text.items
       d.unescaped.places.items
 
-abbrev pub first_of : Option Dialect → Option Dialect → Option Dialect
-first_of (Some dialect) other = Some dialect
-first_of None other = other
-
 -- a string at a place, of a language
 pub record IsString (format : Format) (source : Text) (start : ℕ) (dialect : Dialect) (d : Description) : Type 0 where
   pub stands : StandsIn format source d
@@ -64,12 +61,12 @@ told_of format source (Some r) = told_behind format source r.closing
 
 -- the language that a comment names behind the string at a place, or else this one
 abbrev pub language_at : Format → Text → ℕ → Option Dialect → Option Dialect
-language_at format source start other = first_of (told_of format source (string_at format source start)) other
+language_at format source start other = option_or (told_of format source (string_at format source start)) other
 
 -- the language that a comment alone in the line in front names for a key, or else that of the key
 abbrev pub language_of : Format → Text → List Key → ℕ → Name → Option Dialect
 language_of format source keys at name =
-    first_of (told_in_front format source (line_start source at)) (dialect_of keys name.text)
+    option_or (told_in_front format source (line_start source at)) (dialect_of keys name.text)
 
 -- It is the value of a key, whose name stands at a place in front of it.
 pub record IsValueOf (format : Format) (source : Text) (keys : List Key) (at : ℕ) (name : Name) (value : Text)

@@ -1,21 +1,12 @@
 -- Keys whose strings are descriptions.
-use Rattle.std.specs.Prelude.{ℕ, Bool, ◌==◌, Option, Some, None, Result, Ok, Err, List, [], ◌∷◌, codes, bytes_eq, length, map, if◌then◌else◌}
+use Rattle.std.specs.Prelude.{ℕ, Bool, ◌==◌, Option, Some, None, Result, Ok, Err, List, [], ◌∷◌, bytes_eq, length, map, if◌then◌else◌}
 use Rattle.std.specs.List.{before_first, after_first, position_or_len}
 use Rattle.timefd_sources.specs.declared.dialect.Dialect.{Dialect}
-use Rattle.timefd_sources.specs.declared.dialect.Dialect.TheVariants.{One, Two, Three, Strftime}
 use Rattle.timefd_sources.specs.Bytes.{Text}
+use Rattle.timefd_sources.specs.Dialects.{dialect_named}
 use Rattle.timefd_keys.specs.declared.key.Key.{Key}
 use Rattle.timefd_keys.specs.declared.key.KeyFault.{KeyFault}
 use Rattle.timefd_keys.specs.declared.key.KeyFault.TheVariants.{NoEqualsSign, EmptyName, UnknownLanguage}
-
--- the language that a word names
-abbrev pub dialect_named : Text → Option Dialect
-dialect_named word =
-    if bytes_eq word (codes "1") then Some One
-    else if bytes_eq word (codes "2") then Some Two
-    else if bytes_eq word (codes "3") then Some Three
-    else if bytes_eq word (codes "strftime") then Some Strftime
-    else None
 
 -- the language of the first key of a name
 abbrev pub dialect_of : List Key → Text → Option Dialect

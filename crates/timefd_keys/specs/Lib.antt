@@ -4,6 +4,5 @@ pub mod Styles
 pub mod Escapes
 pub mod Strings
 pub mod Names
-pub mod Lines
 pub mod Comments
 pub mod Found

@@ -3,44 +3,24 @@
 ghost use Rattle.std.specs.Prelude.{◌≡◌, ◌≤◌, length};
 ghost use Rattle.timefd_keys.specs.Comments as spec;
 ghost use Rattle.timefd_keys.specs.Comments.{IsLineAt};
-ghost use Rattle.timefd_keys.specs.Names.{now_any, word_in_front};
-ghost use Rattle.timefd_sources.specs.Behind.{behind_run as behind_spec};
-ghost use Rattle.timefd_sources.specs.Bytes as bytes;
+ghost use Rattle.timefd_sources.specs.Bytes.{seen};
 
 use crate::bytes::behind_blanks;
 use crate::format::Format;
-use crate::key::dialect_of_word;
-use crate::line::{line_in_front, line_start};
-use crate::name::from;
 use crate::style::ends_line;
 use timefd_sources::Dialect;
 use timefd_sources::class::{Class, behind_run};
-
-/// What stands behind this front of a text; none where it begins otherwise.
-fn behind<'a>(text: &'a [u8], front: &[u8]) -> Option<&'a [u8]>
-    ensures { now_any result ≡ spec.behind text.now front.now }
-{
-    if text.starts_with(front) {
-        Some(from(text, front.len()))
-    } else {
-        None
-    }
-}
+use timefd_sources::dialect::dialect_of_word;
+use timefd_sources::line::{from, line_start};
+use timefd_sources::marks::{behind, first_word};
 
 fn behind_sign(format: Format, text: &[u8]) -> Option<&[u8]>
-    ensures { now_any result ≡ spec.behind_sign format text.now }
+    ensures { seen result ≡ spec.behind_sign format text.now }
 {
     match format {
         Format::Toml | Format::Yaml => behind(text, b"#"),
         Format::Json => behind(text, b"//"),
     }
-}
-
-/// The word that a text begins with.
-fn first_word(text: &[u8]) -> &[u8]
-    ensures { result.now ≡ word_in_front text.now (behind_spec bytes.is_word text.now) }
-{
-    &text[..text.len() - behind_run(Class::Word, text).len()]
 }
 
 /// The language of the word that a text begins with, if nothing else stands in its line.
@@ -69,6 +49,15 @@ pub fn told_behind(format: Format, source: &[u8], closing: usize) -> Option<Dial
     dialect_told(format, behind_run(Class::Aside, from(source, closing)))
 }
 
+/// The line in front of the one that begins at a place; nothing where that is the first.
+pub fn line_in_front(source: &[u8], start: usize) -> &[u8]
+    requires { start ≤ length source.now }
+    ensures { result.now ≡ spec.line_in_front source.now start }
+{
+    let end = start.saturating_sub(1);
+    &source[line_start(source, 0, 0, end)..end]
+}
+
 /// The language that a comment names that stands alone in the line in front of the one that begins here.
 fn told_in_front(format: Format, source: &[u8], start: usize) -> Option<Dialect>
     requires { start ≤ length source.now }
@@ -87,13 +76,13 @@ pub struct Line {
 }
 
 impl Line {
-    /// The first line.
-    pub fn first(format: Format, source: &[u8]) -> Line
-        ensures { IsLineAt format source.now 0 result }
+    /// The first line, which has none in front.
+    pub fn first() -> Line
+        ensures { result ≡ spec.first_line }
     {
         Line {
             start: 0,
-            told: told_in_front(format, source, 0),
+            told: None,
         }
     }
 

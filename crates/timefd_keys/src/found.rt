@@ -4,10 +4,10 @@ ghost use Rattle.std.specs.Prelude.{◌≡◌, ◌<◌, ◌≤◌, length, IfOk,
 ghost use Rattle.timefd_keys.specs.Comments.{told_in_front};
 ghost use Rattle.timefd_keys.specs.Found as spec;
 ghost use Rattle.timefd_keys.specs.Found.{AllValues, IsString, IsStringOf, IsValue};
-ghost use Rattle.timefd_keys.specs.Lines.{line_start};
 ghost use Rattle.timefd_keys.specs.Names.{name_at as name_of, seen as named};
 ghost use Rattle.timefd_keys.specs.Strings.{seen, string_at as string_of};
 ghost use Rattle.timefd_sources.specs.Found.{AreInOrder};
+ghost use Rattle.timefd_sources.specs.Lines.{line_start};
 
 use crate::comment::{Line, told_behind};
 use crate::format::Format;
@@ -34,16 +34,6 @@ struct Step {
     found: Option<Description>,
     next: usize,
     depth: usize,
-}
-
-/// The first of two languages that is one.
-fn first_of(told: Option<Dialect>, other: Option<Dialect>) -> Option<Dialect>
-    ensures { result ≡ spec.first_of told other }
-{
-    match told {
-        Some(_) => told,
-        None => other,
-    }
 }
 
 /// A string as a description; none where it doesn't lie in the source.
@@ -91,7 +81,7 @@ fn told_or_other(
         (IsStringOf format source.now start (spec.language_at format source.now start other)) }
 {
     let told = told_behind(format, source.as_bytes(), reading.closing);
-    match first_of(told, other) {
+    match told.or(other) {
         Some(dialect) => described(format, source, start, reading, dialect),
         None => None,
     }
@@ -156,7 +146,7 @@ fn name_step(
             depth,
         });
     };
-    let other = first_of(told, dialect_of(scan.keys, &name.text));
+    let other = told.or(dialect_of(scan.keys, &name.text));
     let value = scan.source.len().saturating_sub(value.len());
     value_step(alloc, scan, other, value, depth)
 }
@@ -202,7 +192,7 @@ fn later_place(source: &str, at: usize, next: usize) -> usize
 /// Passed over are also strings of several lines, and in YAML: values in another line than their key,
 /// behind tags or anchors, and without quotes in brackets or with two blanks in a row. What stands in a
 /// block of text of YAML is read as if it stood outside, and a number without quotes as a string.
-#[tactic(auto, using(crate::proofs::FoundLemmas::none_yet))]
+#[tactic(auto, using(crate::proofs::FoundLemmas::none_yet, crate::proofs::FoundLemmas::first_line_told))]
 pub fn descriptions_by(
     alloc: Global,
     format: Format,
@@ -218,7 +208,7 @@ pub fn descriptions_by(
         keys,
     };
     let mut descriptions = Vec::new(alloc);
-    let mut line = Line::first(format, source.as_bytes());
+    let mut line = Line::first();
     let mut depth = 0;
     let mut end = 0;
     let mut at = 0;

@@ -1,45 +1,16 @@
 //! Keys whose strings are descriptions.
 
-ghost use Rattle.std.specs.Prelude.{◌≡◌, bytes_eq};
+ghost use Rattle.std.specs.Prelude.{◌≡◌};
 ghost use Rattle.timefd_keys.specs.Keys as spec;
 
 use timefd_sources::Dialect;
+use timefd_sources::dialect::dialect_named;
 
 /// A key whose strings are descriptions of a language.
 #[derive(Clone, Copy)]
 pub struct Key<'a> {
     pub name: &'a str,
     pub dialect: Dialect,
-}
-
-/// The language that a word names: `1`, `2`, `3`, `strftime`.
-pub fn dialect_named(word: &str) -> Option<Dialect>
-    ensures { result ≡ spec.dialect_named word.now }
-{
-    dialect_of_word(word.as_bytes())
-}
-
-fn is(word: &[u8], name: &str) -> bool
-    ensures { result ≡ bytes_eq word.now name.now }
-{
-    word == name.as_bytes()
-}
-
-/// The language that the bytes of a word name.
-pub fn dialect_of_word(word: &[u8]) -> Option<Dialect>
-    ensures { result ≡ spec.dialect_named word.now }
-{
-    if is(word, "1") {
-        Some(Dialect::One)
-    } else if is(word, "2") {
-        Some(Dialect::Two)
-    } else if is(word, "3") {
-        Some(Dialect::Three)
-    } else if is(word, "strftime") {
-        Some(Dialect::Strftime)
-    } else {
-        None
-    }
 }
 
 /// The language of the first of these keys that has this name.

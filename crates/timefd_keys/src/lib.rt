@@ -9,7 +9,6 @@ mod found;
 mod key;
 mod letter;
 mod lies;
-mod line;
 mod name;
 mod number;
 mod part;
@@ -20,4 +19,4 @@ mod style;
 
 pub use format::{Format, format_named};
 pub use found::descriptions_by;
-pub use key::{Key, KeyFault, dialect_named, dialect_of, key_fault, key_of};
+pub use key::{Key, KeyFault, dialect_of, key_fault, key_of};

@@ -11,6 +11,7 @@ use crate::reading::string_at;
 use crate::style::{begins_plain, is_flow};
 use std::alloc::{AllocError, Global};
 use timefd_sources::class::{Class, behind_run, is_blank, is_line_end};
+use timefd_sources::line::from;
 
 /// What may be the name of a key.
 #[derive(Drop)]
@@ -19,13 +20,6 @@ pub struct Name<'a> {
     pub text: Vec<u8>,
     /// What stands behind it.
     pub behind: &'a [u8],
-}
-
-/// The bytes of a text from a place on.
-pub fn from(text: &[u8], at: usize) -> &[u8]
-    ensures { result.now ≡ drop at text.now }
-{
-    text.get(at..).unwrap_or(&[])
 }
 
 fn is_quote(format: Format, byte: u8) -> bool

@@ -1,8 +1,8 @@
 //! What is passed over in front of the next name: comments, strings of several lines, single signs.
 
 use crate::format::Format;
-use crate::name::from;
 use timefd_sources::class::is_blank;
+use timefd_sources::line::from;
 
 /// How many bytes stand in front of a text in another; all of them where it doesn't stand there.
 fn len_before(text: &[u8], wanted: &[u8]) -> usize {

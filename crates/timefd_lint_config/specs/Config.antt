@@ -4,7 +4,8 @@ use Rattle.std.specs.Ordering.{int_eq}
 use Rattle.timefd_sources.specs.declared.dialect.Dialect.{Dialect}
 use Rattle.timefd_sources.specs.declared.dialect.Dialect.TheVariants.{One, Two, Three}
 use Rattle.timefd_sources.specs.Bytes.{Text}
-use Rattle.timefd_keys.specs.Keys.{Named, dialect_named}
+use Rattle.timefd_keys.specs.Keys.{Named}
+use Rattle.timefd_sources.specs.Dialects.{dialect_named}
 use Rattle.toml.specs.Data.{Data, string, integer, float, boolean, datetime, array, table, Items, no_items, item, Members, no_members, member, get_member}
 use Rattle.toml.specs.Parse.{parse_document}
 use Rattle.timefd_lint_config.specs.declared.config.Config.{Config}

@@ -4,8 +4,8 @@ ghost use Rattle.std.specs.Prelude.{◌≡◌};
 ghost use Rattle.toml.specs.View.{view};
 ghost use Rattle.timefd_lint_config.specs.Config as spec;
 
-use timefd_keys::dialect_named;
 use timefd_sources::Dialect;
+use timefd_sources::dialect::dialect_named;
 use toml::Value;
 
 /// Why a value is no language.

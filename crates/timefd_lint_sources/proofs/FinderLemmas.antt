@@ -6,10 +6,10 @@ use Rattle.timefd_keys.specs.declared.format.Format.{Format}
 use Rattle.timefd_keys.specs.declared.key.Key.{Key}
 use Rattle.timefd_keys.specs.Found as keyed
 use Rattle.timefd_sources.specs.declared.description.Description.{Description}
-use Rattle.timefd_sources.specs.Found.{AllStandIn}
+use Rattle.timefd_sources.specs.Found.{AllStandIn, AreDescriptionsOf}
 use Rattle.timefd_lint_sources.specs.declared.told.Finder.TheVariants.{Rust, Keys}
 use Rattle.timefd_lint_sources.specs.declared.told.Source.{Source}
-use Rattle.timefd_lint_sources.specs.Told.{AllFound, IsFoundBy}
+use Rattle.timefd_lint_sources.specs.Told.{AllFound, AreAllBy, AreAllOf, IsFoundBy}
 
 pub by_rust : (s : Source) (ds : List Description) → s.finder ≡ Rust → AllStandIn s.text.now ds
     → AllFound s ds
@@ -18,3 +18,11 @@ by_rust s ds is stand = subst (λ f. All (IsFoundBy f s.text.now) ds) (sym is) s
 pub by_keys : (s : Source) (format : Format) (keys : Bor (List Key)) (ds : List Description)
     → s.finder ≡ Keys format keys → keyed.AllValues format s.text.now keys.now ds → AllFound s ds
 by_keys s format keys ds is stand = subst (λ f. All (IsFoundBy f s.text.now) ds) (sym is) stand
+
+pub all_by_rust : (s : Source) (ds : List Description) → s.finder ≡ Rust → AreDescriptionsOf s.text.now ds
+    → AreAllOf s ds
+all_by_rust s ds is all = subst (λ f. AreAllBy f s.text.now ds) (sym is) all
+
+pub all_by_keys : (s : Source) (format : Format) (keys : Bor (List Key)) (ds : List Description)
+    → s.finder ≡ Keys format keys → AreAllOf s ds
+all_by_keys s format keys ds is = subst (λ f. AreAllBy f s.text.now ds) (sym is) tt

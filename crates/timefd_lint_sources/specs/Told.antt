@@ -1,6 +1,6 @@
 -- What is told of the descriptions of a source.
 use Rattle.std.specs.List.{All}
-use Rattle.std.specs.Prelude.{ℕ, ◌≡◌, Bool, List, [], ◌∷◌, ◌++◌, codes, map, IsFalse}
+use Rattle.std.specs.Prelude.{ℕ, ◌≡◌, Bool, List, [], ◌∷◌, ◌++◌, codes, map, IsFalse, ⊤}
 use Rattle.timefd_component.specs.Tree.{Text}
 use Rattle.timefd_diagnosis.specs.declared.diagnostic.Diagnostic.{Diagnostic}
 use Rattle.timefd_diagnosis.specs.Further.{AreDiagnosed}
@@ -10,7 +10,7 @@ use Rattle.timefd_drawing.specs.Drawing.{drawn_all, note}
 use Rattle.timefd_drawing.specs.Positions.{told_column, line_number}
 use Rattle.timefd_sources.specs.declared.description.Description.{Description}
 use Rattle.timefd_keys.specs.Found as keys
-use Rattle.timefd_sources.specs.Found.{AreInOrder, StandsIn, place_of}
+use Rattle.timefd_sources.specs.Found.{AreDescriptionsOf, AreInOrder, StandsIn, place_of}
 use Rattle.timefd_warnings.specs.declared.levels.Levels.{Levels}
 use Rattle.timefd_lint_warnings.specs.Messages.{messages_at}
 use Rattle.timefd_lint_sources.specs.declared.source.Report.{Report}
@@ -103,9 +103,18 @@ IsFound s d = IsFoundBy s.finder s.text.now d
 abbrev pub AllFound : Source → List Description → Type 0
 AllFound s ds = All (IsFound s) ds
 
+-- Of a source of Rust they are all that it has. That all values of keys are found, no clause says.
+abbrev pub AreAllBy : Finder → Text → List Description → Type 0
+AreAllBy Rust source ds = AreDescriptionsOf source ds
+AreAllBy (Keys format names) source ds = ⊤
+
+abbrev pub AreAllOf : Source → List Description → Type 0
+AreAllOf s ds = AreAllBy s.finder s.text.now ds
+
 -- The descriptions stand in the source, one behind another.
 pub record IsSourceTold (telling : Telling) (s : Source) (r : Report) : Type 0 where
   pub descriptions : List Description
+  pub all : AreAllOf s descriptions
   pub stand : AllFound s descriptions
   pub in_order : AreInOrder 0 descriptions
   pub told : AreTold telling s descriptions r.ends.items r.message.items

@@ -1,7 +1,7 @@
 //! What is told of all descriptions of a source.
 
 ghost use Rattle.std.specs.Prelude.{IfOk, OnOk};
-ghost use Rattle.timefd_lint_sources.specs.Told.{AddsTold, AllFound, AreTold, IsSourceTold};
+ghost use Rattle.timefd_lint_sources.specs.Told.{AddsTold, AllFound, AreAllOf, AreTold, IsSourceTold};
 ghost use Rattle.timefd_sources.specs.Found.{AreInOrder};
 
 use crate::told::{End, Finder, Source, Telling, Told, tell};
@@ -32,8 +32,9 @@ pub fn lint_source(
 }
 
 /// The descriptions in a source, one behind another. An `Err` says that memory ran out.
-#[tactic(auto, using(crate::proofs::FinderLemmas::by_rust))]
+#[tactic(auto, using(crate::proofs::FinderLemmas::by_rust, crate::proofs::FinderLemmas::all_by_rust, crate::proofs::FinderLemmas::all_by_keys))]
 pub fn descriptions_in(alloc: Global, source: Source<'_>) -> Result<Vec<Description>, AllocError>
+    ensures all { IfOk result (λ found. AreAllOf source.entry found.items) }
     ensures stand { IfOk result (λ found. AllFound source.entry found.items) }
     ensures in_order { IfOk result (λ found. AreInOrder 0 found.items) }
 {

@@ -1,3 +1,6 @@
+pub mod ParamLemmas
+pub mod ShownLemmas
+pub mod TextLemmas
 pub mod SessionLemmas
 pub mod ServedLemmas
 pub mod ClosedLemmas

@@ -3,10 +3,12 @@ pub mod Heads
 pub mod Contents
 pub mod Frames
 pub mod Envelopes
+pub mod Params
 pub mod Messages
 pub mod Kinds
 pub mod Documents
 pub mod Replies
 pub mod Servers
+pub mod Shown
 pub mod Texts
 pub mod Sessions

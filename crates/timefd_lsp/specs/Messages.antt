@@ -1,48 +1,18 @@
 -- What a value of JSON is as a message of an editor.
-use Rattle.std.specs.Prelude.{◌≡◌, ℕ, List, Option, Some, None, codes, bytes_eq, option_and_then, string_bytes, if◌then◌else◌, IsUtf8, ◌⊎◌, ⊤}
+use Rattle.std.specs.Prelude.{◌≡◌, ℕ, List, Option, Some, None, codes, bytes_eq, string_bytes, if◌then◌else◌, IsUtf8, ◌⊎◌, ⊤}
 use Rattle.serde_json.specs.Data.{Data}
-use Rattle.serde_json.specs.Find.{pointer, as_str, as_number, as_u64}
 use Rattle.serde_json.specs.Read.{read}
 use Rattle.timefd_editor.specs.declared.position.Position.{Position}
 use Rattle.timefd_editor.specs.declared.position.Range.{Range}
-use Rattle.timefd_lsp.specs.Envelopes.{IdValue, seen_id, Shape, envelope_of}
+use Rattle.timefd_lsp.specs.Envelopes.{seen_id, Shape, envelope_of}
 use Rattle.timefd_lsp.specs.Envelopes as shapes
+use Rattle.timefd_lsp.specs.Params.{last_text, place_of, range_of, text_by, uri_of}
 use Rattle.timefd_lsp.specs.declared.message.Message.{Message}
 use Rattle.timefd_lsp.specs.declared.message.Message.TheVariants as messages
 use Rattle.timefd_lsp.specs.declared.message.Notification.{Notification}
 use Rattle.timefd_lsp.specs.declared.message.Notification.TheVariants as told
 use Rattle.timefd_lsp.specs.declared.message.Request.{Request}
 use Rattle.timefd_lsp.specs.declared.message.Request.TheVariants as asked
-
-abbrev pub text_by : List ℕ → Data → Option (List ℕ)
-text_by path d = option_and_then as_str (pointer path d)
-
-abbrev pub count_by : List ℕ → Data → Option ℕ
-count_by path d = option_and_then (λ m. option_and_then as_u64 (as_number m)) (pointer path d)
-
-abbrev pub place_from : Option ℕ → Option ℕ → Option Position
-place_from (Some line) (Some character) = Some (record { line = line; character = character })
-place_from (Some line) None = None
-place_from None character = None
-
-abbrev pub place_by : List ℕ → List ℕ → Data → Option Position
-place_by line character d = place_from (count_by line d) (count_by character d)
-
-abbrev pub range_from : Option Position → Option Position → Option Range
-range_from (Some start) (Some end) = Some (record { start = start; end = end })
-range_from (Some start) None = None
-range_from None end = None
-
-abbrev pub range_of : Data → Option Range
-range_of d = range_from
-    (place_by (codes "/params/range/start/line") (codes "/params/range/start/character") d)
-    (place_by (codes "/params/range/end/line") (codes "/params/range/end/character") d)
-
-abbrev pub place_of : Data → Option Position
-place_of d = place_by (codes "/params/position/line") (codes "/params/position/character") d
-
-abbrev pub uri_of : Data → Option (List ℕ)
-uri_of d = text_by (codes "/params/textDocument/uri") d
 
 -- what is asked for, without where its texts lie
 pub data Asked : Type 0 where
@@ -118,13 +88,14 @@ closed_from None = other
 abbrev pub closed_of : Data → Told
 closed_of d = closed_from (uri_of d)
 
--- The change is one of the document of this name; which text it has, is only tested.
-abbrev pub IsChanged : Notification → Option (List ℕ) → Type 0
-IsChanged (told.Opened uri language text) name = ⊥
-IsChanged (told.Changed uri text) name = name ≡ Some (string_bytes uri)
-IsChanged (told.Closed uri) name = ⊥
-IsChanged told.Exit name = ⊥
-IsChanged told.Other name = ⊤
+abbrev pub changed_from : Option (List ℕ) → Option (List ℕ) → Told
+changed_from (Some uri) (Some text) = changed uri text
+changed_from (Some uri) None = other
+changed_from None text = other
+
+-- The change of a document is that to the text behind the last change.
+abbrev pub changed_of : Data → Told
+changed_of d = changed_from (uri_of d) (last_text d)
 
 -- which of these a method is
 pub data Notice : Type 0 where
@@ -145,7 +116,7 @@ notice_of method =
 abbrev pub IsNoticed : Notice → Notification → Data → Type 0
 IsNoticed exits notification d = seen_notification notification ≡ exit
 IsNoticed opens notification d = seen_notification notification ≡ opened_of d
-IsNoticed changes notification d = IsChanged notification (uri_of d)
+IsNoticed changes notification d = seen_notification notification ≡ changed_of d
 IsNoticed closes notification d = seen_notification notification ≡ closed_of d
 IsNoticed others notification d = seen_notification notification ≡ other
 

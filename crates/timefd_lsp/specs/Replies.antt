@@ -1,5 +1,5 @@
 -- What the server says.
-use Rattle.std.specs.Prelude.{ℤ, negsuc, Option, Some, None}
+use Rattle.std.specs.Prelude.{ℕ, ℤ, negsuc, List, codes, Option, Some, None}
 use Rattle.timefd_lsp.specs.declared.reply.Answer.{Answer}
 use Rattle.timefd_lsp.specs.declared.reply.Answer.TheVariants as answers
 use Rattle.timefd_lsp.specs.declared.reply.Refusal.{Refusal}
@@ -13,6 +13,14 @@ code_of UnknownMethod = negsuc 32600
 code_of WrongParams = negsuc 32601
 code_of NotInitialized = negsuc 32001
 code_of TooLong = negsuc 32599
+
+abbrev pub sentence_of : Refusal → List ℕ
+sentence_of NotJson = codes "the content is no JSON"
+sentence_of InvalidRequest = codes "the content is no request that can stand here"
+sentence_of UnknownMethod = codes "there is no such method"
+sentence_of WrongParams = codes "the parameters are none of the method's"
+sentence_of NotInitialized = codes "`initialize` has to come first"
+sentence_of TooLong = codes "the content has more than 16 MiB"
 
 -- why a request isn't served, if it isn't
 abbrev pub refusal_of : Answer → Option Refusal

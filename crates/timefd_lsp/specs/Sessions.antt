@@ -1,14 +1,17 @@
 -- A session with an editor.
 use Rattle.std.specs.Prelude.{◌≡◌, ◌⊎◌, ℕ, ◌-◌, ◌^◌, List, [], ◌∷◌, ◌++◌, Option, Some, None, length}
 use Rattle.std.specs.Io.KnownBytes.{Appends}
+use Rattle.serde_json.specs.Written.{compact_text}
 use Rattle.timefd_lsp.specs.Documents.{AreBehind, NoneOpen}
 use Rattle.timefd_lsp.specs.Frames.{framed, IsFrame}
 use Rattle.timefd_lsp.specs.Messages.{IsMessageOf}
 use Rattle.timefd_lsp.specs.Servers.{IsStep, first, phase_after, unanswered}
+use Rattle.timefd_lsp.specs.Texts.{reply_data}
 use Rattle.timefd_lsp.specs.declared.frame.Frame.{Frame}
 use Rattle.timefd_lsp.specs.declared.frame.Frame.TheVariants as got
 use Rattle.timefd_lsp.specs.declared.message.Message.{Message}
 use Rattle.timefd_lsp.specs.declared.reply.Refusal.TheVariants as refusals
+use Rattle.timefd_lsp.specs.declared.reply.Reply.{Reply}
 use Rattle.timefd_lsp.specs.declared.session.End.{End}
 use Rattle.timefd_lsp.specs.declared.session.End.TheVariants.{Done, Left, InputEnded, Cut, NoFrame, Unread, Unwritten, Memory}
 use Rattle.timefd_lsp.specs.declared.server.Phase.{Phase}
@@ -56,17 +59,17 @@ IsStepOn settings before after content step = (message : Message) × IsMessageOf
     × (after.phase ≡ phase_after before.phase message)
     × AreBehind before.phase message before.documents after.documents
 
--- A reply is one frame, unless it isn't written.
-abbrev pub IsWritten : Option (List ℕ) → Option (List ℕ) → Option End → Type 0
-IsWritten old new None = (content : List ℕ) × Appends old new (framed content)
-IsWritten old new (Some Done) = ⊥
-IsWritten old new (Some Left) = ⊥
-IsWritten old new (Some InputEnded) = ⊥
-IsWritten old new (Some Cut) = ⊥
-IsWritten old new (Some NoFrame) = ⊥
-IsWritten old new (Some Unread) = ⊥
-IsWritten old new (Some Unwritten) = Unit {0}
-IsWritten old new (Some Memory) = new ≡ old
+-- The text of a reply is one frame, unless it isn't written.
+abbrev pub IsWritten : Reply → Option (List ℕ) → Option (List ℕ) → Option End → Type 0
+IsWritten reply old new None = Appends old new (framed (compact_text (reply_data reply)))
+IsWritten reply old new (Some Done) = ⊥
+IsWritten reply old new (Some Left) = ⊥
+IsWritten reply old new (Some InputEnded) = ⊥
+IsWritten reply old new (Some Cut) = ⊥
+IsWritten reply old new (Some NoFrame) = ⊥
+IsWritten reply old new (Some Unread) = ⊥
+IsWritten reply old new (Some Unwritten) = Unit {0}
+IsWritten reply old new (Some Memory) = new ≡ old
 
 -- Nothing is written, and the session goes on or ends so.
 abbrev pub IsStill : Option (List ℕ) → Option (List ℕ) → Option End → Option End → Type 0
@@ -75,7 +78,7 @@ IsStill old new wanted end = (end ≡ wanted) × (new ≡ old)
 -- What a step says is written, and `exit` ends the session.
 abbrev pub IsDone : Phase → Step → Option (List ℕ) → Option (List ℕ) → Option End → Type 0
 IsDone phase Silent old new end = IsStill old new None end
-IsDone phase (Say reply) old new end = IsWritten old new end
+IsDone phase (Say reply) old new end = IsWritten reply old new end
 IsDone phase Exit old new end = IsStill old new (Some (exit phase)) end
 
 -- A content is answered, unless memory runs out.

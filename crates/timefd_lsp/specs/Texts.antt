@@ -1,19 +1,16 @@
 -- What the server says, as values of JSON. An object has its members in the order of their names.
-use Rattle.std.specs.Prelude.{codes, Option, Some, None, string_bytes}
-use Rattle.serde_json.specs.Data.{Data, null, number, unsigned, string, object, member, no_members}
+use Rattle.std.specs.Prelude.{ℕ, List, codes, Option, Some, None, string_bytes, true}
+use Rattle.serde_json.specs.Data.{Data, null, boolean, number, unsigned, string, array, object, item, no_items, member, no_members}
 use Rattle.serde_json.specs.Find.{of_integer}
-use Rattle.timefd_editor.specs.declared.position.Position.{Position}
-use Rattle.timefd_editor.specs.declared.position.Range.{Range}
+use Rattle.timefd_lsp.specs.Replies.{code_of, sentence_of}
+use Rattle.timefd_lsp.specs.Shown.{actions_data, findings_data, hover_data}
 use Rattle.timefd_lsp.specs.declared.envelope.Id.{Id}
 use Rattle.timefd_lsp.specs.declared.envelope.Id.TheVariants as ids
-
-abbrev pub place_data : Position → Data
-place_data place = object (member (codes "character") (number (unsigned place.character))
-    (member (codes "line") (number (unsigned place.line)) no_members))
-
-abbrev pub range_data : Range → Data
-range_data range = object (member (codes "end") (place_data range.end)
-    (member (codes "start") (place_data range.start) no_members))
+use Rattle.timefd_lsp.specs.declared.reply.Answer.{Answer}
+use Rattle.timefd_lsp.specs.declared.reply.Answer.TheVariants as answers
+use Rattle.timefd_lsp.specs.declared.reply.Refusal.{Refusal}
+use Rattle.timefd_lsp.specs.declared.reply.Reply.{Reply}
+use Rattle.timefd_lsp.specs.declared.reply.Reply.TheVariants as replies
 
 abbrev pub id_data : Option Id → Data
 id_data None = null
@@ -24,3 +21,52 @@ id_data (Some (ids.Text text)) = string (string_bytes text)
 abbrev pub answered : Data → Data → Data
 answered id result = object (member (codes "id") id (member (codes "jsonrpc") (string (codes "2.0"))
     (member (codes "result") result no_members)))
+
+abbrev pub error_data : Refusal → Data
+error_data refusal = object (member (codes "code") (number (of_integer (code_of refusal)))
+    (member (codes "message") (string (sentence_of refusal)) no_members))
+
+-- the response that refuses it
+abbrev pub refused : Data → Refusal → Data
+refused id refusal = object (member (codes "error") (error_data refusal)
+    (member (codes "id") id (member (codes "jsonrpc") (string (codes "2.0")) no_members)))
+
+abbrev pub published_of : List ℕ → Data → Data
+published_of uri findings = object (member (codes "diagnostics") findings (member (codes "uri") (string uri) no_members))
+
+-- what is wrong in a document, as a notification
+abbrev pub published : List ℕ → Data → Data
+published uri findings = object (member (codes "jsonrpc") (string (codes "2.0"))
+    (member (codes "method") (string (codes "textDocument/publishDiagnostics"))
+    (member (codes "params") (published_of uri findings) no_members)))
+
+-- what an editor may ask for
+abbrev pub action_kinds : Data
+action_kinds = object (member (codes "codeActionKinds")
+    (array (item (string (codes "quickfix")) (item (string (codes "refactor.rewrite")) no_items))) no_members)
+
+-- It is sent whole documents (1), and counts in UTF-16.
+abbrev pub provided : Data
+provided = object (member (codes "codeActionProvider") action_kinds
+    (member (codes "hoverProvider") (boolean true)
+    (member (codes "positionEncoding") (string (codes "utf-16"))
+    (member (codes "textDocumentSync") (number (unsigned 1)) no_members))))
+
+abbrev pub server : Data
+server = object (member (codes "name") (string (codes "timefd_lint"))
+    (member (codes "version") (string (codes "0.2.0")) no_members))
+
+abbrev pub capabilities : Data
+capabilities = object (member (codes "capabilities") provided (member (codes "serverInfo") server no_members))
+
+abbrev pub response : Data → Answer → Data
+response id (answers.Refused refusal) = refused id refusal
+response id answers.Capabilities = answered id capabilities
+response id answers.Nothing = answered id null
+response id (answers.Hover hover) = answered id (hover_data hover)
+response id (answers.Actions uri actions) = answered id (actions_data (string_bytes uri) actions.items)
+
+-- what a reply is
+abbrev pub reply_data : Reply → Data
+reply_data (replies.Response id answer) = response (id_data id) answer
+reply_data (replies.Findings uri findings) = published (string_bytes uri) (findings_data findings.items)

@@ -10,6 +10,7 @@ mod frame;
 mod head;
 mod length;
 mod message;
+mod params;
 mod reply;
 mod server;
 mod session;

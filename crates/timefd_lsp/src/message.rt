@@ -1,10 +1,11 @@
 //! Messages of an editor: what it asks for, and what it tells.
 
-ghost use Rattle.std.specs.Prelude.{◌≡◌, IfOk, option_map};
+ghost use Rattle.std.specs.Prelude.{◌≡◌, IfOk};
 ghost use Rattle.serde_json.specs.View.{view};
 ghost use Rattle.timefd_lsp.specs.Messages as spec;
 
-use crate::envelope::{Envelope, Id, envelope_of, text_at};
+use crate::envelope::{Envelope, Id, envelope_of};
+use crate::params::{last_text, place_of, range_of, text_by, uri_of};
 use serde_json::Value;
 use std::alloc::{AllocError, Global};
 use timefd_editor::{Position, Range};
@@ -54,84 +55,6 @@ pub enum Message {
     NotJson,
     /// It is JSON, but no message.
     NotMessage,
-}
-
-// The text at a path.
-fn text_by<'a>(value: &'a Value, path: &str) -> Option<&'a str>
-    ensures { option_map (λ text. text.now) result ≡ spec.text_by path.now (view value.now) }
-{
-    match value.pointer(path) {
-        Some(member) => member.as_str(),
-        None => None,
-    }
-}
-
-// The number at a path, if it counts something.
-fn count_by(value: &Value, path: &str) -> Option<usize>
-    ensures { result ≡ spec.count_by path.now (view value.now) }
-{
-    match value.pointer(path) {
-        Some(member) => count_of(member.as_u64()),
-        None => None,
-    }
-}
-
-fn count_of(number: Option<u64>) -> Option<usize>
-    ensures { result ≡ number }
-{
-    match number {
-        Some(number) => Some(number as usize),
-        None => None,
-    }
-}
-
-// The place whose line and character stand at these paths.
-fn place_by(value: &Value, line: &str, character: &str) -> Option<Position>
-    ensures { result ≡ spec.place_by line.now character.now (view value.now) }
-{
-    let line = count_by(value, line)?;
-    let character = count_by(value, character)?;
-    Some(Position { line, character })
-}
-
-// The range between two places, if both are there.
-fn range_from(start: Option<Position>, end: Option<Position>) -> Option<Range>
-    ensures { result ≡ spec.range_from start end }
-{
-    let start = start?;
-    let end = end?;
-    Some(Range { start, end })
-}
-
-// The range of a request.
-fn range_of(value: &Value) -> Option<Range>
-    ensures { result ≡ spec.range_of (view value.now) }
-{
-    let start = place_by(
-        value,
-        "/params/range/start/line",
-        "/params/range/start/character",
-    );
-    let end = place_by(
-        value,
-        "/params/range/end/line",
-        "/params/range/end/character",
-    );
-    range_from(start, end)
-}
-
-// The place of a request.
-fn place_of(value: &Value) -> Option<Position>
-    ensures { result ≡ spec.place_of (view value.now) }
-{
-    place_by(value, "/params/position/line", "/params/position/character")
-}
-
-// The name of the document that a message is about.
-fn uri_of(value: &Value) -> Option<&str>
-    ensures { option_map (λ uri. uri.now) result ≡ spec.uri_of (view value.now) }
-{
-    text_by(value, "/params/textDocument/uri")
 }
 
 fn hover_of(alloc: Global, value: &Value) -> Result<Request, AllocError>
@@ -198,14 +121,8 @@ fn opened_of(alloc: Global, value: &Value) -> Result<Notification, AllocError>
     })
 }
 
-// The text behind the last of some changes.
-fn last_text(value: &Value) -> Option<&str> {
-    let changes = value.pointer("/params/contentChanges")?.as_array()?;
-    text_at(changes.last()?, "text")
-}
-
 fn changed_of(alloc: Global, value: &Value) -> Result<Notification, AllocError>
-    ensures { IfOk result (λ told. spec.IsChanged told (spec.uri_of (view value.now))) }
+    ensures { IfOk result (λ told. spec.seen_notification told ≡ spec.changed_of (view value.now)) }
 {
     let Some(uri) = uri_of(value) else {
         return Ok(Notification::Other);

@@ -58,7 +58,9 @@ pub fn code_of(refusal: Refusal) -> i64
 }
 
 /// A refusal in a sentence.
-pub fn sentence_of(refusal: Refusal) -> &'static str {
+pub fn sentence_of(refusal: Refusal) -> &'static str
+    ensures { result.now ≡ spec.sentence_of refusal }
+{
     match refusal {
         Refusal::NotJson => "the content is no JSON",
         Refusal::InvalidRequest => "the content is no request that can stand here",

@@ -145,7 +145,7 @@ fn exit(phase: Phase) -> End
 #[tactic(auto, using(crate::proofs::SessionLemmas::none_written, crate::proofs::SessionLemmas::same_written, crate::proofs::SessionLemmas::one_written))]
 fn say<W: Sink>(alloc: Global, reply: &Reply, sink: &mut W) -> Option<End>
     ensures frames { spec.IsTurn (W.contents sink.old) (W.contents sink.new) result }
-    ensures written { spec.IsWritten (W.contents sink.old) (W.contents sink.new) result }
+    ensures written { spec.IsWritten reply.now (W.contents sink.old) (W.contents sink.new) result }
     ensures read { ¬ (result ≡ Some End.Unread) }
     ensures unwritten { result ≡ Some End.Unwritten → IsTrue (W.has_failed sink.new) }
 {

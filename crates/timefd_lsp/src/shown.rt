@@ -2,7 +2,7 @@
 
 ghost use Rattle.std.specs.Prelude.{◌≡◌, IfOk};
 ghost use Rattle.serde_json.specs.View.{view};
-ghost use Rattle.timefd_lsp.specs.Texts as spec;
+ghost use Rattle.timefd_lsp.specs.Shown as spec;
 
 use serde_json::{Map, Value, json};
 use std::alloc::{AllocError, Global};
@@ -25,14 +25,18 @@ fn range_value(alloc: Global, range: Range) -> Result<Value, AllocError>
 }
 
 // The number of a severity in the protocol.
-fn severity_number(severity: Severity) -> u64 {
+fn severity_number(severity: Severity) -> u64
+    ensures { result ≡ spec.severity_number severity }
+{
     match severity {
         Severity::Error => 1,
         Severity::Warning => 2,
     }
 }
 
-fn finding_value(alloc: Global, finding: &Finding) -> Result<Value, AllocError> {
+fn finding_value(alloc: Global, finding: &Finding) -> Result<Value, AllocError>
+    ensures { IfOk result (λ value. view value ≡ spec.finding_data finding.now) }
+{
     let range = range_value(alloc, finding.range)?;
     let severity = severity_number(finding.severity);
     let code = finding.code;
@@ -47,7 +51,9 @@ fn finding_value(alloc: Global, finding: &Finding) -> Result<Value, AllocError> 
 }
 
 /// All that is wrong in a document.
-pub fn findings_value(alloc: Global, findings: &[Finding]) -> Result<Value, AllocError> {
+pub fn findings_value(alloc: Global, findings: &[Finding]) -> Result<Value, AllocError>
+    ensures { IfOk result (λ value. view value ≡ spec.findings_data findings.now) }
+{
     let mut values = Vec::new(alloc);
     for finding in findings {
         values.push(finding_value(alloc, finding)?)?;
@@ -55,46 +61,81 @@ pub fn findings_value(alloc: Global, findings: &[Finding]) -> Result<Value, Allo
     Ok(Value::Array(values))
 }
 
-/// What the part of a document at a place means.
-pub fn hover_value(alloc: Global, hover: &Hover) -> Result<Value, AllocError> {
-    let range = range_value(alloc, hover.range)?;
-    let text = hover.text.as_str();
-    json!(in alloc; {"contents": {"kind": "markdown", "value": text}, "range": range})
+// A text of Markdown.
+fn markdown(alloc: Global, text: &str) -> Result<Value, AllocError>
+    ensures { IfOk result (λ value. view value ≡ spec.markdown text.now) }
+{
+    json!(in alloc; {"kind": "markdown", "value": text})
 }
 
-fn edit_value(alloc: Global, edit: &Edit) -> Result<Value, AllocError> {
+/// What the part of a document at a place means.
+pub fn hover_value(alloc: Global, hover: &Hover) -> Result<Value, AllocError>
+    ensures { IfOk result (λ value. view value ≡ spec.hover_data hover.now) }
+{
+    let range = range_value(alloc, hover.range)?;
+    let contents = markdown(alloc, hover.text.as_str())?;
+    json!(in alloc; {"contents": contents, "range": range})
+}
+
+fn edit_value(alloc: Global, edit: &Edit) -> Result<Value, AllocError>
+    ensures { IfOk result (λ value. view value ≡ spec.edit_data edit.now) }
+{
     let range = range_value(alloc, edit.range)?;
     let text = edit.text.as_str();
     json!(in alloc; {"newText": text, "range": range})
 }
 
-// The edits of one document.
-fn edits_value(alloc: Global, uri: &str, edits: &[Edit]) -> Result<Value, AllocError> {
+// Edits, as a list.
+fn edit_list(alloc: Global, edits: &[Edit]) -> Result<Value, AllocError>
+    ensures { IfOk result (λ value. view value ≡ spec.edit_list edits.now) }
+{
     let mut values = Vec::new(alloc);
     for edit in edits {
         values.push(edit_value(alloc, edit)?)?;
     }
+    Ok(Value::Array(values))
+}
+
+// The edits of one document.
+fn edits_value(alloc: Global, uri: &str, edits: &[Edit]) -> Result<Value, AllocError>
+    ensures { IfOk result (λ value. view value ≡ spec.edits_data uri.now edits.now) }
+{
+    let list = edit_list(alloc, edits)?;
     let mut changes = Map::new(alloc);
-    serde_json::put(&mut changes, alloc, uri, Value::Array(values))?;
+    serde_json::put(&mut changes, alloc, uri, list)?;
     Ok(Value::Object(changes))
 }
 
-fn kind_name(kind: ActionKind) -> &'static str {
+fn kind_name(kind: ActionKind) -> &'static str
+    ensures { result.now ≡ spec.kind_name kind }
+{
     match kind {
         ActionKind::QuickFix => "quickfix",
         ActionKind::Rewrite => "refactor.rewrite",
     }
 }
 
-fn action_value(alloc: Global, uri: &str, action: &Action) -> Result<Value, AllocError> {
-    let changes = edits_value(alloc, uri, &action.edits)?;
+// Changes of documents.
+fn changes_value(alloc: Global, edits: Value) -> Result<Value, AllocError>
+    ensures { IfOk result (λ value. view value ≡ spec.changes_data (view edits)) }
+{
+    json!(in alloc; {"changes": edits})
+}
+
+fn action_value(alloc: Global, uri: &str, action: &Action) -> Result<Value, AllocError>
+    ensures { IfOk result (λ value. view value ≡ spec.action_data uri.now action.now) }
+{
+    let edits = edits_value(alloc, uri, &action.edits)?;
+    let edit = changes_value(alloc, edits)?;
     let kind = kind_name(action.kind);
     let title = action.title.as_str();
-    json!(in alloc; {"edit": {"changes": changes}, "kind": kind, "title": title})
+    json!(in alloc; {"edit": edit, "kind": kind, "title": title})
 }
 
 /// What can be done to a document of this name.
-pub fn actions_value(alloc: Global, uri: &str, actions: &[Action]) -> Result<Value, AllocError> {
+pub fn actions_value(alloc: Global, uri: &str, actions: &[Action]) -> Result<Value, AllocError>
+    ensures { IfOk result (λ value. view value ≡ spec.actions_data uri.now actions.now) }
+{
     let mut values = Vec::new(alloc);
     for action in actions {
         values.push(action_value(alloc, uri, action)?)?;

@@ -1,8 +1,8 @@
 //! What the server says, as texts of JSON.
 
-ghost use Rattle.std.specs.Prelude.{◌≡◌, codes, IfOk};
-ghost use Rattle.serde_json.specs.Data.{Data, null, number, string, object, member, no_members};
+ghost use Rattle.std.specs.Prelude.{◌≡◌, IfOk, string_bytes};
 ghost use Rattle.serde_json.specs.View.{view};
+ghost use Rattle.serde_json.specs.Written.{compact_text};
 ghost use Rattle.timefd_lsp.specs.Texts as spec;
 
 use crate::envelope::Id;
@@ -11,12 +11,17 @@ use crate::shown::{actions_value, findings_value, hover_value};
 use serde_json::{Value, json};
 use std::alloc::{AllocError, Global};
 
-/// What a reply is as a text.
-pub fn text_of(alloc: Global, reply: &Reply) -> Result<String, AllocError> {
+/// What a reply is as a text: its JSON, with no white space between.
+#[tactic(auto, using(crate::proofs::TextLemmas::written))]
+pub fn text_of(alloc: Global, reply: &Reply) -> Result<String, AllocError>
+    ensures { IfOk result (λ text. string_bytes text ≡ compact_text (spec.reply_data reply.now)) }
+{
     value_of(alloc, reply)?.to_string(alloc)
 }
 
-fn value_of(alloc: Global, reply: &Reply) -> Result<Value, AllocError> {
+fn value_of(alloc: Global, reply: &Reply) -> Result<Value, AllocError>
+    ensures { IfOk result (λ value. view value ≡ spec.reply_data reply.now) }
+{
     match reply {
         Reply::Response { id, answer } => response(alloc, id, answer),
         Reply::Findings { uri, findings } => {
@@ -26,7 +31,9 @@ fn value_of(alloc: Global, reply: &Reply) -> Result<Value, AllocError> {
     }
 }
 
-fn response(alloc: Global, id: &Option<Id>, answer: &Answer) -> Result<Value, AllocError> {
+fn response(alloc: Global, id: &Option<Id>, answer: &Answer) -> Result<Value, AllocError>
+    ensures { IfOk result (λ value. view value ≡ spec.response (spec.id_data id.now) answer.now) }
+{
     let id = id_value(alloc, id)?;
     match answer {
         Answer::Refused(refusal) => refused(alloc, id, *refusal),
@@ -63,35 +70,73 @@ fn answered(alloc: Global, id: Value, outcome: Value) -> Result<Value, AllocErro
     json!(in alloc; {"id": id, "jsonrpc": "2.0", "result": outcome})
 }
 
-// A response that refuses it.
-fn refused(alloc: Global, id: Value, refusal: Refusal) -> Result<Value, AllocError> {
+// Why a request isn't served.
+fn error_value(alloc: Global, refusal: Refusal) -> Result<Value, AllocError>
+    ensures { IfOk result (λ value. view value ≡ spec.error_data refusal) }
+{
     let code = code_of(refusal);
     let message = sentence_of(refusal);
-    json!(in alloc; {
-        "error": {"code": code, "message": message},
-        "id": id,
-        "jsonrpc": "2.0"
-    })
+    json!(in alloc; {"code": code, "message": message})
+}
+
+// A response that refuses it.
+fn refused(alloc: Global, id: Value, refusal: Refusal) -> Result<Value, AllocError>
+    ensures { IfOk result (λ value. view value ≡ spec.refused (view id) refusal) }
+{
+    let error = error_value(alloc, refusal)?;
+    json!(in alloc; {"error": error, "id": id, "jsonrpc": "2.0"})
+}
+
+// The parameters of a notification of what is wrong.
+fn published_of(alloc: Global, uri: &str, findings: Value) -> Result<Value, AllocError>
+    ensures { IfOk result (λ value. view value ≡ spec.published_of uri.now (view findings)) }
+{
+    json!(in alloc; {"diagnostics": findings, "uri": uri})
 }
 
 // What is wrong in a document, as a notification.
-fn published(alloc: Global, uri: &str, findings: Value) -> Result<Value, AllocError> {
+fn published(alloc: Global, uri: &str, findings: Value) -> Result<Value, AllocError>
+    ensures { IfOk result (λ value. view value ≡ spec.published uri.now (view findings)) }
+{
+    let params = published_of(alloc, uri, findings)?;
     json!(in alloc; {
         "jsonrpc": "2.0",
         "method": "textDocument/publishDiagnostics",
-        "params": {"diagnostics": findings, "uri": uri}
+        "params": params
     })
 }
 
-// What the server can do: it is sent whole documents, and counts in UTF-16.
-fn capabilities(alloc: Global) -> Result<Value, AllocError> {
+// What an editor may ask for.
+fn action_kinds(alloc: Global) -> Result<Value, AllocError>
+    ensures { IfOk result (λ value. view value ≡ spec.action_kinds) }
+{
+    json!(in alloc; {"codeActionKinds": ["quickfix", "refactor.rewrite"]})
+}
+
+// It is sent whole documents, and counts in UTF-16.
+fn provided(alloc: Global) -> Result<Value, AllocError>
+    ensures { IfOk result (λ value. view value ≡ spec.provided) }
+{
+    let kinds = action_kinds(alloc)?;
     json!(in alloc; {
-        "capabilities": {
-            "codeActionProvider": {"codeActionKinds": ["quickfix", "refactor.rewrite"]},
-            "hoverProvider": true,
-            "positionEncoding": "utf-16",
-            "textDocumentSync": 1u64
-        },
-        "serverInfo": {"name": "timefd_lint", "version": "0.2.0"}
+        "codeActionProvider": kinds,
+        "hoverProvider": true,
+        "positionEncoding": "utf-16",
+        "textDocumentSync": 1u64
     })
+}
+
+fn server(alloc: Global) -> Result<Value, AllocError>
+    ensures { IfOk result (λ value. view value ≡ spec.server) }
+{
+    json!(in alloc; {"name": "timefd_lint", "version": "0.2.0"})
+}
+
+// What the server can do, and what it is.
+fn capabilities(alloc: Global) -> Result<Value, AllocError>
+    ensures { IfOk result (λ value. view value ≡ spec.capabilities) }
+{
+    let provided = provided(alloc)?;
+    let server = server(alloc)?;
+    json!(in alloc; {"capabilities": provided, "serverInfo": server})
 }

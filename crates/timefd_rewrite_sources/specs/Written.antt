@@ -9,7 +9,7 @@ use Rattle.timefd_rewrite.specs.Layouts.{IsConverted, IsRefusedFor}
 use Rattle.timefd_sources.specs.declared.description.Description.{Description}
 use Rattle.timefd_sources.specs.declared.version.VersionPlace.{VersionPlace}
 use Rattle.timefd_sources.specs.declared.version.VersionPlace.TheVariants.{Digit, Unsaid, Call, Elsewhere}
-use Rattle.timefd_sources.specs.Found.{AllStandIn, AreInOrder}
+use Rattle.timefd_sources.specs.Found.{AllStandIn, AreDescriptionsOf, AreInOrder}
 use Rattle.timefd_sources.specs.Literals.{body_end, inside}
 use Rattle.timefd_sources.specs.Versions.{digit_of}
 use Rattle.timefd_sources.specs.Written.{IsBodyFor, has_body}
@@ -194,9 +194,10 @@ AreRewritten change source from (d ∷ ds) (o ∷ os) new = (digit : Option ℕ)
     × IsOutcome change source d o digit body × IsPlaced source from d o digit body front next
     × AreRewritten change source next ds os rest × (new ≡ front ++ rest)
 
--- A source whose descriptions, which stand in it one behind another, are rewritten.
+-- A source whose descriptions, all that it has, are rewritten; they stand in it one behind another.
 pub record IsSourceRewritten (change : Change) (source : Text) (new : NewSource) : Type 0 where
   pub descriptions : List Description
+  pub all : AreDescriptionsOf source descriptions
   pub stand : AllStandIn source descriptions
   pub in_order : AreInOrder 0 descriptions
   pub rewritten : AreRewritten change source 0 descriptions new.outcomes.items new.bytes.items

@@ -1,6 +1,8 @@
 pub mod ScalarLemmas
 pub mod UnescapeLemmas
 pub mod PieceLemmas
+pub mod EachLemmas
+pub mod CandidateLemmas
 pub mod FoundLemmas
 pub mod GrammarLemmas
 pub mod WrittenLemmas

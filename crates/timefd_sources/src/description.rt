@@ -1,16 +1,20 @@
 //! The descriptions in a source.
 
-ghost use Rattle.std.specs.Prelude.{◌≡◌, ◌++◌, IfOk, MatchOption, OnOk, ⊤};
-ghost use Rattle.timefd_sources.specs.Found.{AllStandIn, AreInOrder, StandsIn, begun_behind, end_behind, listed};
+ghost use Rattle.std.specs.Prelude.{◌≡◌, ◌++◌, IfOk, OnOk, Some};
+ghost use Rattle.timefd_sources.specs.Candidates.{candidates_in};
+ghost use Rattle.timefd_sources.specs.Escapes.{placed};
+ghost use Rattle.timefd_sources.specs.Found.{AllStandIn, AreDescribed, AreDescriptionsOf, AreInOrder, IsAnyDescribed, IsDescribed, IsOfText, begun_behind, end_behind, listed};
+ghost use Rattle.timefd_sources.specs.Found.{has_percent as has_percent_in};
 
 use crate::between::is_between;
-use crate::calls::{Frame, Told, call_of, text_at, told_in};
+use crate::candidate::{Candidate, candidate_at, significant};
 use crate::dialect::Dialect;
+use crate::frames::{innermost, pass};
 use crate::literal::literal_text;
-use crate::marks::{Mark, first_open, marks_of};
+use crate::marks::{Mark, marks_of, still_open, told_at};
 use crate::names::may_describe;
 use crate::piece::{Piece, pieces_of};
-use crate::token::{Kind, Token};
+use crate::token::Kind;
 use crate::unescape::Unescaped;
 use crate::version::{VersionPlace, first_place, tested};
 use std::alloc::{AllocError, Global};
@@ -30,115 +34,55 @@ pub struct Description {
     pub unescaped: Unescaped,
 }
 
-/// Whether a token is neither white nor a comment.
-fn is_significant(token: Token) -> bool {
-    match token {
-        Token::White | Token::Comment => false,
-        Token::Word
-        | Token::Lifetime
-        | Token::Character
-        | Token::Literal(_)
-        | Token::Sign
-        | Token::Unclosed => true,
-    }
-}
-
-fn significant(alloc: Global, pieces: &[Piece]) -> Result<Vec<Piece>, AllocError> {
-    let mut kept = Vec::new(alloc);
-    for piece in pieces {
-        if is_significant(piece.token) {
-            kept.push(*piece)?;
-        }
-    }
-    Ok(kept)
-}
-
-/// Opens or closes a bracket, or counts a comma.
-fn pass_sign(
-    frames: &mut Vec<Frame>,
-    source: &str,
-    pieces: &[Piece],
-    index: usize,
-) -> Result<(), AllocError> {
-    let sign = text_at(source, pieces, index);
-    if sign == "(" || sign == "[" || sign == "{" {
-        let call = call_of(source, pieces, index);
-        frames.push(Frame {
-            opened: index,
-            call,
-            commas: 0,
-        })?;
-    } else if sign == ")" || sign == "]" || sign == "}" {
-        frames.pop();
-    } else if sign == ","
-        && let Some(frame) = frames.last_mut()
-    {
-        frame.commas = frame.commas.saturating_add(1);
-    }
-    Ok(())
-}
-
-/// What a comment tells of a literal: the language that it names.
-fn told_by(marks: &[Mark], at: usize, place: usize) -> Option<Told> {
-    let mark = marks.get(at)?;
-    if mark.from <= place && place < mark.to {
-        Some(Told {
-            dialect: mark.dialect,
-            version: VersionPlace::Elsewhere,
-            wants_percent: false,
-        })
-    } else {
-        None
-    }
-}
-
-/// A literal as a description; none where an escape isn't one, or a `%` is wanted and there is none.
-fn described(
-    alloc: Global,
-    source: &str,
-    piece: Piece,
-    kind: Kind,
-    told: Told,
-) -> Result<Option<Description>, AllocError>
-    ensures { IfOk result (λ found. MatchOption found ⊤ (StandsIn source.now)) }
+fn has_percent(text: &[u8]) -> bool
+    ensures { result ≡ has_percent_in text.now }
 {
-    let Some(unescaped) = literal_text(alloc, source, piece, kind)? else {
-        return Ok(None);
-    };
-    if told.wants_percent && !unescaped.text.contains(&b'%') {
-        return Ok(None);
+    text.contains(&b'%')
+}
+
+/// The description of a literal that stands for a text; none where a `%` is wanted and there is none.
+fn of_text(source: &str, candidate: Candidate, unescaped: Unescaped) -> Option<Description>
+    ensures { IsOfText source.now candidate (Some (placed unescaped)) result }
+{
+    let Candidate { piece, kind, told } = candidate;
+    if told.wants_percent && !has_percent(&unescaped.text) {
+        return None;
     }
     if !is_between(source, piece, kind, &unescaped) {
-        return Ok(None);
+        return None;
     }
-    Ok(Some(Description {
+    Some(Description {
         piece,
         kind,
         dialect: told.dialect,
         version: tested(source, piece, told.dialect, told.version),
         unescaped,
-    }))
+    })
 }
 
-/// The description that a token is, by a comment or by the bracket that it stands in.
-fn found(
+/// A literal as a description; none where an escape isn't one.
+fn described(
     alloc: Global,
     source: &str,
-    pieces: &[Piece],
-    index: usize,
-    frame: Option<Frame>,
-    told: Option<Told>,
+    candidate: Candidate,
 ) -> Result<Option<Description>, AllocError>
-    ensures { IfOk result (λ found. MatchOption found ⊤ (StandsIn source.now)) }
+    ensures { IfOk result (IsDescribed source.now candidate) }
 {
-    let Some(piece) = pieces.get(index) else {
-        return Ok(None);
-    };
-    let Token::Literal(kind) = piece.token else {
-        return Ok(None);
-    };
-    match told.or(told_in(source, pieces, index, frame)) {
-        Some(told) => described(alloc, source, *piece, kind, told),
+    match literal_text(alloc, source, candidate.piece, candidate.kind)? {
+        Some(unescaped) => Ok(of_text(source, candidate, unescaped)),
+        None => Ok(None),
+    }
+}
+
+fn described_any(
+    alloc: Global,
+    source: &str,
+    candidate: Option<Candidate>,
+) -> Result<Option<Description>, AllocError>
+    ensures { IfOk result (IsAnyDescribed source.now candidate) }
+{
+    match candidate {
+        Some(candidate) => described(alloc, source, candidate),
         None => Ok(None),
     }
 }
@@ -167,10 +111,36 @@ pub fn push_any(
     }
 }
 
+/// The descriptions among these tokens, where these comments count.
+fn described_in(
+    alloc: Global,
+    source: &str,
+    pieces: &[Piece],
+    marks: &[Mark],
+) -> Result<Vec<Description>, AllocError>
+    ensures { IfOk result (λ found. AreDescribed source.now 0 (candidates_in source.now pieces.now marks.now)
+        found.items) }
+{
+    let mut frames = Vec::new(alloc);
+    let mut descriptions = Vec::new(alloc);
+    let mut comments = marks;
+    let mut end = 0;
+    for (index, piece) in pieces.iter().enumerate() {
+        pass(&mut frames, source.as_bytes(), pieces, index)?;
+        comments = still_open(comments, piece.start);
+        let dialect = told_at(comments, piece.start);
+        let frame = innermost(&frames);
+        let candidate = candidate_at(source.as_bytes(), pieces, index, *piece, frame, dialect);
+        let found = described_any(alloc, source, candidate)?;
+        end = push_any(&mut descriptions, found, end)?;
+    }
+    Ok(descriptions)
+}
+
 /// The descriptions in a source: arguments of the calls that are known, and literals for which a comment
 /// names a language, one behind another.
-#[tactic(auto, using(crate::proofs::FoundLemmas::at_first, crate::proofs::FoundLemmas::no_piece_yet))]
 pub fn descriptions_of(alloc: Global, source: &str) -> Result<Vec<Description>, AllocError>
+    ensures all { IfOk result (λ found. AreDescriptionsOf source.now found.items) }
     ensures stand { IfOk result (λ found. AllStandIn source.now found.items) }
     ensures in_order { IfOk result (λ found. AreInOrder 0 found.items) }
 {
@@ -178,19 +148,7 @@ pub fn descriptions_of(alloc: Global, source: &str) -> Result<Vec<Description>, 
         return Ok(Vec::new(alloc));
     }
     let all = pieces_of(alloc, source)?;
-    let marks = marks_of(alloc, source, &all)?;
+    let marks = marks_of(alloc, source.as_bytes(), &all)?;
     let pieces = significant(alloc, &all)?;
-    let mut frames: Vec<Frame> = Vec::new(alloc);
-    let mut descriptions = Vec::new(alloc);
-    let mut open = 0;
-    let mut end = 0;
-    for (index, piece) in pieces.iter().enumerate() {
-        pass_sign(&mut frames, source, &pieces, index)?;
-        open = first_open(&marks, open, piece.start);
-        let told = told_by(&marks, open, piece.start);
-        let frame = frames.last().copied();
-        let description = found(alloc, source, &pieces, index, frame, told)?;
-        end = push_any(&mut descriptions, description, end)?;
-    }
-    Ok(descriptions)
+    described_in(alloc, source, &pieces, &marks)
 }

@@ -1,4 +1,7 @@
-//! The languages of descriptions, and comments that name one.
+//! The languages of descriptions, and the words that name them.
+
+ghost use Rattle.std.specs.Prelude.{◌≡◌, bytes_eq};
+ghost use Rattle.timefd_sources.specs.Dialects as spec;
 
 /// The language of a description: a version of that of `time`, its strftime, or that of chrono.
 #[derive(Clone, Copy, Debug, PartialEq, Eq)]
@@ -11,29 +14,45 @@ pub enum Dialect {
     Chrono,
 }
 
-/// The version of a number.
-pub fn version_named(word: &str) -> Option<Dialect> {
-    if word == "1" {
+/// Whether a word is this one.
+pub fn is(word: &[u8], name: &str) -> bool
+    ensures { result ≡ bytes_eq word.now name.now }
+{
+    word == name.as_bytes()
+}
+
+/// The language that the bytes of a word name.
+pub fn dialect_of_word(word: &[u8]) -> Option<Dialect>
+    ensures { result ≡ spec.dialect_named word.now }
+{
+    if is(word, "1") {
         Some(Dialect::One)
-    } else if word == "2" {
+    } else if is(word, "2") {
         Some(Dialect::Two)
-    } else if word == "3" {
+    } else if is(word, "3") {
         Some(Dialect::Three)
+    } else if is(word, "strftime") {
+        Some(Dialect::Strftime)
     } else {
         None
     }
 }
 
-/// The language that a comment of a line names: `// timefd: 3`, `// timefd: strftime`.
-pub fn dialect_told(comment: &str) -> Option<Dialect> {
-    let word = comment
-        .strip_prefix("//")?
-        .trim()
-        .strip_prefix("timefd:")?
-        .trim();
-    if word == "strftime" {
-        Some(Dialect::Strftime)
-    } else {
-        version_named(word)
+/// The language that a word names: `1`, `2`, `3`, `strftime`.
+pub fn dialect_named(word: &str) -> Option<Dialect>
+    ensures { result ≡ spec.dialect_named word.now }
+{
+    dialect_of_word(word.as_bytes())
+}
+
+/// The version of a number.
+pub fn version_named(word: &[u8]) -> Option<Dialect>
+    ensures { result ≡ spec.version_named word.now }
+{
+    match dialect_of_word(word) {
+        Some(Dialect::One) => Some(Dialect::One),
+        Some(Dialect::Two) => Some(Dialect::Two),
+        Some(Dialect::Three) => Some(Dialect::Three),
+        Some(Dialect::Strftime | Dialect::Chrono) | None => None,
     }
 }

@@ -44,8 +44,9 @@ pub fn body_end(piece: Piece, kind: Kind) -> usize
 }
 
 /// The bytes of a token.
-fn cut(source: &[u8], piece: Piece) -> Option<&[u8]>
+pub fn cut(source: &[u8], piece: Piece) -> Option<&[u8]>
     ensures cut { seen result ≡ spec.cut source.now piece }
+    ensures bounds { MatchOption result ⊤ (λ text. piece.end ≤ length source.now) }
     ensures within { MatchOption result ⊤ (λ text. length text.now + piece.start ≡ piece.end) }
 {
     if piece.start <= piece.end && piece.end <= source.len() {

@@ -1,6 +1,16 @@
 //! Where a comment names the language of literals.
 
-use crate::dialect::{Dialect, dialect_told};
+ghost use Rattle.std.specs.Prelude.{◌≡◌, ◌≤◌, ◌++◌, length, OnOk, IfOk, Some};
+ghost use Rattle.timefd_sources.specs.Behind.{behind_run as behind_spec};
+ghost use Rattle.timefd_sources.specs.Bytes.{is_word, seen};
+ghost use Rattle.timefd_sources.specs.Lines.{line_start as line_start_of};
+ghost use Rattle.timefd_sources.specs.Literals as literals;
+ghost use Rattle.timefd_sources.specs.Marks as spec;
+
+use crate::class::{Class, behind_run};
+use crate::dialect::{Dialect, dialect_of_word};
+use crate::line::{line_start, next_line_end};
+use crate::literal::cut;
 use crate::piece::Piece;
 use crate::token::Token;
 use std::alloc::{AllocError, Global};
@@ -14,29 +24,73 @@ pub struct Mark {
     pub dialect: Dialect,
 }
 
-/// Where the line begins that has this place in it.
-fn line_start(source: &str, place: usize) -> usize {
-    match source.get(..place).unwrap_or("").rfind('\n') {
-        Some(at) => at.saturating_add(1),
-        None => 0,
+/// What stands behind this front of a text; none where it begins otherwise.
+pub fn behind<'a>(text: &'a [u8], front: &[u8]) -> Option<&'a [u8]>
+    ensures { seen result ≡ spec.behind text.now front.now }
+{
+    if text.starts_with(front) {
+        Some(&text[front.len()..])
+    } else {
+        None
     }
 }
 
-/// Where the line ends that has this place in it.
-fn line_end(source: &str, place: usize) -> usize {
-    match source.get(place..).unwrap_or("").find('\n') {
-        Some(len) => place.saturating_add(len),
-        None => source.len(),
+/// The word that a text begins with.
+pub fn first_word(text: &[u8]) -> &[u8]
+    ensures { result.now ≡ spec.in_front text.now (behind_spec is_word text.now) }
+{
+    &text[..text.len() - behind_run(Class::Word, text).len()]
+}
+
+/// The language of the word that a text is, with white bytes behind it.
+fn word_told(text: &[u8]) -> Option<Dialect>
+    ensures { result ≡ spec.word_told text.now }
+{
+    if behind_run(Class::White, behind_run(Class::Word, text)).is_empty() {
+        dialect_of_word(first_word(text))
+    } else {
+        None
     }
 }
 
-fn mark_of(source: &str, comment: Piece) -> Option<Mark> {
-    let dialect = dialect_told(source.get(comment.start..comment.end)?)?;
-    let start = line_start(source, comment.start);
-    if source.get(start..comment.start)?.trim().is_empty() {
+/// The language that a comment names: `// timefd: 3`, `// timefd: strftime`.
+fn dialect_told(comment: &[u8]) -> Option<Dialect>
+    ensures { result ≡ spec.dialect_told (Some comment.now) }
+{
+    let Some(line) = behind(comment, b"//") else {
+        return None;
+    };
+    let Some(word) = behind(behind_run(Class::White, line), b"timefd:") else {
+        return None;
+    };
+    word_told(behind_run(Class::White, word))
+}
+
+/// Whether only white bytes stand in front of a place in its line, which begins here.
+fn is_alone(source: &[u8], start: usize, at: usize) -> bool
+    requires start { start ≡ line_start_of source.now at }
+    requires within { at ≤ length source.now }
+    ensures { result ≡ spec.is_alone source.now at }
+{
+    behind_run(Class::White, &source[start..at]).is_empty()
+}
+
+/// Where a comment names a language.
+fn mark_of(source: &[u8], comment: Piece) -> Option<Mark>
+    ensures { result ≡ spec.mark_of source.now comment (spec.dialect_told (literals.cut source.now comment)) }
+{
+    let Some(text) = cut(source, comment) else {
+        return None;
+    };
+    let Some(dialect) = dialect_told(text) else {
+        return None;
+    };
+    let start = line_start(source, 0, 0, comment.start);
+    if is_alone(source, start, comment.start) {
+        let to = next_line_end(source, comment.end);
         Some(Mark {
             from: comment.end,
-            to: line_end(source, comment.end.saturating_add(1)),
+            to,
             dialect,
         })
     } else {
@@ -48,25 +102,74 @@ fn mark_of(source: &str, comment: Piece) -> Option<Mark> {
     }
 }
 
+fn is_comment(token: Token) -> bool
+    ensures { result ≡ spec.is_comment token }
+{
+    match token {
+        Token::Comment => true,
+        Token::White
+        | Token::Word
+        | Token::Lifetime
+        | Token::Character
+        | Token::Literal(_)
+        | Token::Sign
+        | Token::Unclosed => false,
+    }
+}
+
+fn mark_at(source: &[u8], piece: Piece) -> Option<Mark>
+    ensures { result ≡ spec.mark_at source.now piece }
+{
+    if is_comment(piece.token) {
+        mark_of(source, piece)
+    } else {
+        None
+    }
+}
+
+fn push_any(marks: &mut Vec<Mark>, mark: Option<Mark>) -> Result<(), AllocError>
+    ensures { OnOk result (marks.new.items ≡ marks.old.items ++ spec.listed mark) }
+{
+    match mark {
+        Some(mark) => {
+            marks.push(mark)?;
+            Ok(())
+        }
+        None => Ok(()),
+    }
+}
+
 /// The comments that name a language, in turn.
-pub fn marks_of(alloc: Global, source: &str, pieces: &[Piece]) -> Result<Vec<Mark>, AllocError> {
+pub fn marks_of(alloc: Global, source: &[u8], pieces: &[Piece]) -> Result<Vec<Mark>, AllocError>
+    ensures { IfOk result (λ marks. marks.items ≡ spec.marks source.now pieces.now) }
+{
     let mut marks = Vec::new(alloc);
     for piece in pieces {
-        if piece.token == Token::Comment
-            && let Some(mark) = mark_of(source, *piece)
-        {
-            marks.push(mark)?;
-        }
+        push_any(&mut marks, mark_at(source, *piece))?;
     }
     Ok(marks)
 }
 
-/// The first mark from this one on that ends behind a place; the number of marks where none does.
-pub fn first_open(marks: &[Mark], from: usize, place: usize) -> usize {
-    for at in from..marks.len() {
-        if place < marks[at].to {
-            return at;
+/// The marks from the first on that counts for places behind this one.
+pub fn still_open(marks: &[Mark], place: usize) -> &[Mark]
+    ensures { result.now ≡ spec.still_open place marks.now }
+{
+    let mut rest = marks;
+    'marks: while let [mark, behind @ ..] = rest {
+        if place < mark.to {
+            return rest;
         }
+        rest = behind;
     }
-    marks.len()
+    rest
+}
+
+/// The language that the first of these marks names for a place.
+pub fn told_at(marks: &[Mark], place: usize) -> Option<Dialect>
+    ensures { result ≡ spec.told_at marks.now place }
+{
+    match marks {
+        [mark, ..] if mark.from <= place && place < mark.to => Some(mark.dialect),
+        [_, ..] | [] => None,
+    }
 }

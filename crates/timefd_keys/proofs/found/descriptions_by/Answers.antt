@@ -11,6 +11,6 @@ steps-preserved c = record {
       c.push_any.new.descriptions.items c.in_ok-step.step.found c.steps.end c.in_ok-end.end
       c.steps.invariant.found c.in_ok-step.ensures c.in_ok-end.ensures.pushed c.in_ok-end.ensures.end;
   line = subst (λ (s : Text). IsLineAt c.args.format s c.later_place-next.result c.later-line.result)
-      c.as_bytes-in-steps.ensures.value c.later-line.ensures;
+      c.as_bytes.ensures.value c.later-line.ensures;
   within = c.later_place-next.ensures.within;
 }

@@ -1,0 +1,51 @@
+-- The parameters of a message of an editor.
+use Rattle.std.specs.Prelude.{ℕ, List, Option, Some, None, codes, option_and_then}
+use Rattle.serde_json.specs.Data.{Data, Items, no_items, item}
+use Rattle.serde_json.specs.Find.{as_array, as_number, as_str, as_u64, get, pointer}
+use Rattle.timefd_editor.specs.declared.position.Position.{Position}
+use Rattle.timefd_editor.specs.declared.position.Range.{Range}
+
+abbrev pub text_by : List ℕ → Data → Option (List ℕ)
+text_by path d = option_and_then as_str (pointer path d)
+
+abbrev pub count_by : List ℕ → Data → Option ℕ
+count_by path d = option_and_then (λ m. option_and_then as_u64 (as_number m)) (pointer path d)
+
+abbrev pub place_from : Option ℕ → Option ℕ → Option Position
+place_from (Some line) (Some character) = Some (record { line = line; character = character })
+place_from (Some line) None = None
+place_from None character = None
+
+abbrev pub place_by : List ℕ → List ℕ → Data → Option Position
+place_by line character d = place_from (count_by line d) (count_by character d)
+
+abbrev pub range_from : Option Position → Option Position → Option Range
+range_from (Some start) (Some end) = Some (record { start = start; end = end })
+range_from (Some start) None = None
+range_from None end = None
+
+abbrev pub range_of : Data → Option Range
+range_of d = range_from
+    (place_by (codes "/params/range/start/line") (codes "/params/range/start/character") d)
+    (place_by (codes "/params/range/end/line") (codes "/params/range/end/character") d)
+
+abbrev pub place_of : Data → Option Position
+place_of d = place_by (codes "/params/position/line") (codes "/params/position/character") d
+
+abbrev pub uri_of : Data → Option (List ℕ)
+uri_of d = text_by (codes "/params/textDocument/uri") d
+
+abbrev pub last_item : Items → Option Data
+last_item no_items = None
+last_item (item d no_items) = Some d
+last_item (item d (item e rest)) = last_item (item e rest)
+
+abbrev pub changes_of : Data → Option Items
+changes_of d = option_and_then as_array (pointer (codes "/params/contentChanges") d)
+
+abbrev pub last_change : Data → Option Data
+last_change d = option_and_then last_item (changes_of d)
+
+-- the text of a document behind the last of its changes
+abbrev pub last_text : Data → Option (List ℕ)
+last_text d = option_and_then (λ change. option_and_then as_str (get (codes "text") change)) (last_change d)

@@ -1,0 +1,72 @@
+-- What an editor is shown, as values of JSON. An object has its members in the order of their names.
+use Rattle.std.specs.Prelude.{ℕ, List, codes, map, string_bytes}
+use Rattle.serde_json.specs.Data.{Data, number, unsigned, string, array, object, member, no_members}
+use Rattle.serde_json.specs.View.{items_of}
+use Rattle.timefd_editor.specs.declared.action.Action.{Action}
+use Rattle.timefd_editor.specs.declared.action.ActionKind.{ActionKind}
+use Rattle.timefd_editor.specs.declared.action.ActionKind.TheVariants.{QuickFix, Rewrite}
+use Rattle.timefd_editor.specs.declared.action.Edit.{Edit}
+use Rattle.timefd_editor.specs.declared.finding.Finding.{Finding}
+use Rattle.timefd_editor.specs.declared.finding.Severity.{Severity}
+use Rattle.timefd_editor.specs.declared.finding.Severity.TheVariants.{Error, Warning}
+use Rattle.timefd_editor.specs.declared.hovered.Hover.{Hover}
+use Rattle.timefd_editor.specs.declared.position.Position.{Position}
+use Rattle.timefd_editor.specs.declared.position.Range.{Range}
+
+abbrev pub place_data : Position → Data
+place_data place = object (member (codes "character") (number (unsigned place.character))
+    (member (codes "line") (number (unsigned place.line)) no_members))
+
+abbrev pub range_data : Range → Data
+range_data range = object (member (codes "end") (place_data range.end)
+    (member (codes "start") (place_data range.start) no_members))
+
+-- the number of a severity in the protocol
+abbrev pub severity_number : Severity → ℕ
+severity_number Error = 1
+severity_number Warning = 2
+
+abbrev pub finding_data : Finding → Data
+finding_data finding = object (member (codes "code") (string finding.code.now)
+    (member (codes "message") (string (string_bytes finding.message))
+    (member (codes "range") (range_data finding.range)
+    (member (codes "severity") (number (unsigned (severity_number finding.severity)))
+    (member (codes "source") (string (codes "timefd_lint")) no_members)))))
+
+abbrev pub findings_data : List Finding → Data
+findings_data findings = array (items_of (map finding_data findings))
+
+-- a text of Markdown
+abbrev pub markdown : List ℕ → Data
+markdown text = object (member (codes "kind") (string (codes "markdown"))
+    (member (codes "value") (string text) no_members))
+
+abbrev pub hover_data : Hover → Data
+hover_data hover = object (member (codes "contents") (markdown (string_bytes hover.text))
+    (member (codes "range") (range_data hover.range) no_members))
+
+abbrev pub edit_data : Edit → Data
+edit_data edit = object (member (codes "newText") (string (string_bytes edit.text))
+    (member (codes "range") (range_data edit.range) no_members))
+
+abbrev pub edit_list : List Edit → Data
+edit_list edits = array (items_of (map edit_data edits))
+
+-- the edits of one document
+abbrev pub edits_data : List ℕ → List Edit → Data
+edits_data uri edits = object (member uri (edit_list edits) no_members)
+
+abbrev pub kind_name : ActionKind → List ℕ
+kind_name QuickFix = codes "quickfix"
+kind_name Rewrite = codes "refactor.rewrite"
+
+abbrev pub changes_data : Data → Data
+changes_data edits = object (member (codes "changes") edits no_members)
+
+abbrev pub action_data : List ℕ → Action → Data
+action_data uri action = object (member (codes "edit") (changes_data (edits_data uri action.edits.items))
+    (member (codes "kind") (string (kind_name action.kind))
+    (member (codes "title") (string (string_bytes action.title)) no_members)))
+
+abbrev pub actions_data : List ℕ → List Action → Data
+actions_data uri actions = array (items_of (map (action_data uri) actions))

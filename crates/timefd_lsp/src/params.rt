@@ -1,0 +1,125 @@
+//! The parameters of a message.
+
+ghost use Rattle.std.specs.Prelude.{◌≡◌, option_map};
+ghost use Rattle.serde_json.specs.View.{items_view, view};
+ghost use Rattle.timefd_lsp.specs.Params as spec;
+
+use crate::envelope::text_at;
+use serde_json::Value;
+use timefd_editor::{Position, Range};
+
+/// The text at a path.
+pub fn text_by<'a>(value: &'a Value, path: &str) -> Option<&'a str>
+    ensures { option_map (λ text. text.now) result ≡ spec.text_by path.now (view value.now) }
+{
+    match value.pointer(path) {
+        Some(member) => member.as_str(),
+        None => None,
+    }
+}
+
+// The number at a path, if it counts something.
+fn count_by(value: &Value, path: &str) -> Option<usize>
+    ensures { result ≡ spec.count_by path.now (view value.now) }
+{
+    match value.pointer(path) {
+        Some(member) => count_of(member.as_u64()),
+        None => None,
+    }
+}
+
+fn count_of(number: Option<u64>) -> Option<usize>
+    ensures { result ≡ number }
+{
+    match number {
+        Some(number) => Some(number as usize),
+        None => None,
+    }
+}
+
+// The place whose line and character stand at these paths.
+fn place_by(value: &Value, line: &str, character: &str) -> Option<Position>
+    ensures { result ≡ spec.place_by line.now character.now (view value.now) }
+{
+    let line = count_by(value, line)?;
+    let character = count_by(value, character)?;
+    Some(Position { line, character })
+}
+
+// The range between two places, if both are there.
+fn range_from(start: Option<Position>, end: Option<Position>) -> Option<Range>
+    ensures { result ≡ spec.range_from start end }
+{
+    let start = start?;
+    let end = end?;
+    Some(Range { start, end })
+}
+
+/// The range of a request.
+pub fn range_of(value: &Value) -> Option<Range>
+    ensures { result ≡ spec.range_of (view value.now) }
+{
+    let start = place_by(
+        value,
+        "/params/range/start/line",
+        "/params/range/start/character",
+    );
+    let end = place_by(
+        value,
+        "/params/range/end/line",
+        "/params/range/end/character",
+    );
+    range_from(start, end)
+}
+
+/// The place of a request.
+pub fn place_of(value: &Value) -> Option<Position>
+    ensures { result ≡ spec.place_of (view value.now) }
+{
+    place_by(value, "/params/position/line", "/params/position/character")
+}
+
+/// The name of the document that a message is about.
+pub fn uri_of(value: &Value) -> Option<&str>
+    ensures { option_map (λ uri. uri.now) result ≡ spec.uri_of (view value.now) }
+{
+    text_by(value, "/params/textDocument/uri")
+}
+
+// The last of some changes.
+#[tactic(auto, using(crate::proofs::ParamLemmas::last_seen))]
+fn last_of(changes: &[Value]) -> Option<&Value>
+    ensures { option_map (λ change. view change.now) result ≡ spec.last_item (items_view changes.now) }
+{
+    changes.last()
+}
+
+// The changes of a document.
+fn changes_of(value: &Value) -> Option<&Vec<Value>>
+    ensures { option_map (λ changes. items_view changes.now.items) result ≡ spec.changes_of (view value.now) }
+{
+    match value.pointer("/params/contentChanges") {
+        Some(changes) => changes.as_array(),
+        None => None,
+    }
+}
+
+// The last change of a document.
+fn last_change(value: &Value) -> Option<&Value>
+    ensures { option_map (λ change. view change.now) result ≡ spec.last_change (view value.now) }
+{
+    match changes_of(value) {
+        Some(changes) => last_of(changes),
+        None => None,
+    }
+}
+
+/// The text of a document behind the last of its changes.
+pub fn last_text(value: &Value) -> Option<&str>
+    ensures { option_map (λ text. text.now) result ≡ spec.last_text (view value.now) }
+{
+    match last_change(value) {
+        Some(change) => text_at(change, "text"),
+        None => None,
+    }
+}

@@ -1,0 +1,174 @@
+-- Descriptions in a walk over tokens.
+use Rattle.std.proofs.Common.{ℕ, ◌≡◌, ◌∙◌, ◌+◌, ◌<◌, ◌≤◌, ◌++◌, List, [], ◌∷◌, ap, append_assoc, append-nil, drop, get_or, length, nat_le, true, false, inl, inr, refl, subst, sym, arith}
+use Rattle.std.proofs.lemmas.Bool.{cases_Bool}
+use Rattle.std.proofs.lemmas.Bool.Decides.{nat_tests}
+use Rattle.std.proofs.lemmas.List.{drop_all, drop_more}
+use Rattle.std.proofs.lemmas.List.Elements.{All-cons, All-nil}
+use Rattle.std.specs.declared.alloc.AllocError.{AllocError}
+use Rattle.std.specs.declared.alloc.Global.{Global}
+use Rattle.std.specs.declared.vec.Vec.{Vec}
+use Rattle.std.specs.Prelude.{IfOk, Option, Some, None, Result, Ok, Err}
+use Rattle.timefd_sources.specs.declared.calls.Frame.{Frame}
+use Rattle.timefd_sources.specs.declared.candidate.Candidate.{Candidate}
+use Rattle.timefd_sources.specs.declared.description.Description.{Description}
+use Rattle.timefd_sources.specs.declared.dialect.Dialect.{Dialect}
+use Rattle.timefd_sources.specs.declared.marks.Mark.{Mark}
+use Rattle.timefd_sources.specs.declared.piece.Piece.{Piece}
+use Rattle.timefd_sources.specs.Between.{IsBetween}
+use Rattle.timefd_sources.specs.Bytes.{Text}
+use Rattle.timefd_sources.specs.Candidates.{candidate_at, candidates_from, candidates_in}
+use Rattle.timefd_sources.specs.Candidates as spec
+use Rattle.timefd_sources.specs.Escapes.{Placed}
+use Rattle.timefd_sources.specs.Found.{AllStandIn, AreDescribed, AreInOrder, IsAnyDescribed, IsDescribed, IsOfText, StandsIn, begin_of, begun_behind, end_behind, listed}
+use Rattle.timefd_sources.specs.Frames.{innermost, passed}
+use Rattle.timefd_sources.specs.Literals.{literal_text}
+use Rattle.timefd_sources.specs.Marks.{still_open, told_at}
+use Rattle.timefd_sources.specs.Versions.{IsSaid}
+
+-- What is found of the tokens from an index on stands behind what is found so far, and all is found then.
+pub record AreSoFar (source : Text) (ps : List Piece) (comments : List Mark) (i : ℕ) (frames : List Frame)
+    (counting : List Mark) (end : ℕ) (so_far : List Description) : Type 0 where
+  pub others : (rest : List Description)
+      → AreDescribed source end (candidates_from source ps i (drop i ps) frames counting) rest
+      → AreDescribed source 0 (candidates_in source ps comments) (so_far ++ rest)
+
+pub at_first : (source : Text) (ps : List Piece) (comments : List Mark)
+    → AreSoFar source ps comments 0 [] comments 0 []
+at_first source ps comments = record { others = λ rest described. described }
+
+one_described : (source : Text) (from : ℕ) (c : Option Candidate) (answer : Option Description)
+    (cs : List Candidate) (rest : List Description) → IsAnyDescribed source c answer
+    → AreDescribed source (end_behind from (begun_behind from answer)) cs rest
+    → AreDescribed source from (spec.listed c ++ cs) (listed (begun_behind from answer) ++ rest)
+one_described source from None answer cs rest is described =
+    subst (λ a. AreDescribed source from cs (listed (begun_behind from a) ++ rest)) (sym is)
+    (subst (λ a. AreDescribed source (end_behind from (begun_behind from a)) cs rest) is described)
+one_described source from (Some c) answer cs rest is described = (answer, rest, is, described, refl)
+
+pub one_more : (source : Text) (ps : List Piece) (comments counting still : List Mark) (i : ℕ) (p other : Piece)
+    (before after : List Frame) (c : Option Candidate) (answer : Option Description) (from next : ℕ)
+    (so_far now : List Description) → i < length ps → p ≡ get_or ps i other
+    → after ≡ passed source ps i before → still ≡ still_open p.start counting
+    → c ≡ candidate_at source ps i p (innermost after) (told_at still p.start)
+    → IsAnyDescribed source c answer → now ≡ so_far ++ listed (begun_behind from answer)
+    → next ≡ end_behind from (begun_behind from answer)
+    → AreSoFar source ps comments i before counting from so_far
+    → AreSoFar source ps comments (i + 1) after still next now
+one_more source ps comments counting still i p other before after c answer from next so_far now below at opened left
+    told is pushed ends so_far_is = record {
+      others = λ rest described.
+          let behind : List Piece = drop (i + 1) ps in
+          let step : List Frame → List Mark → Option Candidate → List Candidate =
+          λ a s x. spec.listed x ++ candidates_from source ps (i + 1) behind a s in
+          let at_token : List Frame → List Mark → List Candidate =
+          λ a s. step a s (candidate_at source ps i p (innermost a) (told_at s p.start)) in
+          let split : drop i ps ≡ p ∷ behind = drop_more ps i other below ∙ ap (λ x. x ∷ behind) (sym at) in
+          let here : step after still c ≡ candidates_from source ps i (drop i ps) before counting =
+          ap (step after still) told
+          ∙ (ap (λ a. at_token a still) opened
+          ∙ (ap (at_token (passed source ps i before)) left
+          ∙ ap (λ l. candidates_from source ps i l before counting) (sym split))) in
+          let found : AreDescribed source from (step after still c) (listed (begun_behind from answer) ++ rest) =
+          one_described source from c answer (candidates_from source ps (i + 1) behind after still) rest is
+          (subst (λ n. AreDescribed source n (candidates_from source ps (i + 1) behind after still) rest) ends
+          described) in
+          subst (λ ds. AreDescribed source 0 (candidates_in source ps comments) ds)
+          (sym (append_assoc so_far (listed (begun_behind from answer)) rest) ∙ ap (λ t. t ++ rest) (sym pushed))
+          (so_far_is.others (listed (begun_behind from answer) ++ rest)
+          (subst (λ cs. AreDescribed source from cs (listed (begun_behind from answer) ++ rest)) here found));
+    }
+
+-- What a token is, by what is open and told at it.
+pub told_at_token : (source bytes : Text) (ps : List Piece) (i : ℕ) (p : Piece) (frames seen : List Frame)
+    (frame : Option Frame) (still : List Mark) (dialect : Option Dialect) → bytes ≡ source → seen ≡ frames
+    → frame ≡ innermost seen → dialect ≡ told_at still p.start
+    → candidate_at bytes ps i p frame dialect
+    ≡ candidate_at source ps i p (innermost frames) (told_at still p.start)
+told_at_token source bytes ps i p frames seen frame still dialect same all inner told =
+    ap (λ s. candidate_at s ps i p frame dialect) same
+    ∙ (ap (λ f. candidate_at source ps i p f dialect) (inner ∙ ap innermost all)
+    ∙ ap (candidate_at source ps i p (innermost frames)) told)
+
+pub at_last : (source : Text) (ps : List Piece) (comments counting : List Mark) (i : ℕ) (frames : List Frame)
+    (from : ℕ) (so_far : List Description) → length ps ≤ i
+    → AreSoFar source ps comments i frames counting from so_far
+    → AreDescribed source 0 (candidates_in source ps comments) so_far
+at_last source ps comments counting i frames from so_far none is =
+    subst (λ ds. AreDescribed source 0 (candidates_in source ps comments) ds) (append-nil so_far)
+    (is.others []
+    (subst (λ l. AreDescribed source from (candidates_from source ps i l frames counting) [])
+    (sym (drop_all i ps none)) refl))
+
+-- What is told of a literal stands in the source.
+text_stands : (source : Text) (c : Candidate) (d : Description) (text : Option Placed)
+    → text ≡ literal_text source c.piece c.kind → IsOfText source c text (Some d) → StandsIn source d
+text_stands source c d None of is = elim is [ ]
+text_stands source c d (Some t) of is = record {
+  text = ap Some is.text ∙ (of ∙ (ap (λ p. literal_text source p c.kind) (sym is.piece)
+      ∙ ap (literal_text source d.piece) (sym is.kind)));
+  between = subst (λ p. IsBetween source p d.kind d.unescaped.text.items d.unescaped.places.items) (sym is.piece)
+      (subst (λ k. IsBetween source c.piece k d.unescaped.text.items d.unescaped.places.items) (sym is.kind)
+      (subst (λ x. IsBetween source c.piece c.kind x.text x.places) (sym is.text) is.between));
+  version = subst (λ p. IsSaid source p d.dialect d.version) (sym is.piece)
+      (subst (λ l. IsSaid source c.piece l d.version) (sym is.dialect) is.said);
+}
+
+begun : (from : ℕ) (d : Description) → nat_le from (begin_of d) ≡ true → begun_behind from (Some d) ≡ Some d
+begun from d pass = rw pass refl
+
+not_begun : (from : ℕ) (d : Description) → nat_le from (begin_of d) ≡ false → begun_behind from (Some d) ≡ None
+not_begun from d fail = rw fail refl
+
+stands_more : (source : Text) (from : ℕ) (c : Candidate) (answer : Option Description) (rest : List Description)
+    → IsDescribed source c answer → AllStandIn source rest
+    → AllStandIn source (listed (begun_behind from answer) ++ rest)
+stands_more source from c None rest is all = all
+stands_more source from c (Some d) rest is all =
+    let stands : Option Description → Type 0 = λ o. AllStandIn source (listed o ++ rest) in
+    elim (cases_Bool (nat_le from (begin_of d))) [
+      | inl pass ↦ subst stands (sym (begun from d pass)) (All-cons (StandsIn source) d rest
+          (text_stands source c d (literal_text source c.piece c.kind) refl is) all)
+      | inr fail ↦ subst stands (sym (not_begun from d fail)) all
+    ]
+
+pub all_stand : (source : Text) (from : ℕ) (cs : List Candidate) (found : List Description)
+    → AreDescribed source from cs found → AllStandIn source found
+all_stand source from [] found none = subst (AllStandIn source) (sym none) (All-nil (StandsIn source))
+all_stand source from (c ∷ cs) found (answer, rest, is, more, split) =
+    subst (AllStandIn source) (sym split)
+    (stands_more source from c answer rest is
+    (all_stand source (end_behind from (begun_behind from answer)) cs rest more))
+
+in_order_more : (from : ℕ) (answer : Option Description) (rest : List Description)
+    → AreInOrder (end_behind from (begun_behind from answer)) rest
+    → AreInOrder from (listed (begun_behind from answer) ++ rest)
+in_order_more from None rest more = more
+in_order_more from (Some d) rest more =
+    let in_order : Option Description → Type 0 =
+    λ o. AreInOrder (end_behind from o) rest → AreInOrder from (listed o ++ rest) in
+    elim (cases_Bool (nat_le from (begin_of d))) [
+      | inl pass ↦
+          let behind : from ≤ begin_of d = grind (arith, nat_tests) in
+          subst in_order (sym (begun from d pass)) (λ later. (behind, later)) more
+      | inr fail ↦ subst in_order (sym (not_begun from d fail)) (λ later. later) more
+    ]
+
+pub all_in_order : (source : Text) (from : ℕ) (cs : List Candidate) (found : List Description)
+    → AreDescribed source from cs found → AreInOrder from found
+all_in_order source from [] found none = subst (AreInOrder from) (sym none) tt
+all_in_order source from (c ∷ cs) found (answer, rest, is, more, split) =
+    subst (AreInOrder from) (sym split)
+    (in_order_more from answer rest
+    (all_in_order source (end_behind from (begun_behind from answer)) cs rest more))
+
+-- All that is found stands in the source.
+pub stand_if : (source : Text) (cs : List Candidate) (found : Result (Vec Description Global) AllocError)
+    → IfOk found (λ ds. AreDescribed source 0 cs ds.items) → IfOk found (λ ds. AllStandIn source ds.items)
+stand_if source cs (Ok ds) described = all_stand source 0 cs ds.items described
+stand_if source cs (Err e) described = described
+
+-- It stands in order.
+pub in_order_if : (source : Text) (cs : List Candidate) (found : Result (Vec Description Global) AllocError)
+    → IfOk found (λ ds. AreDescribed source 0 cs ds.items) → IfOk found (λ ds. AreInOrder 0 ds.items)
+in_order_if source cs (Ok ds) described = all_in_order source 0 cs ds.items described
+in_order_if source cs (Err e) described = described

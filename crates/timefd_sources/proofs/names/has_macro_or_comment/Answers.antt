@@ -1,0 +1,7 @@
+use Rattle.timefd_sources.proofs.names.has_macro_or_comment.Goals as goal
+
+pub returns : goal.returns
+returns c none = record {
+  format_description = c.has.ensures c.if-has.false;
+  timefd = c.has-2.ensures none;
+}

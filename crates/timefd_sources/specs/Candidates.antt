@@ -1,0 +1,80 @@
+-- Which literals of a source are descriptions: arguments of calls that are known, and literals for which a
+-- comment names a language.
+use Rattle.std.specs.Prelude.{ℕ, ◌+◌, Bool, true, false, if◌then◌else◌, List, [], ◌∷◌, ◌++◌, Option, Some, None}
+use Rattle.std.specs.List.{flat_map}
+use Rattle.std.specs.Option.{option_or}
+use Rattle.timefd_sources.specs.declared.calls.Frame.{Frame}
+use Rattle.timefd_sources.specs.declared.candidate.Candidate.{Candidate}
+use Rattle.timefd_sources.specs.declared.dialect.Dialect.{Dialect}
+use Rattle.timefd_sources.specs.declared.marks.Mark.{Mark}
+use Rattle.timefd_sources.specs.declared.piece.Piece.{Piece}
+use Rattle.timefd_sources.specs.declared.told.Told.{Told}
+use Rattle.timefd_sources.specs.declared.token.Kind.{Kind}
+use Rattle.timefd_sources.specs.declared.token.Token.{Token}
+use Rattle.timefd_sources.specs.declared.token.Token.TheVariants.{White, Comment, Word, Lifetime, Character, Literal, Sign, Unclosed}
+use Rattle.timefd_sources.specs.declared.version.VersionPlace.TheVariants.{Elsewhere}
+use Rattle.timefd_sources.specs.Arguments.{told_in}
+use Rattle.timefd_sources.specs.Bytes.{Text}
+use Rattle.timefd_sources.specs.Frames.{innermost, passed}
+use Rattle.timefd_sources.specs.Marks.{marks, still_open, told_at}
+
+abbrev pub kind_of : Token → Option Kind
+kind_of White = None
+kind_of Comment = None
+kind_of Word = None
+kind_of Lifetime = None
+kind_of Character = None
+kind_of (Literal kind) = Some kind
+kind_of Sign = None
+kind_of Unclosed = None
+
+-- neither white nor a comment
+abbrev pub is_significant : Token → Bool
+is_significant White = false
+is_significant Comment = false
+is_significant Word = true
+is_significant Lifetime = true
+is_significant Character = true
+is_significant (Literal kind) = true
+is_significant Sign = true
+is_significant Unclosed = true
+
+abbrev pub kept : Piece → List Piece
+kept p = if is_significant p.token then p ∷ [] else []
+
+abbrev pub significant : List Piece → List Piece
+significant ps = flat_map kept ps
+
+-- what a comment tells of a literal
+abbrev pub by_comment : Option Dialect → Option Told
+by_comment None = None
+by_comment (Some dialect) = Some (record { dialect = dialect; version = Elsewhere; wants_percent = false })
+
+abbrev pub candidate_from : Piece → Option Kind → Option Told → Option Candidate
+candidate_from p None told = None
+candidate_from p (Some kind) None = None
+candidate_from p (Some kind) (Some told) = Some (record { piece = p; kind = kind; told = told })
+
+-- A literal is told of by a comment, or else by the bracket that it stands in.
+abbrev pub candidate_at : Text → List Piece → ℕ → Piece → Option Frame → Option Dialect → Option Candidate
+candidate_at source ps i p frame dialect =
+    candidate_from p (kind_of p.token) (option_or (by_comment dialect) (told_in source ps i frame))
+
+abbrev pub listed : Option Candidate → List Candidate
+listed None = []
+listed (Some c) = c ∷ []
+
+-- those among the tokens from an index on, where these brackets are open and these comments count
+abbrev pub candidates_from : Text → List Piece → ℕ → List Piece → List Frame → List Mark → List Candidate
+candidates_from source ps i [] frames comments = []
+candidates_from source ps i (p ∷ rest) frames comments =
+    listed (candidate_at source ps i p (innermost (passed source ps i frames))
+    (told_at (still_open p.start comments) p.start))
+    ++ candidates_from source ps (i + 1) rest (passed source ps i frames) (still_open p.start comments)
+
+abbrev pub candidates_in : Text → List Piece → List Mark → List Candidate
+candidates_in source ps comments = candidates_from source ps 0 ps [] comments
+
+-- those of a source that is cut into these tokens
+abbrev pub candidates : Text → List Piece → List Candidate
+candidates source all = candidates_in source (significant all) (marks source all)

@@ -1,0 +1,110 @@
+//! Literals that are descriptions, by a comment or by the bracket that they stand in.
+
+ghost use Rattle.std.specs.Prelude.{◌≡◌, ◌++◌, IfOk, OnOk};
+ghost use Rattle.timefd_sources.specs.Candidates as spec;
+
+use crate::calls::Frame;
+use crate::dialect::Dialect;
+use crate::piece::Piece;
+use crate::token::{Kind, Token};
+use crate::told::{Told, told_in};
+use crate::version::VersionPlace;
+use std::alloc::{AllocError, Global};
+
+/// A literal that is a description, if it can be one.
+#[derive(Clone, Copy)]
+pub struct Candidate {
+    /// The literal.
+    pub piece: Piece,
+    /// How it is written.
+    pub kind: Kind,
+    /// What is told of it.
+    pub told: Told,
+}
+
+fn kind_of(token: Token) -> Option<Kind>
+    ensures { result ≡ spec.kind_of token }
+{
+    match token {
+        Token::Literal(kind) => Some(kind),
+        Token::White
+        | Token::Comment
+        | Token::Word
+        | Token::Lifetime
+        | Token::Character
+        | Token::Sign
+        | Token::Unclosed => None,
+    }
+}
+
+/// Whether a token is neither white nor a comment.
+fn is_significant(token: Token) -> bool
+    ensures { result ≡ spec.is_significant token }
+{
+    match token {
+        Token::White | Token::Comment => false,
+        Token::Word
+        | Token::Lifetime
+        | Token::Character
+        | Token::Literal(_)
+        | Token::Sign
+        | Token::Unclosed => true,
+    }
+}
+
+fn keep(kept: &mut Vec<Piece>, piece: Piece) -> Result<(), AllocError>
+    ensures { OnOk result (kept.new.items ≡ kept.old.items ++ spec.kept piece) }
+{
+    if is_significant(piece.token) {
+        kept.push(piece)?;
+    }
+    Ok(())
+}
+
+/// The tokens that are neither white nor comments.
+pub fn significant(alloc: Global, pieces: &[Piece]) -> Result<Vec<Piece>, AllocError>
+    ensures { IfOk result (λ kept. kept.items ≡ spec.significant pieces.now) }
+{
+    let mut kept = Vec::new(alloc);
+    for piece in pieces {
+        keep(&mut kept, *piece)?;
+    }
+    Ok(kept)
+}
+
+fn by_comment(dialect: Option<Dialect>) -> Option<Told>
+    ensures { result ≡ spec.by_comment dialect }
+{
+    match dialect {
+        Some(dialect) => Some(Told {
+            dialect,
+            version: VersionPlace::Elsewhere,
+            wants_percent: false,
+        }),
+        None => None,
+    }
+}
+
+fn candidate_from(piece: Piece, kind: Option<Kind>, told: Option<Told>) -> Option<Candidate>
+    ensures { result ≡ spec.candidate_from piece kind told }
+{
+    match (kind, told) {
+        (Some(kind), Some(told)) => Some(Candidate { piece, kind, told }),
+        (Some(_), None) | (None, _) => None,
+    }
+}
+
+/// What a token is as a description: by the language that a comment names, or else by the bracket that it stands in.
+pub fn candidate_at(
+    source: &[u8],
+    pieces: &[Piece],
+    index: usize,
+    piece: Piece,
+    frame: Option<Frame>,
+    dialect: Option<Dialect>,
+) -> Option<Candidate>
+    ensures { result ≡ spec.candidate_at source.now pieces.now index piece frame dialect }
+{
+    let told = by_comment(dialect).or(told_in(source, pieces, index, frame));
+    candidate_from(piece, kind_of(piece.token), told)
+}

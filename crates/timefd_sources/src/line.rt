@@ -1,0 +1,41 @@
+//! Lines of a source.
+
+ghost use Rattle.std.specs.Prelude.{◌≡◌, ◌≤◌, drop, length};
+ghost use Rattle.timefd_sources.specs.Lines as spec;
+
+use crate::class::{Class, behind_run};
+
+/// Where the line begins that a place is in, if the line of an earlier place begins at `known`.
+pub fn line_start(source: &[u8], known: usize, from: usize, to: usize) -> usize
+    requires known { known ≡ spec.line_start source.now from }
+    requires ordered { from ≤ to }
+    requires within { to ≤ length source.now }
+    ensures start { result ≡ spec.line_start source.now to }
+    ensures within { result ≤ to }
+{
+    let mut start = to;
+    'bytes: while start > from {
+        if source[start - 1] == b'\n' {
+            return start;
+        }
+        start -= 1;
+    }
+    known
+}
+
+/// The bytes of a text from a place on.
+pub fn from(text: &[u8], at: usize) -> &[u8]
+    ensures { result.now ≡ drop at text.now }
+{
+    text.get(at..).unwrap_or(&[])
+}
+
+/// Where the line ends behind the one that ends at a place.
+pub fn next_line_end(source: &[u8], at: usize) -> usize
+    ensures { result ≡ spec.next_line_end source.now at }
+{
+    match from(source, at) {
+        [_, next @ ..] => source.len() - behind_run(Class::Line, next).len(),
+        [] => source.len(),
+    }
+}

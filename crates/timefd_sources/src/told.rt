@@ -1,0 +1,166 @@
+//! What a bracket tells of a literal: whether it is a description, of which language, and where that is said.
+
+ghost use Rattle.std.specs.Prelude.{◌≡◌, ◌+◌, nat_eq};
+ghost use Rattle.timefd_sources.specs.Arguments as spec;
+
+use crate::calls::{Argument, Call, Frame};
+use crate::dialect::{Dialect, is, version_named};
+use crate::piece::Piece;
+use crate::version::VersionPlace;
+use crate::word::{is_closing, is_opening, text_before, text_behind};
+
+fn says_version(source: &[u8], pieces: &[Piece], opening: usize) -> bool
+    ensures { result ≡ spec.says_version source.now pieces.now opening }
+{
+    is(text_behind(source, pieces, opening, 1), "version")
+        && is(text_behind(source, pieces, opening, 2), "=")
+}
+
+/// The version that the arguments of a macro begin with; 1 where they begin with none.
+fn macro_version(source: &[u8], pieces: &[Piece], opening: usize) -> Option<Dialect>
+    ensures { result ≡ spec.macro_version source.now pieces.now opening }
+{
+    if says_version(source, pieces, opening) {
+        version_named(text_behind(source, pieces, opening, 3))
+    } else {
+        Some(Dialect::One)
+    }
+}
+
+/// Whether a token is a whole argument.
+fn is_argument(source: &[u8], pieces: &[Piece], index: usize) -> bool
+    ensures { result ≡ spec.is_argument source.now pieces.now index }
+{
+    let before = text_before(source, pieces, index, 1);
+    let behind = text_behind(source, pieces, index, 1);
+    (is_opening(before) || is(before, ",")) && (is_closing(behind) || is(behind, ","))
+}
+
+/// Whether a token is the last argument of its bracket.
+fn is_last(source: &[u8], pieces: &[Piece], index: usize) -> bool
+    ensures { result ≡ spec.is_last source.now pieces.now index }
+{
+    let behind = text_behind(source, pieces, index, 1);
+    is_closing(behind) || (is(behind, ",") && is_closing(text_behind(source, pieces, index, 2)))
+}
+
+/// The first byte of the token that stands so many in front of one, as the digit of a version.
+fn digit_before(pieces: &[Piece], index: usize, back: usize) -> VersionPlace
+    ensures { result ≡ spec.digit_before pieces.now index back }
+{
+    if back > index {
+        return VersionPlace::Elsewhere;
+    }
+    match pieces.get(index - back) {
+        Some(piece) => VersionPlace::Digit(piece.start),
+        None => VersionPlace::Elsewhere,
+    }
+}
+
+/// Whether a token stands so many behind another.
+fn stands_behind(index: usize, other: usize, ahead: usize) -> bool
+    ensures { result ≡ nat_eq index (other + ahead) }
+{
+    index.checked_sub(other) == Some(ahead)
+}
+
+/// Where the version of a macro's only description is said; nowhere where there are other arguments.
+fn macro_place(source: &[u8], pieces: &[Piece], opening: usize, index: usize) -> VersionPlace
+    ensures { result ≡ spec.macro_place source.now pieces.now opening index }
+{
+    if !is_last(source, pieces, index) {
+        VersionPlace::Call
+    } else if stands_behind(index, opening, 1) {
+        VersionPlace::Unsaid
+    } else if says_version(source, pieces, opening) && stands_behind(index, opening, 5) {
+        digit_before(pieces, index, 2)
+    } else {
+        VersionPlace::Call
+    }
+}
+
+/// Where the version of a call's description is said: `parse_borrowed::<2>(`, or nowhere.
+fn call_place(source: &[u8], pieces: &[Piece], opening: usize) -> VersionPlace
+    ensures { result ≡ spec.call_place source.now pieces.now opening }
+{
+    if is(text_before(source, pieces, opening, 1), ">") {
+        digit_before(pieces, opening, 2)
+    } else {
+        VersionPlace::Call
+    }
+}
+
+/// The language of an argument that is a description.
+fn dialect_by(call: Call, argument: Argument, version: Option<Dialect>) -> Option<Dialect>
+    ensures { result ≡ spec.dialect_by call argument version }
+{
+    match (call, argument) {
+        (Call::Macro, _) => version,
+        (Call::First(dialect), Argument::First) => Some(dialect),
+        (Call::Second(dialect), Argument::Second) => Some(dialect),
+        (Call::Format, Argument::First) => Some(Dialect::Chrono),
+        (Call::First(_), Argument::Second | Argument::Later)
+        | (Call::Second(_), Argument::First | Argument::Later)
+        | (Call::Format, Argument::Second | Argument::Later)
+        | (Call::Other, _) => None,
+    }
+}
+
+/// The language of a literal, by the bracket that it stands in; none where it isn't known to be a description.
+fn dialect_in(source: &[u8], pieces: &[Piece], index: usize, frame: Frame) -> Option<Dialect>
+    ensures { result ≡ spec.dialect_in source.now pieces.now index frame }
+{
+    if is_argument(source, pieces, index) {
+        let version = macro_version(source, pieces, frame.opened);
+        dialect_by(frame.call, frame.argument, version)
+    } else {
+        None
+    }
+}
+
+/// What is told of a literal.
+#[derive(Clone, Copy)]
+pub struct Told {
+    /// Its language.
+    pub dialect: Dialect,
+    /// Where its version is said.
+    pub version: VersionPlace,
+    /// Whether it is a description only with a `%`.
+    pub wants_percent: bool,
+}
+
+fn version_place(source: &[u8], pieces: &[Piece], index: usize, frame: Frame) -> VersionPlace
+    ensures { result ≡ spec.version_place source.now pieces.now index frame frame.call }
+{
+    match frame.call {
+        Call::Macro => macro_place(source, pieces, frame.opened, index),
+        Call::First(_) => call_place(source, pieces, frame.opened),
+        Call::Second(_) | Call::Format | Call::Other => VersionPlace::Elsewhere,
+    }
+}
+
+fn wants_percent(call: Call) -> bool
+    ensures { result ≡ spec.wants_percent call }
+{
+    match call {
+        Call::Format => true,
+        Call::Macro | Call::First(_) | Call::Second(_) | Call::Other => false,
+    }
+}
+
+/// What the bracket that a literal stands in tells of it; none where it isn't known to be a description.
+pub fn told_in(source: &[u8], pieces: &[Piece], index: usize, frame: Option<Frame>) -> Option<Told>
+    ensures { result ≡ spec.told_in source.now pieces.now index frame }
+{
+    let Some(frame) = frame else {
+        return None;
+    };
+    let Some(dialect) = dialect_in(source, pieces, index, frame) else {
+        return None;
+    };
+    Some(Told {
+        dialect,
+        version: version_place(source, pieces, index, frame),
+        wants_percent: wants_percent(frame.call),
+    })
+}
