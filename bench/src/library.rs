@@ -40,7 +40,7 @@ impl ReadAnswer {
 /// A node, which nobody looks into here.
 #[repr(C, align(8))]
 #[derive(Clone, Copy)]
-pub struct Node([u8; 48]);
+pub struct Node([u8; 32]);
 
 /// Where the nodes and the literals of texts are written.
 pub struct Room {
@@ -54,7 +54,7 @@ const NODES: usize = 8;
 impl Room {
     /// Room for all texts of at most so many bytes.
     pub fn new(len: usize) -> Room {
-        Room { nodes: vec![Node([0; 48]); NODES * len + 1], literals: vec![0; NODES * len] }
+        Room { nodes: vec![Node([0; 32]); NODES * len + 1], literals: vec![0; NODES * len] }
     }
 }
 
