@@ -89,7 +89,7 @@ typedef struct timefd_answer {
    Here and below a pointer may be null where its length is 0, and nowhere else; a length is at most PTRDIFF_MAX; nobody
    writes to the text while the call runs. The text is not kept, and needs no 0 at its end. All memory that a call takes by
    malloc is freed when it returns. A call may not come from a signal handler, nor from the forked child of a process with
-   threads. It has 112 KiB of stack at least: a text that is nested 127 deep takes some 63 of them. */
+   threads. It has 112 KiB of stack at least: a text that is nested 127 deep takes some 67 of them. */
 timefd_answer timefd_judge(uint32_t kind, const uint8_t *text, size_t len);
 
 /* Says the same, and writes the sentence of a refused text's fault, in UTF-8, to the front of the `room` bytes at `sentence`: all
