@@ -56,7 +56,7 @@ TABLES = [
     *(imported(file, TEXTS + DEPRECATED) for file in ("format/proofs/TextLemmas", "format/proofs/Utf8Lemmas")),
     imported("component/proofs/Greatest", [it for it in TEXTS if it.shows != "Nothing"]),
     imported("format/specs/Sentences", NAMED + DEPRECATED),
-    imported("sample/proofs/SampleLemmas", ENDS + DEPRECATED),
+    imported("explain/proofs/SampleLemmas", ENDS + DEPRECATED),
     imported("language/specs/Names", [it for it in NAMES if it.variant in {of.variant for of in ALL}]),
     Table("crates/timefd_items/specs/Meaning.antt", Run(VARIANTS), imported_in_lines, "imports of variants"),
     types("c_nodes/specs/Numbers", "use Rattle.std", f"{TYPES}.declared.enums", sorted_types),

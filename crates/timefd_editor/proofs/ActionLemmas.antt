@@ -11,7 +11,7 @@ use Rattle.timefd_editor.specs.declared.action.Edit.{Edit}
 use Rattle.timefd_editor.specs.Actions.{AreActionsBy, AreActionsIn, AreActionsOf, AreMends, AreOffers, AreOffersIf, IsBecoming, IsOffer, IsOfferOf, IsOneAction, IsWritable, kind_of, overlaps, title_of}
 use Rattle.timefd_editor.specs.Each.{Adds, AreOf}
 use Rattle.timefd_editor.specs.Edits.{AreEdits}
-use Rattle.timefd_fix.specs.declared.fixes.Fixes.TheVariants as fixes
+use Rattle.timefd_rewrite.specs.declared.fixes.Fixes.TheVariants as fixes
 use Rattle.timefd_language.specs.declared.description_version.DescriptionVersion.TheVariants as versions
 use Rattle.timefd_lint_sources.specs.declared.told.Finder.TheVariants.{Rust, Keys}
 use Rattle.timefd_lint_sources.specs.declared.told.Source.{Source}

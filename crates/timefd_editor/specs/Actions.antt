@@ -6,7 +6,7 @@ use Rattle.timefd_editor.specs.declared.action.ActionKind.{ActionKind}
 use Rattle.timefd_editor.specs.declared.action.ActionKind.TheVariants.{QuickFix, Rewrite}
 use Rattle.timefd_editor.specs.Each.{AreOf}
 use Rattle.timefd_editor.specs.Edits.{AreEdits}
-use Rattle.timefd_fix.specs.declared.fixes.Fixes.TheVariants as fixes
+use Rattle.timefd_rewrite.specs.declared.fixes.Fixes.TheVariants as fixes
 use Rattle.timefd_language.specs.declared.description_version.DescriptionVersion.TheVariants as versions
 use Rattle.timefd_lint_sources.specs.declared.told.Finder.{Finder}
 use Rattle.timefd_lint_sources.specs.declared.told.Finder.TheVariants.{Rust, Keys}

@@ -1,3 +1,4 @@
+pub mod SampleLemmas
 pub mod ShownLemmas
 pub mod ExampleLemmas
 pub mod InsideLemmas

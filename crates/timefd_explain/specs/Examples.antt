@@ -3,7 +3,7 @@ use Rattle.std.specs.Prelude.{◌≡◌, List, [], ◌∷◌, ◌++◌, string_b
 use Rattle.timefd_component.specs.Modern.{modern}
 use Rattle.timefd_component.specs.Tree.{Text}
 use Rattle.timefd_component.specs.declared.component.Component.{Component}
-use Rattle.timefd_sample.specs.Samples.{IsExample}
+use Rattle.timefd_explain.specs.Samples.{IsExample}
 use Rattle.timefd_words.specs.Words as names
 use Rattle.timefd_words.specs.declared.defaults.Defaults.{Defaults}
 use Rattle.timefd_explain.specs.declared.node.Node.{Node}

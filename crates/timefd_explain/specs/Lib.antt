@@ -1,3 +1,4 @@
+pub mod Samples
 pub mod Shown
 pub mod Examples
 pub mod Parts

@@ -3,7 +3,7 @@ use Rattle.std.specs.Prelude.{ℕ, ◌≡◌, ◌+◌, ◌-◌, ◌^◌, min, Li
 use Rattle.timefd_component.specs.Reserved.{reserve}
 use Rattle.timefd_component.specs.Tree.{Text, Tree, component, literal, compound, optional, first, Trees, no_trees, more_trees}
 use Rattle.timefd_node_list.specs.Nodes.{kept_bytes}
-use Rattle.timefd_sample.specs.Samples.{IsExample}
+use Rattle.timefd_explain.specs.Samples.{IsExample}
 use Rattle.timefd_explain.specs.declared.node.Node.{Node}
 use Rattle.timefd_explain.specs.declared.node.NodeKind.{NodeKind}
 use Rattle.timefd_explain.specs.declared.node.NodeKind.TheVariants as kinds

@@ -6,7 +6,7 @@ use Rattle.timefd_language.specs.Grammar.{nesting_limit}
 use Rattle.timefd_node_list.specs.Nodes.{kept_bytes}
 use Rattle.timefd_parse.specs.Language.{SpellsIn}
 use Rattle.timefd_parse.specs.declared.language.Language.{Language}
-use Rattle.timefd_sample.specs.Samples.{IsExample}
+use Rattle.timefd_explain.specs.Samples.{IsExample}
 use Rattle.timefd_explain.specs.declared.piece.Shown.{Shown}
 use Rattle.timefd_explain.specs.declared.piece.What.{What}
 use Rattle.timefd_explain.specs.declared.piece.What.TheVariants as what

@@ -1,12 +1,17 @@
-//! An accepted description as its tree: the nodes, and a line for each.
+//! An accepted description as its tree: the nodes, and a line for each, with the words of its component and
+//! what that writes of one fixed moment.
 #![tactic(auto)]
 
+mod example;
 mod explain;
 mod members;
 mod node;
 mod piece;
 mod pieces;
 mod tree;
+mod words;
 
+pub use example::sample;
 pub use explain::{Explanation, explained, explanation_of};
 pub use node::{Node, NodeKind};
+pub use words::words_of;

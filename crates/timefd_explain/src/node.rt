@@ -8,12 +8,13 @@ ghost use Rattle.timefd_explain.specs.Examples.{AreWordsOf, HasExample, Names, k
 ghost use Rattle.timefd_explain.specs.Parts.{IsPiece, capped};
 ghost use Rattle.timefd_explain.specs.Shown.{IsExampleOf, IsWhat};
 
+use crate::example::sample;
 use crate::piece::What;
+use crate::words::words_of;
 use std::alloc::{AllocError, Global};
 use timefd_component::Component;
 use timefd_drawing::shown::safe;
 use timefd_parse::{Language, bracket_name, first_modifier};
-use timefd_sample::{sample, words_of};
 
 /// What kind of node it is.
 #[derive(Clone, Copy)]

@@ -14,10 +14,9 @@ use std::io::{Eprint, Write};
 use std::rt::Files;
 use timefd_convert::conversion_between;
 use timefd_drawing::shown::safe;
-use timefd_fix::Fixes;
 use timefd_lint_options::{Settings, target};
 use timefd_parse::{DescriptionVersion, Language};
-use timefd_rewrite::{Counts, Layout, RewriteError, write_diff};
+use timefd_rewrite::{Counts, Fixes, Layout, RewriteError, write_diff};
 use timefd_rewrite_sources::Change;
 
 /// How files are rewritten.

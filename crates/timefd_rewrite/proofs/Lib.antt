@@ -1,3 +1,5 @@
+pub mod ChainLemmas
+pub mod CureLemmas
 pub mod LineLemmas
 pub mod LayoutLemmas
 pub mod RewriteLemmas

@@ -9,7 +9,7 @@ use Rattle.timefd_parse.specs.Language.{FaultIn, IsAssignedIn}
 use Rattle.timefd_convert.specs.declared.conversion.Conversion.{Conversion}
 use Rattle.timefd_convert.specs.declared.conversion.Conversion.TheVariants.{OneToTwo, OneToThree, TwoToThree, ThreeToThree, StrftimeToThree}
 use Rattle.timefd_convert.specs.Conversions.{IsConversion, KeepsItems, language_of}
-use Rattle.timefd_fix.specs.Chains.{IsFixed, IsLeft, IsLeftOf}
+use Rattle.timefd_rewrite.specs.Chains.{IsFixed, IsLeft, IsLeftOf}
 use Rattle.timefd_rewrite.specs.declared.layout.Layout.{Layout}
 use Rattle.timefd_rewrite.specs.declared.layout.Layout.TheVariants.{Least, Normal, Fixed}
 

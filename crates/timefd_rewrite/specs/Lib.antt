@@ -1,3 +1,5 @@
+pub mod Cures
+pub mod Chains
 pub mod Lines
 pub mod Layouts
 pub mod Rewriting

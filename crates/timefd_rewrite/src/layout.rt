@@ -7,10 +7,11 @@ ghost use Rattle.timefd_parse.specs.Language.{IsAssignedIn};
 ghost use Rattle.timefd_convert.specs.Conversions.{language_of};
 ghost use Rattle.timefd_rewrite.specs.Layouts.{IsAnew, IsConverted, IsLeast, IsRefusal};
 
+use crate::fixes::Fixes;
+use crate::fixing::fixed;
 use crate::nearest::nearest_to;
 use std::alloc::Global;
 use timefd_convert::{Conversion, convert_by};
-use timefd_fix::{Fixes, fixed};
 use timefd_parse::{Language, ParseError};
 
 /// What is made of a text: a conversion, and how much of it that changes, or its repair.

@@ -1,16 +1,24 @@
 //! Rewrites lines of descriptions in a later version of the language, or in their normal form, or mends
-//! them. Each keeps its end, and those that are passed over or refused stay as they are.
+//! them: it writes what each fault in turn wants, up to a text that is accepted. Each keeps its end, and
+//! those that are passed over or refused stay as they are.
 #![tactic(auto)]
 
 mod counts;
+mod cure;
 mod diff;
+mod fixes;
+mod fixing;
 mod layout;
 mod lines;
 mod nearest;
 mod rewrite;
+#[cfg(test)]
+mod tests;
 
 pub use counts::{Counts, Outcome};
 pub use diff::write_diff;
+pub use fixes::Fixes;
+pub use fixing::{FIX_LIMIT, fixed};
 pub use layout::{Layout, lay_out};
 pub use lines::{is_passed_over, without_newline};
 pub use rewrite::{RewriteError, rewrite_lines};

@@ -5,10 +5,9 @@ ghost use Rattle.timefd_rewrite_sources.specs.Changes as spec;
 ghost use Rattle.timefd_rewrite_sources.specs.declared.change.Change.TheVariants as variants;
 
 use timefd_convert::{Conversion, conversion_between};
-use timefd_fix::Fixes;
 use timefd_lint_sources::{is_passed_over, language_of};
 use timefd_parse::{DescriptionVersion, Language};
-use timefd_rewrite::Layout;
+use timefd_rewrite::{Fixes, Layout};
 use timefd_sources::{Dialect, digit_of};
 
 /// What is made of the descriptions of a source.

@@ -3,8 +3,8 @@
 use crate::{Change, Outcome, count_refused, count_rewritten, rewrite_source};
 use std::alloc::Global;
 use std::process::Abort;
-use timefd_fix::Fixes;
 use timefd_parse::DescriptionVersion;
+use timefd_rewrite::Fixes;
 
 /// Sources, what they become, how many descriptions are rewritten, and how many refused.
 const MENDED: &[(Fixes, &str, &str, usize, usize)] = &[

@@ -1,13 +1,7 @@
-//! Tests of `timefd_sources`.
+//! Tests of descriptions in sources of Rust, and in values of keys: rows of texts.
 #![tactic(auto)]
 
 #[cfg(test)]
-mod calls;
+mod keys;
 #[cfg(test)]
-mod shown;
-#[cfg(test)]
-mod texts;
-#[cfg(test)]
-mod tokens;
-#[cfg(test)]
-mod written;
+mod sources;

@@ -1,6 +1,5 @@
-//! Tests of the readers through their public calls: rows of texts, as tables of data, in few test
-//! functions. They stand at the top, since a crate with tests is proved twice, with them and
-//! without.
+//! Tests of the readers and of conversions through their public calls: rows of texts, as tables of data, in
+//! few test functions. They stand at the top, since a crate with tests is proved twice, with them and without.
 #![tactic(auto)]
 
 #[cfg(test)]
@@ -18,6 +17,8 @@ mod lent;
 #[cfg(test)]
 mod limits;
 pub mod longest_literal;
+#[cfg(test)]
+mod print;
 #[cfg(test)]
 mod printed;
 #[cfg(test)]

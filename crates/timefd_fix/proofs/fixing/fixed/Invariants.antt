@@ -1,7 +1,0 @@
-use Rattle.std.specs.Prelude.{string_bytes}
-use Rattle.timefd_fix.specs.Chains.{LeadsTo}
-use Rattle.timefd_fix.proofs.fixing.fixed.Given as goal
-
--- Each turn wrote one cure.
-abbrev pub invariant-steps : goal.invariant-steps
-invariant-steps l = LeadsTo l.language l.fixes l._step l.fn.text (string_bytes l.now)

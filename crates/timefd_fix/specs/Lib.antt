@@ -1,2 +1,0 @@
-pub mod Cures
-pub mod Chains
