@@ -1,5 +1,5 @@
-/* Calls `timefd_judge` or `timefd_read` over a text, or `parse` of the crate `time`, so often as it is told to: CALL KIND TIMES TEXT.
-   `instructions.sh` builds it, and counts its instructions. It fails where `time` doesn't take the text, or isn't there. */
+/* Calls `timefd_judge`, `timefd_read` or `timefd_read_composites` over a text, or `parse` of the crate `time`, so often as it is told
+   to: CALL KIND TIMES TEXT. `instructions.sh` builds it, and counts its instructions. It fails where `time` doesn't take the text, or isn't there. */
 
 #include "../examples/timefd.h"
 
@@ -34,7 +34,7 @@ int main(int count, char **words) {
     }
     static timefd_node nodes[ROOM];
     static uint8_t literals[ROOM];
-    int reads = strcmp(words[1], "read") == 0;
+    bool reads = strcmp(words[1], "read") == 0, reads_composites = strcmp(words[1], "composites") == 0;
     uint32_t kind = (uint32_t)strtoul(words[2], NULL, 10);
     size_t times = strtoul(words[3], NULL, 10), len = strlen(words[4]);
     const uint8_t *text = (const uint8_t *)words[4];
@@ -44,6 +44,8 @@ int main(int count, char **words) {
     for (size_t i = 0; i < times; i++) {
         if (reads) {
             timefd_read(kind, text, len, nodes, ROOM, literals, ROOM);
+        } else if (reads_composites) {
+            timefd_read_composites(text, len, nodes, ROOM, literals, ROOM);
         } else {
             timefd_judge(kind, text, len);
         }

@@ -1,5 +1,5 @@
 #!/bin/sh
-# Prints how many instructions one call of `timefd_judge`, and of `timefd_read`, takes, as callgrind counts them: the difference
+# Prints how many instructions one call of `timefd_judge`, of `timefd_read` and `timefd_read_composites` takes, as callgrind counts them: the difference
 # of 520 calls and 20 by 500; and of `parse` of Debian's `time`, of the texts of version 1 that it takes, where its package is
 # installed, with that of `chrono`. It needs valgrind.
 set -eu
@@ -68,6 +68,13 @@ row 'strftime, `%Y-%m-%d %H:%M:%S`' 4 '%Y-%m-%d %H:%M:%S'
 row 'strftime, `%d`' 4 '%d'
 row 'strftime, `%Y-%m-%d %Q`, which has a fault' 4 '%Y-%m-%d %Q'
 row 'version 1, a literal of 100 kB' 1 "$longest"
+
+echo
+echo '| Composite letters | `timefd_judge` | `timefd_read` | `timefd_read_composites` |'
+echo '|---|---|---|---|'
+for text in '%c' '%F %T' '%Y-%m-%d %H:%M:%S'; do
+    echo "| \`$text\` | $(per_call judge 4 "$text") | $(per_call read 4 "$text") | $(per_call composites 4 "$text") |"
+done
 
 echo
 echo '| Brackets with modifiers | `timefd_judge` | `timefd_read` | `time` 0.3.9 |'

@@ -89,7 +89,7 @@ typedef struct timefd_answer {
    Here and below a pointer may be null where its length is 0, and nowhere else; a length is at most PTRDIFF_MAX; nobody
    writes to the text while the call runs. The text is not kept, and needs no 0 at its end. All memory that a call takes by
    malloc is freed when it returns. A call may not come from a signal handler, nor from the forked child of a process with
-   threads. It has 112 KiB of stack at least: a text that is nested 127 deep takes some 67 of them. */
+   threads. It has 112 KiB of stack at least: a text that is nested 127 deep takes some 53 of them. */
 timefd_answer timefd_judge(uint32_t kind, const uint8_t *text, size_t len);
 
 /* Says the same, and writes the sentence of a refused text's fault, in UTF-8, to the front of the `room` bytes at `sentence`: all
@@ -181,6 +181,7 @@ timefd_answer timefd_convert(uint32_t from, uint32_t to, const uint8_t *text, si
 #define TIMEFD_COMPOUND 3u  /* its members in turn */
 #define TIMEFD_OPTIONAL 4u  /* one member, which a parser may skip */
 #define TIMEFD_FIRST 5u     /* alternatives: a parser takes the first that fits, a formatter the first of all */
+#define TIMEFD_COMPOSITE 6u /* from timefd_read_composites alone: a composite letter of strftime, whose list stands elsewhere */
 
 /* The components. Those that the library of Rust calls deprecated come as what they stand for. */
 #define TIMEFD_DAY 1u
@@ -233,7 +234,7 @@ timefd_answer timefd_convert(uint32_t from, uint32_t to, const uint8_t *text, si
 
 /* A part of a description. */
 typedef struct timefd_node {
-    uint8_t what;              /* one of the five above */
+    uint8_t what;              /* one of the six above */
     uint8_t component;         /* which component, or 0 */
     uint8_t padding;           /* TIMEFD_PADDING_SPACE, TIMEFD_PADDING_ZERO or TIMEFD_PADDING_NONE */
     uint8_t sign_is_mandatory; /* TIMEFD_FALSE or TIMEFD_TRUE, as the next three */
@@ -292,6 +293,19 @@ timefd_read_answer timefd_read(uint32_t kind, const uint8_t *text, size_t len, t
    The limit bounds how deep a program goes that walks the nodes. The buffers are as those of timefd_read. */
 timefd_read_answer timefd_read_within(uint32_t kind, uint32_t limit, const uint8_t *text, size_t len, timefd_node *nodes,
                                       size_t node_room, uint8_t *literals, size_t literal_room);
+
+/* A text of strftime of all composite letters, %c%D%F%r%R%T%z, and how many nodes and bytes of literals timefd_read writes of it. */
+#define TIMEFD_COMPOSITES "%c%D%F%r%R%T%z"
+#define TIMEFD_COMPOSITE_NODES 47u
+#define TIMEFD_COMPOSITE_LITERALS 16u
+
+/* Says and writes what timefd_read does of a text of strftime, but a composite letter is one node, a TIMEFD_COMPOSITE. Its `start`
+   and `count` are those of its list among the nodes of TIMEFD_COMPOSITES, which a program reads once, by timefd_read, into
+   two buffers of its own, where the literals of these lists stand too. So there are as many nodes as items: len nodes and
+   len bytes of literals are always enough. TIMEFD_UNKNOWN_KIND never comes, and no memory is taken. timefd_format_nodes takes
+   the nodes of timefd_read alone: to it such a node is no part of a description. */
+timefd_read_answer timefd_read_composites(const uint8_t *text, size_t len, timefd_node *nodes, size_t node_room,
+                                          uint8_t *literals, size_t literal_room);
 
 /* What is known of a moment, in `known`: one of these, or several joined by |. */
 #define TIMEFD_HAS_DATE 1u

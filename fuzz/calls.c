@@ -170,14 +170,18 @@ timefd_read_answer read_within(uint32_t kind, uint32_t limit, const struct text 
     return answer;
 }
 
-timefd_read_answer read_nodes(uint32_t kind, const struct text *text, struct node_buffers *buffers,
-                              size_t node_room, size_t literal_room) {
+/* Reads nodes, with one for a composite letter of strftime or with its members. */
+static timefd_read_answer read_into(uint32_t kind, bool composes, const struct text *text,
+                                    struct node_buffers *buffers, size_t node_room, size_t literal_room) {
     uint8_t *bytes = lend(kind, text);
     size_t behind = (1 + node_room + 1) * sizeof(timefd_node);
     memset(buffers->nodes, FILL, behind);
     memset(buffers->literals, FILL, GUARD + literal_room + GUARD);
-    timefd_read_answer answer = timefd_read(kind, bytes, text->len, buffers->nodes + 1, node_room,
-                                            buffers->literals + GUARD, literal_room);
+    timefd_node *nodes_front = buffers->nodes + 1;
+    uint8_t *literals_front = buffers->literals + GUARD;
+    timefd_read_answer answer =
+        composes ? timefd_read_composites(bytes, text->len, nodes_front, node_room, literals_front, literal_room)
+                 : timefd_read(kind, bytes, text->len, nodes_front, node_room, literals_front, literal_room);
     take_back(kind, text, bytes);
     /* What buffers hold that are too short, or of a text that is refused, is not told. */
     bool is_told = answer.written || answer.status == TIMEFD_NOT_UTF8;
@@ -191,4 +195,14 @@ timefd_read_answer read_nodes(uint32_t kind, const struct text *text, struct nod
                    is_filled(buffers->literals + GUARD + literals, literal_room - literals + GUARD);
     expect(is_kept, kind, text, "that nothing is written but the nodes and literals that are told");
     return answer;
+}
+
+timefd_read_answer read_nodes(uint32_t kind, const struct text *text, struct node_buffers *buffers,
+                              size_t node_room, size_t literal_room) {
+    return read_into(kind, false, text, buffers, node_room, literal_room);
+}
+
+timefd_read_answer read_composites(const struct text *text, struct node_buffers *buffers, size_t node_room,
+                                   size_t literal_room) {
+    return read_into(TIMEFD_STRFTIME, true, text, buffers, node_room, literal_room);
 }

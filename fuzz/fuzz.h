@@ -94,6 +94,8 @@ timefd_date_answer read_date(uint32_t kind, const struct text *text, const struc
 timefd_read_answer read_within(uint32_t kind, uint32_t limit, const struct text *text); /* without room */
 timefd_read_answer read_nodes(uint32_t kind, const struct text *text, struct node_buffers *buffers,
                               size_t node_room, size_t literal_room);
+timefd_read_answer read_composites(const struct text *text, struct node_buffers *buffers, size_t node_room,
+                                   size_t literal_room);
 
 /* checks.c, diagnoses.c, nodes.c, formats.c, dates.c, modern.c, pairs.c and versions.c: what holds of one
    text, of its fault, of its nodes, of what it writes, of a date that it reads, of its text of version 3,

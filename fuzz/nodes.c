@@ -150,6 +150,23 @@ static void check_less_room(uint32_t kind, const struct text *text, timefd_read_
            text, "all nodes in buffers of just their room");
 }
 
+/* With one node for a composite letter the same is told of a text of strftime, and each item, of one node,
+   reserves what it does with its members. */
+static void check_composites(const struct text *text, timefd_read_answer answer) {
+    static struct node_buffers one;
+    timefd_read_answer composed = read_composites(text, &one, text->len, text->len);
+    bool fits = composed.status == answer.status && composed.value == answer.value &&
+                composed.bytes == answer.bytes && composed.written == answer.written &&
+                composed.nodes == (answer.written ? answer.value : 0);
+    for (size_t i = 0; fits && i < composed.nodes; i++) {
+        const timefd_node *node = one.nodes + 1 + i;
+        bool is_one = node->what == TIMEFD_LITERAL || node->what == TIMEFD_COMPONENT ||
+                      node->what == TIMEFD_COMPOSITE;
+        fits = is_one && has_own_fields(node) && node->bytes == trees[i].bytes;
+    }
+    expect(fits, TIMEFD_STRFTIME, text, "the same items with one node for a composite letter");
+}
+
 void check_nodes(uint32_t kind, const struct text *text, timefd_answer judged) {
     static struct node_buffers buffers;
     timefd_read_answer answer = read_nodes(kind, text, &buffers, NODES_A_BYTE * (text->len + 1),
@@ -159,12 +176,18 @@ void check_nodes(uint32_t kind, const struct text *text, timefd_answer judged) {
     if (answer.status != TIMEFD_ACCEPTED) {
         expect(!answer.written && answer.nodes == 0 && answer.literals == 0 && answer.bytes == 0,
                kind, text, "no nodes of what is not accepted");
+        if (kind == TIMEFD_STRFTIME) {
+            check_composites(text, answer);
+        }
         return;
     }
     expect(answer.written, kind, text, "nodes in large buffers");
     if (answer.written) {
         check_trees(kind, text, buffers.nodes + 1, answer);
         check_limit(kind, text, answer);
+        if (kind == TIMEFD_STRFTIME) {
+            check_composites(text, answer);
+        }
         check_less_room(kind, text, answer);
     }
 }

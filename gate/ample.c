@@ -169,6 +169,11 @@ static void try_nodes(const struct text *text) {
     begin();
     read = timefd_read_within(text->kind, text->nests ? UINT32_MAX : 0, text->bytes, text->len, NULL, 0, NULL, 0);
     expect("timefd_read_within", text->name, read.status, list.blocks, list.most);
+    if (text->kind == TIMEFD_STRFTIME) {
+        begin();
+        read = timefd_read_composites(text->bytes, text->len, nodes, node_room, literals, literal_room);
+        expect("timefd_read_composites", text->name, read.written ? read.status : TIMEFD_NO_MEMORY, 0, 0);
+    }
     __real_free(nodes);
     __real_free(literals);
 }
@@ -266,6 +271,7 @@ static void try_null(void) {
         expect("timefd_diagnose", "null", timefd_diagnose(kind, NULL, 0, NULL, 0, NULL, 0).answer.status, 0, 0);
         expect("timefd_read", "null", timefd_read(kind, NULL, 0, NULL, 0, NULL, 0).status, 0, 0);
         expect("timefd_read_within", "null", timefd_read_within(kind, 0, NULL, 0, NULL, 0, NULL, 0).status, 0, 0);
+        expect("timefd_read_composites", "null", timefd_read_composites(NULL, 0, NULL, 0, NULL, 0).status, 0, 0);
         expect("timefd_read_date", "null", timefd_read_date(kind, NULL, 0, NULL, 0).status, 0, 0);
         begin();
         const uint8_t *day = (const uint8_t *)(kind == TIMEFD_STRFTIME ? "%d" : "[day]");

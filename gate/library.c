@@ -301,6 +301,70 @@ static bool writes_alike(const struct sample *sample) {
     return asked == 0 && is_same(&by_nodes, &by_text);
 }
 
+/* Texts of strftime, with each composite letter and none. */
+static const char *const COMPOSED[] = {"", "%c", "%D%F", "at %r, %R or %T%z", "%x %X", "%Y-%m-%d", "100%% %n%c%t%D", "%c %Q"};
+
+/* Whether the list that a composite node points at is what timefd_read writes in front of its own node. */
+static bool is_same_composite(const timefd_node *one, const timefd_node *whole, const timefd_node *lists, const uint8_t *texts,
+                              const uint8_t *literals) {
+    if (whole->what != TIMEFD_COMPOUND || whole->count != one->count || whole->bytes != one->bytes) {
+        return false;
+    }
+    for (size_t i = 0; i < one->count; i++) {
+        timefd_node member = lists[one->start + i];
+        timefd_node wanted = *(whole - one->count + i);
+        if (member.what == TIMEFD_LITERAL &&
+            memcmp(texts + member.start, literals + wanted.start, wanted.count) != 0) {
+            return false;
+        }
+        member.start = wanted.start;
+        if (memcmp(&member, &wanted, sizeof member) != 0) {
+            return false;
+        }
+    }
+    return true;
+}
+
+/* Whether a text read with one node for a composite letter is what it is read with their members, with no memory. */
+static bool composes(const char *text) {
+    timefd_node lists[TIMEFD_COMPOSITE_NODES], nodes[ROOM], all[ROOM];
+    uint8_t texts[TIMEFD_COMPOSITE_LITERALS], bytes[ROOM], all_bytes[ROOM];
+    memset(lists, '.', sizeof lists);
+    memset(nodes, '.', sizeof nodes);
+    memset(all, '.', sizeof all);
+    memset(texts, '.', sizeof texts);
+    memset(bytes, '.', sizeof bytes);
+    memset(all_bytes, '.', sizeof all_bytes);
+    asked = 0;
+    timefd_read_answer listed =
+        timefd_read(TIMEFD_STRFTIME, (const uint8_t *)TIMEFD_COMPOSITES, strlen(TIMEFD_COMPOSITES), lists,
+                    TIMEFD_COMPOSITE_NODES, texts, TIMEFD_COMPOSITE_LITERALS);
+    timefd_read_answer one = timefd_read_composites((const uint8_t *)text, strlen(text), nodes, ROOM, bytes, ROOM);
+    timefd_read_answer whole =
+        timefd_read(TIMEFD_STRFTIME, (const uint8_t *)text, strlen(text), all, ROOM, all_bytes, ROOM);
+    if (asked != 0 || !listed.written || listed.nodes != TIMEFD_COMPOSITE_NODES || listed.literals != TIMEFD_COMPOSITE_LITERALS ||
+        one.status != whole.status || one.value != whole.value || one.bytes != whole.bytes || one.written != whole.written) {
+        return false;
+    }
+    size_t at = 0;
+    for (size_t i = 0; i < one.nodes; i++, at++) {
+        timefd_node node = nodes[i];
+        if (node.what == TIMEFD_COMPOSITE) {
+            at += node.count;
+            if (!is_same_composite(&node, &all[at], lists, texts, all_bytes)) {
+                return false;
+            }
+        } else if (node.what == TIMEFD_LITERAL) {
+            if (node.count != all[at].count || memcmp(bytes + node.start, all_bytes + all[at].start, node.count) != 0) {
+                return false;
+            }
+        } else if (node.component != all[at].component || node.start != i) {
+            return false;
+        }
+    }
+    return one.nodes == (one.status == TIMEFD_ACCEPTED ? one.value : 0) && at == whole.nodes;
+}
+
 /* Nodes that are no description, and the index of the one that is none. Each takes what it has no room for, or has a number that
    means nothing. */
 struct wrong {
@@ -425,6 +489,12 @@ int main(void) {
         if (!holds(CHECK_OR_CONVERT, &SAMPLES[i], &count) || !is_read || !takes_little(&SAMPLES[i])) {
             failed++;
             fprintf(stderr, "gate/library: %" PRIu32 ": %s\n", SAMPLES[i].kind, SAMPLES[i].text);
+        }
+    }
+    for (size_t i = 0; i < sizeof COMPOSED / sizeof COMPOSED[0]; i++) {
+        if (!composes(COMPOSED[i])) {
+            failed++;
+            fprintf(stderr, "gate/library: the composite letters of %s\n", COMPOSED[i]);
         }
     }
     for (size_t i = 0; i < sizeof WRONGS / sizeof WRONGS[0]; i++) {

@@ -21,9 +21,17 @@ use crate::version::{Language, Version};
 
 const HEADER: &str = concat!(env!("CARGO_MANIFEST_DIR"), "/../../examples/timefd.h");
 
-/// The statuses that no call of this crate answers: its texts are UTF-8, its languages known, and its
-/// nodes those of a description.
-const UNUSED: [&str; 4] = ["NOT_UTF8", "UNKNOWN_KIND", "NO_DESCRIPTION", "DATE_NOT_UTF8"];
+/// The numbers that this crate has no use for. No call of it answers these statuses: its texts are UTF-8,
+/// its languages known, and its nodes those of a description. It reads composite letters as their members.
+const UNUSED: [&str; 7] = [
+    "NOT_UTF8",
+    "UNKNOWN_KIND",
+    "NO_DESCRIPTION",
+    "DATE_NOT_UTF8",
+    "COMPOSITE",
+    "COMPOSITE_NODES",
+    "COMPOSITE_LITERALS",
+];
 
 /// Each `#define TIMEFD_NAME 12u` of the header, by its name.
 fn defined(header: &str) -> BTreeMap<String, u32> {

@@ -4,7 +4,7 @@ use Rattle.std.specs.Char.{is_ascii_digit}
 use Rattle.std.specs.Result.{result_ok}
 use Rattle.std.specs.Str.{all_ascii_digits}
 use Rattle.std.specs.Str.Parse.{ParsesUnsigned, digits_value}
-use Rattle.std.proofs.lemmas.Bool.{and_parts, eqb-true}
+use Rattle.std.proofs.lemmas.Bool.{and_from, and_parts, eqb-true}
 use Rattle.std.proofs.lemmas.Bool.Decides.{nat_tests}
 use Rattle.std.proofs.lemmas.Str.Parse.{IsNumeralModel, numerals_by_value, tells_all_ascii_digits, parse_plain}
 use Rattle.timefd_component.specs.Tree.{Text}
@@ -19,10 +19,6 @@ record NamesLimit (word : Text) : Type 0 where
   digits : all_ascii_digits word ≡ true
   small : digits_value 10 word ≤ 127
 
-both : (a b : Bool) → a ≡ true → b ≡ true → (a && b) ≡ true
-both true b p q = q
-both false b p q = absurd cc
-
 is_at_most : (a b : ℕ) → a ≤ b → nat_le a b ≡ true
 is_at_most a b h = grind (arith, nat_tests)
 
@@ -31,7 +27,7 @@ named word n = subst (λ t. ◌≡◌ {A = Option ℕ} (if t then Some (digits_v
     (Some (digits_value 10 word))) (sym is) refl
   where
     is : is_limit word ≡ true
-    is = both _ _ (both _ _ (both _ _ (is_at_most _ _ n.some) (is_at_most _ _ n.few)) n.digits)
+    is = and_from _ _ (and_from _ _ (and_from _ _ (is_at_most _ _ n.some) (is_at_most _ _ n.few)) n.digits)
         (is_at_most _ _ n.small)
 
 unnamed : (word : Text) → (NamesLimit word → ⊥) → limit_named word ≡ None

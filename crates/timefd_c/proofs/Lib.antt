@@ -4,4 +4,5 @@ pub mod ConversionLemmas
 pub mod RoomLemmas
 pub mod LongestLemmas
 pub mod ReadingLemmas
+pub mod CompositeLemmas
 pub mod MomentLemmas

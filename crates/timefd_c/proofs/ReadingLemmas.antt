@@ -19,7 +19,7 @@ use Rattle.timefd_language.proofs.Reserved.{reserves_within_law}
 use Rattle.timefd_c_nodes.proofs.TreeLemmas.{walked_length}
 use Rattle.timefd_c.proofs.LongestLemmas.{is_longest, three_reserved}
 use Rattle.timefd_c.proofs.RoomLemmas.{nodes_within, literals_within}
-use Rattle.timefd_c.specs.Answers.{DescribesWithin, IsAnswer}
+use Rattle.timefd_c.specs.Answers.{DescribesWithin}
 use Rattle.timefd_c_read.specs.Reports.{IsReport, parts, tops}
 use Rattle.timefd_c.specs.Reading.{Reads, Tells}
 use Rattle.timefd_c.proofs.AnswerLemmas as answers

@@ -3,6 +3,7 @@ pub mod Verdicts
 pub mod Answers
 pub mod Conversions
 pub mod Reading
+pub mod Composites
 pub mod Numbers
 pub mod Moments
 pub mod Formats

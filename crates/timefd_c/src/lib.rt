@@ -1,12 +1,13 @@
 //! The readers for C, and for Rust outside of this workspace: two functions that say of the bytes
 //! of a text what they are in a language, which a number names, one that tells the fault of a text
-//! whole, three that rewrite a text as one of a later version, two that write the nodes of a
-//! description, one of them within a limit on nesting, two that write a date and time, by a description
-//! or by such nodes, and one that reads them.
+//! whole, three that rewrite a text as one of a later version, three that write the nodes of a
+//! description, one of them within a limit on nesting, one with single nodes for composite letters, two
+//! that write a date and time, by a description or by such nodes, and one that reads them.
 //! `examples/timefd.h` declares them.
 #![tactic(auto)]
 
 mod answer;
+mod composites;
 mod conversion;
 mod date_answer;
 mod diagnose;
@@ -28,6 +29,7 @@ mod whole;
 pub use answer::{
     ACCEPTED, Answer, NO_CONVERSION, NO_MEMORY, NOT_UTF8, REFUSED, ReadAnswer, UNKNOWN_KIND,
 };
+pub use composites::timefd_read_composites;
 pub use date_answer::{CONTRADICTION, DATE_NOT_UTF8, DateAnswer, MISSING, UNREAD};
 pub use diagnose::timefd_diagnose;
 pub use diagnosis::{Diagnosis, FaultFields};

@@ -2,6 +2,7 @@
 
 mod answers;
 mod buffers;
+mod composites;
 mod conversions;
 mod dates;
 mod formats;

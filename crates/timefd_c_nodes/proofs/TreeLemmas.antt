@@ -1,11 +1,11 @@
 -- Trees, their parts, and their nodes.
-use Rattle.std.proofs.Common.{◌≡◌, ◌∙◌, Bool, ℕ, zero, suc, ◌+◌, ◌-◌, ◌<◌, ◌≤◌, List, [], ◌∷◌, ◌++◌, length, map, drop, get_or, min, refl, sym, ap, subst, add-one, drop-cons, arith, length-append}
-use Rattle.std.proofs.lemmas.List.{drop_all}
+use Rattle.std.proofs.Common.{◌≡◌, ◌∙◌, Bool, ℕ, zero, suc, ◌+◌, ◌-◌, ◌<◌, ◌≤◌, List, [], ◌∷◌, ◌++◌, length, map, drop, get_or, min, refl, sym, ap, subst, arith, length-append}
+use Rattle.std.proofs.lemmas.List.{drop_all, drop_more}
 use Rattle.timefd_modifier.specs.declared.enums.SubsecondDigits.{SubsecondDigits}
 use Rattle.timefd_component.specs.declared.component.Component.{Component}
 use Rattle.timefd_component.specs.declared.component.Component.TheVariants.{Subsecond}
 use Rattle.timefd_node_list.specs.Nodes.{kept_bytes}
-use Rattle.timefd_component.specs.Reserved.{reserve, reserve_all, reserved, tree_count, trees_count, digits_shown}
+use Rattle.timefd_component.specs.Reserved.{reserve, reserved, tree_count, trees_count, digits_shown}
 use Rattle.timefd_component.specs.Tree.{Tree, component, literal, compound, optional, first, Trees, no_trees, more_trees, trees}
 use Rattle.timefd_node_list.specs.Views.{walked, walked_all}
 use Rattle.timefd_c_nodes.specs.declared.node.Node.{Node}
@@ -78,55 +78,12 @@ pub walked_at : {A : Type 0} (tree : A → Tree) (items : List A) (at : ℕ) (x 
     → walked_all (trees (map tree (drop at items))) ≡ walked (tree x) ++ walked_all
     (trees (map tree (drop (at + 1) items)))
 walked_at tree items at x below is =
-    let head : drop at items ≡ get_or items at x ∷ drop (at + 1) items =
-    rw add-one (drop-cons items at x below) in
-    ap (λ xs. walked_all (trees (map tree xs))) (head ∙ ap (λ y. y ∷ drop (at + 1) items) (sym is))
+    ap (λ xs. walked_all (trees (map tree xs)))
+    (drop_more items at x below ∙ ap (λ y. y ∷ drop (at + 1) items) (sym is))
 
 pub none_at : {A : Type 0} (tree : A → Tree) (items : List A) (at : ℕ) → length items ≤ at
     → walked_all (trees (map tree (drop at items))) ≡ []
 none_at tree items at h = ap (λ xs. walked_all (trees (map tree xs))) (drop_all at items h)
-
--- Reserved bytes.
-
-reserve_at : {A : Type 0} (tree : A → Tree) (items : List A) (at : ℕ) (x : A) → at < length items
-    → x ≡ get_or items at x
-    → reserve_all (trees (map tree (drop at items))) ≡ reserve (tree x) + reserve_all
-    (trees (map tree (drop (at + 1) items)))
-reserve_at tree items at x below is =
-    let head : drop at items ≡ get_or items at x ∷ drop (at + 1) items =
-    rw add-one (drop-cons items at x below) in
-    ap (λ xs. reserve_all (trees (map tree xs))) (head ∙ ap (λ y. y ∷ drop (at + 1) items) (sym is))
-
-pub bytes_step : {A : Type 0} (tree : A → Tree) (items : List A) (at : ℕ) (x : A)
-    (bytes one next total : ℕ) → at < length items → x ≡ get_or items at x
-    → one ≡ kept_bytes (reserve (tree x)) → next ≡ kept_bytes (bytes + one)
-    → kept_bytes (bytes + reserve_all (trees (map tree (drop at items)))) ≡ total
-    → kept_bytes (next + reserve_all (trees (map tree (drop (at + 1) items)))) ≡ total
-bytes_step tree items at x bytes one next total below is one_is next_is so_far =
-    omega (arith, one_is, next_is, so_far, reserve_at tree items at x below is)
-
-pub bytes_end : {A : Type 0} (tree : A → Tree) (items : List A) (at bytes total : ℕ)
-    → length items ≤ at → bytes ≡ kept_bytes bytes
-    → kept_bytes (bytes + reserve_all (trees (map tree (drop at items)))) ≡ total → bytes ≡ total
-bytes_end tree items at bytes total past capped all =
-    omega (
-      arith,
-      capped,
-      all,
-      ap (λ xs. reserve_all (trees (map tree xs)))
-          (drop_all at items past),
-    )
-
-pub first_none : {A : Type 0} (tree : A → Tree) (items : List A) → length items ≡ 0
-    → 0 ≡ kept_bytes (reserve (first (trees (map tree items))))
-first_none tree [] h = refl
-first_none tree (x ∷ items) h = absurd (omega (arith, h))
-
-pub first_some : {A : Type 0} (tree : A → Tree) (items : List A) (x : A) → 1 ≤ length items
-    → x ≡ get_or items 0 x
-    → kept_bytes (reserve (tree x)) ≡ kept_bytes (reserve (first (trees (map tree items))))
-first_some tree [] x h is = absurd (omega (arith, h))
-first_some tree (y ∷ items) x h is = ap (λ z. kept_bytes (reserve (tree z))) is
 
 -- The nodes of parts with members.
 

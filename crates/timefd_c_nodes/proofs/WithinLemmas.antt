@@ -9,13 +9,14 @@ use Rattle.timefd_node_list.specs.Views.{walked, walked_all}
 use Rattle.timefd_c_nodes.specs.declared.node.Node.{Node}
 use Rattle.timefd_c_nodes.specs.declared.place.Place.{Place}
 use Rattle.timefd_c_nodes.specs.declared.place.Written.{Written}
-use Rattle.timefd_c_nodes.specs.Encoding.{component_node, component_table, compound_node, first_node, optional_node, node_for, own_text, literals_of}
-use Rattle.timefd_c_nodes.specs.Writing.{overwritten, nodes_written, literals_written, IsPast, IsWritten, Puts, WritesWithin}
+use Rattle.timefd_c_nodes.specs.Encoding.{component_node, component_table, compound_node, first_node, optional_node, node_for, own_text, texts_of, literals_of}
+use Rattle.timefd_c_nodes.specs.Writing.{overwritten, nodes_written, literals_written, IsPast, IsWritten, Puts, WritesParts, WritesWithin}
 use Rattle.timefd_c_nodes.proofs.TreeLemmas.{compound_behind, first_behind, optional_behind, reserved_kept, table_bytes}
-use Rattle.timefd_c_nodes.proofs.WriteLemmas.{literals-length, literals_written-append, nodes_written-append}
+use Rattle.timefd_c_nodes.proofs.WriteLemmas.{literals-length, literals_written-append, nodes_written-append, texts-length}
 
-pub within_none : (from : Place) (ns : List Node) (a : Text) → WritesWithin [] from from ns ns a a
-within_none from ns a = record {
+pub parts_none : {A : Type 0} → (node : ℕ → ℕ → A → Node) (own : A → Text) (from : Place)
+    (ns : List Node) (a : Text) → WritesParts node own [] from from ns ns a a
+parts_none node own from ns a = record {
   node_at = omega arith;
   literal_at = omega arith;
   node_room = refl;
@@ -24,29 +25,41 @@ within_none from ns a = record {
   literals = λ h. refl;
 }
 
--- some trees, and then more
-pub within_both : (xs ys : List Tree) (from mid to : Place) (ns ms ks : List Node) (a b c : Text)
-    → WritesWithin xs from mid ns ms a b → WritesWithin ys mid to ms ks b c
-    → WritesWithin (xs ++ ys) from to ns ks a c
-within_both xs ys from mid to ns ms ks a b c v w = record {
+-- some parts, and then more
+pub parts_both : {A : Type 0} → (node : ℕ → ℕ → A → Node) (own : A → Text) (xs ys : List A)
+    (from mid to : Place) (ns ms ks : List Node) (a b c : Text)
+    → WritesParts node own xs from mid ns ms a b → WritesParts node own ys mid to ms ks b c
+    → WritesParts node own (xs ++ ys) from to ns ks a c
+parts_both node own xs ys from mid to ns ms ks a b c v w = record {
   node_at = omega (arith, v.node_at, w.node_at, length-append xs ys);
-  literal_at = omega (arith, v.literal_at, w.literal_at, literals-length xs ys);
+  literal_at = omega (arith, v.literal_at, w.literal_at, texts-length own xs ys);
   node_room = w.node_room ∙ v.node_room;
   literal_room = w.literal_room ∙ v.literal_room;
   nodes = λ h.
       w.nodes (omega (arith, h, v.node_at, v.node_room, length-append xs ys))
-      ∙ ap (λ k. nodes_written k mid.literals ys ms) v.node_at
-      ∙ ap (λ k. nodes_written (from.nodes + length xs) k ys ms) v.literal_at
-      ∙ ap (λ l. nodes_written (from.nodes + length xs) (from.literals + length (literals_of xs)) ys
-      l) (v.nodes (omega (arith, h, length-append xs ys)))
-      ∙ sym (nodes_written-append xs ys from.nodes from.literals ns);
+      ∙ ap (λ k. nodes_written node own k mid.literals ys ms) v.node_at
+      ∙ ap (λ k. nodes_written node own (from.nodes + length xs) k ys ms) v.literal_at
+      ∙ ap (λ l. nodes_written node own (from.nodes + length xs)
+      (from.literals + length (texts_of own xs)) ys l)
+      (v.nodes (omega (arith, h, length-append xs ys)))
+      ∙ sym (nodes_written-append node own xs ys from.nodes from.literals ns);
   literals = λ h.
-      w.literals (omega (arith, h, v.literal_at, v.literal_room, literals-length xs ys))
-      ∙ ap (λ k. literals_written k ys b) v.literal_at
-      ∙ ap (λ l. literals_written (from.literals + length (literals_of xs)) ys l)
-      (v.literals (omega (arith, h, literals-length xs ys)))
-      ∙ sym (literals_written-append xs ys from.literals a);
+      w.literals (omega (arith, h, v.literal_at, v.literal_room, texts-length own xs ys))
+      ∙ ap (λ k. literals_written own k ys b) v.literal_at
+      ∙ ap (λ l. literals_written own (from.literals + length (texts_of own xs)) ys l)
+      (v.literals (omega (arith, h, texts-length own xs ys)))
+      ∙ sym (literals_written-append own xs ys from.literals a);
 }
+
+pub within_none : (from : Place) (ns : List Node) (a : Text) → WritesWithin [] from from ns ns a a
+within_none from ns a = parts_none node_for own_text from ns a
+
+-- some trees, and then more
+pub within_both : (xs ys : List Tree) (from mid to : Place) (ns ms ks : List Node) (a b c : Text)
+    → WritesWithin xs from mid ns ms a b → WritesWithin ys mid to ms ks b c
+    → WritesWithin (xs ++ ys) from to ns ks a c
+within_both xs ys from mid to ns ms ks a b c v w =
+    parts_both node_for own_text xs ys from mid to ns ms ks a b c v w
 
 overwritten-none : (at : ℕ) (bytes : Text) → overwritten at [] bytes ≡ bytes
 overwritten-none at bytes =
@@ -55,22 +68,30 @@ overwritten-none at bytes =
     ∙ ap (λ k. take at bytes ++ drop k bytes) place
     ∙ take-append-drop at bytes
 
+-- a part that adds nothing to the literals
+pub part_node : {A : Type 0} → (node : ℕ → ℕ → A → Node) (own : A → Text) (x : A) (at : Place)
+    (n : Node) (reserved : ℕ) (w : Written) (ns ms : List Node) (a : Text)
+    → own x ≡ [] → n ≡ node at.nodes at.literals x → Puts n reserved at ns ms w
+    → WritesParts node own (x ∷ []) at w.end ns ms a a
+part_node node own x at n reserved w ns ms a none is puts =
+    let none_added : length (texts_of own (x ∷ [])) ≡ 0 = ap (λ l. length (l ++ [])) none in
+    record {
+      node_at = omega (arith, puts.node_at);
+      literal_at = omega (arith, puts.literal_at, none_added);
+      node_room = puts.node_room;
+      literal_room = refl;
+      nodes = λ h. puts.nodes (omega (arith, h)) ∙ ap (λ m. set ns at.nodes m) is;
+      literals = λ h.
+          sym (ap (λ l. overwritten at.literals l a) none ∙ overwritten-none at.literals a);
+    }
+
 -- a tree that adds nothing to the literals
 pub within_node : (t : Tree) (at : Place) (n : Node) (reserved : ℕ) (w : Written)
     (ns ms : List Node) (a : Text)
     → own_text t ≡ [] → n ≡ node_for at.nodes at.literals t → Puts n reserved at ns ms w
     → WritesWithin (t ∷ []) at w.end ns ms a a
 within_node t at n reserved w ns ms a own is puts =
-    let none_added : length (literals_of (t ∷ [])) ≡ 0 = ap (λ x. length (x ++ [])) own in
-    record {
-      node_at = omega (arith, puts.node_at);
-      literal_at = omega (arith, puts.literal_at, none_added);
-      node_room = puts.node_room;
-      literal_room = refl;
-      nodes = λ h. puts.nodes (omega (arith, h)) ∙ ap (λ x. set ns at.nodes x) is;
-      literals = λ h.
-          sym (ap (λ x. overwritten at.literals x a) own ∙ overwritten-none at.literals a);
-    }
+    part_node node_for own_text t at n reserved w ns ms a own is puts
 
 pub put_node : (t : Tree) (at : Place) (n : Node) (reserved : ℕ) (r : Option Written)
     (ns ms : List Node) (a : Text)

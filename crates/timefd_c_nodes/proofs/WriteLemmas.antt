@@ -5,88 +5,106 @@ use Rattle.std.proofs.Math.Seq.{drop-append-add, take-append-add}
 use Rattle.timefd_component.specs.Tree.{Text, Tree}
 use Rattle.timefd_c_nodes.specs.declared.node.Node.{Node}
 use Rattle.timefd_c_nodes.specs.declared.place.Place.{Place}
-use Rattle.timefd_c_nodes.specs.Encoding.{node_for, nodes_from, own_text, literals_of}
+use Rattle.timefd_c_nodes.specs.Encoding.{nodes_by, own_text, texts_of, literals_of}
 use Rattle.timefd_c_nodes.specs.declared.place.TheConstants.{START}
-use Rattle.timefd_c_nodes.specs.Writing.{overwritten, nodes_written, literals_written, WritesWithin}
+use Rattle.timefd_c_nodes.specs.Writing.{overwritten, nodes_written, literals_written, WritesParts}
+
+pub texts_of-append : {A : Type 0} → (own : A → Text) (xs ys : List A)
+    → texts_of own (xs ++ ys) ≡ texts_of own xs ++ texts_of own ys
+texts_of-append own [] ys = refl
+texts_of-append own (x ∷ xs) ys = ap (λ l. own x ++ l) (texts_of-append own xs ys) ∙
+    sym (append_assoc (own x) (texts_of own xs) (texts_of own ys))
+
+pub texts-length : {A : Type 0} → (own : A → Text) (xs ys : List A)
+    → length (texts_of own (xs ++ ys)) ≡ length (texts_of own xs) + length (texts_of own ys)
+texts-length own xs ys = ap length (texts_of-append own xs ys) ∙
+    length-append (texts_of own xs) (texts_of own ys)
 
 pub literals_of-append : (xs ys : List Tree)
     → literals_of (xs ++ ys) ≡ literals_of xs ++ literals_of ys
-literals_of-append [] ys = refl
-literals_of-append (t ∷ xs) ys = ap (λ l. own_text t ++ l) (literals_of-append xs ys) ∙
-    sym (append_assoc (own_text t) (literals_of xs) (literals_of ys))
+literals_of-append xs ys = texts_of-append own_text xs ys
 
 pub literals-length : (xs ys : List Tree)
     → length (literals_of (xs ++ ys)) ≡ length (literals_of xs) + length (literals_of ys)
-literals-length xs ys = ap length (literals_of-append xs ys) ∙
-    length-append (literals_of xs) (literals_of ys)
+literals-length xs ys = texts-length own_text xs ys
 
-pub nodes_written-append : (xs ys : List Tree) (at used : ℕ) (ns : List Node)
-    → nodes_written at used (xs ++ ys) ns ≡ nodes_written (at + length xs)
-    (used + length (literals_of xs)) ys (nodes_written at used xs ns)
-nodes_written-append [] ys at used ns =
+pub nodes_written-append : {A : Type 0} → (node : ℕ → ℕ → A → Node) (own : A → Text) (xs ys : List A)
+    (at used : ℕ) (ns : List Node)
+    → nodes_written node own at used (xs ++ ys) ns ≡ nodes_written node own (at + length xs)
+    (used + length (texts_of own xs)) ys (nodes_written node own at used xs ns)
+nodes_written-append node own [] ys at used ns =
     let a : at ≡ at + 0 = omega arith in
     let u : used ≡ used + 0 = omega arith in
-    ap (λ k. nodes_written k used ys ns) a ∙ ap (λ k. nodes_written (at + 0) k ys ns) u
-nodes_written-append (t ∷ xs) ys at used ns =
-    let ms : List Node = set ns at (node_for at used t) in
-    let next : ℕ = used + length (own_text t) in
-    let a : at + 1 + length xs ≡ at + length (t ∷ xs) = omega arith in
-    let u : next + length (literals_of xs) ≡ used + length (literals_of (t ∷ xs)) =
-    omega (arith, length-append (own_text t) (literals_of xs)) in
-    nodes_written-append xs ys (at + 1) next ms
-    ∙ ap (λ k. nodes_written k (next + length (literals_of xs)) ys
-    (nodes_written (at + 1) next xs ms)) a
-    ∙ ap (λ k. nodes_written (at + length (t ∷ xs)) k ys (nodes_written (at + 1) next xs ms)) u
+    ap (λ k. nodes_written node own k used ys ns) a ∙
+    ap (λ k. nodes_written node own (at + 0) k ys ns) u
+nodes_written-append node own (x ∷ xs) ys at used ns =
+    let ms : List Node = set ns at (node at used x) in
+    let next : ℕ = used + length (own x) in
+    let a : at + 1 + length xs ≡ at + length (x ∷ xs) = omega arith in
+    let u : next + length (texts_of own xs) ≡ used + length (texts_of own (x ∷ xs)) =
+    omega (arith, length-append (own x) (texts_of own xs)) in
+    nodes_written-append node own xs ys (at + 1) next ms
+    ∙ ap (λ k. nodes_written node own k (next + length (texts_of own xs)) ys
+    (nodes_written node own (at + 1) next xs ms)) a
+    ∙ ap (λ k. nodes_written node own (at + length (x ∷ xs)) k ys
+    (nodes_written node own (at + 1) next xs ms)) u
 
-pub literals_written-append : (xs ys : List Tree) (used : ℕ) (bytes : Text)
-    → literals_written used (xs ++ ys) bytes ≡ literals_written (used + length (literals_of xs)) ys
-    (literals_written used xs bytes)
-literals_written-append [] ys used bytes =
+pub literals_written-append : {A : Type 0} → (own : A → Text) (xs ys : List A) (used : ℕ)
+    (bytes : Text)
+    → literals_written own used (xs ++ ys) bytes ≡ literals_written own
+    (used + length (texts_of own xs)) ys (literals_written own used xs bytes)
+literals_written-append own [] ys used bytes =
     let u : used ≡ used + 0 = omega arith in
-    ap (λ k. literals_written k ys bytes) u
-literals_written-append (t ∷ xs) ys used bytes =
-    let next : ℕ = used + length (own_text t) in
-    let more : Text = overwritten used (own_text t) bytes in
-    let u : next + length (literals_of xs) ≡ used + length (literals_of (t ∷ xs)) =
-    omega (arith, length-append (own_text t) (literals_of xs)) in
-    literals_written-append xs ys next more ∙
-    ap (λ k. literals_written k ys (literals_written next xs more)) u
+    ap (λ k. literals_written own k ys bytes) u
+literals_written-append own (x ∷ xs) ys used bytes =
+    let next : ℕ = used + length (own x) in
+    let more : Text = overwritten used (own x) bytes in
+    let u : next + length (texts_of own xs) ≡ used + length (texts_of own (x ∷ xs)) =
+    omega (arith, length-append (own x) (texts_of own xs)) in
+    literals_written-append own xs ys next more ∙
+    ap (λ k. literals_written own k ys (literals_written own next xs more)) u
 
 -- The fronts of the buffers.
 
-pub front_nodes : (ts : List Tree) (at used : ℕ) (ns : List Node) → at + length ts ≤ length ns
-    → nodes_written at used ts ns ≡ take at ns ++ nodes_from at used ts ++ drop (at + length ts) ns
-front_nodes [] at used ns h =
+front_nodes : {A : Type 0} → (node : ℕ → ℕ → A → Node) (own : A → Text) (xs : List A)
+    (at used : ℕ) (ns : List Node) → at + length xs ≤ length ns
+    → nodes_written node own at used xs ns ≡ take at ns ++ nodes_by node own at used xs ++ drop
+    (at + length xs) ns
+front_nodes node own [] at used ns h =
     let place : at ≡ at + 0 = omega arith in
     sym (take-append-drop at ns)
     ∙ ap (λ l. l ++ drop at ns) (sym (append-nil (take at ns)))
     ∙ ap (λ k. (take at ns ++ []) ++ drop k ns) place
-front_nodes (t ∷ ts) at used ns h =
-    let n : Node = node_for at used t in
-    let rest : List Node = nodes_from (at + 1) (used + length (own_text t)) ts in
+front_nodes node own (x ∷ xs) at used ns h =
+    let n : Node = node at used x in
+    let rest : List Node = nodes_by node own (at + 1) (used + length (own x)) xs in
     let long : length (set ns at n) ≡ length ns = length-set ns at n in
-    let place : at + 1 + length ts ≡ at + length (t ∷ ts) = omega arith in
-    front_nodes ts (at + 1) (used + length (own_text t)) (set ns at n) (omega (arith, h, long))
-    ∙ ap (λ l. (l ++ rest) ++ drop (at + 1 + length ts) (set ns at n))
+    let place : at + 1 + length xs ≡ at + length (x ∷ xs) = omega arith in
+    front_nodes node own xs (at + 1) (used + length (own x)) (set ns at n) (omega (arith, h, long))
+    ∙ ap (λ l. (l ++ rest) ++ drop (at + 1 + length xs) (set ns at n))
     (take_more_set ns at n (omega (arith, h)))
-    ∙ ap (λ l. l ++ drop (at + 1 + length ts) (set ns at n))
+    ∙ ap (λ l. l ++ drop (at + 1 + length xs) (set ns at n))
     (append_assoc (take at ns) (n ∷ []) rest)
     ∙ ap (λ l. (take at ns ++ n ∷ rest) ++ l)
-    (drop-set-lt (at + 1 + length ts) ns at n (omega arith))
+    (drop-set-lt (at + 1 + length xs) ns at n (omega arith))
     ∙ ap (λ k. (take at ns ++ n ∷ rest) ++ drop k ns) place
+
+-- the bytes up to the end of those that were replaced
+front_length : (at : ℕ) (text bytes : Text) → at + length text ≤ length bytes
+    → at + length text ≡ length (take at bytes ++ text)
+front_length at text bytes h =
+    omega (
+      arith,
+      length-append (take at bytes) text,
+      length-take-le at bytes (omega (arith, h)),
+    )
 
 -- what stands behind the bytes that were replaced
 overwritten-behind : (at k : ℕ) (text bytes : Text) → at + length text ≤ length bytes
     → drop (at + length text + k) (overwritten at text bytes) ≡ drop (at + length text + k) bytes
 overwritten-behind at k text bytes h =
     let front : Text = take at bytes ++ text in
-    let long : at + length text ≡ length front =
-    omega (
-      arith,
-      length-append (take at bytes) text,
-      length-take-le at bytes (omega (arith, h)),
-    ) in
-    ap (λ n. drop (n + k) (front ++ drop (at + length text) bytes)) long
+    ap (λ n. drop (n + k) (front ++ drop (at + length text) bytes)) (front_length at text bytes h)
     ∙ drop-append-add front (drop (at + length text) bytes) k
     ∙ drop-drop k (at + length text) bytes
 
@@ -94,14 +112,8 @@ pub overwritten-length : (at : ℕ) (text bytes : Text) → at + length text ≤
     → length (overwritten at text bytes) ≡ length bytes
 overwritten-length at text bytes h =
     let front : Text = take at bytes ++ text in
-    let long : at + length text ≡ length front =
-    omega (
-      arith,
-      length-append (take at bytes) text,
-      length-take-le at bytes (omega (arith, h)),
-    ) in
     length-append front (drop (at + length text) bytes) ∙
-    omega (arith, h, long, length-drop (at + length text) bytes)
+    omega (arith, h, front_length at text bytes h, length-drop (at + length text) bytes)
 
 -- one byte
 pub one_byte : (at : ℕ) (text bytes : Text) → length text ≡ 1 → at + length text ≤ length bytes
@@ -117,62 +129,58 @@ overwritten-front : (at : ℕ) (text bytes : Text) → at + length text ≤ leng
     → take (at + length text) (overwritten at text bytes) ≡ take at bytes ++ text
 overwritten-front at text bytes h =
     let front : Text = take at bytes ++ text in
-    let long : at + length text ≡ length front + 0 =
-    omega (
-      arith,
-      length-append (take at bytes) text,
-      length-take-le at bytes (omega (arith, h)),
-    ) in
+    let long : at + length text ≡ length front + 0 = omega (arith, front_length at text bytes h) in
     ap (λ n. take n (front ++ drop (at + length text) bytes)) long
     ∙ take-append-add front (drop (at + length text) bytes) 0
     ∙ append-nil front
 
-pub front_literals : (ts : List Tree) (used : ℕ) (bytes : Text)
-    → used + length (literals_of ts) ≤ length bytes
-    → literals_written used ts bytes ≡ take used bytes ++ literals_of ts ++ drop
-    (used + length (literals_of ts)) bytes
-front_literals [] used bytes h =
+front_literals : {A : Type 0} → (own : A → Text) (xs : List A) (used : ℕ) (bytes : Text)
+    → used + length (texts_of own xs) ≤ length bytes
+    → literals_written own used xs bytes ≡ take used bytes ++ texts_of own xs ++ drop
+    (used + length (texts_of own xs)) bytes
+front_literals own [] used bytes h =
     let place : used ≡ used + 0 = omega arith in
     sym (take-append-drop used bytes)
     ∙ ap (λ l. l ++ drop used bytes) (sym (append-nil (take used bytes)))
     ∙ ap (λ k. (take used bytes ++ []) ++ drop k bytes) place
-front_literals (t ∷ ts) used bytes h =
-    let own : Text = own_text t in
-    let rest : Text = literals_of ts in
-    let next : ℕ = used + length own in
-    let more : Text = overwritten used own bytes in
-    let total : length (own ++ rest) ≡ length own + length rest = length-append own rest in
+front_literals own (x ∷ xs) used bytes h =
+    let text : Text = own x in
+    let rest : Text = texts_of own xs in
+    let next : ℕ = used + length text in
+    let more : Text = overwritten used text bytes in
+    let total : length (text ++ rest) ≡ length text + length rest = length-append text rest in
     let fits : next ≤ length bytes = omega (arith, h, total) in
-    let place : next + length rest ≡ used + length (own ++ rest) = omega (arith, total) in
-    front_literals ts next more (omega (arith, h, total, overwritten-length used own bytes fits))
+    let place : next + length rest ≡ used + length (text ++ rest) = omega (arith, total) in
+    front_literals own xs next more (omega (arith, h, total, overwritten-length used text bytes fits))
     ∙ ap (λ l. (l ++ rest) ++ drop (next + length rest) more)
-    (overwritten-front used own bytes fits)
-    ∙ ap (λ l. ((take used bytes ++ own) ++ rest) ++ l)
-    (overwritten-behind used (length rest) own bytes fits)
-    ∙ ap (λ l. l ++ drop (next + length rest) bytes) (append_assoc (take used bytes) own rest)
-    ∙ ap (λ k. (take used bytes ++ (own ++ rest)) ++ drop k bytes) place
+    (overwritten-front used text bytes fits)
+    ∙ ap (λ l. ((take used bytes ++ text) ++ rest) ++ l)
+    (overwritten-behind used (length rest) text bytes fits)
+    ∙ ap (λ l. l ++ drop (next + length rest) bytes) (append_assoc (take used bytes) text rest)
+    ∙ ap (λ k. (take used bytes ++ (text ++ rest)) ++ drop k bytes) place
 
 -- The fronts, once all is written from the first place on.
-pub record Fronts (ts : List Tree) (ns ms : List Node) (a b : Text) : Type 0 where
-  pub nodes : ms ≡ nodes_from 0 0 ts ++ drop (length ts) ns
-  pub literals : b ≡ literals_of ts ++ drop (length (literals_of ts)) a
+pub record Fronts {A : Type 0} (node : ℕ → ℕ → A → Node) (own : A → Text) (xs : List A)
+    (ns ms : List Node) (a b : Text) : Type 0 where
+  pub nodes : ms ≡ nodes_by node own 0 0 xs ++ drop (length xs) ns
+  pub literals : b ≡ texts_of own xs ++ drop (length (texts_of own xs)) a
 
-pub fronts : (ts : List Tree) (to : Place) (ns ms : List Node) (a b : Text)
-    → length ts ≤ length ns → length (literals_of ts) ≤ length a
-    → WritesWithin ts START to ns ms a b → Fronts ts ns ms a b
-fronts ts to ns ms a b node_room literal_room w = record {
+pub fronts : {A : Type 0} → (node : ℕ → ℕ → A → Node) (own : A → Text) (xs : List A) (to : Place)
+    (ns ms : List Node) (a b : Text) → length xs ≤ length ns → length (texts_of own xs) ≤ length a
+    → WritesParts node own xs START to ns ms a b → Fronts node own xs ns ms a b
+fronts node own xs to ns ms a b node_room literal_room w = record {
   nodes =
       w.nodes (omega (arith, node_room))
-      ∙ front_nodes ts 0 0 ns (omega (arith, node_room))
-      ∙ ap (λ k. nodes_from 0 0 ts ++ drop k ns) nothing_before;
+      ∙ front_nodes node own xs 0 0 ns (omega (arith, node_room))
+      ∙ ap (λ k. nodes_by node own 0 0 xs ++ drop k ns) nothing_before;
   literals =
       w.literals (omega (arith, literal_room))
-      ∙ front_literals ts 0 a (omega (arith, literal_room))
-      ∙ ap (λ k. literals_of ts ++ drop k a) no_byte_before;
+      ∙ front_literals own xs 0 a (omega (arith, literal_room))
+      ∙ ap (λ k. texts_of own xs ++ drop k a) no_byte_before;
 }
   where
-    nothing_before : 0 + length ts ≡ length ts
+    nothing_before : 0 + length xs ≡ length xs
     nothing_before = omega arith
 
-    no_byte_before : 0 + length (literals_of ts) ≡ length (literals_of ts)
+    no_byte_before : 0 + length (texts_of own xs) ≡ length (texts_of own xs)
     no_byte_before = omega arith

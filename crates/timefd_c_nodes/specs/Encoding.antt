@@ -9,7 +9,7 @@ use Rattle.timefd_node_list.specs.Nodes.{kept_bytes}
 use Rattle.timefd_component.specs.Reserved.{reserve, tree_count, trees_count, digits_shown}
 use Rattle.timefd_component.specs.Tree.{Text, Tree, component, literal, compound, optional, first, Trees, no_trees, more_trees}
 use Rattle.timefd_c_nodes.specs.declared.node.Node.{Node}
-use Rattle.timefd_c_nodes.specs.declared.node.TheConstants.{LITERAL, COMPONENT, COMPOUND, OPTIONAL, FIRST}
+use Rattle.timefd_c_nodes.specs.declared.node.TheConstants.{LITERAL, COMPONENT, COMPOUND, OPTIONAL, FIRST, COMPOSITE}
 
 -- Numbers. A field that a component doesn't have is 0.
 
@@ -84,6 +84,13 @@ optional_node start format bytes = record (blank OPTIONAL) {
 
 abbrev pub first_node : ℕ → ℕ → ℕ → Node
 first_node start count bytes = record (blank FIRST) {
+  start = start;
+  count = count;
+  bytes = shown_bytes bytes;
+}
+
+abbrev pub composite_node : ℕ → ℕ → ℕ → Node
+composite_node start count bytes = record (blank COMPOSITE) {
   start = start;
   count = count;
   bytes = shown_bytes bytes;
@@ -201,13 +208,21 @@ abbrev pub own_text : Tree → Text
 own_text (literal bytes) = bytes
 own_text other = []
 
+-- the bytes that some parts add to the literals, in turn
+abbrev pub texts_of : {A : Type 0} → (A → Text) → List A → Text
+texts_of own [] = []
+texts_of own (a ∷ parts) = own a ++ texts_of own parts
+
+-- the nodes of some parts in turn, of which the first has this index
+abbrev pub nodes_by : {A : Type 0} → (ℕ → ℕ → A → Node) → (A → Text) → ℕ → ℕ → List A → List Node
+nodes_by node own at used [] = []
+nodes_by node own at used (a ∷ parts) =
+    node at used a ∷ nodes_by node own (at + 1) (used + length (own a)) parts
+
 -- the literals of some trees in turn
 abbrev pub literals_of : List Tree → Text
-literals_of [] = []
-literals_of (t ∷ ts) = own_text t ++ literals_of ts
+literals_of ts = texts_of own_text ts
 
 -- the nodes of some trees in turn, of which the first has this index
 abbrev pub nodes_from : ℕ → ℕ → List Tree → List Node
-nodes_from at used [] = []
-nodes_from at used (t ∷ ts) = node_for at used t ∷ nodes_from (at + 1) (used + length (own_text t))
-    ts
+nodes_from at used ts = nodes_by node_for own_text at used ts

@@ -42,7 +42,7 @@ use Rattle.timefd_modifier.specs.declared.enums.SubsecondDigits.TheVariants as d
 use Rattle.timefd_modifier.specs.declared.enums.TrailingInput.TheVariants as inputs
 use Rattle.timefd_component.specs.declared.component.Component.{Component}
 use Rattle.timefd_component.specs.declared.component.Component.TheVariants as components
-use Rattle.timefd_c_nodes.specs.declared.node.TheConstants.{LITERAL, COMPONENT, COMPOUND, OPTIONAL, FIRST}
+use Rattle.timefd_c_nodes.specs.declared.node.TheConstants.{LITERAL, COMPONENT, COMPOUND, OPTIONAL, FIRST, COMPOSITE}
 use Rattle.timefd_c_nodes.specs.Encoding.{component_table, digits_number, flag_number, padding_number, trailing_input_number}
 
 -- what a node is
@@ -52,6 +52,7 @@ pub record KindNumbers : Type 0 where
   pub compound : COMPOUND ≡ 3
   pub optional : OPTIONAL ≡ 4
   pub first : FIRST ≡ 5
+  pub composite : COMPOSITE ≡ 6
 
 -- the number of a component
 abbrev pub number_of : Component → ℕ

@@ -5,36 +5,42 @@ use Rattle.timefd_node_list.specs.Nodes.{kept_bytes}
 use Rattle.timefd_c_nodes.specs.declared.node.Node.{Node}
 use Rattle.timefd_c_nodes.specs.declared.place.Place.{Place}
 use Rattle.timefd_c_nodes.specs.declared.place.Written.{Written}
-use Rattle.timefd_c_nodes.specs.Encoding.{node_for, own_text, literals_of}
+use Rattle.timefd_c_nodes.specs.Encoding.{node_for, own_text, texts_of}
 
 -- bytes with some of them replaced from an index on
 abbrev pub overwritten : ℕ → Text → Text → Text
 overwritten at text bytes = take at bytes ++ text ++ drop (at + length text) bytes
 
--- nodes once those of some trees are written, of which the first has this index
-abbrev pub nodes_written : ℕ → ℕ → List Tree → List Node → List Node
-nodes_written at used [] nodes = nodes
-nodes_written at used (t ∷ ts) nodes =
-    nodes_written (at + 1) (used + length (own_text t)) ts (set nodes at (node_for at used t))
+-- nodes once those of some parts are written, of which the first has this index
+abbrev pub nodes_written : {A : Type 0} → (ℕ → ℕ → A → Node) → (A → Text) → ℕ → ℕ → List A
+    → List Node → List Node
+nodes_written node own at used [] nodes = nodes
+nodes_written node own at used (a ∷ parts) nodes =
+    nodes_written node own (at + 1) (used + length (own a)) parts (set nodes at (node at used a))
 
--- bytes once the literals of some trees are written
-abbrev pub literals_written : ℕ → List Tree → Text → Text
-literals_written used [] bytes = bytes
-literals_written used (t ∷ ts) bytes =
-    literals_written (used + length (own_text t)) ts (overwritten used (own_text t) bytes)
+-- bytes once the literals of some parts are written
+abbrev pub literals_written : {A : Type 0} → (A → Text) → ℕ → List A → Text → Text
+literals_written own used [] bytes = bytes
+literals_written own used (a ∷ parts) bytes =
+    literals_written own (used + length (own a)) parts (overwritten used (own a) bytes)
 
--- These trees are written from one place to the other, as far as there is room: a buffer that has
--- room for all of them has all of them.
-pub record WritesWithin (ts : List Tree) (from to : Place) (nodes_before nodes_after : List Node)
-    (before after : Text) : Type 0 where
-  pub node_at : to.nodes ≡ from.nodes + length ts
-  pub literal_at : to.literals ≡ from.literals + length (literals_of ts)
+-- These parts, each of one node and with these bytes, are written from one place to the other, as far as
+-- there is room: a buffer that has room for all of them has all of them.
+pub record WritesParts {A : Type 0} (node : ℕ → ℕ → A → Node) (own : A → Text) (parts : List A)
+    (from to : Place) (nodes_before nodes_after : List Node) (before after : Text) : Type 0 where
+  pub node_at : to.nodes ≡ from.nodes + length parts
+  pub literal_at : to.literals ≡ from.literals + length (texts_of own parts)
   pub node_room : length nodes_after ≡ length nodes_before
   pub literal_room : length after ≡ length before
-  pub nodes : from.nodes + length ts ≤ length nodes_before
-      → nodes_after ≡ nodes_written from.nodes from.literals ts nodes_before
-  pub literals : from.literals + length (literals_of ts) ≤ length before
-      → after ≡ literals_written from.literals ts before
+  pub nodes : from.nodes + length parts ≤ length nodes_before
+      → nodes_after ≡ nodes_written node own from.nodes from.literals parts nodes_before
+  pub literals : from.literals + length (texts_of own parts) ≤ length before
+      → after ≡ literals_written own from.literals parts before
+
+-- The same of trees.
+abbrev pub WritesWithin : List Tree → Place → Place → List Node → List Node → Text → Text → Type 0
+WritesWithin ts from to nodes_before nodes_after before after =
+    WritesParts node_for own_text ts from to nodes_before nodes_after before after
 
 -- These trees are written from a place on, as far as there is room, and reserve so many bytes.
 pub record IsWritten (ts : List Tree) (reserved : ℕ) (from : Place)
@@ -52,7 +58,11 @@ pub record Puts (node : Node) (reserved : ℕ) (at : Place) (nodes_before nodes_
   pub node_room : length nodes_after ≡ length nodes_before
   pub nodes : at.nodes < length nodes_before → nodes_after ≡ set nodes_before at.nodes node
 
--- a `usize` doesn't count the place behind these trees
+-- a `usize` doesn't count the place behind these parts
+abbrev pub ArePast : {A : Type 0} → (A → Text) → List A → Place → Type 0
+ArePast own parts from =
+    (2 ^ 64 ≤ from.nodes + length parts) ⊎ (2 ^ 64 ≤ from.literals + length (texts_of own parts))
+
+-- the same of trees
 abbrev pub IsPast : List Tree → Place → Type 0
-IsPast ts from =
-    (2 ^ 64 ≤ from.nodes + length ts) ⊎ (2 ^ 64 ≤ from.literals + length (literals_of ts))
+IsPast ts from = ArePast own_text ts from

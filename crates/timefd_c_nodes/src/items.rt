@@ -8,10 +8,9 @@ ghost use Rattle.timefd_component.specs.Tree.{compound, first, optional, trees};
 ghost use Rattle.timefd_node_list.specs.Views.{walked, walked_all};
 ghost use Rattle.timefd_c_nodes.specs.Writing.{IsPast, IsWritten};
 
-use crate::component::component_bytes;
 use crate::node::Node;
 use crate::place::{Place, Written, put, put_component, put_literal};
-use timefd_items::BorrowedFormatItem;
+use timefd_items::{BorrowedFormatItem, item_bytes};
 
 /// Writes items in turn from a place on.
 #[cycle(write)]
@@ -116,23 +115,7 @@ fn write_first(
     put(node, bytes, inner.end, nodes)
 }
 
-/// The bytes that an item reserves, at most `usize::MAX`.
-#[cycle(bytes)]
-fn item_bytes(item: &BorrowedFormatItem<'_>) -> usize
-    ensures { result ≡ kept_bytes (reserve (item_tree item.now)) }
-{
-    match *item {
-        BorrowedFormatItem::Literal(bytes) => capped_sum(bytes.len(), 0),
-        BorrowedFormatItem::StringLiteral(text) => capped_sum(text.len(), 0),
-        BorrowedFormatItem::Component(component) => component_bytes(component),
-        BorrowedFormatItem::Compound(members) => items_bytes(members),
-        BorrowedFormatItem::Optional(member) => item_bytes(member),
-        BorrowedFormatItem::First(members) => first_bytes(members),
-    }
-}
-
 /// The bytes that the first of alternatives reserves, at most `usize::MAX`.
-#[cycle(bytes)]
 fn first_bytes(members: &[BorrowedFormatItem<'_>]) -> usize
     ensures { result ≡ kept_bytes (reserve (first (trees (item_trees members.now)))) }
 {
@@ -140,18 +123,6 @@ fn first_bytes(members: &[BorrowedFormatItem<'_>]) -> usize
         [] => 0,
         [first, ..] => item_bytes(first),
     }
-}
-
-/// The bytes that items reserve together, at most `usize::MAX`.
-#[cycle(bytes)]
-fn items_bytes(items: &[BorrowedFormatItem<'_>]) -> usize
-    ensures { result ≡ kept_bytes (reserve_all (trees (item_trees items.now))) }
-{
-    let mut bytes: usize = 0;
-    'items: for at in 0..items.len() {
-        bytes = capped_sum(bytes, item_bytes(&items[at]));
-    }
-    bytes
 }
 
 /// Both together, at most `usize::MAX`.

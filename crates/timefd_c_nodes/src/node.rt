@@ -18,11 +18,14 @@ pub const OPTIONAL: u8 = 4;
 /// What a node is: its members as alternatives.
 pub const FIRST: u8 = 5;
 
+/// What a node is: a composite letter of strftime, whose members stand elsewhere.
+pub const COMPOSITE: u8 = 6;
+
 /// A part of a description. A field that says nothing of such a part is 0.
 #[repr(C)]
 #[derive(Debug, Clone, Copy, PartialEq, Eq)]
 pub struct Node {
-    /// What it is: one of the five numbers.
+    /// What it is: one of the six numbers.
     pub what: u8,
     /// Which component: 1 to 37, in the order of `Component`.
     pub component: u8,
@@ -47,7 +50,8 @@ pub struct Node {
     /// The bytes that are reserved for it, at most `u32::MAX`.
     pub bytes: u32,
     /// Of a literal the index of its first byte among the literals, of any other node the index of
-    /// the first node of its members, which is its own where it has none.
+    /// the first node of its members, which is its own where it has none. The members of a composite
+    /// letter stand among the nodes of a text of their own.
     pub start: usize,
     /// How many bytes a literal has, and how many members any other node.
     pub count: usize,
@@ -132,6 +136,19 @@ impl Node {
             start,
             count,
             ..Node::blank(FIRST)
+        }
+    }
+
+    /// The node of a composite letter of strftime.
+    #[inline(always)]
+    pub fn composite(start: usize, count: usize, bytes: usize) -> Node
+        ensures { result ≡ spec.composite_node start count bytes }
+    {
+        Node {
+            bytes: shown_bytes(bytes),
+            start,
+            count,
+            ..Node::blank(COMPOSITE)
         }
     }
 }

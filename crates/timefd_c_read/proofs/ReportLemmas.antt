@@ -20,13 +20,13 @@ use Rattle.timefd_c_nodes.specs.declared.node.Node.{Node}
 use Rattle.timefd_c_nodes.specs.declared.place.Place.{Place}
 use Rattle.timefd_c_nodes.specs.declared.place.Written.{Written}
 use Rattle.timefd_c_nodes.specs.declared.place.TheConstants.{START}
-use Rattle.timefd_c_nodes.specs.Encoding.{literals_of}
-use Rattle.timefd_c_nodes.specs.Writing.{IsWritten, WritesWithin}
+use Rattle.timefd_c_nodes.specs.Encoding.{node_for, own_text, texts_of}
+use Rattle.timefd_c_nodes.specs.Writing.{IsWritten, WritesParts, WritesWithin}
 use Rattle.timefd_c_nodes.proofs.WriteLemmas.{fronts}
 use Rattle.timefd_c_read.specs.declared.progress.Progress.{Progress}
 use Rattle.timefd_c_read.specs.declared.report.Report.{Report}
 use Rattle.timefd_c_read.specs.Progress.{HasWritten}
-use Rattle.timefd_c_read.specs.Reports.{IsRead, IsReport, Reports}
+use Rattle.timefd_c_read.specs.Reports.{IsRead, IsReadAs, IsReport, Reports, ReportsParts}
 
 abbrev pub report : ℕ → ℕ → Place → Bool → Report
 report value bytes end written = record {
@@ -43,12 +43,13 @@ abbrev pub Fit : Place → List Node → Text → Type 0
 Fit end ns a = (end.nodes ≤ length ns) × (end.literals ≤ length a)
 
 -- what was written as far as there was room
-pub reports_within : (ts : List Tree) (counted greatest value bytes : ℕ) (end : Place)
-    (ns ms : List Node) (a b : Text) (t : Bool) (r : Report) → WritesWithin ts START end ns ms a b
+pub reports_parts : {A : Type 0} → (node : ℕ → ℕ → A → Node) (own : A → Text) (all : List A)
+    (counted greatest value bytes : ℕ) (end : Place) (ns ms : List Node) (a b : Text) (t : Bool)
+    (r : Report) → WritesParts node own all START end ns ms a b
     → (IsTrue t ↔ Fit end ms b) → value ≡ counted → bytes ≡ greatest → r ≡ report value bytes end t
-    → Reports ts counted greatest ns ms a b r
-reports_within ts counted greatest value bytes end ns ms a b t r w fits counts reserves is =
-    subst (Reports ts counted greatest ns ms a b) (sym is) (record {
+    → ReportsParts node own all counted greatest ns ms a b r
+reports_parts node own all counted greatest value bytes end ns ms a b t r w fits counts reserves is =
+    subst (ReportsParts node own all counted greatest ns ms a b) (sym is) (record {
       value = counts;
       bytes = reserves;
       nodes = omega (arith, w.node_at);
@@ -60,15 +61,23 @@ reports_within ts counted greatest value bytes end ns ms a b t r w fits counts r
           omega (arith, h.1, w.literal_at, w.literal_room),
         ),
       );
-      nodes_written = λ h. (fronts ts end ns ms a b (roomy h).0 (roomy h).1 w).nodes;
-      literals_written = λ h. (fronts ts end ns ms a b (roomy h).0 (roomy h).1 w).literals;
+      nodes_written = λ h. (fronts node own all end ns ms a b (roomy h).0 (roomy h).1 w).nodes;
+      literals_written = λ h. (fronts node own all end ns ms a b (roomy h).0 (roomy h).1 w).literals;
     })
   where
-    roomy : IsTrue t → (length ts ≤ length ns) × (length (literals_of ts) ≤ length a)
+    roomy : IsTrue t → (length all ≤ length ns) × (length (texts_of own all) ≤ length a)
     roomy h = (
       omega (arith, (fits.0 h).0, w.node_at, w.node_room),
       omega (arith, (fits.0 h).1, w.literal_at, w.literal_room),
     )
+
+pub reports_within : (ts : List Tree) (counted greatest value bytes : ℕ) (end : Place)
+    (ns ms : List Node) (a b : Text) (t : Bool) (r : Report) → WritesWithin ts START end ns ms a b
+    → (IsTrue t ↔ Fit end ms b) → value ≡ counted → bytes ≡ greatest → r ≡ report value bytes end t
+    → Reports ts counted greatest ns ms a b r
+reports_within ts counted greatest value bytes end ns ms a b t r w fits counts reserves is =
+    reports_parts node_for own_text ts counted greatest value bytes end ns ms a b t r w fits counts
+    reserves is
 
 -- Items in turn.
 
@@ -108,34 +117,39 @@ tree_report t u ns ms a b r is reports =
 
 -- What was read.
 
-pub accepted : (language : Language) (limit : ℕ) (text : Text) (list : List Tree)
-    (ns ms : List Node) (a b : Text) (r : Report) → SpellsIn language limit text list
-    → IsReport language list ns ms a b r → IsRead language limit text ns ms a b (Ok r)
-accepted (Version v) limit text list ns ms a b r spells is = record {
+pub read_as : (language : Language) (limit : ℕ) (text : Text) (list : List Tree)
+    (IsTold : List Tree → Report → Type 0) (r : Report) → SpellsIn language limit text list
+    → IsTold list r → IsReadAs language limit text IsTold (Ok r)
+read_as (Version v) limit text list IsTold r spells is = record {
   found = (list, spells, is);
   fault = tt;
   spelled = λ other s.
-      subst (λ l. IsReport (Version v) l ns ms a b r)
-      ((one v limit text).one_list list other spells s) is;
+      subst (λ l. IsTold l r) ((one v limit text).one_list list other spells s) is;
   refused = λ f h. (one v limit text).not_both list f spells h;
   empty = λ e. refl;
 }
-accepted Strftime limit text list ns ms a b r spells is = record {
+read_as Strftime limit text list IsTold r spells is = record {
   found = (list, spells, is);
   fault = tt;
   spelled = λ other s.
-      subst (λ l. IsReport Strftime l ns ms a b r)
-      ((strftime_one text).one_list list other spells s) is;
+      subst (λ l. IsTold l r) ((strftime_one text).one_list list other spells s) is;
   refused = λ f h. (strftime_one text).not_both list f spells h;
   empty = λ e. refl;
 }
 
-pub not_read : (language : Language) (limit : ℕ) (text : Text) (ns ms : List Node) (a b : Text)
-    (e : BorrowedParseError) → IsLentOf (FaultIn language limit text) e
+pub accepted : (language : Language) (limit : ℕ) (text : Text) (list : List Tree)
+    (ns ms : List Node) (a b : Text) (r : Report) → SpellsIn language limit text list
+    → IsReport language list ns ms a b r → IsRead language limit text ns ms a b (Ok r)
+accepted language limit text list ns ms a b r spells is =
+    read_as language limit text list (λ l x. IsReport language l ns ms a b x) r spells is
+
+pub not_read : (language : Language) (limit : ℕ) (text : Text)
+    (IsTold : List Tree → Report → Type 0) (e : BorrowedParseError)
+    → IsLentOf (FaultIn language limit text) e
     → ((list : List Tree) → SpellsIn language limit text list → IsMemory e)
     → ((f : Fault) → FaultIn language limit text f → IsLent f e) → 0 < length text
-    → IsRead language limit text ns ms a b (Err e)
-not_read language limit text ns ms a b e fault spelled refused some = record {
+    → IsReadAs language limit text IsTold (Err e)
+not_read language limit text IsTold e fault spelled refused some = record {
   found = tt;
   fault = fault;
   spelled = spelled;

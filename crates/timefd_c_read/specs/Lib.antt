@@ -1,2 +1,4 @@
+pub mod Composites
+pub mod Pieces
 pub mod Progress
 pub mod Reports

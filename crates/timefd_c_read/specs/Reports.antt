@@ -13,7 +13,7 @@ use Rattle.timefd_parse.specs.declared.language.Language.TheVariants.{Version, S
 use Rattle.timefd_fault.specs.Faults.{Fault}
 use Rattle.timefd_parse.specs.Language.{FaultIn, SpellsIn, amount}
 use Rattle.timefd_c_nodes.specs.declared.node.Node.{Node}
-use Rattle.timefd_c_nodes.specs.Encoding.{nodes_from, literals_of}
+use Rattle.timefd_c_nodes.specs.Encoding.{node_for, nodes_by, own_text, texts_of}
 use Rattle.timefd_c_read.specs.declared.report.Report.{Report}
 
 -- All parts of a description, each behind its members: those of the items in turn, and in version 3
@@ -40,20 +40,26 @@ longest (Version Two) list = kept_bytes (reserve_all (trees list))
 longest (Version Three) list = reserve (pack list)
 longest Strftime list = kept_bytes (reserve_all (trees list))
 
--- These parts are reported, and where both buffers have room their nodes and literals stand at the
--- fronts.
-pub record Reports (ts : List Tree) (counted greatest : ℕ) (nodes_before nodes_after : List Node)
-    (before after : Text) (r : Report) : Type 0 where
+-- These parts, each of one node and with these bytes, are reported, and where both buffers have room their
+-- nodes and literals stand at the fronts.
+pub record ReportsParts {A : Type 0} (node : ℕ → ℕ → A → Node) (own : A → Text) (all : List A)
+    (counted greatest : ℕ) (nodes_before nodes_after : List Node) (before after : Text) (r : Report)
+    : Type 0 where
   pub value : r.value ≡ counted
   pub bytes : r.bytes ≡ greatest
-  pub nodes : r.nodes ≡ length ts
-  pub literals : r.literals ≡ length (literals_of ts)
-  pub room : IsTrue r.written ↔ ((length ts ≤ length nodes_before)
-      × (length (literals_of ts) ≤ length before))
+  pub nodes : r.nodes ≡ length all
+  pub literals : r.literals ≡ length (texts_of own all)
+  pub room : IsTrue r.written ↔ ((length all ≤ length nodes_before)
+      × (length (texts_of own all) ≤ length before))
   pub nodes_written : IsTrue r.written
-      → nodes_after ≡ nodes_from 0 0 ts ++ drop (length ts) nodes_before
+      → nodes_after ≡ nodes_by node own 0 0 all ++ drop (length all) nodes_before
   pub literals_written : IsTrue r.written
-      → after ≡ literals_of ts ++ drop (length (literals_of ts)) before
+      → after ≡ texts_of own all ++ drop (length (texts_of own all)) before
+
+-- The same of trees.
+abbrev pub Reports : List Tree → ℕ → ℕ → List Node → List Node → Text → Text → Report → Type 0
+Reports ts counted greatest nodes_before nodes_after before after r =
+    ReportsParts node_for own_text ts counted greatest nodes_before nodes_after before after r
 
 -- the report on a text that spells the list in the language
 abbrev pub IsReport : Language → List Tree → List Node → List Node → Text → Text → Report → Type 0
@@ -65,13 +71,19 @@ IsReport language list nodes_before nodes_after before after r =
 -- what is accepted is spelled so, and reported; what is refused is refused for the fault that the
 -- rules assign. What is spelled is accepted, unless memory runs out, and what has a fault is refused
 -- for it. The empty text takes no memory.
-pub record IsRead (language : Language) (limit : ℕ) (text : Text) (nodes_before nodes_after : List Node)
-    (before after : Text) (r : Result Report BorrowedParseError) : Type 0 where
-  pub found : IfOk r (λ x. (list : List Tree) × SpellsIn language limit text list
-      × IsReport language list nodes_before nodes_after before after x)
+pub record IsReadAs (language : Language) (limit : ℕ) (text : Text)
+    (IsTold : List Tree → Report → Type 0) (r : Result Report BorrowedParseError) : Type 0 where
+  pub found : IfOk r (λ x. (list : List Tree) × SpellsIn language limit text list × IsTold list x)
   pub fault : IfErr r (IsLentOf (FaultIn language limit text))
   pub spelled : (list : List Tree) → SpellsIn language limit text list
-      → MatchResult r (IsReport language list nodes_before nodes_after before after) IsMemory
+      → MatchResult r (IsTold list) IsMemory
   pub refused : (f : Fault) → FaultIn language limit text f
       → MatchResult r (λ _. ⊥) (IsLent f)
   pub empty : text ≡ [] → IsOk r
+
+-- What is read is reported part by part.
+abbrev pub IsRead : Language → ℕ → Text → List Node → List Node → Text → Text
+    → Result Report BorrowedParseError → Type 0
+IsRead language limit text nodes_before nodes_after before after r =
+    IsReadAs language limit text
+    (λ list x. IsReport language list nodes_before nodes_after before after x) r

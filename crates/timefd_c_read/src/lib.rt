@@ -3,6 +3,8 @@
 //! `timefd_c` hands it on.
 #![tactic(auto)]
 
+mod composite;
+pub mod laws;
 mod leaf;
 mod nested;
 mod progress;
@@ -12,5 +14,6 @@ mod strftime;
 mod version;
 mod version_three;
 
-pub use reading::{read, read_within};
+pub use composite::COMPOSITES;
+pub use reading::{read, read_composites, read_within};
 pub use report::Report;

@@ -7,6 +7,7 @@ ghost use Rattle.timefd_component.specs.Tree.{Tree};
 ghost use Rattle.timefd_fault.specs.Faults as spec;
 ghost use Rattle.timefd_language.specs.Grammar.{nesting_limit};
 ghost use Rattle.timefd_parse.specs.Language.{FaultIn, SpellsIn};
+ghost use Rattle.timefd_c_read.specs.Pieces.{IsReportOfPieces};
 ghost use Rattle.timefd_c_read.specs.Reports.{IsReport};
 
 use crate::nested::read_version_three;
@@ -82,7 +83,7 @@ pub fn read_within<'a>(
     ensures empty { text.now ≡ [] → IsOk result }
 {
     match language {
-        Language::Strftime => read_strftime(text, nodes, literals),
+        Language::Strftime => read_strftime::<false>(text, nodes, literals),
         Language::Version(version) => {
             if let DescriptionVersion::Three = version {
                 return read_version_three(alloc, limit, text, nodes, literals);
@@ -90,4 +91,31 @@ pub fn read_within<'a>(
             read_version(alloc, version, limit, text, nodes, literals)
         }
     }
+}
+
+/// Reads a text of strftime and writes as `read` does, but a composite letter is one node: where its
+/// list stands among the nodes that `read` writes of `COMPOSITES`, which is a text of strftime itself. It
+/// takes no memory.
+///
+/// The error is `Invalid` with the fault of the text, or `Memory` where a `usize` doesn't count what is
+/// written.
+pub fn read_composites<'a>(
+    text: &'a str,
+    nodes: &mut [Node],
+    literals: &mut [u8],
+) -> Result<Report, BorrowedParseError<'a>>
+    // What is accepted is spelled so, and what is refused is refused for the fault that the rules
+    // assign.
+    ensures found { IfOk result (λ r. (list : List Tree) × SpellsIn Language.Strftime 0 text.now list
+        × IsReportOfPieces list nodes.old nodes.new literals.old literals.new r) }
+    ensures fault { IfErr result (IsLentOf (FaultIn Language.Strftime 0 text.now)) }
+
+    // What is spelled is accepted, unless it isn't counted, and what has a fault is refused for it.
+    ensures spelled { (list : List Tree) → SpellsIn Language.Strftime 0 text.now list
+        → MatchResult result (IsReportOfPieces list nodes.old nodes.new literals.old literals.new) IsMemory }
+    ensures refused { (f : spec.Fault) → FaultIn Language.Strftime 0 text.now f
+        → MatchResult result (λ _. ⊥) (IsLent f) }
+    ensures empty { text.now ≡ [] → IsOk result }
+{
+    read_strftime::<true>(text, nodes, literals)
 }

@@ -9,11 +9,11 @@ ghost use Rattle.timefd_language.specs.Strftime.{SpellsStrftime};
 ghost use Rattle.timefd_node_list.specs.Views.{walked};
 ghost use Rattle.timefd_c_nodes.specs.Writing.{IsPast, IsWritten};
 ghost use Rattle.timefd_strftime.specs.LetterMeaning.{composite_list};
-ghost use Rattle.timefd_strftime.specs.PieceMeaning.{piece_tree};
 ghost use Rattle.timefd_strftime.specs.StrftimeReading.{IsStrftimeFaultIn};
-ghost use Rattle.timefd_c_read.specs.Progress.{HasWritten};
-ghost use Rattle.timefd_c_read.specs.Reports.{IsRead};
+ghost use Rattle.timefd_c_read.specs.Pieces.{IsStrftimeReport, PieceIsPast, PieceIsWritten, PiecesAreWritten};
+ghost use Rattle.timefd_c_read.specs.Reports.{IsReadAs};
 
+use crate::composite::put_composite;
 use crate::leaf::write_component;
 use crate::progress::{NOTHING, Progress, one_more};
 use crate::report::{Report, has_room, report_of};
@@ -24,15 +24,17 @@ use timefd_strftime::{
     Composite, StrftimePiece, StrftimeTables, next_strftime_piece, strftime_error,
 };
 
-/// Reads a text of strftime. It takes no memory.
-pub fn read_strftime<'a>(
+/// Reads a text of strftime, with one node for a composite letter, or with its members and a node
+/// behind them. It takes no memory.
+pub fn read_strftime<'a, const AS_ONE: bool>(
     text: &'a str,
     nodes: &mut [Node],
     literals: &mut [u8],
 ) -> Result<Report, BorrowedParseError<'a>>
-    ensures { IsRead Language.Strftime 0 text.now nodes.old nodes.new literals.old literals.new result }
+    ensures { IsReadAs Language.Strftime 0 text.now (IsStrftimeReport AS_ONE nodes.old nodes.new
+        literals.old literals.new) result }
 {
-    match write_pieces(text, nodes, literals) {
+    match write_pieces::<AS_ONE>(text, nodes, literals) {
         Ok(all) => Ok(report_of(
             all.count,
             all.bytes,
@@ -46,13 +48,13 @@ pub fn read_strftime<'a>(
 /// Writes the pieces of a text, as far as there is room. The error is its fault, or `Memory` where a
 /// `usize` doesn't count what is written.
 #[inline(always)]
-fn write_pieces<'a>(
+fn write_pieces<'a, const AS_ONE: bool>(
     text: &'a str,
     nodes: &mut [Node],
     literals: &mut [u8],
 ) -> Result<Progress, ReadError<'a>>
     ensures pieces { MatchResult result (λ p. (list : List Tree) × SpellsStrftime text.now list
-        × HasWritten list nodes.old nodes.new literals.old literals.new p)
+        × PiecesAreWritten AS_ONE list nodes.old nodes.new literals.old literals.new p)
         (MemoryOr (IsStrftimeFaultIn text.now)) }
     ensures some { IfErr result (λ _. 0 < length text.now) }
 {
@@ -62,7 +64,7 @@ fn write_pieces<'a>(
         let Some((piece, after)) = next_strftime_piece(rest)? else {
             return Ok(progress);
         };
-        let Some(written) = write_piece(piece, progress.end, nodes, literals) else {
+        let Some(written) = write_piece::<AS_ONE>(piece, progress.end, nodes, literals) else {
             return Err(ReadError::Memory);
         };
         progress = one_more(progress, written);
@@ -73,19 +75,20 @@ fn write_pieces<'a>(
 /// Writes a piece at a place, as far as there is room. There is no answer where a `usize` doesn't count
 /// what is written.
 #[inline(always)]
-fn write_piece(
+fn write_piece<const AS_ONE: bool>(
     piece: StrftimePiece<'_>,
     at: Place,
     nodes: &mut [Node],
     literals: &mut [u8],
 ) -> Option<Written>
-    ensures some { IfSome result (IsWritten (walked (piece_tree piece.entry)) (reserve
-        (piece_tree piece.entry)) at nodes.old nodes.new literals.old literals.new) }
-    ensures none { result ≡ None → IsPast (walked (piece_tree piece.entry)) at }
+    ensures some { IfSome result (PieceIsWritten AS_ONE piece.entry at nodes.old nodes.new literals.old
+        literals.new) }
+    ensures none { result ≡ None → PieceIsPast AS_ONE piece.entry at }
 {
     match piece {
         StrftimePiece::Literal(text) => put_literal(text.as_bytes(), at, nodes, literals),
         StrftimePiece::Component(component) => write_component(component, at, nodes),
+        StrftimePiece::Composite(composite) if AS_ONE => put_composite(composite, at, nodes),
         StrftimePiece::Composite(composite) => write_composite(composite, at, nodes, literals),
     }
 }

@@ -42,7 +42,7 @@ special_ends w c rest all word white = (
       (cut.word_is ∙ append_assoc m.key (colon ∷ m.value) behind),
 )
 
-regrouped : (a b c d : Text) → ((a ++ left ∷ b) ++ right ∷ c) ++ d ≡ a ++ left ∷ (b ++ right ∷ (c ++ d))
+pub regrouped : (a b c d : Text) → ((a ++ left ∷ b) ++ right ∷ c) ++ d ≡ a ++ left ∷ (b ++ right ∷ (c ++ d))
 regrouped a b c d = simp append_assoc
 
 pub ends_head : (ns : Nested) (white : Text) → AreNested Three nesting_limit 0 ns

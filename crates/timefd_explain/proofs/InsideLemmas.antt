@@ -1,5 +1,6 @@
 -- What stands in a bracket, by the tree that it is.
 use Rattle.std.proofs.Common.{ℕ, suc, ◌≡◌, ◌∙◌, ◌+◌, cond, not, Bool, true, false, codes, List, [], ◌∷◌, ◌++◌, length, map, Option, Some, None, Result, Ok, Err, IsTrue, refl, sym, ap, subst, append_assoc}
+use Rattle.std.proofs.lemmas.Bool.{not-true}
 use Rattle.std.specs.Prelude.{⊤}
 use Rattle.timefd_component.specs.declared.component.Component.{Component}
 use Rattle.timefd_component.specs.Tree.{Text, Tree, component, literal, compound, optional, first, Trees, no_trees, more_trees, trees, pack}
@@ -245,13 +246,9 @@ nests_not (compound ts) e n = n
 nests_not (optional f t) e n = cc
 nests_not (first ts) e n = cc
 
-not_true : (b : Bool) → not b ≡ true → b ≡ false
-not_true true e = absurd cc
-not_true false e = refl
-
 letters_flat : (f : Flag) → Each (λ l. Nests (l.item f) → ⊥) letters
 letters_flat f = each-passes (λ l. not (nests (l.item f))) (λ l. Nests (l.item f) → ⊥)
-    (λ l e. nests_not (l.item f) (not_true (nests (l.item f)) e)) letters refl
+    (λ l e. nests_not (l.item f) (not-true (nests (l.item f)) e)) letters refl
 
 pub strftime_flat : (text : Text) (t : Tree) → SpellsStrftime text (t ∷ []) → Nests t → ⊥
 unfolding item_of

@@ -11,7 +11,7 @@ use Rattle.timefd_parse.specs.BracketParts.{BeginsNested}
 use Rattle.timefd_explain.specs.declared.node.Node.{Node}
 use Rattle.timefd_explain.specs.Inside.{EndsHead, Nests, held_parts}
 use Rattle.timefd_explain.specs.Parts.{Part, description, described, all_parts, alternatives, Adds, capped}
-use Rattle.timefd_explain.proofs.HeadLemmas.{ends_head}
+use Rattle.timefd_explain.proofs.HeadLemmas.{ends_head, regrouped}
 use Rattle.timefd_explain.proofs.InsideLemmas.{Holds, held_trees, nesting_bracket, spelled_flat}
 use Rattle.timefd_explain.proofs.PartLemmas.{adds_none, adds_both, described_list}
 
@@ -78,9 +78,6 @@ nesting_first d text t rest ns finds s n =
       parts_are = held_are d t b.inside n b.holds;
       adds = adds_none ns;
     }
-
-regrouped : (a b c d : Text) → ((a ++ left ∷ b) ++ right ∷ c) ++ d ≡ a ++ left ∷ (b ++ right ∷ (c ++ d))
-regrouped a b c d = simp append_assoc
 
 first_byte : (a b : ℕ) (x y : Text) → a ∷ x ≡ b ∷ y → a ≡ b
 first_byte a b x y e = cc

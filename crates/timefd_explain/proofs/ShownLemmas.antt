@@ -209,10 +209,6 @@ pub optional_tree : (member : Bor BorrowedFormatItem)
     → item_tree (items.Optional member) ≡ optional true (item_tree member.now)
 optional_tree member = search (rules, the_lemmas)
 
-pub first_tree : (members : Bor (List BorrowedFormatItem))
-    → item_tree (items.First members) ≡ first (trees (map item_tree members.now))
-first_tree members = search (rules, the_lemmas)
-
 pub description_of : (v : DescriptionVersion) (list : List Tree) (output : BorrowedOutput)
     (d : FormatDescriptionV3) → output ≡ outputs.Description d → IsOutput v list output
     → description_tree d ≡ pack list

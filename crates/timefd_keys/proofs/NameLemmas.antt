@@ -2,20 +2,20 @@
 use Rattle.std.proofs.Common.{ℕ, ◌≡◌, ◌≤◌, ◌-◌, ◌+◌, Bool, true, false, [], ◌∷◌, ◌++◌, length, get_or, take, refl, sym, ap, ◌∙◌, arith, take_all}
 use Rattle.std.proofs.lemmas.List.{take_more}
 use Rattle.timefd_sources.specs.Bytes.{Text, is_blank}
-use Rattle.timefd_keys.specs.Names.{in_front, without_blanks}
+use Rattle.timefd_keys.specs.Names.{with_front, without_blanks}
 
 blank_behind : (front : Text) (b : ℕ) → is_blank b ≡ true
     → without_blanks (front ++ b ∷ []) ≡ without_blanks front
 blank_behind [] b blank = rw blank refl
-blank_behind (c ∷ front) b blank = ap (in_front c) (blank_behind front b blank)
+blank_behind (c ∷ front) b blank = ap (with_front c) (blank_behind front b blank)
 
-in_front_of : (c b : ℕ) (front : Text) → in_front c (front ++ b ∷ []) ≡ c ∷ front ++ b ∷ []
-in_front_of c b [] = refl
-in_front_of c b (d ∷ front) = refl
+with_front_of : (c b : ℕ) (front : Text) → with_front c (front ++ b ∷ []) ≡ c ∷ front ++ b ∷ []
+with_front_of c b [] = refl
+with_front_of c b (d ∷ front) = refl
 
 kept : (front : Text) (b : ℕ) → is_blank b ≡ false → without_blanks (front ++ b ∷ []) ≡ front ++ b ∷ []
 kept [] b visible = rw visible refl
-kept (c ∷ front) b visible = ap (in_front c) (kept front b visible) ∙ in_front_of c b front
+kept (c ∷ front) b visible = ap (with_front c) (kept front b visible) ∙ with_front_of c b front
 
 last : (text : Text) → 1 ≤ length text
     → text ≡ take (length text - 1) text ++ get_or text (length text - 1) 0 ∷ []

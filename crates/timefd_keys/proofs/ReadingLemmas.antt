@@ -3,10 +3,10 @@ use Rattle.std.proofs.Common.{ℕ, zero, suc, ◌≡◌, ◌≤◌, ◌-◌, Lis
 use Rattle.std.proofs.lemmas.List.{drop_all}
 use Rattle.std.specs.Prelude.{Bool, Option, Some, None, if◌then◌else◌}
 use Rattle.timefd_sources.specs.Bytes.{Text}
-use Rattle.timefd_sources.specs.Escapes.{Part, all_at}
-use Rattle.timefd_keys.specs.declared.part.Part as code
+use Rattle.timefd_sources.specs.declared.part.Part as code
+use Rattle.timefd_sources.specs.Escapes.{Part, all_at, parted, parted_any, stands_for}
 use Rattle.timefd_keys.specs.declared.style.Style.{Style}
-use Rattle.timefd_keys.specs.Escapes.{parted, parted_any, part_of, stands_for}
+use Rattle.timefd_keys.specs.Escapes.{part_of}
 use Rattle.timefd_keys.specs.declared.format.Format.{Format}
 use Rattle.timefd_keys.specs.Strings.{Reading, at_end, before, closed_at, first_string, read, read_all, string_at, told_as}
 use Rattle.timefd_keys.specs.Styles.{closes, is_closed_by_end}

@@ -1,36 +1,21 @@
 -- Parts of a string: bytes that stand for themselves, and escapes.
 use Rattle.std.specs.Prelude.{ℕ, zero, suc, ◌+◌, ◌-◌, ◌*◌, Bool, true, false, not, ◌&&◌, ◌||◌, ◌==◌, nat_lt, if◌then◌else◌, [], ◌∷◌, Option, Some, None}
-use Rattle.std.specs.Char.{encode_utf8}
 use Rattle.timefd_sources.specs.Bytes.{Text, quote, apostrophe, slash, backslash, is_between, is_blank}
 use Rattle.timefd_sources.specs.Escapes.{Part, char_part, character, hex_digit, next_value}
-use Rattle.timefd_keys.specs.declared.part.Part as code
-use Rattle.timefd_keys.specs.declared.part.Stands.{Stands}
-use Rattle.timefd_keys.specs.declared.part.Stands.TheVariants.{Byte, Char}
-use Rattle.timefd_keys.specs.declared.number.Number as whole
+use Rattle.timefd_keys.specs.declared.number.Number as code
 use Rattle.timefd_keys.specs.declared.style.Style.{Style}
 use Rattle.timefd_keys.specs.declared.style.Style.TheVariants.{Json, Basic, Literal, Double, Single, Plain}
 use Rattle.timefd_keys.specs.Styles.{begins_space}
-
-abbrev pub stands_for : Stands → Text
-stands_for (Byte b) = b ∷ []
-stands_for (Char c) = encode_utf8 c
-
-abbrev pub parted : code.Part → Part
-parted part = record { stands = stands_for part.stands; rest = part.rest.now }
-
-abbrev pub parted_any : Option code.Part → Option Part
-parted_any None = None
-parted_any (Some part) = Some (parted part)
 
 -- a number, and what stands behind it
 pub record Number : Type 0 where
   pub value : ℕ
   pub rest : Text
 
-abbrev pub numbered : whole.Number → Number
+abbrev pub numbered : code.Number → Number
 numbered n = record { value = n.value; rest = n.rest.now }
 
-abbrev pub numbered_any : Option whole.Number → Option Number
+abbrev pub numbered_any : Option code.Number → Option Number
 numbered_any None = None
 numbered_any (Some n) = Some (numbered n)
 

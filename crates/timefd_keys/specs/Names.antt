@@ -1,10 +1,11 @@
 -- Names of keys, and where their values stand.
-use Rattle.std.specs.Prelude.{ℕ, Bool, false, ◌&&◌, ◌||◌, ◌==◌, ◌-◌, if◌then◌else◌, [], ◌∷◌, length, drop, take, Option, Some, None}
+use Rattle.std.specs.Prelude.{ℕ, Bool, false, ◌&&◌, ◌||◌, ◌==◌, ◌-◌, if◌then◌else◌, [], ◌∷◌, length, drop, Option, Some, None}
 use denote.Ref.{Bor}
 use Rattle.timefd_sources.specs.Behind.{behind_run}
 use Rattle.timefd_sources.specs.Bytes.{Text, quote, apostrophe, hash, class_test, is_bare, is_blank, is_line_end}
 use Rattle.timefd_sources.specs.declared.class.Class.{Class}
 use Rattle.timefd_sources.specs.declared.class.Class.TheVariants.{Blank, Skipped}
+use Rattle.timefd_sources.specs.Marks.{in_front}
 use Rattle.timefd_keys.specs.declared.format.Format.{Format}
 use Rattle.timefd_keys.specs.declared.format.Format.TheVariants.{Toml, Json, Yaml}
 use Rattle.timefd_keys.specs.declared.name.Name as code
@@ -56,26 +57,24 @@ behind_unquoted Toml text = behind_run is_bare text
 behind_unquoted Json text = text
 behind_unquoted Yaml text = behind_word text
 
-abbrev pub in_front : ℕ → Text → Text
-in_front b [] = if is_blank b then [] else b ∷ []
-in_front b (c ∷ bytes) = b ∷ c ∷ bytes
+-- a byte in front of these; none where it is a blank and nothing stands behind
+abbrev pub with_front : ℕ → Text → Text
+with_front b [] = if is_blank b then [] else b ∷ []
+with_front b (c ∷ bytes) = b ∷ c ∷ bytes
 
 -- up to the blanks at its end
 abbrev pub without_blanks : Text → Text
 without_blanks [] = []
-without_blanks (b ∷ bytes) = in_front b (without_blanks bytes)
+without_blanks (b ∷ bytes) = with_front b (without_blanks bytes)
 
 abbrev pub quoted_name : Text → Option Reading → Option Name
 quoted_name source None = None
 quoted_name source (Some r) = Some (record { text = r.text; behind = drop 1 (drop r.closing source) })
 
-abbrev pub word_in_front : Text → Text → Text
-word_in_front text behind = take (length text - length behind) text
-
 abbrev pub name_in_front : Text → Text → Option Name
 name_in_front text behind =
     if length text - length behind == 0 then None
-    else Some (record { text = without_blanks (word_in_front text behind); behind = behind })
+    else Some (record { text = without_blanks (in_front text behind); behind = behind })
 
 abbrev pub unquoted_name : Format → Text → Option Name
 unquoted_name format text = name_in_front text (behind_unquoted format text)

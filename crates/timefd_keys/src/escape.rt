@@ -1,15 +1,15 @@
 //! Parts of a string: bytes that stand for themselves, and escapes.
 
 ghost use Rattle.std.specs.Prelude.{◌≡◌, ◌≤◌, length, MatchOption, ⊤};
-ghost use Rattle.timefd_keys.specs.Escapes.{parted, parted_any};
 ghost use Rattle.timefd_keys.specs.Escapes as spec;
+ghost use Rattle.timefd_sources.specs.Escapes.{parted, parted_any};
 
 use crate::bytes::begins_space;
 use crate::letter::{digit_count, letter};
-use crate::part::{Part, Stands};
-use crate::scalar::{char_part, numeric};
+use crate::scalar::numeric;
 use crate::style::Style;
 use timefd_sources::class::is_blank;
+use timefd_sources::part::{Part, Stands, char_part};
 
 // The control character behind the letters of ASCII.
 const DELETE: u8 = b'\x7f';

@@ -11,7 +11,6 @@ mod letter;
 mod lies;
 mod name;
 mod number;
-mod part;
 mod passing;
 mod reading;
 mod scalar;

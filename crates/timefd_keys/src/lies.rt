@@ -1,42 +1,10 @@
 //! That what is told lies in the source, between two of its characters.
 
-ghost use Rattle.std.specs.Prelude.{◌≡◌, ◌<◌, IsTrue, false};
-ghost use Rattle.std.specs.Str.{IsCharBoundary};
+ghost use Rattle.std.specs.Prelude.{IsTrue};
 ghost use Rattle.timefd_keys.specs.Found.{AllWithin, IsWithin, Lies};
-ghost use Rattle.timefd_sources.specs.Between.{AllBetween};
-ghost use Rattle.timefd_sources.specs.Bytes as bytes;
 
 use timefd_sources::Unescaped;
-
-fn is_continuation(byte: u8) -> bool
-    ensures { result ≡ bytes.is_continuation byte }
-{
-    128 <= byte && byte <= 191
-}
-
-// A byte that begins a character stands between two.
-fn is_between(source: &str, byte: u8, place: usize) -> bool
-    ensures so { IsTrue result → bytes.is_continuation byte ≡ false → IsCharBoundary source.now place }
-    ensures all { (bytes.is_continuation byte ≡ false → IsCharBoundary source.now place) → IsTrue result }
-{
-    is_continuation(byte) || source.is_char_boundary(place)
-}
-
-/// Whether each character of a text has its place between two characters of the source.
-fn are_between(source: &str, text: &[u8], places: &[usize]) -> bool
-    ensures so { IsTrue result → AllBetween source.now text.now places.now }
-    ensures all { AllBetween source.now text.now places.now → IsTrue result }
-{
-    if text.len() != places.len() {
-        return false;
-    }
-    for (at, byte) in text.iter().enumerate() {
-        if !is_between(source, *byte, places[at]) {
-            return false;
-        }
-    }
-    true
-}
+use timefd_sources::between::lie_between;
 
 fn is_within(start: usize, closing: usize, place: usize) -> bool
     ensures so { IsTrue result → IsWithin start closing place }
@@ -69,5 +37,5 @@ pub fn lies(source: &str, start: usize, closing: usize, unescaped: &Unescaped) -
     source.is_char_boundary(start)
         && source.is_char_boundary(closing)
         && are_within(start, closing, &unescaped.places)
-        && are_between(source, &unescaped.text, &unescaped.places)
+        && lie_between(source, &unescaped.text, &unescaped.places)
 }

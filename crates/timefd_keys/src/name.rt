@@ -1,6 +1,6 @@
 //! Names of keys, and where their values stand.
 
-ghost use Rattle.std.specs.Prelude.{◌≡◌, ◌≤◌, length, drop, IfOk};
+ghost use Rattle.std.specs.Prelude.{◌≡◌, ◌≤◌, length, IfOk};
 ghost use Rattle.timefd_keys.specs.Names as spec;
 ghost use Rattle.timefd_keys.specs.Names.{now_any, seen_any};
 ghost use Rattle.timefd_keys.specs.Strings.{string_at as string_of};
@@ -12,6 +12,7 @@ use crate::style::{begins_plain, is_flow};
 use std::alloc::{AllocError, Global};
 use timefd_sources::class::{Class, behind_run, is_blank, is_line_end};
 use timefd_sources::line::from;
+use timefd_sources::marks::in_front;
 
 /// What may be the name of a key.
 #[derive(Drop)]
@@ -89,15 +90,6 @@ fn without_blanks(text: &[u8]) -> &[u8]
     rest
 }
 
-fn behind_first(text: &[u8]) -> &[u8]
-    ensures { result.now ≡ drop 1 text.now }
-{
-    match text {
-        [] => text,
-        [_, behind @ ..] => behind,
-    }
-}
-
 fn quoted_name<'a>(
     alloc: Global,
     format: Format,
@@ -109,7 +101,7 @@ fn quoted_name<'a>(
     let Some(reading) = string_at(alloc, format, source, at)? else {
         return Ok(None);
     };
-    let behind = behind_first(from(source, reading.closing));
+    let behind = from(from(source, reading.closing), 1);
     let text = reading.unescaped.text;
     Ok(Some(Name { text, behind }))
 }
@@ -122,11 +114,10 @@ fn unquoted_name<'a>(
     ensures { IfOk result (λ name. seen_any name ≡ spec.unquoted_name format text.now) }
 {
     let behind = behind_unquoted(format, text);
-    let len = text.len() - behind.len();
-    if len == 0 {
+    if behind.len() == text.len() {
         return Ok(None);
     }
-    let word = without_blanks(&text[..len]);
+    let word = without_blanks(in_front(text, behind));
     Ok(Some(Name {
         text: word.to_vec(alloc)?,
         behind,

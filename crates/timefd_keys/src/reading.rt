@@ -1,17 +1,15 @@
 //! What a string stands for.
 
-ghost use Rattle.std.specs.Prelude.{◌≡◌, ◌≤◌, ◌++◌, length, IfOk, OnOk};
-ghost use Rattle.timefd_keys.specs.Escapes.{stands_for};
+ghost use Rattle.std.specs.Prelude.{◌≡◌, ◌≤◌, length, IfOk};
 ghost use Rattle.timefd_keys.specs.Strings as spec;
 ghost use Rattle.timefd_keys.specs.Strings.{seen_any};
-ghost use Rattle.timefd_sources.specs.Escapes.{all_at};
 
 use crate::escape::part_of;
 use crate::format::Format;
-use crate::part::Stands;
 use crate::style::{Style, closes, is_closed_by_end, is_quoted, style_of};
 use std::alloc::{AllocError, Global};
 use timefd_sources::Unescaped;
+use timefd_sources::part::push_part;
 
 /// What a string stands for, and where.
 #[derive(Drop)]
@@ -20,39 +18,6 @@ pub struct Reading {
     pub unescaped: Unescaped,
     /// The place of what closes the string: the quote, or what stands behind it.
     pub closing: usize,
-}
-
-// Adds bytes that stand at one place.
-fn push_bytes(
-    text: &mut Vec<u8>,
-    places: &mut Vec<usize>,
-    bytes: &[u8],
-    place: usize,
-) -> Result<(), AllocError>
-    ensures text { OnOk result (text.new.items ≡ text.old.items ++ bytes.now) }
-    ensures places { OnOk result (places.new.items ≡ places.old.items ++ all_at place bytes.now) }
-{
-    for byte in bytes {
-        text.push(*byte)?;
-        places.push(place)?;
-    }
-    Ok(())
-}
-
-// Adds what a part stands for.
-fn push_part(
-    text: &mut Vec<u8>,
-    places: &mut Vec<usize>,
-    stands: Stands,
-    place: usize,
-) -> Result<(), AllocError>
-    ensures text { OnOk result (text.new.items ≡ text.old.items ++ stands_for stands) }
-    ensures places { OnOk result (places.new.items ≡ places.old.items ++ all_at place (stands_for stands)) }
-{
-    match stands {
-        Stands::Byte(byte) => push_bytes(text, places, &[byte], place),
-        Stands::Char(c) => push_bytes(text, places, c.encode_utf8(&mut [0; 4]).as_bytes(), place),
-    }
 }
 
 fn told_as(text: Vec<u8>, places: Vec<usize>, closing: usize) -> Option<Reading>

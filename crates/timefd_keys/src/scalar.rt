@@ -1,41 +1,13 @@
 //! Escapes by the number of a character.
 
 ghost use Rattle.std.specs.Prelude.{◌≡◌, ◌≤◌, length, MatchOption, Some, IsTrue, ⊤};
-ghost use Rattle.timefd_keys.specs.Escapes.{numbered, numbered_any, parted_any};
+ghost use Rattle.timefd_keys.specs.Escapes.{numbered, numbered_any};
 ghost use Rattle.timefd_keys.specs.Escapes as spec;
-ghost use Rattle.timefd_sources.specs.Escapes as sources;
+ghost use Rattle.timefd_sources.specs.Escapes.{parted_any};
 
 use crate::number::{Number, number_of};
-use crate::part::{Part, Stands};
 use crate::style::Style;
-
-#[tactic(auto, using(timefd_sources::proofs::ScalarLemmas::is_scalar_value))]
-fn scalar_value(value: u32) -> Option<char>
-    ensures { result ≡ sources.scalar_value value }
-{
-    char::from_u32(value)
-}
-
-/// A character, and what stands behind its escape.
-pub fn char_part(rest: &[u8], c: Option<char>) -> Option<Part<'_>>
-    ensures part { parted_any result ≡ sources.char_part rest.now c }
-    ensures within { MatchOption result ⊤ (λ part. length part.rest.now ≤ length rest.now) }
-{
-    match c {
-        Some(c) => Some(Part {
-            stands: Stands::Char(c),
-            rest,
-        }),
-        None => None,
-    }
-}
-
-fn character(rest: &[u8], value: u32) -> Option<Part<'_>>
-    ensures part { parted_any result ≡ sources.character rest.now (Some value) }
-    ensures within { MatchOption result ⊤ (λ part. length part.rest.now ≤ length rest.now) }
-{
-    char_part(rest, scalar_value(value))
-}
+use timefd_sources::part::{Part, character};
 
 fn is_first_half(value: u32) -> bool
     ensures { result ≡ spec.is_first_half value }
@@ -84,7 +56,7 @@ fn paired(first: u32, second: Number<'_>) -> Option<Part<'_>>
     ensures within { MatchOption result ⊤ (λ part. length part.rest.now ≤ length second.entry.rest.now) }
 {
     if is_second_half(second.value) {
-        character(second.rest, joined(first, second.value))
+        character(second.rest, Some(joined(first, second.value)))
     } else {
         None
     }
@@ -117,7 +89,7 @@ fn scalar_part(style: Style, number: Number<'_>) -> Option<Part<'_>>
     if joins_halves(style) && is_first_half(number.value) {
         pair(number.value, number.rest)
     } else {
-        character(number.rest, number.value)
+        character(number.rest, Some(number.value))
     }
 }
 

@@ -1,14 +1,12 @@
 -- Rules of brackets that go wrong before they are closed.
-use Rattle.std.proofs.Common.{ℕ, suc, ◌≡◌, ◌≢◌, ◌+◌, ◌<◌, List, [], ◌∷◌, ◌++◌, length, append_assoc, refl, sym, ap, ap₂, ◌∙◌}
+use Rattle.std.proofs.Common.{ℕ, ◌≡◌, ◌≢◌, ◌+◌, [], ◌∷◌, ◌++◌, length, append_assoc, refl, sym, ap, ap₂, ◌∙◌}
 use Rattle.timefd_component.specs.Tree.{Text}
-use Rattle.timefd_fault.specs.Faults.{Kind, Fault, fault, unclosed_bracket}
-use Rattle.timefd_language.specs.declared.description_version.DescriptionVersion.{DescriptionVersion}
-use Rattle.timefd_language.specs.Bytes.{left, right, is_white, ZeroOrMore, OneOrMore}
+use Rattle.timefd_fault.specs.Faults.{Kind, fault, unclosed_bracket}
+use Rattle.timefd_language.specs.Bytes.{left}
 use Rattle.timefd_language.specs.Fault.{raised, enclosed}
-use Rattle.timefd_language.specs.Head.{Head, head_text}
-use Rattle.timefd_language.specs.Grammar.{Pieces, Nested, spelling, nested_text, ArePieces}
-use Rattle.timefd_language.specs.Broken.{Broken, nameless, ill_modified, no_colon, no_key, no_value, too_deep, broken_inside, cut_off, unclosed, refused, IsBroken, broken_text, broken_fault, before_inner, Bad}
-use Rattle.timefd_laws.specs.Brackets.{IsBegun, begun_text, NameWanted, NameWantedBehindWhite, ColonWanted, KeyWanted, ValueWanted, Unclosed, TooDeep, CutOff, FaultInside, UnclosedInside, RefusedBracket, FaultBehindPieces}
+use Rattle.timefd_language.specs.Grammar.{spelling}
+use Rattle.timefd_language.specs.Broken.{nameless, ill_modified, no_colon, no_key, no_value, too_deep, broken_inside, cut_off, unclosed, refused, before_inner}
+use Rattle.timefd_laws.specs.Brackets.{begun_text, NameWanted, NameWantedBehindWhite, ColonWanted, KeyWanted, ValueWanted, Unclosed, TooDeep, CutOff, FaultInside, UnclosedInside, RefusedBracket, FaultBehindPieces}
 
 pub name_wanted : NameWanted
 name_wanted v limit n rest white word single =

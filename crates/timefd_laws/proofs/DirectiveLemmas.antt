@@ -1,7 +1,8 @@
 -- Rules of strftime.
-use Rattle.std.proofs.Common.{ℕ, ◌≡◌, ◌≢◌, ◌==◌, ◌||◌, ◌+◌, Bool, true, false, codes, if◌then◌else◌, List, [], ◌∷◌, ◌++◌, length, append-nil, Option, Some, None, eqb-true, refl, sym, ap, ◌∙◌}
-use Rattle.timefd_component.specs.Tree.{Text, Tree}
-use Rattle.timefd_fault.specs.Faults.{Kind, fault, not_supported, invalid_name}
+use Rattle.std.proofs.Common.{ℕ, ◌≡◌, ◌≢◌, ◌==◌, ◌||◌, ◌+◌, Bool, true, false, codes, if◌then◌else◌, List, [], ◌∷◌, ◌++◌, length, append-nil, Some, None, eqb-true, refl, sym, ap, ◌∙◌}
+use Rattle.std.proofs.lemmas.Bool.{or_parts}
+use Rattle.timefd_component.specs.Tree.{Text}
+use Rattle.timefd_fault.specs.Faults.{fault, not_supported, invalid_name}
 use Rattle.timefd_language.specs.Distinct.{letters_in}
 use Rattle.timefd_language.specs.Fault.{raised}
 use Rattle.timefd_language.specs.Letters.{Flag, unflagged, flagged, Letter, letters, is_one_of, item_in, item_of}
@@ -47,10 +48,6 @@ letter_Z front f rest are flag =
     (front, unknown f 90 rest, are, (flag, behind_Z f, no_item_Z f), refl, refl)
 
 -- Other letters.
-
-or_parts : (a b : Bool) → (a || b) ≡ false → (a ≡ false) × (b ≡ false)
-or_parts true b e = absurd cc
-or_parts false b e = (refl, e)
 
 is_one_of-append : (b : ℕ) (x y : Text) → is_one_of b (x ++ y) ≡ false
     → (is_one_of b x ≡ false) × (is_one_of b y ≡ false)

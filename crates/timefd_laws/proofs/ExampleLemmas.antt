@@ -1,8 +1,7 @@
 -- Worked texts, by the answer that is computed.
-use Rattle.std.proofs.Common.{◌≡◌, codes, true, false, List, [], ◌∷◌, MatchResult, Result, Ok, Err, refl, subst}
-use Rattle.timefd_modifier.specs.declared.enums.Padding.{Padding}
-use Rattle.timefd_component.specs.declared.component.Component.TheVariants.{Day, Hour24, Ignore, MonthLong, MonthNumerical, CalendarYearFullStandardRange, CalendarYearFullExtendedRange}
-use Rattle.timefd_component.specs.Tree.{Text, Tree, component, literal, compound, optional, first, trees, no_trees}
+use Rattle.std.proofs.Common.{◌≡◌, codes, List, [], ◌∷◌, MatchResult, Result, Ok, Err, refl, subst}
+use Rattle.timefd_component.specs.declared.component.Component.TheVariants.{Ignore}
+use Rattle.timefd_component.specs.Tree.{Text, Tree, component}
 use Rattle.timefd_fault.specs.Faults.{Fault, unclosed_bracket, invalid_name, invalid_modifier, missing_name, missing_modifier}
 use Rattle.timefd_language.specs.declared.description_version.DescriptionVersion.{DescriptionVersion}
 use Rattle.timefd_language.specs.declared.description_version.DescriptionVersion.TheVariants.{One, Two, Three}

@@ -1,25 +1,22 @@
 -- The verdict on a bracket whose modifiers are good up to one.
-use Rattle.std.proofs.Common.{ℕ, ◌≡◌, ◌+◌, Bool, true, false, not, ◌&&◌, ◌||◌, codes, if◌then◌else◌, List, [], ◌∷◌, ◌++◌, length, length-append, append_assoc, append-nil, map, Option, Some, None, is_some, Result, Ok, Err, IsTrue, IsFalse, refl, sym, ap, ◌∙◌, subst, arith}
-use Rattle.timefd_component.specs.Tree.{Text, Tree, component, optional, first, trees, pack}
-use Rattle.timefd_component.specs.declared.component.Component.{Component}
+use Rattle.std.proofs.Common.{ℕ, ◌≡◌, ◌+◌, Bool, true, false, not, ◌&&◌, ◌||◌, codes, if◌then◌else◌, List, [], ◌∷◌, ◌++◌, length, length-append, append_assoc, append-nil, map, Option, Some, None, is_some, Result, Err, refl, sym, ap, ◌∙◌, arith}
+use Rattle.timefd_component.specs.Tree.{Text, Tree, optional, first, trees, pack}
 use Rattle.timefd_fault.specs.Faults.{Fault, fault, invalid_modifier, duplicate_modifier}
 use Rattle.timefd_language.specs.declared.description_version.DescriptionVersion.{DescriptionVersion}
-use Rattle.timefd_language.specs.declared.name.ComponentName.{ComponentName}
 use Rattle.timefd_language.specs.declared.name.Name.{Name}
 use Rattle.timefd_language.specs.Bytes.{same, is_version_three}
 use Rattle.timefd_language.specs.Fault.{expected_white, expected_nested, expected_alternative, optional_item, first_item}
 use Rattle.timefd_language.specs.Head.{Head, Modifier, Placed, placed_at, placed_from, placed, modifier_text, modifiers_text, name_index, head_text}
-use Rattle.timefd_language.specs.Values.{Key, key_in, setting_in, format}
-use Rattle.timefd_language.specs.Names.{Row, row_for, row_of}
+use Rattle.timefd_language.specs.Values.{Key, setting_in}
+use Rattle.timefd_language.specs.Names.{row_for, row_of}
 use Rattle.timefd_language.specs.Lookup.{keys_for}
-use Rattle.timefd_language.specs.Verdict.{PlacedDescription, ◌or◌, refuse, unless, behind, is_set, bad_value, bad_modifier, bad_modifiers, made, settings, component_verdict, touching, too_many, nested_refused, nested_wanted, any_modifier, is_formatted, only, optional_verdict, first_verdict, verdict}
-use Rattle.timefd_language.specs.Grammar.{Nested, no_nested, nested, is_empty, nested_text, parts_from, bracket_verdict}
-use Rattle.timefd_laws.specs.Heads.{IsNamed, IsSpaced, MayNest, IsGood, AreGoodBehind, AreGood, IsReached, has_key, key_named, key_index, value_index}
+use Rattle.timefd_language.specs.Verdict.{PlacedDescription, ◌or◌, refuse, unless, behind, is_set, bad_value, bad_modifier, bad_modifiers, made, settings, component_verdict, touching, too_many, nested_refused, nested_wanted, is_formatted, only, optional_verdict, first_verdict, verdict}
+use Rattle.timefd_language.specs.Grammar.{Nested, no_nested, nested, nested_text, parts_from, bracket_verdict}
+use Rattle.timefd_language.proofs.Recase.{none_behind}
+use Rattle.timefd_parse.proofs.VerdictLemmas.{any_is_bad}
+use Rattle.timefd_laws.specs.Heads.{IsNamed, IsSpaced, MayNest, AreGoodBehind, AreGood, IsReached, has_key, key_named}
 
 -- Choices.
-
-pub behind_none : (o : Option Fault) (r : Result Tree Fault) → o ≡ None → behind o r ≡ r
-behind_none o r e = ap (λ x. behind x r) e
 
 pub if_true : (b : Bool) (x y : Result Tree Fault) → b ≡ true → (if b then x else y) ≡ x
 if_true b x y e = ap (λ c. if c then x else y) e
@@ -50,7 +47,7 @@ pub is_optional : (strict : Bool) (h : Head) (parts : List PlacedDescription) (c
     → touching parts ≡ None → same strict (codes "optional") h.name ≡ true
     → verdict strict h parts close ≡ optional_verdict strict h parts close
 is_optional strict h parts close white o =
-    behind_none (touching parts) (by_name strict h parts close) white
+    none_behind (touching parts) (by_name strict h parts close) white
     ∙ if_true (same strict (codes "optional") h.name) (optional_verdict strict h parts close)
     (unless_first strict h parts close) o
 
@@ -59,7 +56,7 @@ pub is_first : (strict : Bool) (h : Head) (parts : List PlacedDescription) (clos
     → same strict (codes "first") h.name ≡ true
     → verdict strict h parts close ≡ first_verdict strict h parts close
 is_first strict h parts close white o f =
-    behind_none (touching parts) (by_name strict h parts close) white
+    none_behind (touching parts) (by_name strict h parts close) white
     ∙ if_false (same strict (codes "optional") h.name) (optional_verdict strict h parts close)
     (unless_first strict h parts close) o
     ∙ if_true (same strict (codes "first") h.name) (first_verdict strict h parts close)
@@ -70,7 +67,7 @@ pub is_ordinary : (strict : Bool) (h : Head) (parts : List PlacedDescription) (c
     → same strict (codes "first") h.name ≡ false
     → verdict strict h parts close ≡ ordinary strict h parts
 is_ordinary strict h parts close white o f =
-    behind_none (touching parts) (by_name strict h parts close) white
+    none_behind (touching parts) (by_name strict h parts close) white
     ∙ if_false (same strict (codes "optional") h.name) (optional_verdict strict h parts close)
     (unless_first strict h parts close) o
     ∙ if_false (same strict (codes "first") h.name) (first_verdict strict h parts close)
@@ -82,10 +79,6 @@ is_spaced k (nested white ps ns) s =
     ap (λ b. refuse (not (not b)) expected_white (k + length white)) s
 
 -- Bad modifiers.
-
-pub any_is_bad : (strict : Bool) (ps : List Placed) → any_modifier ps ≡ bad_modifiers strict [] [] ps
-any_is_bad strict [] = refl
-any_is_bad strict (p ∷ ps) = refl
 
 -- What is found of the modifiers is told, before nested descriptions are counted.
 pub bad_told : (v : DescriptionVersion) (h : Head) (ns : Nested) (white : Text) (name : Name)

@@ -1,5 +1,5 @@
 -- In versions 1 and 2 the last modifier of a key counts.
-use Rattle.std.proofs.Common.{ℕ, ◌≡◌, ◌==◌, Bool, true, false, List, [], ◌∷◌, ◌++◌, map, Option, Some, None, is_some, eqb-true, eq-eqb, refl, sym, ap, ◌∙◌, subst}
+use Rattle.std.proofs.Common.{ℕ, ◌≡◌, ◌==◌, Bool, true, false, List, [], ◌∷◌, ◌++◌, Option, Some, None, is_some, eqb-true, eq-eqb, refl, sym, ap, ◌∙◌, subst}
 use Rattle.std.specs.List.{list_all}
 use Rattle.std.proofs.lemmas.Bool.{false≢true}
 use Rattle.timefd_component.specs.Tree.{Text}
@@ -11,7 +11,7 @@ use Rattle.timefd_language.specs.Bytes.{same, named}
 use Rattle.timefd_language.specs.Head.{Placed}
 use Rattle.timefd_language.specs.Lookup.{keys_for}
 use Rattle.timefd_language.specs.Settings.{defaults, with}
-use Rattle.timefd_language.specs.Values.{Value, Values, words, numbers, Key, key_in, setting_in}
+use Rattle.timefd_language.specs.Values.{Values, words, numbers, Key, key_in, setting_in}
 use Rattle.timefd_language.specs.Verdict.{setting_of, with_option, settings_from, settings}
 use Rattle.timefd_language.proofs.Lookup.{Each, each-passes, count_of-sets}
 use Rattle.timefd_laws.specs.Modifiers.{LastCounts}

@@ -1,24 +1,24 @@
 -- Rules of modifiers.
-use Rattle.std.proofs.Common.{ℕ, ◌≡◌, ◌+◌, Bool, true, false, not, ◌&&◌, ◌||◌, List, [], ◌∷◌, ◌++◌, length, Option, Some, None, is_some, Ok, Err, IsTrue, IsFalse, refl, sym, ap, ◌∙◌, subst}
+use Rattle.std.proofs.Common.{ℕ, ◌≡◌, ◌+◌, Bool, true, false, not, ◌&&◌, List, [], ◌∷◌, ◌++◌, length, Some, None, is_some, IsTrue, refl, sym, ap, ◌∙◌}
+use Rattle.std.proofs.lemmas.Bool.{or_parts}
 use Rattle.timefd_component.specs.Tree.{Text, component}
 use Rattle.timefd_component.specs.declared.component.Component.{Component}
-use Rattle.timefd_fault.specs.Faults.{Fault, fault, invalid_modifier, duplicate_modifier, invalid_combination}
+use Rattle.timefd_fault.specs.Faults.{fault, invalid_modifier, duplicate_modifier, invalid_combination}
 use Rattle.timefd_language.specs.declared.description_version.DescriptionVersion.{DescriptionVersion}
-use Rattle.timefd_language.specs.declared.description_version.DescriptionVersion.TheVariants.{One, Two, Three}
+use Rattle.timefd_language.specs.declared.description_version.DescriptionVersion.TheVariants.{Three}
 use Rattle.timefd_language.specs.declared.name.ComponentName.{ComponentName}
 use Rattle.timefd_language.specs.declared.name.Name.{Name}
-use Rattle.timefd_language.specs.Bytes.{same, equal, is_version_three}
+use Rattle.timefd_language.specs.Bytes.{equal, is_version_three}
 use Rattle.timefd_language.specs.Combinations.{Refusal, refusals}
 use Rattle.timefd_language.specs.Head.{Head, Modifier, Placed, placed_at, placed_from, placed, modifier_text, modifiers_text, name_index, head_text}
-use Rattle.timefd_language.specs.Values.{Key, key_in, setting_in}
-use Rattle.timefd_language.specs.Names.{row_for, row_of}
+use Rattle.timefd_language.specs.Names.{row_for}
 use Rattle.timefd_language.specs.Lookup.{keys_for}
-use Rattle.timefd_language.specs.Verdict.{◌or◌, refuse, unless, behind, is_set, bad_value, bad_modifier, bad_modifiers, misplaced, combined, combination, made, settings, component_verdict}
-use Rattle.timefd_language.specs.Grammar.{Nested, no_nested, nested_text, bracket_verdict}
+use Rattle.timefd_language.specs.Verdict.{◌or◌, refuse, unless, behind, bad_value, bad_modifier, bad_modifiers, misplaced, combined, combination, made, settings, component_verdict}
+use Rattle.timefd_language.specs.Grammar.{no_nested, nested_text, bracket_verdict}
 use Rattle.timefd_language.proofs.Words.{equal-refl}
-use Rattle.timefd_laws.specs.Heads.{IsNamed, IsReached, has_key, key_named, key_index, value_index}
-use Rattle.timefd_laws.specs.Modifiers.{UnknownKey, RepeatedKey, BadValue, MissingCount, UselessKey, GoodComponent, NoneRefused, Sets}
-use Rattle.timefd_laws.proofs.HeadLemmas.{or_none, is_ordinary, bad_told, all_good, reached, placed_from-append}
+use Rattle.timefd_laws.specs.Heads.{IsNamed, has_key, key_index, value_index}
+use Rattle.timefd_laws.specs.Modifiers.{UnknownKey, RepeatedKey, BadValue, MissingCount, UselessKey, GoodComponent, NoneRefused}
+use Rattle.timefd_laws.proofs.HeadLemmas.{is_ordinary, bad_told, all_good, reached, placed_from-append}
 
 pub unknown_key : UnknownKey
 unknown_key v h ns white name before m is unknown =
@@ -90,10 +90,6 @@ missing_count v h white named none =
     (settings (is_version_three v) (row_for ComponentName.Ignore).keys ps))) (no_placed h none)
 
 -- Combinations.
-
-or_parts : (a b : Bool) → (a || b) ≡ false → (a ≡ false) × (b ≡ false)
-or_parts true b e = absurd cc
-or_parts false b e = (refl, e)
 
 not_misplaced : (r : Refusal) (k : ℕ) (ms : List Modifier) → has_key true r.key ms ≡ false
     → misplaced r (placed_from k ms) ≡ None

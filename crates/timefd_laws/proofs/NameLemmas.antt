@@ -1,12 +1,11 @@
 -- Rules of names.
-use Rattle.std.proofs.Common.{ℕ, ◌≡◌, Bool, true, false, codes, List, [], ◌∷◌, ◌++◌, length, map, Option, Some, None, refl, sym, ap, ap₂, ◌∙◌, subst}
+use Rattle.std.proofs.Common.{◌≡◌, Bool, true, false, codes, List, [], ◌∷◌, ◌++◌, length, map, Option, Some, None, refl, sym, ap, ◌∙◌}
 use Rattle.std.proofs.lemmas.Bool.{false≢true}
 use Rattle.timefd_component.specs.Tree.{Text}
-use Rattle.timefd_language.specs.declared.description_version.DescriptionVersion.{DescriptionVersion}
 use Rattle.timefd_language.specs.declared.name.ComponentName.{ComponentName}
 use Rattle.timefd_language.specs.declared.name.Name.{Name}
 use Rattle.timefd_language.specs.Bytes.{lowered, equal, same, named, is_version_three}
-use Rattle.timefd_language.specs.Head.{Head, head_text}
+use Rattle.timefd_language.specs.Head.{head_text}
 use Rattle.timefd_language.specs.Grammar.{no_nested, nested_text}
 use Rattle.timefd_language.specs.Lookup.{IsNameOf}
 use Rattle.timefd_language.specs.Names.{Row, row_for, rows, row_of, component_names}

@@ -1,18 +1,16 @@
 -- Rules of nested descriptions.
-use Rattle.std.proofs.Common.{ℕ, ◌≡◌, ◌+◌, Bool, true, false, not, codes, if◌then◌else◌, List, [], ◌∷◌, ◌++◌, append-nil, length, map, Option, Some, None, Ok, Err, IsTrue, IsFalse, refl, sym, ap, ◌∙◌, arith}
-use Rattle.timefd_component.specs.Tree.{Text, Tree, optional, first, trees, pack}
+use Rattle.std.proofs.Common.{ℕ, ◌≡◌, ◌+◌, Bool, not, if◌then◌else◌, List, [], ◌∷◌, ◌++◌, append-nil, length, map, Some, Ok, Err, refl, ap, ◌∙◌, arith}
+use Rattle.timefd_component.specs.Tree.{Text, optional, first, trees, pack}
 use Rattle.timefd_fault.specs.Faults.{fault}
 use Rattle.timefd_language.specs.declared.description_version.DescriptionVersion.{DescriptionVersion}
 use Rattle.timefd_language.specs.declared.description_version.DescriptionVersion.TheVariants.{Three}
 use Rattle.timefd_language.specs.declared.name.Name.{Name}
-use Rattle.timefd_language.specs.Bytes.{same, is_version_three}
-use Rattle.timefd_language.specs.Fault.{expected_white, expected_nested, expected_alternative, many_nested, optional_item, first_item, nested_here}
-use Rattle.timefd_language.specs.Head.{Head, Placed, placed, placed_from, name_index, head_text}
-use Rattle.timefd_language.specs.Names.{row_of}
-use Rattle.timefd_language.specs.Lookup.{keys_for}
-use Rattle.timefd_language.specs.Verdict.{PlacedDescription, ◌or◌, refuse, unless, behind, component_verdict, touching, too_many, nested_wanted, any_modifier, is_formatted, only, optional_verdict, first_verdict}
-use Rattle.timefd_language.specs.Grammar.{Pieces, Nested, no_nested, nested, items, spelling, nested_text, parts_from, bracket_verdict}
-use Rattle.timefd_laws.specs.Heads.{IsNamed, IsSpaced, AreGood}
+use Rattle.timefd_language.specs.Bytes.{is_version_three}
+use Rattle.timefd_language.specs.Fault.{expected_white, expected_nested, expected_alternative, optional_item, first_item}
+use Rattle.timefd_language.specs.Head.{Head, placed, placed_from, name_index, head_text}
+use Rattle.timefd_language.specs.Verdict.{PlacedDescription, ◌or◌, refuse, unless, too_many, nested_wanted, any_modifier, is_formatted, only}
+use Rattle.timefd_language.specs.Grammar.{Nested, no_nested, nested, items, spelling, nested_text, parts_from, bracket_verdict}
+use Rattle.timefd_laws.specs.Heads.{IsNamed, IsSpaced}
 use Rattle.timefd_laws.specs.Nests.{WhiteWanted, ComponentsNestNothing, UnknownNamesNestNothing, IsGoodOptional, OneOptionalAtMost, OneOptionalAtLeast, OptionalInVersionThreeAlone, GoodOptional, FirstInVersionThreeAlone, OneAlternativeAtLeast, alternatives, GoodFirst}
 use Rattle.timefd_laws.proofs.HeadLemmas.{is_optional, is_first, is_ordinary, is_spaced, all_good}
 

@@ -1,5 +1,5 @@
 -- An unclosed bracket is told at the outermost one: no rule of a closed bracket tells one.
-use Rattle.std.proofs.Common.{ℕ, suc, ◌≡◌, ◌≢◌, ◌+◌, Bool, true, false, not, ◌&&◌, is_some, if◌then◌else◌, codes, List, [], ◌∷◌, ◌++◌, length, map, Option, Some, None, Result, Ok, Err, refl, sym, ap, ◌∙◌, subst, arith}
+use Rattle.std.proofs.Common.{ℕ, ◌≡◌, ◌≢◌, ◌+◌, Bool, true, false, not, ◌&&◌, is_some, if◌then◌else◌, codes, List, [], ◌∷◌, ◌++◌, length, map, Option, Some, None, Result, Ok, Err, refl, sym, ap, ◌∙◌, subst, arith}
 use Rattle.std.specs.Prelude.{⊤}
 use Rattle.std.specs.declared.num.NonZeroU16.{NonZeroU16}
 use Rattle.timefd_component.specs.Tree.{Text, Tree, component, optional, first, trees, pack}
@@ -9,15 +9,15 @@ use Rattle.timefd_language.specs.declared.description_version.DescriptionVersion
 use Rattle.timefd_language.specs.declared.name.ComponentName.{ComponentName}
 use Rattle.timefd_language.specs.declared.setting.Settings.{Settings}
 use Rattle.timefd_language.specs.Bytes.{left, equal, same, is_version_three}
-use Rattle.timefd_language.specs.Fault.{enclosed, raised, expected_nested, expected_alternative, optional_item, first_item}
+use Rattle.timefd_language.specs.Fault.{enclosed, expected_nested, expected_alternative, optional_item, first_item}
 use Rattle.timefd_language.specs.Head.{Head, Placed, placed, modifiers_text, head_text}
 use Rattle.timefd_language.specs.Values.{Key, key_in, setting_in, format}
 use Rattle.timefd_language.specs.Names.{Row, row_for, rows, row_of, component_names, ignored}
 use Rattle.timefd_language.specs.Combinations.{Refusal, refusals}
 use Rattle.timefd_language.specs.Verdict.{PlacedDescription, ◌or◌, refuse, unless, is_set, bad_value, bad_modifier, bad_modifiers, misplaced, combined, combination, made, behind, settings, component_verdict, touching, too_many, nested_refused, nested_wanted, any_modifier, is_formatted, only, optional_verdict, first_verdict, verdict}
-use Rattle.timefd_language.specs.Grammar.{Pieces, spelling, nested_text, parts_from}
+use Rattle.timefd_language.specs.Grammar.{spelling, nested_text, parts_from}
 use Rattle.timefd_language.specs.Broken.{no_colon, no_key, no_value, Broken, bare_closing, half_escape, nameless, ill_modified, too_deep, broken_inside, cut_off, unclosed, refused, IsBroken, broken_text, broken_fault}
-use Rattle.timefd_language.proofs.Lookup.{Each, each-map}
+use Rattle.timefd_language.proofs.Lookup.{each-map}
 use Rattle.timefd_laws.specs.Brackets.{OutermostUnclosed}
 use Rattle.timefd_laws.proofs.LastLemmas.{found_in}
 

@@ -1,13 +1,12 @@
 -- Words are told apart, and each stands once.
-use Rattle.std.proofs.Common.{ℕ, ◌≡◌, ◌==◌, Bool, true, false, not, ◌&&◌, ◌||◌, List, [], ◌∷◌, ◌++◌, append_assoc, map, Option, Some, None, IsTrue, eq-eqb, refl, sym, ap, ◌∙◌, subst}
+use Rattle.std.proofs.Common.{ℕ, ◌≡◌, ◌==◌, Bool, true, false, not, ◌||◌, List, [], ◌∷◌, ◌++◌, append_assoc, map, Option, Some, None, eq-eqb, refl, sym, ap, ◌∙◌}
 use Rattle.std.proofs.lemmas.Bool.{and_parts, false≢true}
 use Rattle.timefd_component.specs.Tree.{Text}
 use Rattle.timefd_language.specs.declared.setting.Setting.{Setting}
 use Rattle.timefd_language.specs.Bytes.{same, named}
 use Rattle.timefd_language.specs.Distinct.{is_another, are_distinct, names, words_in, letters_in, is_without_repeats}
 use Rattle.timefd_language.specs.Letters.{Letter, letters, is_one_of}
-use Rattle.timefd_language.specs.Lookup.{key_for, keys_for}
-use Rattle.timefd_language.specs.Values.{Value, Key, words, sets_of}
+use Rattle.timefd_language.specs.Values.{Value, sets_of}
 use Rattle.timefd_language.proofs.Lookup.{Each, named-found, named-recased}
 use Rattle.timefd_language.proofs.DistinctLemmas.{distinct_keys, distinct_values}
 use Rattle.timefd_laws.specs.Words.{NoTwoNames, NoTwoKeys, NoTwoValues, WordsWithoutCase, KeysWithCase, ValuesWithCase, NoTwoLetters}

@@ -1,5 +1,5 @@
 -- Rules of modifiers: the first bad one decides.
-use Rattle.std.specs.Prelude.{ℕ, ◌≡◌, ◌≢◌, Bool, true, false, ◌&&◌, codes, List, [], ◌∷◌, ◌++◌, Option, Some, None, is_some, Ok, IsTrue, IsFalse}
+use Rattle.std.specs.Prelude.{◌≡◌, true, false, ◌&&◌, codes, List, [], ◌∷◌, ◌++◌, Some, None, is_some, Ok, IsTrue, IsFalse}
 use Rattle.timefd_component.specs.Tree.{Text, component}
 use Rattle.timefd_component.specs.declared.component.Component.{Component}
 use Rattle.timefd_fault.specs.Faults.{invalid_modifier, missing_modifier, duplicate_modifier, invalid_combination}

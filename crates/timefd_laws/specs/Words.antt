@@ -1,15 +1,15 @@
 -- Words are told apart, and each stands once.
-use Rattle.std.specs.Prelude.{ℕ, ◌≡◌, Bool, true, false, List, [], ◌∷◌, ◌++◌, Option, Some, IsFalse}
+use Rattle.std.specs.Prelude.{ℕ, ◌≡◌, true, false, List, ◌∷◌, ◌++◌, Some, IsFalse}
 use Rattle.timefd_component.specs.Tree.{Text}
 use Rattle.timefd_language.specs.declared.key.Key as code_key
 use Rattle.timefd_language.specs.declared.name.Name.{Name}
 use Rattle.timefd_language.specs.declared.setting.Setting.{Setting}
 use Rattle.timefd_language.specs.Bytes.{same}
-use Rattle.timefd_language.specs.Distinct.{names, words_in}
+use Rattle.timefd_language.specs.Distinct.{names}
 use Rattle.timefd_language.specs.Letters.{Letter, letters}
 use Rattle.timefd_language.specs.Lookup.{key_for, keys_for}
 use Rattle.timefd_language.specs.Recased.{SameButCase}
-use Rattle.timefd_language.specs.Values.{Value, Values, Key, words, key_in, setting_in}
+use Rattle.timefd_language.specs.Values.{Value, Key, words, key_in, setting_in}
 
 -- Two names at two places aren't the same, not even without regard to case.
 abbrev pub NoTwoNames : Type 0

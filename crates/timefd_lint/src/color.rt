@@ -1,8 +1,8 @@
 //! Whether what is drawn is coloured.
 
 use std::io::IsTerminal;
-use timefd_command::shows_colors;
 use timefd_lint_options::Color;
+use timefd_streams::shows_colors;
 
 /// Whether what is drawn is coloured: `auto` asks the terminal and the environment.
 pub fn is_colored(rt: &HostRuntime, color: Color) -> bool {

@@ -51,13 +51,13 @@ use std::io::{BufWriter, Write};
 use std::process::ExitCode;
 use summary::summary;
 use tally::Tally;
-use timefd_command::{WordsError, all_words, lent};
 use timefd_keys::Key;
 use timefd_lint_config::{OwnedKey, same_keys, with_keys};
 use timefd_lint_files::{WalkError, expanded};
 use timefd_lint_options::{
     Asked, OptionError, Settings, is_log, keys_of, lines_conflict, options_of,
 };
+use timefd_streams::{WordsError, all_words, lent};
 
 // Writes a text to the standard output, and answers the status.
 fn written(rt: &HostRuntime, text: &str) -> u8 {

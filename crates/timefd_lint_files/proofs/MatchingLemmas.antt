@@ -2,18 +2,11 @@
 use Rattle.std.proofs.Common.{◌≡◌, ℕ, ◌≢◌, Bool, true, false, List, [], ◌∷◌, ◌++◌, refl, ap, arith, inl, inr, get_or}
 use Rattle.std.specs.Prelude.{not, ◌&&◌, ◌||◌, ◌==◌, ◌↔◌, IsTrue}
 use Rattle.std.specs.List.{AllByRecursion}
-use Rattle.std.proofs.lemmas.Bool.{and_parts, and_from, or_cases, not-true, eqb-true, eqb-false, eq-eqb, ne_eqb}
+use Rattle.std.proofs.lemmas.Bool.{and_parts, and_from, or_cases, or_left, or_right, not-true, eqb-true, eqb-false, eq-eqb, ne_eqb}
 use Rattle.timefd_lint_files.specs.declared.class.Class.{Class}
 use Rattle.timefd_lint_files.specs.declared.token.Token.{Token}
 use Rattle.timefd_lint_files.specs.declared.token.Token.TheVariants.{Byte, Any, OneOf, Star, Folders, Rest, Nothing}
 use Rattle.timefd_lint_files.specs.Matching.{Text, slash, has, IsRow, Matches, MatchesFirst, matches, takes_none, takes_some}
-
-or_left : (x y : Bool) → x ≡ true → (x || y) ≡ true
-or_left x y e = rw e refl
-
-or_right : (x y : Bool) → y ≡ true → (x || y) ≡ true
-or_right true y e = refl
-or_right false y e = e
 
 not_slash : (byte : ℕ) → not (byte == slash) ≡ true → byte ≢ slash
 not_slash byte e = eqb-false byte slash (not-true (byte == slash) e)

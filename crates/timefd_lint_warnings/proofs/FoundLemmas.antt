@@ -11,15 +11,11 @@ use Rattle.timefd_parse.specs.declared.parsing.BorrowedOutput.{BorrowedOutput}
 use Rattle.timefd_parse.specs.declared.parsing.BorrowedOutput.TheVariants.{Items, Description}
 use Rattle.timefd_format_item.specs.declared.borrowed_format_item.BorrowedFormatItem.{BorrowedFormatItem}
 use Rattle.timefd_format_item.specs.Meaning.{item_trees}
+use Rattle.timefd_node_list.proofs.LeafLemmas.{leaves_packed}
 use Rattle.timefd_warnings.specs.declared.levels.Levels.{Levels}
 use Rattle.timefd_warnings.specs.declared.warned.Style.{Style}
 use Rattle.timefd_warnings.specs.Levels.{found}
 use Rattle.timefd_lint_warnings.specs.Found.{output_parts}
-
-packed : (list : List Tree) → leaves (pack list) ≡ leaves_in list
-packed [] = refl
-packed (t ∷ []) = sym (append-nil (leaves t))
-packed (t ∷ u ∷ ts) = refl
 
 pub parts_of_output : (version : DescriptionVersion) (list : List Tree) (output : BorrowedOutput)
     → IsOutput version list output → output_parts output ≡ leaves_in list
@@ -28,7 +24,7 @@ parts_of_output Two list (Items items) is = ap (λ ts. leaves_all (trees ts)) is
 parts_of_output Three list (Items items) is = absurd is
 parts_of_output One list (Description d) is = absurd is
 parts_of_output Two list (Description d) is = absurd is
-parts_of_output Three list (Description d) is = ap leaves is ∙ packed list
+parts_of_output Three list (Description d) is = ap leaves is ∙ leaves_packed list
 
 pub found_as_spelled : (version : DescriptionVersion) (list : List Tree) (output : BorrowedOutput)
     (levels told : Levels) → told ≡ found levels Style.Brackets (output_parts output)

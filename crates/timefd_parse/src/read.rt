@@ -174,6 +174,7 @@ pub fn next_piece<'a, const BUILDS: bool>(
 }
 
 /// How many pieces a text begins with, and what stands at their end.
+#[inline(always)]
 #[cycle(read)]
 pub fn members<'a, const BUILDS: bool>(
     builder: &mut DescriptionBuilder<'a>,
@@ -204,6 +205,7 @@ pub fn members<'a, const BUILDS: bool>(
 
 /// What follows the `]` of the nested description that has this behind its `[`. The bracket around
 /// it begins where `start` bytes remain.
+#[inline(always)]
 #[cycle(read)]
 fn nested<'a, const BUILDS: bool>(
     builder: &mut DescriptionBuilder<'a>,

@@ -7,6 +7,7 @@ use Rattle.std.proofs.lemmas.List.Elements.{All-cons, All-nil}
 use Rattle.std.specs.declared.alloc.AllocError.{AllocError}
 use Rattle.std.specs.declared.alloc.Global.{Global}
 use Rattle.std.specs.declared.vec.Vec.{Vec}
+use Rattle.std.specs.Option.{option_to_list}
 use Rattle.std.specs.Prelude.{IfOk, Option, Some, None, Result, Ok, Err}
 use Rattle.timefd_sources.specs.declared.calls.Frame.{Frame}
 use Rattle.timefd_sources.specs.declared.candidate.Candidate.{Candidate}
@@ -17,9 +18,8 @@ use Rattle.timefd_sources.specs.declared.piece.Piece.{Piece}
 use Rattle.timefd_sources.specs.Between.{IsBetween}
 use Rattle.timefd_sources.specs.Bytes.{Text}
 use Rattle.timefd_sources.specs.Candidates.{candidate_at, candidates_from, candidates_in}
-use Rattle.timefd_sources.specs.Candidates as spec
 use Rattle.timefd_sources.specs.Escapes.{Placed}
-use Rattle.timefd_sources.specs.Found.{AllStandIn, AreDescribed, AreInOrder, IsAnyDescribed, IsDescribed, IsOfText, StandsIn, begin_of, begun_behind, end_behind, listed}
+use Rattle.timefd_sources.specs.Found.{AllStandIn, AreDescribed, AreInOrder, IsAnyDescribed, IsDescribed, IsOfText, StandsIn, begin_of, begun_behind, end_behind}
 use Rattle.timefd_sources.specs.Frames.{innermost, passed}
 use Rattle.timefd_sources.specs.Literals.{literal_text}
 use Rattle.timefd_sources.specs.Marks.{still_open, told_at}
@@ -39,9 +39,9 @@ at_first source ps comments = record { others = λ rest described. described }
 one_described : (source : Text) (from : ℕ) (c : Option Candidate) (answer : Option Description)
     (cs : List Candidate) (rest : List Description) → IsAnyDescribed source c answer
     → AreDescribed source (end_behind from (begun_behind from answer)) cs rest
-    → AreDescribed source from (spec.listed c ++ cs) (listed (begun_behind from answer) ++ rest)
+    → AreDescribed source from (option_to_list c ++ cs) (option_to_list (begun_behind from answer) ++ rest)
 one_described source from None answer cs rest is described =
-    subst (λ a. AreDescribed source from cs (listed (begun_behind from a) ++ rest)) (sym is)
+    subst (λ a. AreDescribed source from cs (option_to_list (begun_behind from a) ++ rest)) (sym is)
     (subst (λ a. AreDescribed source (end_behind from (begun_behind from a)) cs rest) is described)
 one_described source from (Some c) answer cs rest is described = (answer, rest, is, described, refl)
 
@@ -50,7 +50,7 @@ pub one_more : (source : Text) (ps : List Piece) (comments counting still : List
     (so_far now : List Description) → i < length ps → p ≡ get_or ps i other
     → after ≡ passed source ps i before → still ≡ still_open p.start counting
     → c ≡ candidate_at source ps i p (innermost after) (told_at still p.start)
-    → IsAnyDescribed source c answer → now ≡ so_far ++ listed (begun_behind from answer)
+    → IsAnyDescribed source c answer → now ≡ so_far ++ option_to_list (begun_behind from answer)
     → next ≡ end_behind from (begun_behind from answer)
     → AreSoFar source ps comments i before counting from so_far
     → AreSoFar source ps comments (i + 1) after still next now
@@ -59,7 +59,7 @@ one_more source ps comments counting still i p other before after c answer from 
       others = λ rest described.
           let behind : List Piece = drop (i + 1) ps in
           let step : List Frame → List Mark → Option Candidate → List Candidate =
-          λ a s x. spec.listed x ++ candidates_from source ps (i + 1) behind a s in
+          λ a s x. option_to_list x ++ candidates_from source ps (i + 1) behind a s in
           let at_token : List Frame → List Mark → List Candidate =
           λ a s. step a s (candidate_at source ps i p (innermost a) (told_at s p.start)) in
           let split : drop i ps ≡ p ∷ behind = drop_more ps i other below ∙ ap (λ x. x ∷ behind) (sym at) in
@@ -68,14 +68,14 @@ one_more source ps comments counting still i p other before after c answer from 
           ∙ (ap (λ a. at_token a still) opened
           ∙ (ap (at_token (passed source ps i before)) left
           ∙ ap (λ l. candidates_from source ps i l before counting) (sym split))) in
-          let found : AreDescribed source from (step after still c) (listed (begun_behind from answer) ++ rest) =
+          let found : AreDescribed source from (step after still c) (option_to_list (begun_behind from answer) ++ rest) =
           one_described source from c answer (candidates_from source ps (i + 1) behind after still) rest is
           (subst (λ n. AreDescribed source n (candidates_from source ps (i + 1) behind after still) rest) ends
           described) in
           subst (λ ds. AreDescribed source 0 (candidates_in source ps comments) ds)
-          (sym (append_assoc so_far (listed (begun_behind from answer)) rest) ∙ ap (λ t. t ++ rest) (sym pushed))
-          (so_far_is.others (listed (begun_behind from answer) ++ rest)
-          (subst (λ cs. AreDescribed source from cs (listed (begun_behind from answer) ++ rest)) here found));
+          (sym (append_assoc so_far (option_to_list (begun_behind from answer)) rest) ∙ ap (λ t. t ++ rest) (sym pushed))
+          (so_far_is.others (option_to_list (begun_behind from answer) ++ rest)
+          (subst (λ cs. AreDescribed source from cs (option_to_list (begun_behind from answer) ++ rest)) here found));
     }
 
 -- What a token is, by what is open and told at it.
@@ -121,10 +121,10 @@ not_begun from d fail = rw fail refl
 
 stands_more : (source : Text) (from : ℕ) (c : Candidate) (answer : Option Description) (rest : List Description)
     → IsDescribed source c answer → AllStandIn source rest
-    → AllStandIn source (listed (begun_behind from answer) ++ rest)
+    → AllStandIn source (option_to_list (begun_behind from answer) ++ rest)
 stands_more source from c None rest is all = all
 stands_more source from c (Some d) rest is all =
-    let stands : Option Description → Type 0 = λ o. AllStandIn source (listed o ++ rest) in
+    let stands : Option Description → Type 0 = λ o. AllStandIn source (option_to_list o ++ rest) in
     elim (cases_Bool (nat_le from (begin_of d))) [
       | inl pass ↦ subst stands (sym (begun from d pass)) (All-cons (StandsIn source) d rest
           (text_stands source c d (literal_text source c.piece c.kind) refl is) all)
@@ -141,11 +141,11 @@ all_stand source from (c ∷ cs) found (answer, rest, is, more, split) =
 
 in_order_more : (from : ℕ) (answer : Option Description) (rest : List Description)
     → AreInOrder (end_behind from (begun_behind from answer)) rest
-    → AreInOrder from (listed (begun_behind from answer) ++ rest)
+    → AreInOrder from (option_to_list (begun_behind from answer) ++ rest)
 in_order_more from None rest more = more
 in_order_more from (Some d) rest more =
     let in_order : Option Description → Type 0 =
-    λ o. AreInOrder (end_behind from o) rest → AreInOrder from (listed o ++ rest) in
+    λ o. AreInOrder (end_behind from o) rest → AreInOrder from (option_to_list o ++ rest) in
     elim (cases_Bool (nat_le from (begin_of d))) [
       | inl pass ↦
           let behind : from ≤ begin_of d = grind (arith, nat_tests) in

@@ -2,12 +2,13 @@
 use Rattle.std.proofs.Common.{ℕ, ◌≡◌, ◌≤◌, List, [], ◌∷◌, ◌++◌, nat_le, inl, inr, refl, sym, ap, subst, ◌∙◌, append-nil, arith}
 use Rattle.std.specs.Prelude.{Option, None, Some, MatchOption, ⊤}
 use Rattle.std.specs.List.{All}
+use Rattle.std.specs.Option.{option_to_list}
 use Rattle.std.proofs.lemmas.Bool.{cases_Bool}
 use Rattle.std.proofs.lemmas.Bool.Decides.{nat_tests}
 use Rattle.std.proofs.lemmas.List.Elements.{All-nil, All-push}
 use Rattle.timefd_sources.specs.declared.description.Description.{Description}
 use Rattle.timefd_sources.specs.Bytes.{Text}
-use Rattle.timefd_sources.specs.Found.{AllStandIn, AreInOrder, StandsIn, begin_of, begun_behind, end_behind, listed}
+use Rattle.timefd_sources.specs.Found.{AllStandIn, AreInOrder, StandsIn, begin_of, begun_behind, end_behind}
 
 pub at_first : (source : Text) → AllStandIn source []
 at_first source = All-nil (StandsIn source)
@@ -39,7 +40,7 @@ pub no_piece_yet : (source : Text) → AreUpTo (StandsIn source) [] 0
 no_piece_yet source = none_yet (StandsIn source)
 
 each_more : (Holds : Description → Type 0) (ds more : List Description) (found : Option Description)
-    → All Holds ds → MatchOption found ⊤ Holds → more ≡ ds ++ listed found → All Holds more
+    → All Holds ds → MatchOption found ⊤ Holds → more ≡ ds ++ option_to_list found → All Holds more
 each_more Holds ds more None so_far holds pushed =
     subst (All Holds) (sym (pushed ∙ append-nil ds)) so_far
 each_more Holds ds more (Some d) so_far holds pushed =
@@ -54,8 +55,8 @@ below Holds end (Some d) holds = elim (cases_Bool (nat_le end (begin_of d))) [
 ]
 
 in_turn : (ds : List Description) (end : ℕ) (found : Option Description) → AreInOrder 0 ds
-    → end ≡ end_of 0 ds → AreInOrder 0 (ds ++ listed (begun_behind end found))
-    × (end_behind end (begun_behind end found) ≡ end_of 0 (ds ++ listed (begun_behind end found)))
+    → end ≡ end_of 0 ds → AreInOrder 0 (ds ++ option_to_list (begun_behind end found))
+    × (end_behind end (begun_behind end found) ≡ end_of 0 (ds ++ option_to_list (begun_behind end found)))
 in_turn ds end None so_far up_to =
     (subst (AreInOrder 0) (sym (append-nil ds)) so_far, up_to ∙ ap (end_of 0) (sym (append-nil ds)))
 in_turn ds end (Some d) so_far up_to = elim (cases_Bool (nat_le end (begin_of d))) [
@@ -68,7 +69,7 @@ in_turn ds end (Some d) so_far up_to = elim (cases_Bool (nat_le end (begin_of d)
 
 pub any_more : (Holds : Description → Type 0) (ds more : List Description) (found : Option Description)
     (end next : ℕ) → AreUpTo Holds ds end → MatchOption found ⊤ Holds
-    → more ≡ ds ++ listed (begun_behind end found) → next ≡ end_behind end (begun_behind end found)
+    → more ≡ ds ++ option_to_list (begun_behind end found) → next ≡ end_behind end (begun_behind end found)
     → AreUpTo Holds more next
 any_more Holds ds more found end next so_far holds pushed ends =
     let turn = in_turn ds end found so_far.in_order so_far.up_to in record {

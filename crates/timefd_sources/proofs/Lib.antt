@@ -1,3 +1,4 @@
+pub mod FirstLemmas
 pub mod ScalarLemmas
 pub mod UnescapeLemmas
 pub mod PieceLemmas

@@ -1,7 +1,7 @@
 -- What the parts so far stand for, and what is left of a body.
 use Rattle.std.proofs.Common.{ℕ, zero, suc, ◌≡◌, ◌≤◌, ◌-◌, List, [], ◌∷◌, ◌++◌, length, refl, sym, ap, subst, ◌∙◌, append_assoc, append-nil, arith}
 use Rattle.std.specs.Prelude.{Option, Some, None}
-use Rattle.timefd_sources.specs.declared.escape.Part as code
+use Rattle.timefd_sources.specs.declared.part.Part as code
 use Rattle.timefd_sources.specs.declared.token.Kind.{Kind}
 use Rattle.timefd_sources.specs.Bytes.{Text}
 use Rattle.timefd_sources.specs.Escapes.{Part, Placed, parted, parted_any, part_of, stands_for, before, all_at, unescaped}

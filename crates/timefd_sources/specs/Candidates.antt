@@ -2,7 +2,7 @@
 -- comment names a language.
 use Rattle.std.specs.Prelude.{ℕ, ◌+◌, Bool, true, false, if◌then◌else◌, List, [], ◌∷◌, ◌++◌, Option, Some, None}
 use Rattle.std.specs.List.{flat_map}
-use Rattle.std.specs.Option.{option_or}
+use Rattle.std.specs.Option.{option_or, option_to_list}
 use Rattle.timefd_sources.specs.declared.calls.Frame.{Frame}
 use Rattle.timefd_sources.specs.declared.candidate.Candidate.{Candidate}
 use Rattle.timefd_sources.specs.declared.dialect.Dialect.{Dialect}
@@ -60,15 +60,11 @@ abbrev pub candidate_at : Text → List Piece → ℕ → Piece → Option Frame
 candidate_at source ps i p frame dialect =
     candidate_from p (kind_of p.token) (option_or (by_comment dialect) (told_in source ps i frame))
 
-abbrev pub listed : Option Candidate → List Candidate
-listed None = []
-listed (Some c) = c ∷ []
-
 -- those among the tokens from an index on, where these brackets are open and these comments count
 abbrev pub candidates_from : Text → List Piece → ℕ → List Piece → List Frame → List Mark → List Candidate
 candidates_from source ps i [] frames comments = []
 candidates_from source ps i (p ∷ rest) frames comments =
-    listed (candidate_at source ps i p (innermost (passed source ps i frames))
+    option_to_list (candidate_at source ps i p (innermost (passed source ps i frames))
     (told_at (still_open p.start comments) p.start))
     ++ candidates_from source ps (i + 1) rest (passed source ps i frames) (still_open p.start comments)
 

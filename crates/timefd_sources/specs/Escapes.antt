@@ -6,9 +6,9 @@ use Rattle.timefd_sources.specs.declared.token.Encoding.{Encoding}
 use Rattle.timefd_sources.specs.declared.token.Encoding.TheVariants.{Str, Bytes, C}
 use Rattle.timefd_sources.specs.declared.token.Kind.{Kind}
 use Rattle.timefd_sources.specs.declared.token.Kind.TheVariants.{Escaped, Raw}
-use Rattle.timefd_sources.specs.declared.escape.Stands.{Stands}
-use Rattle.timefd_sources.specs.declared.escape.Stands.TheVariants.{Nothing, Byte, Char}
-use Rattle.timefd_sources.specs.declared.escape.Part as code
+use Rattle.timefd_sources.specs.declared.part.Stands.{Stands}
+use Rattle.timefd_sources.specs.declared.part.Stands.TheVariants.{Nothing, Byte, Char}
+use Rattle.timefd_sources.specs.declared.part.Part as code
 use Rattle.timefd_sources.specs.declared.unescape.Unescaped as whole
 use Rattle.timefd_sources.specs.Bytes.{Text, quote, apostrophe, backslash, line_feed, carriage_return, is_between, is_skipped}
 use Rattle.timefd_sources.specs.Behind.{behind_run}

@@ -1,6 +1,7 @@
 -- Descriptions that are literals of a source.
 use Rattle.std.specs.Prelude.{ℕ, ◌≡◌, ◌≤◌, ◌==◌, ◌⊎◌, Bool, true, false, not, ◌&&◌, List, [], ◌∷◌, ◌++◌, Option, None, Some, length, nat_le, nat_lt, slice_index, if◌then◌else◌, ⊤}
 use Rattle.std.specs.List.{All, list_any}
+use Rattle.std.specs.Option.{option_to_list}
 use Rattle.timefd_sources.specs.declared.candidate.Candidate.{Candidate}
 use Rattle.timefd_sources.specs.declared.description.Description.{Description}
 use Rattle.timefd_sources.specs.declared.piece.Piece.{Piece}
@@ -41,10 +42,6 @@ begun_behind from (Some d) = if nat_le from (begin_of d) then Some d else None
 abbrev pub end_behind : ℕ → Option Description → ℕ
 end_behind from None = from
 end_behind from (Some d) = d.piece.end
-
-abbrev pub listed : Option Description → List Description
-listed None = []
-listed (Some d) = d ∷ []
 
 abbrev pub has_percent : Text → Bool
 has_percent text = list_any (λ b. b == 37) text
@@ -87,7 +84,7 @@ AreDescribed source from (c ∷ cs) found =
     (answer : Option Description) × (rest : List Description)
     × IsDescribed source c answer
     × AreDescribed source (end_behind from (begun_behind from answer)) cs rest
-    × (found ≡ listed (begun_behind from answer) ++ rest)
+    × (found ≡ option_to_list (begun_behind from answer) ++ rest)
 
 -- They are those of a source: none where it has none of the names beside which descriptions stand.
 abbrev pub AreDescriptionsOf : Text → List Description → Type 0

@@ -1,6 +1,7 @@
 -- Comments that name the language of literals: `// timefd: 3`
 use Rattle.std.specs.Prelude.{ℕ, ◌-◌, Bool, true, false, ◌&&◌, ◌==◌, nat_eq, nat_le, nat_lt, if◌then◌else◌, List, [], ◌∷◌, codes, drop, length, take, Option, Some, None}
 use Rattle.std.specs.List.{flat_map, starts_with}
+use Rattle.std.specs.Option.{option_to_list}
 use Rattle.timefd_sources.specs.declared.dialect.Dialect.{Dialect}
 use Rattle.timefd_sources.specs.declared.marks.Mark.{Mark}
 use Rattle.timefd_sources.specs.declared.piece.Piece.{Piece}
@@ -65,13 +66,9 @@ is_comment Unclosed = false
 abbrev pub mark_at : Text → Piece → Option Mark
 mark_at source p = if is_comment p.token then mark_of source p (dialect_told (cut source p)) else None
 
-abbrev pub listed : Option Mark → List Mark
-listed None = []
-listed (Some mark) = mark ∷ []
-
 -- the comments that name a language, in turn
 abbrev pub marks : Text → List Piece → List Mark
-marks source ps = flat_map (λ p. listed (mark_at source p)) ps
+marks source ps = flat_map (λ p. option_to_list (mark_at source p)) ps
 
 -- those from the first on that counts for places behind this one
 abbrev pub still_open : ℕ → List Mark → List Mark

@@ -5,16 +5,11 @@ ghost use Rattle.std.specs.Str.{IsCharBoundary};
 ghost use Rattle.timefd_sources.specs.Between.{AllBetween, AllInside, IsBetween, IsInside};
 ghost use Rattle.timefd_sources.specs.Bytes as spec;
 
+use crate::class::is_continuation;
 use crate::literal::body_end;
 use crate::piece::Piece;
 use crate::token::Kind;
 use crate::unescape::Unescaped;
-
-fn is_continuation(byte: u8) -> bool
-    ensures { result ≡ spec.is_continuation byte }
-{
-    128 <= byte && byte <= 191
-}
 
 // A byte that begins a character stands between two.
 fn lies_between(source: &str, byte: u8, place: usize) -> bool
@@ -25,7 +20,7 @@ fn lies_between(source: &str, byte: u8, place: usize) -> bool
 }
 
 /// Whether each character of a text has its place between two characters of the source.
-fn lie_between(source: &str, text: &[u8], places: &[usize]) -> bool
+pub fn lie_between(source: &str, text: &[u8], places: &[usize]) -> bool
     ensures so { IsTrue result → AllBetween source.now text.now places.now }
     ensures all { AllBetween source.now text.now places.now → IsTrue result }
 {

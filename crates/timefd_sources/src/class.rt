@@ -81,6 +81,13 @@ fn is_aside(byte: u8) -> bool
     is_blank(byte) || byte == b'"' || byte == b'\'' || byte == b',' || byte == b']' || byte == b'}'
 }
 
+/// Whether a byte stands in a character behind its first.
+pub fn is_continuation(byte: u8) -> bool
+    ensures { result ≡ spec.is_continuation byte }
+{
+    128 <= byte && byte <= 191
+}
+
 fn is_in(class: Class, byte: u8) -> bool
     ensures { result ≡ class_test class byte }
 {
@@ -93,7 +100,7 @@ fn is_in(class: Class, byte: u8) -> bool
         Class::Aside => is_aside(byte),
         Class::Line => byte != b'\n',
         Class::Hash => byte == b'#',
-        Class::Continuation => 128 <= byte && byte <= 191,
+        Class::Continuation => is_continuation(byte),
         Class::Unquoted => byte != b'"',
         Class::Quoted => !(byte == b'\'' || byte == b'\n'),
     }

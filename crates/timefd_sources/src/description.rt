@@ -1,9 +1,10 @@
 //! The descriptions in a source.
 
 ghost use Rattle.std.specs.Prelude.{◌≡◌, ◌++◌, IfOk, OnOk, Some};
+ghost use Rattle.std.specs.Option.{option_to_list};
 ghost use Rattle.timefd_sources.specs.Candidates.{candidates_in};
 ghost use Rattle.timefd_sources.specs.Escapes.{placed};
-ghost use Rattle.timefd_sources.specs.Found.{AllStandIn, AreDescribed, AreDescriptionsOf, AreInOrder, IsAnyDescribed, IsDescribed, IsOfText, begun_behind, end_behind, listed};
+ghost use Rattle.timefd_sources.specs.Found.{AllStandIn, AreDescribed, AreDescriptionsOf, AreInOrder, IsAnyDescribed, IsDescribed, IsOfText, begun_behind, end_behind};
 ghost use Rattle.timefd_sources.specs.Found.{has_percent as has_percent_in};
 
 use crate::between::is_between;
@@ -95,7 +96,7 @@ pub fn push_any(
     end: usize,
 ) -> Result<usize, AllocError>
     ensures pushed { OnOk result (descriptions.new.items
-        ≡ descriptions.old.items ++ listed (begun_behind end found)) }
+        ≡ descriptions.old.items ++ option_to_list (begun_behind end found)) }
     ensures end { IfOk result (λ next. next ≡ end_behind end (begun_behind end found)) }
 {
     match found {

@@ -5,38 +5,9 @@ ghost use Rattle.timefd_sources.specs.Escapes as spec;
 ghost use Rattle.timefd_sources.specs.Escapes.{parted, parted_any};
 
 use crate::class::{Class, behind_run};
+use crate::number::{hex_digit, next_value};
+use crate::part::{Part, Stands, character};
 use crate::token::{Encoding, Kind};
-
-/// What a part of a body stands for.
-#[derive(Clone, Copy)]
-pub enum Stands {
-    /// Nothing, as the end of a line behind a backslash.
-    Nothing,
-    Byte(u8),
-    Char(char),
-}
-
-/// What a part of a body stands for, and what stands behind it.
-#[derive(Clone, Copy)]
-pub struct Part<'a> {
-    pub stands: Stands,
-    pub rest: &'a [u8],
-}
-
-fn hex_digit(byte: u8) -> Option<u8>
-    ensures value { result ≡ spec.hex_digit byte }
-    ensures small { MatchOption result ⊤ (λ digit. digit < 16) }
-{
-    if b'0' <= byte && byte <= b'9' {
-        Some(byte - b'0')
-    } else if b'a' <= byte && byte <= b'f' {
-        Some(byte - 87)
-    } else if b'A' <= byte && byte <= b'F' {
-        Some(byte - 55)
-    } else {
-        None
-    }
-}
 
 fn letter(byte: u8) -> Option<u8>
     ensures { result ≡ spec.letter byte }
@@ -117,61 +88,6 @@ fn byte_of(encoding: Encoding, text: &[u8]) -> Option<Part<'_>>
     match text {
         [] => None,
         [byte, behind @ ..] => high_by(encoding, behind, hex_digit(*byte)),
-    }
-}
-
-#[tactic(auto, using(crate::proofs::ScalarLemmas::is_scalar_value))]
-fn scalar_value(value: u32) -> Option<char>
-    ensures { result ≡ spec.scalar_value value }
-{
-    char::from_u32(value)
-}
-
-fn char_part(rest: &[u8], c: Option<char>) -> Option<Part<'_>>
-    ensures part { parted_any result ≡ spec.char_part rest.now c }
-    ensures within { MatchOption result ⊤ (λ part. length part.rest.now ≤ length rest.now) }
-{
-    match c {
-        Some(c) => Some(Part {
-            stands: Stands::Char(c),
-            rest,
-        }),
-        None => None,
-    }
-}
-
-fn character(rest: &[u8], value: Option<u32>) -> Option<Part<'_>>
-    ensures part { parted_any result ≡ spec.character rest.now value }
-    ensures within { MatchOption result ⊤ (λ part. length part.rest.now ≤ length rest.now) }
-{
-    match value {
-        Some(value) => char_part(rest, scalar_value(value)),
-        None => None,
-    }
-}
-
-fn joined(value: u32, digit: u8) -> Option<u32>
-    requires value { value ≤ 1114111 }
-    requires digit { digit < 16 }
-    ensures value { result ≡ spec.next_value (Some value) (Some digit) }
-    ensures small { MatchOption result ⊤ (λ value. value ≤ 1114111) }
-{
-    let next = value * 16 + u32::from(digit);
-    if next <= 1_114_111 { Some(next) } else { None }
-}
-
-fn next_value(value: Option<u32>, digit: Option<u8>) -> Option<u32>
-    requires value { MatchOption value ⊤ (λ value. value ≤ 1114111) }
-    requires digit { MatchOption digit ⊤ (λ digit. digit < 16) }
-    ensures value { result ≡ spec.next_value value digit }
-    ensures small { MatchOption result ⊤ (λ value. value ≤ 1114111) }
-{
-    match value {
-        None => None,
-        Some(value) => match digit {
-            None => None,
-            Some(digit) => joined(value, digit),
-        },
     }
 }
 

@@ -2,7 +2,7 @@
 #![tactic(auto)]
 
 mod alike;
-mod between;
+pub mod between;
 mod calls;
 mod candidate;
 mod character;
@@ -18,6 +18,8 @@ pub mod line;
 mod literal;
 pub mod marks;
 mod names;
+pub mod number;
+pub mod part;
 mod piece;
 mod place;
 mod string;

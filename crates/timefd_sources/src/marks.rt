@@ -1,6 +1,7 @@
 //! Where a comment names the language of literals.
 
 ghost use Rattle.std.specs.Prelude.{◌≡◌, ◌≤◌, ◌++◌, length, OnOk, IfOk, Some};
+ghost use Rattle.std.specs.Option.{option_to_list};
 ghost use Rattle.timefd_sources.specs.Behind.{behind_run as behind_spec};
 ghost use Rattle.timefd_sources.specs.Bytes.{is_word, seen};
 ghost use Rattle.timefd_sources.specs.Lines.{line_start as line_start_of};
@@ -35,11 +36,19 @@ pub fn behind<'a>(text: &'a [u8], front: &[u8]) -> Option<&'a [u8]>
     }
 }
 
+/// The front of a text that stands before this rest.
+pub fn in_front<'a>(text: &'a [u8], rest: &[u8]) -> &'a [u8]
+    requires { length rest.now ≤ length text.now }
+    ensures { result.now ≡ spec.in_front text.now rest.now }
+{
+    &text[..text.len() - rest.len()]
+}
+
 /// The word that a text begins with.
 pub fn first_word(text: &[u8]) -> &[u8]
     ensures { result.now ≡ spec.in_front text.now (behind_spec is_word text.now) }
 {
-    &text[..text.len() - behind_run(Class::Word, text).len()]
+    in_front(text, behind_run(Class::Word, text))
 }
 
 /// The language of the word that a text is, with white bytes behind it.
@@ -128,7 +137,7 @@ fn mark_at(source: &[u8], piece: Piece) -> Option<Mark>
 }
 
 fn push_any(marks: &mut Vec<Mark>, mark: Option<Mark>) -> Result<(), AllocError>
-    ensures { OnOk result (marks.new.items ≡ marks.old.items ++ spec.listed mark) }
+    ensures { OnOk result (marks.new.items ≡ marks.old.items ++ option_to_list mark) }
 {
     match mark {
         Some(mark) => {

@@ -1,15 +1,12 @@
 -- One word more, and one line more.
-use Rattle.std.proofs.Common.{ℕ, ◌≡◌, ◌-◌, ◌<◌, ◌≤◌, take, drop, get_or, Bool, true, false, ◌||◌, List, [], ◌∷◌, ◌++◌, length, Option, Some, None, refl, sym, ap, subst, ◌∙◌, arith}
+use Rattle.std.proofs.Common.{ℕ, ◌≡◌, ◌-◌, ◌<◌, ◌≤◌, take, drop, get_or, Bool, true, false, ◌||◌, List, [], ◌∷◌, length, Option, Some, None, refl, sym, ap, subst, ◌∙◌, arith}
 use Rattle.std.proofs.Math.Seq.{take-length}
-use Rattle.std.specs.Prelude.{IfSome}
-use Rattle.std.specs.Io.BufRead.{take_through, DropsThrough}
 use Rattle.std.specs.Io.KnownBytes.{IsAtEnd}
 use denote.Ref.{Bor}
 use Rattle.timefd_component.specs.Tree.{Text}
 use Rattle.timefd_diagnosis.specs.Words.{texts}
 use Rattle.timefd_parse.specs.declared.language.Language.{Language}
 use Rattle.timefd_parse.specs.declared.parsing.BorrowedOutput.{BorrowedOutput}
-use Rattle.timefd_rewrite.proofs.LineLemmas.{next_line}
 use Rattle.timefd_rewrite.specs.Lines.{AreLinesOf, IsNextLine, without_newline}
 use Rattle.timefd_write.specs.declared.outcome.Outcome.{Outcome}
 use Rattle.timefd_write.specs.declared.outcome.Tally.{Tally}
@@ -187,10 +184,3 @@ pub ran : (source : Source) (language : Language) (text : Text) (words : List Te
     → IsRunFrom source language text words input before behind (ends.Done tally)
 ran source language text words input before behind r o tally is reading run =
     (o, subst (λ x. IsReading language text x) is reading, run)
-
--- The line that is read into an empty room.
-pub one_line : (bytes rest : Option Text) (old line : Text)
-    → IfSome bytes (λ xs. line ≡ old ++ take_through 10 xs) → old ≡ []
-    → DropsThrough bytes rest 10 → 0 < length line → IsNextLine bytes line rest
-one_line bytes rest old line read none left some =
-    next_line bytes rest old line read none left some

@@ -13,7 +13,7 @@ use Rattle.timefd_write.specs.declared.source.Source.{Source}
 use Rattle.timefd_write.specs.declared.source.Source.TheVariants.{Names, Texts}
 use Rattle.timefd_write.specs.Descriptions.{IsDescribed}
 use Rattle.timefd_write.specs.Moments.{IsNamed}
-use Rattle.timefd_write.specs.ReadBack.{IsMadeOf, IsReadBack, AreLeavesOf}
+use Rattle.timefd_write.specs.ReadBack.{IsMadeOf, IsReadBack}
 
 -- A text is refused for the fault that the rules assign to it.
 abbrev pub IsFaulty : Language → Text → Type 0

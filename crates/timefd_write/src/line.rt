@@ -1,7 +1,8 @@
 //! One moment, written as a line.
 
-ghost use Rattle.std.specs.Prelude.{IfOk, OnOk};
+ghost use Rattle.std.specs.Prelude.{◌≡◌, IfOk, OnOk};
 ghost use Rattle.std.specs.Io.KnownBytes.{Appends};
+ghost use Rattle.timefd_write.specs.declared.outcome.Outcome.TheVariants as came;
 ghost use Rattle.timefd_write.specs.ReadBack.{AreLeavesOf};
 ghost use Rattle.timefd_write.specs.Sources.{AreLeavesIn};
 ghost use Rattle.timefd_write.specs.Written.{EndsWith, EndsWithLine, IsLine, IsOne, IsOneOfMoment, IsTallyOf, written_of};
@@ -14,7 +15,8 @@ use std::alloc::{AllocError, Global};
 use std::io::Write;
 use std::str;
 use timefd_format::{
-    FormatError, TextError, format, format_items, write_description, write_items, write_leaves,
+    FormatError, TextError, Unshown, format, format_items, write_description, write_items,
+    write_leaves,
 };
 use timefd_moment::Moment;
 use timefd_node_list::Leaf;
@@ -118,11 +120,7 @@ fn write_moment<W: Write, E: Write>(
             send(&room[at..], output)?;
             Ok(Outcome::Written(moment))
         }
-        Err(FormatError::Unshown(unshown)) => {
-            let message = unshown_message(alloc, word, unshown)?;
-            tell(errors, message.as_bytes());
-            Ok(Outcome::Unshown(moment, unshown))
-        }
+        Err(FormatError::Unshown(unshown)) => tell_unshown(alloc, moment, word, unshown, errors),
         Err(FormatError::Room) => write_long(alloc, moment, description, word, output, errors),
     }
 }
@@ -136,7 +134,22 @@ fn send<W: Write>(line: &[u8], output: &mut W) -> Result<(), RunError>
     }
 }
 
-// The same in memory of its own.
+// Tells which component shows nothing of a moment, which the word names.
+fn tell_unshown<E: Write>(
+    alloc: Global,
+    moment: Moment,
+    word: &str,
+    unshown: Unshown,
+    errors: &mut E,
+) -> Result<Outcome, RunError>
+    ensures { IfOk result (λ outcome. outcome ≡ came.Unshown moment unshown) }
+{
+    let message = unshown_message(alloc, word, unshown)?;
+    tell(errors, message.as_bytes());
+    Ok(Outcome::Unshown(moment, unshown))
+}
+
+// The line, written in memory of its own.
 fn write_long<W: Write, E: Write>(
     alloc: Global,
     moment: Moment,
@@ -149,15 +162,11 @@ fn write_long<W: Write, E: Write>(
         (W.contents output.new)) }
 {
     match line_of(alloc, moment, description) {
-        Ok(line) => match output.write_all(&line) {
-            Ok(()) => Ok(Outcome::Written(moment)),
-            Err(_) => Err(RunError::Write),
-        },
-        Err(TextError::Unshown(unshown)) => {
-            let message = unshown_message(alloc, word, unshown)?;
-            tell(errors, message.as_bytes());
-            Ok(Outcome::Unshown(moment, unshown))
+        Ok(line) => {
+            send(&line, output)?;
+            Ok(Outcome::Written(moment))
         }
+        Err(TextError::Unshown(unshown)) => tell_unshown(alloc, moment, word, unshown, errors),
         Err(TextError::Memory(_)) => Err(RunError::Memory),
     }
 }

@@ -32,7 +32,7 @@ enum LineRead {
 }
 
 // Reads one more line into this room, with its newline. An `Err` says that memory ran out.
-#[tactic(auto, using(crate::proofs::RunLemmas::one_line))]
+#[tactic(auto, using(timefd_rewrite::proofs::LineLemmas::next_line))]
 fn read_line<R: BufRead>(reader: &mut R, bytes: &mut Vec<u8>) -> Result<LineRead, RunError>
     ensures read { IfOk result (IsRead (R.remaining reader.old) (R.remaining reader.new)
         bytes.new.items) }

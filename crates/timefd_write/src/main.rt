@@ -28,7 +28,7 @@ use run::run;
 use std::alloc::AllocError;
 use std::io::{BufReader, BufWriter, IsTerminal, Write};
 use std::process::ExitCode;
-use timefd_command::{WordsError, all_words, lent, shows_colors};
+use timefd_streams::{WordsError, all_words, lent, shows_colors};
 
 // The statuses of runs that did not come to their end.
 const WRONG_ARGUMENTS: u8 = 2;

@@ -3,10 +3,11 @@ use Rattle.std.proofs.lemmas.List.{length-map}
 use Rattle.timefd_format_item.specs.Meaning.{item_tree}
 use Rattle.timefd_component.specs.Reserved.{reserve}
 use Rattle.timefd_component.specs.Tree.{compound, optional, first, trees}
+use Rattle.timefd_items.proofs.BytesLemmas.{bytes_step}
 use Rattle.timefd_node_list.specs.Views.{walked, walked_all}
 use Rattle.timefd_c_nodes.specs.Writing.{IsWritten}
 use Rattle.timefd_c_nodes.proofs.ItemLemmas.{component_tree}
-use Rattle.timefd_c_nodes.proofs.TreeLemmas.{walked_at, bytes_step}
+use Rattle.timefd_c_nodes.proofs.TreeLemmas.{walked_at}
 use Rattle.timefd_c_nodes.proofs.WithinLemmas.{part_past, part_step, past_inside, written_component, written_compound, written_first, written_optional}
 use Rattle.timefd_c_nodes.proofs.items.+write.Goals as goal
 

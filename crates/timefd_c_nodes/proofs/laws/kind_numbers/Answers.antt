@@ -8,4 +8,5 @@ returns c = record {
   compound = refl;
   optional = refl;
   first = refl;
+  composite = refl;
 }

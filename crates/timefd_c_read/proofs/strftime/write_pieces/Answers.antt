@@ -2,17 +2,17 @@ use Rattle.std.proofs.Common.{◌∷◌, ◌++◌, [], arith, subst}
 use Rattle.std.proofs.lemmas.Result.{err_from_is_err_and}
 use Rattle.timefd_strftime.specs.PieceMeaning.{piece_tree}
 use Rattle.timefd_strftime.proofs.DirectiveLemmas.{IsNext, all_read, continues_more, fault_behind}
-use Rattle.timefd_c_read.proofs.ProgressLemmas.{counted_below, written_more}
+use Rattle.timefd_c_read.proofs.PieceLemmas.{piece_counted, pieces_more}
 use Rattle.timefd_c_read.proofs.strftime.write_pieces.Goals as goal
 
 pub returns-in_err-piece-clause-pieces : goal.returns-in_err-piece-clause-pieces
-returns-in_err-piece-clause-pieces c =
+returns-in_err-piece-clause-pieces g c =
     let p = err_from_is_err_and c.from_residual.result c.from_residual.ensures.1 in
     rw (p.1, p.2)
     (fault_behind _ c.pieces.rest.now _ _ c.pieces.invariant.3 c.in_err-piece.ensures)
 
 pub returns-in_default-clause-pieces : goal.returns-in_default-clause-pieces
-returns-in_default-clause-pieces c = (
+returns-in_default-clause-pieces g c = (
   c.pieces.invariant.2,
   all_read _ _ _ c.pieces.invariant.3
       (subst (IsNext c.pieces.rest.now) c.in_default.is c.in_ok-piece.ensures),
@@ -20,17 +20,17 @@ returns-in_default-clause-pieces c = (
 )
 
 pub one_more-progress-requires : goal.one_more-progress-requires
-one_more-progress-requires c =
-    counted_below c.pieces.invariant.2 (piece_tree c.in-Some.piece) _ _ _ _ _ _ _ _
+one_more-progress-requires g c =
+    piece_counted _ c.pieces.invariant.2 c.in-Some.piece _ _ _ _ _ _ _ _
     c.pieces.invariant.4 c.in-Some-write_piece.ensures.some
 
 pub pieces-preserved : goal.pieces-preserved
-pieces-preserved c =
+pieces-preserved g c =
     let next = subst (IsNext c.pieces.rest.now) c.in-Some.is c.in_ok-piece.ensures in (
       next.left.utf8,
       omega (arith, next.left.shorter, c.pieces.invariant.1),
       c.pieces.invariant.2 ++ piece_tree c.in-Some.piece ∷ [],
       continues_more _ _ _ _ _ c.pieces.invariant.3 next.leads,
-      written_more c.pieces.invariant.2 (piece_tree c.in-Some.piece) _ _ _ _ _ _ _ _ _
+      pieces_more _ c.pieces.invariant.2 c.in-Some.piece _ _ _ _ _ _ _ _ _
           c.pieces.invariant.4 c.in-Some-write_piece.ensures.some c.one_more-progress.ensures,
     )

@@ -1,15 +1,15 @@
-use Rattle.std.proofs.Common.{◌≤◌, List, length, IsUtf8}
+use Rattle.std.proofs.Common.{◌≤◌, ◌==◌, not, List, length, IsUtf8}
 use Rattle.timefd_component.specs.Tree.{Tree}
 use Rattle.timefd_strftime.proofs.DirectiveLemmas.{Continues}
-use Rattle.timefd_c_read.specs.Progress.{HasWritten}
+use Rattle.timefd_c_read.specs.Pieces.{PiecesAreWritten}
 use Rattle.timefd_c_read.proofs.strftime.write_pieces.Given as goal
 
 -- the pieces so far, which are written
 abbrev pub invariant-pieces : goal.invariant-pieces
-invariant-pieces l =
+invariant-pieces g l =
     IsUtf8 l.rest × (length l.rest ≤ length l.text) × (done : List Tree)
     × Continues l.text done l.rest
-    × HasWritten done l.fn.nodes l.nodes l.fn.literals l.literals l.progress
+    × PiecesAreWritten (not (g.row.AS_ONE == 0)) done l.fn.nodes l.nodes l.fn.literals l.literals l.progress
 
 abbrev pub decreases-pieces : goal.decreases-pieces
-decreases-pieces l = length l.rest
+decreases-pieces g l = length l.rest

@@ -14,6 +14,6 @@ returns-in-Ok c =
 
 pub returns-in-Err : goal.returns-in-Err
 returns-in-Err c =
-    not_read (Version c.args.version) c.args.limit c.args.text.now _ _ _ _ c.error_of.result
+    not_read (Version c.args.version) c.args.limit c.args.text.now _ c.error_of.result
     c.error_of.ensures.fault c.error_of.ensures.spelled c.error_of.ensures.refused
     c.in-Err.ensures.some

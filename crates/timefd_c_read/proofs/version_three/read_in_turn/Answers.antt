@@ -39,5 +39,5 @@ returns-in-None c =
 
 pub returns-in-Err : goal.returns-in-Err
 returns-in-Err c =
-    not_read (Version Three) c.args.limit c.args.text.now _ _ _ _ c.error_of.result c.error_of.ensures.fault
+    not_read (Version Three) c.args.limit c.args.text.now _ c.error_of.result c.error_of.ensures.fault
     c.error_of.ensures.spelled c.error_of.ensures.refused c.in-Err.ensures.some

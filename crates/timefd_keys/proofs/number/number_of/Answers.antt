@@ -1,16 +1,10 @@
-use Rattle.std.proofs.Common.{ℕ, ◌≡◌, ◌≤◌, ◌-◌, ◌∙◌, List, [], ◌∷◌, length, get_or, take, drop, rules, arith, sym, ap, take_all, Some}
+use Rattle.std.proofs.Common.{◌-◌, ◌∙◌, length, get_or, take, drop, rules, arith, ap, Some}
 use Rattle.std.proofs.lemmas.Grind.{common_steps}
+use Rattle.timefd_sources.proofs.FirstLemmas.{split}
 use Rattle.timefd_sources.specs.Escapes.{next_value}
 use Rattle.timefd_keys.specs.Escapes.{number}
 use Rattle.timefd_keys.proofs.NumberLemmas.{one_digit}
 use Rattle.timefd_keys.proofs.number.number_of.Goals as goal
-
--- a text that has a first byte
-split : (text : List ℕ) → 1 ≤ length text
-    → text ≡ get_or text 0 0 ∷ take (length text - 1) (drop 1 text)
-split [] le = absurd (omega arith)
-split (b ∷ bytes) le =
-    ap (λ (t : List ℕ). b ∷ t) (sym (take_all (length (b ∷ bytes) - 1) bytes (omega arith)))
 
 pub digits-preserved : goal.digits-preserved
 digits-preserved c = record {

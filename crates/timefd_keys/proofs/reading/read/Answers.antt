@@ -1,18 +1,8 @@
-use Rattle.std.proofs.Common.{ℕ, ◌≡◌, ◌<◌, ◌≤◌, ◌-◌, ◌∙◌, List, [], ◌∷◌, length, get_or, take, drop, rules, arith, refl, sym, ap, take_all}
+use Rattle.std.proofs.Common.{◌-◌, ◌∙◌, length, get_or, take, drop, rules, arith, refl}
 use Rattle.std.proofs.lemmas.Grind.{common_steps}
+use Rattle.timefd_sources.proofs.FirstLemmas.{none, split}
 use Rattle.timefd_keys.proofs.ReadingLemmas.{at_closing, ended, faulty, one_more, unended}
 use Rattle.timefd_keys.proofs.reading.read.Goals as goal
-
--- a text that has a first byte
-split : (text : List ℕ) → 1 ≤ length text
-    → text ≡ get_or text 0 0 ∷ take (length text - 1) (drop 1 text)
-split [] le = absurd (omega arith)
-split (b ∷ bytes) le =
-    ap (λ (t : List ℕ). b ∷ t) (sym (take_all (length (b ∷ bytes) - 1) bytes (omega arith)))
-
-none : (text : List ℕ) → length text < 1 → text ≡ []
-none [] le = refl
-none (b ∷ bytes) le = absurd (omega arith)
 
 pub returns-then-closes : goal.returns-then-closes
 returns-then-closes c =

@@ -1,4 +1,4 @@
-use Rattle.std.proofs.Common.{rules, arith, true}
+use Rattle.std.proofs.Common.{rules, arith}
 use Rattle.timefd_sources.specs.Candidates as spec
 use Rattle.timefd_sources.proofs.EachLemmas.{at_last, one_more_at}
 use Rattle.timefd_sources.proofs.candidate.significant.Goals as goal

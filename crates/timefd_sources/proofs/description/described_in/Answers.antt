@@ -1,4 +1,4 @@
-use Rattle.std.proofs.Common.{◌∙◌, ap, refl, rules, arith, true, false}
+use Rattle.std.proofs.Common.{◌∙◌, ap, refl, rules, arith}
 use Rattle.timefd_sources.proofs.CandidateLemmas.{at_last, one_more, told_at_token}
 use Rattle.timefd_sources.specs.Frames.{passed}
 use Rattle.timefd_sources.proofs.description.described_in.Goals as goal

@@ -1,0 +1,9 @@
+//! What is known of the lists of composite letters.
+
+ghost use Rattle.timefd_c_read.specs.Composites.{ListsStand};
+
+/// `COMPOSITES` spells the items of all composite letters, and the list of each stands among their
+/// parts where the one node of the letter says.
+pub fn lists_stand()
+    ensures { ListsStand }
+{}
