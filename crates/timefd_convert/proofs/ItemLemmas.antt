@@ -1,13 +1,14 @@
 -- Items in turn, and those of a text.
-use Rattle.std.proofs.Common.{ℕ, ◌≡◌, ◌+◌, ◌<◌, ◌∙◌, List, [], ◌∷◌, ◌++◌, length, get_or, drop, refl, sym, ap, subst, append_assoc, add-one, drop-cons, IsTrue, arith}
+use Rattle.std.proofs.Common.{ℕ, ◌≡◌, ◌+◌, ◌<◌, ◌∙◌, List, [], ◌∷◌, ◌++◌, length, get_or, drop, refl, sym, ap, subst, append_assoc, IsTrue, arith}
 use Rattle.std.proofs.lemmas.Bool.{and_parts}
-use Rattle.timefd_component.specs.Tree.{Text, Tree, trees}
-use Rattle.timefd_convert.specs.Leaves.{AreLeaves, AreShallow, IsLeafItem, IsShallowItem, Every, AreLeafItems, AreShallowItems}
+use Rattle.timefd_component.specs.Tree.{Text, trees}
+use Rattle.timefd_convert.specs.Leaves.{AreLeaves, AreShallow, Every, AreLeafItems, AreShallowItems}
 use Rattle.timefd_convert.proofs.LetterLemmas.{spelled_shallow}
 use Rattle.timefd_format_item.specs.declared.borrowed_format_item.BorrowedFormatItem.{BorrowedFormatItem}
 use Rattle.timefd_format_item.specs.Meaning.{item_tree, item_trees}
 use Rattle.timefd_language.specs.Strftime.{no_directives, SpellsStrftime}
 use Rattle.timefd_language.specs.Strings.{is_of_strings, are_of_strings}
+use Rattle.timefd_lift.proofs.PlainItems.{first_left}
 use Rattle.timefd_print.specs.Printed.{printed, printed_all}
 
 -- Members of a compound, and items of a text.
@@ -33,13 +34,6 @@ spelled_items text items s strings =
     shallow_items items (spelled_shallow text (item_trees items) s) strings
 
 -- Item by item.
-
-first_left : (items : List BorrowedFormatItem) (at : ℕ) (x : BorrowedFormatItem) → at < length items
-    → x ≡ get_or items at x → drop at items ≡ x ∷ drop (at + 1) items
-first_left items at x below is =
-    let first : drop at items ≡ get_or items at x ∷ drop (at + 1) items =
-    rw add-one (drop-cons items at x below) in
-    first ∙ ap (λ y. y ∷ drop (at + 1) items) (sym is)
 
 pub every-left : (P : BorrowedFormatItem → Type 0) (items : List BorrowedFormatItem) (at : ℕ)
     (x : BorrowedFormatItem) → at < length items → x ≡ get_or items at x

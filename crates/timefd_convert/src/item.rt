@@ -23,8 +23,8 @@ pub fn push_item(
         (item_tree item.now)) }
 {
     match *item {
-        BorrowedFormatItem::StringLiteral(literal) => push_literal(text, literal),
-        BorrowedFormatItem::Component(component) => push_component(alloc, text, component),
+        BorrowedFormatItem::StringLiteral(_) => push_leaf(alloc, text, item),
+        BorrowedFormatItem::Component(_) => push_leaf(alloc, text, item),
         BorrowedFormatItem::Compound(members) => push_members(alloc, text, members),
         BorrowedFormatItem::Literal(_)
         | BorrowedFormatItem::Optional(_)

@@ -1,12 +1,11 @@
 -- The descriptions in a bracket, one after another.
-use Rattle.std.proofs.Common.{ℕ, suc, ◌≡◌, ◌∙◌, ◌+◌, ◌<◌, ◌≤◌, true, List, [], ◌∷◌, ◌++◌, length, refl, sym, ap, subst, arith, append_assoc, append-nil, length-append}
+use Rattle.std.proofs.Common.{ℕ, ◌≡◌, ◌∙◌, ◌+◌, ◌<◌, true, List, [], ◌∷◌, ◌++◌, length, refl, sym, ap, subst, arith, append_assoc, append-nil, length-append}
 use Rattle.timefd_component.specs.Tree.{Text, Tree, component, literal, compound, optional, first, trees, pack}
-use Rattle.timefd_language.specs.declared.description_version.DescriptionVersion.{DescriptionVersion}
 use Rattle.timefd_language.specs.declared.description_version.DescriptionVersion.TheVariants.{Three}
 use Rattle.timefd_language.specs.Bytes.{left, right, is_white, ZeroOrMore}
-use Rattle.timefd_language.specs.Grammar.{Pieces, no_pieces, run, escape, closing, bracket, Nested, no_nested, nested, ArePieces, AreNested, Spells, nested_text, items, spelling, nesting_limit}
+use Rattle.timefd_language.specs.Grammar.{bracket, Nested, no_nested, nested, AreNested, Spells, nested_text, items, spelling, nesting_limit}
 use Rattle.timefd_language.specs.Head.{Head, IsHead, head_text}
-use Rattle.timefd_parse.proofs.BracketLemmas.{same_cut}
+use Rattle.timefd_parse.proofs.BracketLemmas.{outer_pieces, same_cut}
 use Rattle.timefd_parse.specs.BracketParts.{BeginsNested}
 use Rattle.timefd_explain.specs.declared.node.Node.{Node}
 use Rattle.timefd_explain.specs.Inside.{EndsHead, Nests, held_parts}
@@ -14,33 +13,6 @@ use Rattle.timefd_explain.specs.Parts.{Part, description, described, all_parts, 
 use Rattle.timefd_explain.proofs.HeadLemmas.{ends_head, regrouped}
 use Rattle.timefd_explain.proofs.InsideLemmas.{Holds, held_trees, nesting_bracket, spelled_flat}
 use Rattle.timefd_explain.proofs.PartLemmas.{adds_none, adds_both, described_list}
-
--- what is spelled inside of a description is spelled outside too
-mutual
-  outer_pieces : (ps : Pieces) (v : DescriptionVersion) (limit n : ℕ)
-      → ArePieces v limit (suc n) ps → ArePieces v limit n ps
-  outer_pieces no_pieces v limit n are = tt
-  outer_pieces (run bytes rest) v limit n are =
-      (are.0, are.1, outer_pieces rest v limit n are.2)
-  outer_pieces (escape a b rest) v limit n are = (are.0, outer_pieces rest v limit n are.1)
-  outer_pieces (closing rest) v limit n are = absurd (omega (arith, are.1))
-  outer_pieces (bracket h ns white tree rest) v limit n are = (
-    are.0,
-    outer_nested ns v limit n are.1,
-    are.2,
-    are.3,
-    outer_pieces rest v limit n are.4,
-  )
-
-  outer_nested : (ns : Nested) (v : DescriptionVersion) (limit n : ℕ)
-      → AreNested v limit (suc n) ns → AreNested v limit n ns
-  outer_nested no_nested v limit n are = tt
-  outer_nested (nested white ps ns) v limit n are = (
-    are.0,
-    omega (arith, are.1),
-    outer_pieces ps v limit (suc n) are.2,
-    outer_nested ns v limit n are.3,
-  )
 
 -- the descriptions that are left, and the nodes of those before them
 pub record Nesting (d : ℕ) (t : Tree) (rest : Text) (old new : List Node) : Type 0 where

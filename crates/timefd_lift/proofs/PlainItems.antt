@@ -47,7 +47,7 @@ no-items (item ∷ items) e = absurd cc
 
 -- Item by item.
 
-first_left : (items : List BorrowedFormatItem) (at : ℕ) (x : BorrowedFormatItem) → at < length items
+pub first_left : (items : List BorrowedFormatItem) (at : ℕ) (x : BorrowedFormatItem) → at < length items
     → x ≡ get_or items at x → drop at items ≡ x ∷ drop (at + 1) items
 first_left items at x below is =
     let first : drop at items ≡ get_or items at x ∷ drop (at + 1) items =

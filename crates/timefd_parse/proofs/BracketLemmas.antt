@@ -268,7 +268,7 @@ inside_is rest inside inner behind e f = ap (drop 1) (sym e ∙ f)
 
 -- what is spelled inside of a description is spelled outside too
 mutual
-  outer_pieces : (ps : Pieces) (v : DescriptionVersion) (limit n : ℕ)
+  pub outer_pieces : (ps : Pieces) (v : DescriptionVersion) (limit n : ℕ)
       → ArePieces v limit (suc n) ps → ArePieces v limit n ps
   outer_pieces no_pieces v limit n are = tt
   outer_pieces (run bytes rest) v limit n are =

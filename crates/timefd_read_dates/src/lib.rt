@@ -21,3 +21,4 @@ pub use fault::{ReadError, Reason};
 pub use fields::{Fields, Fraction, NO_FIELDS, Signed};
 pub use leaves::leaves_in_turn;
 pub use read::{fill_fields, fill_item_fields, fill_leaf_fields, read_fields, read_item_fields};
+pub use reading::unit;

@@ -123,7 +123,7 @@ fn finer(a: Fraction, b: Fraction) -> Fraction
 }
 
 /// How many nanoseconds the last of so many digits counts.
-pub(crate) fn unit(digits: u16) -> u128
+pub fn unit(digits: u16) -> u128
     ensures value { result ≡ spec.unit digits }
     ensures some { 1 ≤ result }
     ensures small { result ≤ 10 ^ 9 }

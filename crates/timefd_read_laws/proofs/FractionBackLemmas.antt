@@ -18,7 +18,7 @@ use Rattle.timefd_read_dates.specs.Laws.{HasNoDigit}
 use Rattle.timefd_read_dates.specs.Numbers.{digits}
 use Rattle.timefd_read_dates.specs.Readings.{unit}
 use Rattle.timefd_read_dates.proofs.BackLemmas.{zeros_digits, zeros_value}
-use Rattle.timefd_read_laws.proofs.NumberLemmas.{digits_back}
+use Rattle.timefd_read_dates.proofs.EndedLemmas.{digits_back}
 
 -- values
 

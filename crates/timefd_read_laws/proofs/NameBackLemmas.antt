@@ -13,7 +13,7 @@ use Rattle.timefd_read_dates.specs.Inputs.{first_number}
 use Rattle.timefd_read_dates.specs.Numbers.{digits, within}
 use Rattle.timefd_read_dates.specs.Rules.{period_names}
 use Rattle.timefd_read_dates.proofs.BackLemmas.{in_range}
-use Rattle.timefd_read_laws.proofs.NumberLemmas.{digits_back}
+use Rattle.timefd_read_dates.proofs.EndedLemmas.{digits_back}
 
 -- what holds of each number below this
 abbrev Below : ℕ → (ℕ → Type 0) → Type 0

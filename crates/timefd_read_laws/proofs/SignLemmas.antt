@@ -1,49 +1,17 @@
 -- Numbers with a sign are read back.
-use Rattle.std.proofs.Common.{ℕ, ◌≡◌, ◌∙◌, ◌≤◌, ◌<◌, ◌+◌, ◌-◌, ◌^◌, ◌++◌, ◌==◌, inl, inr, zero, suc, Bool, true, false, []}
-use Rattle.std.proofs.Common.{◌∷◌, length, replicate, Some, None, cond, refl, ap, arith, length-append}
-use Rattle.std.proofs.lemmas.Fmt.{decimal_is_IsNumeral_wide}
-use Rattle.std.proofs.lemmas.Str.Parse.{digit_from_value}
-use Rattle.std.specs.Fmt.{decimal}
-use Rattle.std.specs.Str.Parse.{AllDigits}
+use Rattle.std.proofs.Common.{ℕ, ◌≡◌, ◌∙◌, ◌≤◌, ◌<◌, ◌+◌, ◌-◌, ◌^◌, ◌++◌, inl, inr, Bool, true, false}
+use Rattle.std.proofs.Common.{◌∷◌, length, Some, refl, ap, arith}
 use Rattle.timefd_component.specs.Texts.{filled}
 use Rattle.timefd_component.specs.Tree.{Text}
 use Rattle.timefd_format.specs.Fields.{sign_of, sign_text}
 use Rattle.timefd_modifier.specs.declared.enums.Padding.{Padding}
-use Rattle.timefd_read_dates.specs.Numbers.{behind, padded, sign_in, signed, signed_by, within}
+use Rattle.timefd_read_dates.specs.Numbers.{behind, padded, signed, signed_by, within}
 use Rattle.timefd_read_dates.specs.Numbers as numbers
-use Rattle.timefd_read_dates.proofs.BackLemmas.{in_range, wide, zeros_digits}
+use Rattle.timefd_read_dates.proofs.BackLemmas.{in_range, wide}
 use Rattle.timefd_read_moment.proofs.ShownLemmas.{clash}
 use Rattle.timefd_read_laws.specs.Shown.{with_sign}
-use Rattle.timefd_read_laws.proofs.NumberLemmas.{IsEnded, filled_back, unequal}
-
--- A number that was filled begins with no sign.
-
-no_sign : (text rest : Text) → 0 < length text → AllDigits 10 text → sign_in (text ++ rest) ≡ None
-no_sign [] rest some all = absurd (omega (arith, some))
-no_sign (c ∷ cs) rest some all =
-    let bounds = digit_from_value c all.0 in
-    ap (λ b. cond b (Some true) (cond (c == 43) (Some false) None))
-    (unequal c 45 (c == 45) refl (omega (arith, bounds.0)))
-    ∙ ap (λ b. cond b (Some false) None) (unequal c 43 (c == 43) refl (omega (arith, bounds.0)))
-
-no_sign_spaced : (k : ℕ) (text rest : Text) → 0 < length text → AllDigits 10 text
-    → sign_in (replicate k 32 ++ text ++ rest) ≡ None
-no_sign_spaced zero text rest some all = no_sign text rest some all
-no_sign_spaced (suc k) text rest some all = refl
-
-no_sign_filled : (padding : Padding) (width n : ℕ) (rest : Text) → n < 10 ^ 64
-    → sign_in (filled padding width n ++ rest) ≡ None
-no_sign_filled Padding.Zero width n rest small =
-    let k = width - length (decimal n) in
-    let of = decimal_is_IsNumeral_wide n small in
-    no_sign (replicate k 48 ++ decimal n) rest
-    (omega (arith, of.0.0, length-append (replicate k 48) (decimal n))) (zeros_digits k (decimal n) of.0.1)
-no_sign_filled Padding.Space width n rest small =
-    let of = decimal_is_IsNumeral_wide n small in
-    no_sign_spaced (width - length (decimal n)) (decimal n) rest of.0.0 of.0.1
-no_sign_filled Padding.None width n rest small =
-    let of = decimal_is_IsNumeral_wide n small in
-    no_sign (decimal n) rest of.0.0 of.0.1
+use Rattle.timefd_read_dates.proofs.EndedLemmas.{no_sign_filled}
+use Rattle.timefd_read_laws.proofs.NumberLemmas.{IsEnded, filled_back}
 
 -- the numbers of a form: a width, the most digits without a sign and with one, the greatest number
 pub record Has (w m s g n : ℕ) : Type 0 where

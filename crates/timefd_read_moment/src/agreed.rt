@@ -1,14 +1,13 @@
 //! Which parts of a moment are as they were read, beside a timestamp.
 
-ghost use Rattle.std.specs.Prelude.{◌≡◌, ◌≤◌};
-ghost use Rattle.timefd_read_dates.specs.Readings.{unit};
+ghost use Rattle.std.specs.Prelude.{◌≡◌};
 ghost use Rattle.timefd_read_moment.specs.Shown.{first_false};
 ghost use Rattle.timefd_read_moment.specs.Stamped as spec;
 
 use crate::part::{DatePart, InstantPart, OffsetPart, Part, TimePart};
 use crate::shown::{date_has, is_count, is_flag, is_shown, offset_has};
 use timefd_moment::{Date, Time, UnixTime, UtcOffset};
-use timefd_read_dates::{Fields, Fraction};
+use timefd_read_dates::{Fields, Fraction, unit};
 
 /// The first part of a moment that was read otherwise.
 pub(crate) fn contradiction(
@@ -106,25 +105,6 @@ fn has_digits(read: Option<Fraction>, nanosecond: u32) -> bool
             fraction.nanosecond / unit == nanosecond as u128 / unit
         }
         None => true,
-    }
-}
-
-/// How many nanoseconds the last of so many digits counts.
-fn unit(digits: u16) -> u128
-    ensures value { result ≡ unit digits }
-    ensures some { 1 ≤ result }
-{
-    match digits {
-        0 => 1_000_000_000,
-        1 => 100_000_000,
-        2 => 10_000_000,
-        3 => 1_000_000,
-        4 => 100_000,
-        5 => 10_000,
-        6 => 1_000,
-        7 => 100,
-        8 => 10,
-        _ => 1,
     }
 }
 

@@ -104,7 +104,8 @@ converted_placed layout comment line text string answer before behind (Ok o) is 
 converted_placed layout comment line text string answer before behind (Err e) is looked_at
     same_text means told = tt
 
-refused_for : (layout : Layout) (text : Text) (f : InvalidFormatDescription)
+-- An error that says that a text is refused has its fault.
+pub refused_for : (layout : Layout) (text : Text) (f : InvalidFormatDescription)
     → IsRefusal layout text (Invalid f) → IsRefusedFor layout text (fault_of f)
 refused_for (Least conversion) text f is = is
 refused_for (Normal conversion) text f is = is

@@ -1,25 +1,22 @@
 -- What one description is mended or converted to.
 use Rattle.std.proofs.Common.{ℕ, ◌≡◌, ◌≢◌, true, false, inl, inr, refl, sym, subst, ◌∙◌}
 use Rattle.std.specs.Prelude.{IsUtf8, Option, None, Some}
-use Rattle.std.specs.declared.alloc.Global.{Global}
-use Rattle.std.specs.declared.vec.Vec.{Vec}
 use Rattle.timefd_component.specs.Tree.{Text}
 use Rattle.timefd_fault.specs.declared.invalid_format_description.InvalidFormatDescription.{InvalidFormatDescription}
-use Rattle.timefd_fault.specs.Faults.{Fault, fault_of}
+use Rattle.timefd_fault.specs.Faults.{fault_of}
 use Rattle.timefd_language.specs.declared.parse_error.ParseError.{ParseError}
 use Rattle.timefd_language.specs.declared.parse_error.ParseError.TheVariants.{Invalid}
 use Rattle.timefd_rewrite.specs.declared.layout.Layout.{Layout}
-use Rattle.timefd_rewrite.specs.declared.layout.Layout.TheVariants.{Least, Normal, Fixed}
 use Rattle.timefd_rewrite.specs.Layouts.{IsConverted, IsRefusal, IsRefusedFor}
+use Rattle.timefd_rewrite.proofs.RewriteLemmas.{refused_for}
 use Rattle.timefd_sources.specs.declared.description.Description.{Description}
 use Rattle.timefd_sources.specs.Written.{IsBodyFor, has_body}
 use Rattle.timefd_lint_sources.specs.Judged.{text_of}
-use Rattle.timefd_rewrite_sources.specs.declared.answer.Anew.{Anew}
-use Rattle.timefd_rewrite_sources.specs.declared.answer.Answer.TheVariants.{Stays, Becomes}
+use Rattle.timefd_rewrite_sources.specs.declared.answer.Answer.TheVariants.{Stays}
 use Rattle.timefd_rewrite_sources.specs.declared.change.Change.{Change}
-use Rattle.timefd_rewrite_sources.specs.declared.outcome.Outcome.TheVariants.{PassedOver, Same, Rewritten, Refused, NotText, NotALiteral, ByHand}
+use Rattle.timefd_rewrite_sources.specs.declared.outcome.Outcome.TheVariants.{PassedOver, Same, Refused, NotText, NotALiteral, ByHand}
 use Rattle.timefd_rewrite_sources.specs.Changes.{layout_of, new_digit}
-use Rattle.timefd_rewrite_sources.specs.Written.{Becoming, IsAnswer, IsAnew, IsChange, IsLaidOutBy, is_sayable, items_of, line_ends, old_line_ends}
+use Rattle.timefd_rewrite_sources.specs.Written.{Becoming, IsAnswer, IsAnew, IsChange, IsLaidOutBy, is_sayable, line_ends, old_line_ends}
 
 pub passed_over : (change : Change) (source : Text) (d : Description) (text : Text) → text ≡ text_of d
     → layout_of change d.dialect text ≡ None → IsAnswer change source d (Stays PassedOver)
@@ -45,13 +42,6 @@ becoming change d layout text answer same by is = record {
   chosen = by;
   converted = subst (λ (t : Text). IsConverted layout t answer) same is;
 }
-
--- An error that says that a text is refused has its fault.
-refused_for : (layout : Layout) (text : Text) (f : InvalidFormatDescription) → IsRefusal layout text (Invalid f)
-    → IsRefusedFor layout text (fault_of f)
-refused_for (Least conversion) text f is = is
-refused_for (Normal conversion) text f is = is
-refused_for (Fixed language fixes) text f is = is
 
 pub refused : (change : Change) (source : Text) (d : Description) (layout : Layout) (text : Text) (e : ParseError)
     (f : InvalidFormatDescription) → IsLaidOutBy change d layout → text ≡ text_of d → IsUtf8 text → e ≡ Invalid f
