@@ -4,7 +4,7 @@
     bench/picture.py            writes the file
     bench/picture.py --check    fails where the file would change
 
-A bar is the time of a text, over that of the peer for the same text: 1 is as fast as the peer, and less is faster.
+A bar is the time of a call over a text, over that of its peer over the same text: 1 is as fast as the peer, and less is faster.
 """
 import pathlib
 import re
@@ -13,7 +13,8 @@ from xml.sax.saxutils import escape
 
 HERE = pathlib.Path(__file__).resolve().parent
 UNITS = {"ns": 1.0, "µs": 1000.0}
-COLOURS = ("#1f5fa8", "#5b9bd5", "#a9cbe8")
+COLOURS = ("#1f5fa8", "#5b9bd5", "#a9cbe8", "#c9c9c9")
+CALLS = ("`timefd_read`", "`parse_borrowed`", "the crate's `parse`", "counted")
 LEFT, UNIT, BAR, MOST = 250, 130, 11, 5.0
 
 
@@ -34,20 +35,20 @@ def nanoseconds(cell):
     return float(number) * UNITS[unit]
 
 
-def group(head, rows, readers, peer):
-    """For each row its text, and the time of each reader over that of the peer."""
+def group(head, rows, peers):
+    """For each row its text, and the time of each call over that of its peer."""
     for row in rows:
         cells = dict(zip(head, row))
-        yield cells[head[0]], [nanoseconds(cells[it]) / nanoseconds(cells[peer]) for it in readers]
+        yield cells[head[0]], [nanoseconds(cells[it]) / nanoseconds(cells[peer]) for it, peer in zip(CALLS, peers)]
 
 
-def draw(title, readers, lines, y):
+def draw(title, lines, y):
     out = f'<text class="title" x="10" y="{y}">{escape(title)}</text>'
     x = LEFT
-    for reader, colour in zip(readers, COLOURS):
+    for call, colour in zip(CALLS, COLOURS):
         out += f'<rect x="{x}" y="{y + 10}" width="12" height="12" fill="{colour}"/>'
-        out += f'<text x="{x + 18}" y="{y + 21}">{escape(reader)}</text>'
-        x += 130
+        out += f'<text x="{x + 18}" y="{y + 21}">{escape(call.replace("`", ""))}</text>'
+        x += 150
     y += 34
     top, bottom, bars = y, y + sum(BAR * len(ratios) + 9 for _, ratios in lines), ""
     for name, ratios in lines:
@@ -68,15 +69,15 @@ def draw(title, readers, lines, y):
 
 def picture(page):
     (first, first_rows), (second, second_rows), (_, measured) = tables(page)[:3]
-    versions, peer, counted = ["Version 1", "Version 2", "Version 3"], "`time`", "`chrono`, counted"
+    collected, counted = "`chrono`, in a `Vec`", "`chrono`, counted"
     when = {row[0]: row[1] for row in measured}
     note = "; ".join(when[it].replace("`", "") for it in ("Date", "Code", "Since") if it in when)
     out = f'<text class="note" x="10" y="20">{escape(note)}</text>'
-    bars = list(group(first, first_rows, versions, peer))
-    more, y = draw("Time over that of time 0.3.9 (1 is as fast, less is faster)", versions, bars, 44)
+    bars = list(group(first, first_rows, ["`time`"] * len(CALLS)))
+    more, y = draw("Version 1: time over that of time 0.3.9 (1 is as fast, less is faster)", bars, 44)
     out += more
-    bars = list(group(second, second_rows, ["Here"], counted))
-    more, y = draw("Strftime: time over that of chrono 0.4.23, which counts its items", ["strftime"], bars, y)
+    bars = list(group(second, second_rows, [collected] * (len(CALLS) - 1) + [counted]))
+    more, y = draw("Strftime: time over that of chrono 0.4.23, into a Vec, or counted as well", bars, y)
     style = (
         "text{font:13px sans-serif;fill:#111}.title{font-weight:bold}.row{text-anchor:end}.note{font-size:11px;fill:#555}"
         ".mark{text-anchor:middle;font-size:11px}.value{font-size:10px;paint-order:stroke;stroke:#fff;stroke-width:3px}"

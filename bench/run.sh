@@ -1,10 +1,14 @@
 #!/bin/sh
-# Builds the static library and times its readers, beside the crates `time` and `chrono` where Debian's packages of them
-# are installed. It takes samples for 16 seconds; with `--quick` for 1.5, which are less exact.
+# Times the four calls that read a text, beside the crates `time` and `chrono` where Debian's packages of them are installed: it builds
+# the static library, `parse_borrowed` as a library, and the crate for Rust. It takes samples for 30 seconds; with `--quick` for 3,
+# which are less exact.
 set -eu
 cd "$(dirname "$0")/.."
 
 (cd crates/timefd_c && rt lib --cpu x86-64)
+TIMEFD_LIB_DIR=$(packages/library)
+export TIMEFD_LIB_DIR
+bench/borrowed-library
 
 registry=/usr/share/cargo/registry
 folder=bench

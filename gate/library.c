@@ -472,9 +472,34 @@ static bool is_told(const struct told *told) {
            outcome.word[len] == '.' && short_of_room.nearest_len == len && short_of_room.nearest_written == 0;
 }
 
+/* Whether a text of each length has a byte seen that is no UTF-8, wherever it stands, and a letter of two bytes taken. */
+static bool sees_each_byte(void) {
+    enum { LONGEST = 200 };
+    uint8_t text[LONGEST];
+    for (size_t len = 1; len <= LONGEST; len++) {
+        for (size_t at = 0; at < len; at++) {
+            memset(text, 'a', len);
+            text[at] = 0x80;
+            bool is_seen = timefd_judge(TIMEFD_VERSION_1, text, len).status == TIMEFD_NOT_UTF8;
+            if (at > 0) {
+                text[at - 1] = 0xc3;
+            }
+            bool is_text = timefd_judge(TIMEFD_VERSION_1, text, len).status == TIMEFD_ACCEPTED;
+            if (!is_seen || is_text != (at > 0)) {
+                return false;
+            }
+        }
+    }
+    return true;
+}
+
 int main(void) {
     size_t failed = 0;
     size_t count = 0;
+    if (!sees_each_byte()) {
+        failed++;
+        fprintf(stderr, "gate/library: a byte that is no UTF-8\n");
+    }
     for (size_t i = 0; i < sizeof TOLD / sizeof TOLD[0]; i++) {
         if (!is_told(&TOLD[i])) {
             failed++;

@@ -1,6 +1,7 @@
-//! The time of a byte in texts of the same make and of growing size.
+//! The time of a byte in texts of the same make and of growing size, which are counted.
 
 use crate::kind::Kind;
+use crate::library::Call;
 use crate::measured::{Measured, Row};
 
 /// The sizes that are compared.
@@ -42,7 +43,7 @@ fn times(measured: &Measured, kind: Kind, family: &str) -> Option<[f64; 3]> {
     for (time, size) in times.iter_mut().zip(SIZES) {
         let is_it = |row: &&Row| row.text.family == Some((family, size)) && row.text.kinds.contains(&kind);
         let row = measured.rows.iter().find(is_it)?;
-        *time = row.judged(kind)? / row.bytes() as f64;
+        *time = row.time(Call::Judge, kind)? / row.bytes() as f64;
     }
     Some(times)
 }

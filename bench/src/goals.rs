@@ -1,14 +1,12 @@
-//! What is asked of the readers, and what was reached.
+//! What is asked of the calls, and what was reached.
 
 use crate::flatness::growths;
 use crate::kind::Kind;
-use crate::measured::{Measured, Pairs, Row};
+use crate::library::Call;
+use crate::measured::{Measured, Pairs};
+use crate::peer::Peer;
 
-/// How many times as fast as the reader of `time` versions 1 and 2 are.
-const BESIDE_TIME: f64 = 2.2;
-/// How many times as fast as the iterator of `chrono` strftime is.
-const BESIDE_CHRONO: f64 = 4.0;
-/// How many times the time of version 2 version 3 takes.
+/// How many times the time of version 2 version 3 takes, where nothing is built.
 const VERSION_3: f64 = 1.2;
 /// Gigabytes in a second of a literal of 100 kB.
 const LITERAL: f64 = 14.0;
@@ -19,32 +17,49 @@ const FLAT: f64 = 1.2;
 enum Asked {
     AtLeast(f64),
     AtMost(f64),
+    Nothing,
+}
+
+/// How many times as fast as a peer a call is to be.
+fn asked(call: Call, kind: Kind, peer: &Peer, is_long: bool) -> Asked {
+    match (call, kind, is_long) {
+        (Call::Read, Kind::One | Kind::Two, false) => Asked::AtLeast(2.2),
+        (Call::Read, Kind::One | Kind::Two, true) => Asked::AtLeast(2.0),
+        (Call::ParseBorrowed | Call::Judge, Kind::One | Kind::Two, _) => Asked::AtLeast(2.2),
+        (Call::ParseInRust, Kind::One, false) => Asked::AtLeast(1.3),
+        (Call::Judge, Kind::Strftime, _) if peer.answers_items => Asked::AtLeast(4.0),
+        _ => Asked::Nothing,
+    }
 }
 
 pub fn print(measured: &Measured) {
     println!("\n{:<64}{:>9}{:>9}", "goal", "asked", "reached");
-    for peer in measured.peers {
-        match peer.kind {
-            Kind::Strftime => print_beside(measured, Kind::Strftime, peer.name, BESIDE_CHRONO),
-            _ => {
-                print_beside(measured, Kind::One, peer.name, BESIDE_TIME);
-                print_beside(measured, Kind::Two, peer.name, BESIDE_TIME);
+    for call in Call::EVERY {
+        for peer in measured.peers {
+            for kind in kinds_beside(peer) {
+                print_beside(measured, call, kind, peer);
             }
         }
     }
-    print_version_3(measured);
-    print_nodes(measured);
+    for call in Call::EVERY {
+        print_version_3(measured, call);
+    }
     print_literal(measured);
     print_growth(measured);
 }
 
+/// The languages whose texts stand beside those of a peer.
+fn kinds_beside(peer: &Peer) -> Vec<Kind> {
+    Kind::EVERY.into_iter().filter(|kind| (*kind == Kind::Strftime) == (peer.kind == Kind::Strftime)).collect()
+}
+
 fn print_goal(name: &str, asked: Asked, reached: f64, note: &str) {
-    let (sign, bound, is_reached) = match asked {
-        Asked::AtLeast(bound) => (">=", bound, reached >= bound),
-        Asked::AtMost(bound) => ("<=", bound, reached <= bound),
+    let (words, verdict) = match asked {
+        Asked::AtLeast(bound) => (format!(">= {bound:.1}"), if reached >= bound { "yes" } else { "no" }),
+        Asked::AtMost(bound) => (format!("<= {bound:.1}"), if reached <= bound { "yes" } else { "no" }),
+        Asked::Nothing => (String::new(), ""),
     };
-    let verdict = if is_reached { "yes" } else { "no " };
-    println!("{name:<64}{:>9}{reached:>9.2}  {verdict}  {note}", format!("{sign} {bound:.1}"));
+    println!("{name:<64}{words:>9}{reached:>9.2}  {verdict:<3}  {note}");
 }
 
 fn note(pairs: &Pairs) -> String {
@@ -56,37 +71,21 @@ fn length(is_long: bool) -> &'static str {
     if is_long { "long" } else { "short" }
 }
 
-fn print_beside(measured: &Measured, kind: Kind, peer: &str, bound: f64) {
+fn print_beside(measured: &Measured, call: Call, kind: Kind, peer: &Peer) {
     for is_long in [false, true] {
-        let pairs = measured.pairs(is_long, |row| row.judged(kind), |row| row.peer(peer));
-        let name = format!("{}, times as fast as {peer}, {} {} texts", kind.label(), pairs.len(), length(is_long));
-        print_goal(&name, Asked::AtLeast(bound), pairs.of_sums(), &note(&pairs));
+        let pairs = measured.pairs(is_long, |row| row.time(call, kind), |row| row.peer(peer.name));
+        let texts = format!("{} {}", pairs.len(), length(is_long));
+        let name = format!("{}, {}, times as fast as {}, {texts}", call.label(), kind.label(), peer.name);
+        print_goal(&name, asked(call, kind, peer, is_long), pairs.of_sums(), &note(&pairs));
     }
 }
 
-fn print_version_3(measured: &Measured) {
+fn print_version_3(measured: &Measured, call: Call) {
     for is_long in [false, true] {
-        let two = |row: &Row| row.judged(Kind::Two);
-        let three = |row: &Row| row.judged(Kind::Three);
-        let pairs = measured.pairs(is_long, two, three);
-        let name = format!("version 3, times the time of version 2, {} {} texts", pairs.len(), length(is_long));
-        print_goal(&name, Asked::AtMost(VERSION_3), pairs.of_sums(), &note(&pairs));
-    }
-}
-
-/// The same of the call that writes nodes, for which no goal is set; and how often its time goes into that of `time`.
-fn print_nodes(measured: &Measured) {
-    for is_long in [false, true] {
-        let pairs = measured.pairs(is_long, |row| row.read(Kind::Two), |row| row.read(Kind::Three));
-        let name = format!("nodes of version 3, times version 2, {} {} texts", pairs.len(), length(is_long));
-        println!("{name:<64}{:>9}{:>9.2}       {}", "", pairs.of_sums(), note(&pairs));
-    }
-    for peer in measured.peers.iter().filter(|peer| peer.kind == Kind::One) {
-        for is_long in [false, true] {
-            let pairs = measured.pairs(is_long, |row| row.read(Kind::One), |row| row.peer(peer.name));
-            let name = format!("nodes of version 1, times as fast as {}, {}", peer.name, length(is_long));
-            println!("{name:<64}{:>9}{:>9.2}       {}", "", pairs.of_sums(), note(&pairs));
-        }
+        let pairs = measured.pairs(is_long, |row| row.time(call, Kind::Two), |row| row.time(call, Kind::Three));
+        let name = format!("{}, version 3 over version 2, {} {}", call.label(), pairs.len(), length(is_long));
+        let asked = if call == Call::Judge { Asked::AtMost(VERSION_3) } else { Asked::Nothing };
+        print_goal(&name, asked, pairs.of_sums(), &note(&pairs));
     }
 }
 
@@ -94,9 +93,9 @@ fn print_literal(measured: &Measured) {
     for kind in Kind::EVERY {
         for row in &measured.rows {
             if let Some(("literal", 100_000)) = row.text.family
-                && let Some(time) = row.judged(kind)
+                && let Some(time) = row.time(Call::Judge, kind)
             {
-                let name = format!("{}, a literal of 100 kB, GB/s", kind.label());
+                let name = format!("{}, {}, a literal of 100 kB, GB/s", Call::Judge.label(), kind.label());
                 let bytes = row.bytes() as f64;
                 let machine = format!("a copy {:.1}, a count {:.1}", bytes / row.copy, bytes / row.count);
                 print_goal(&name, Asked::AtLeast(LITERAL), bytes / time, &machine);
@@ -110,7 +109,7 @@ fn print_growth(measured: &Measured) {
         let growths = growths(measured).into_iter().filter(|growth| growth.kind == kind);
         let worst = growths.max_by(|a, b| a.factor().total_cmp(&b.factor()));
         if let Some(worst) = worst {
-            let name = format!("{}, ns for a byte, 100 kB over 1 kB, the worst", kind.label());
+            let name = format!("{}, {}, a byte, 100 kB over 1 kB, the worst", Call::Judge.label(), kind.label());
             print_goal(&name, Asked::AtMost(FLAT), worst.factor(), worst.family);
         }
     }

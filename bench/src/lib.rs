@@ -1,5 +1,5 @@
-//! Times the readers of format descriptions through their static library, beside the limits of the machine on the same
-//! bytes and beside other readers that a caller hands in.
+//! Times the calls that read format descriptions, beside the limits of the machine on the same bytes and beside other readers
+//! that a caller hands in.
 
 mod descriptions;
 mod flatness;
@@ -15,15 +15,15 @@ mod text;
 pub use kind::Kind;
 pub use peer::Peer;
 
-use library::Room;
+use library::{Call, Room};
 use measured::Measured;
 use sampling::{Task, Work, sample};
 use std::time::Duration;
 use text::Text;
 
 /// How long the samples take all together.
-const FULL: Duration = Duration::from_secs(16);
-const QUICK: Duration = Duration::from_millis(1500);
+const FULL: Duration = Duration::from_secs(30);
+const QUICK: Duration = Duration::from_secs(3);
 
 /// Measures all descriptions and prints what came of it. The argument `--quick` takes fewer samples.
 pub fn run(peers: &[Peer]) {
@@ -39,20 +39,22 @@ pub fn run(peers: &[Peer]) {
     goals::print(&measured);
 }
 
-/// Every text has to be a description in each language that it is measured in.
+/// Every call has to accept each text in each language that it is measured in.
 fn verify(texts: &[Text]) {
     let longest = texts.iter().map(|text| text.text.len()).max();
     let mut room = Room::new(longest.unwrap_or(0));
     for text in texts {
         for &kind in text.kinds {
-            assert!(
-                library::judge(kind, &text.text).is_accepted()
-                    && library::read(kind, &text.text, &mut room).is_written(),
-                "{} does not accept \"{}\": {:?}",
-                kind.label(),
-                text.name,
-                text.text
-            );
+            for call in Call::EVERY {
+                assert!(
+                    call.accepts(kind, &text.text, &mut room),
+                    "{} of {} does not accept \"{}\": {:?}",
+                    call.label(),
+                    kind.label(),
+                    text.name,
+                    text.text
+                );
+            }
         }
     }
 }
@@ -62,8 +64,7 @@ fn tasks<'a>(texts: &'a [Text], peers: &'a [Peer]) -> Vec<Task<'a>> {
     let mut tasks = Vec::new();
     for text in texts {
         for &kind in text.kinds {
-            tasks.push(Task::new(text, Work::Judge(kind)));
-            tasks.push(Task::new(text, Work::Read(kind)));
+            tasks.extend(Call::EVERY.map(|call| Task::new(text, Work::Call(call, kind))));
         }
         for peer in peers {
             if text.kinds.contains(&peer.kind) && (peer.read)(&text.text).is_some() {

@@ -1,13 +1,54 @@
-//! The static library of the readers.
+//! The calls that are timed: those of the library for C, `parse_borrowed` of the crates in Rattle, and `parse` of the crate for
+//! Rust.
 
 use crate::kind::Kind;
+use std::hint::black_box;
+use timefd::{FormatDescription, Language, Version};
+
+/// A call over a text of some language.
+#[derive(Clone, Copy, PartialEq, Eq)]
+pub enum Call {
+    /// `timefd_read`: the text's nodes are written into a buffer.
+    Read,
+    /// `parse_borrowed` in Rattle: items, or a description of version 3, which are dropped.
+    ParseBorrowed,
+    /// `FormatDescription::parse_in` in Rust: the tree, which is dropped.
+    ParseInRust,
+    /// `timefd_judge`: what the text holds is counted, and nothing is built.
+    Judge,
+}
+
+impl Call {
+    /// Those that answer a tree come first.
+    pub const EVERY: [Call; 4] = [Call::Read, Call::ParseBorrowed, Call::ParseInRust, Call::Judge];
+
+    pub fn label(self) -> &'static str {
+        match self {
+            Call::Read => "timefd_read",
+            Call::ParseBorrowed => "parse_borrowed",
+            Call::ParseInRust => "crate's parse",
+            Call::Judge => "timefd_judge",
+        }
+    }
+
+    /// Makes the call. Whether the text was accepted, and all of it written where something is.
+    #[inline(always)]
+    pub fn accepts(self, kind: Kind, text: &str, room: &mut Room) -> bool {
+        match self {
+            Call::Read => read(kind, text, room).is_written(),
+            Call::ParseBorrowed => parse_borrowed(kind, text),
+            Call::ParseInRust => parse_in_rust(kind, text),
+            Call::Judge => judge(kind, text).is_accepted(),
+        }
+    }
+}
 
 /// The status of a text that is a description.
 const ACCEPTED: u32 = 0;
 
 /// What the library says of a text.
 #[repr(C)]
-pub struct Answer {
+struct Answer {
     status: u32,
     value: usize,
     sentence_len: usize,
@@ -15,14 +56,14 @@ pub struct Answer {
 }
 
 impl Answer {
-    pub fn is_accepted(&self) -> bool {
+    fn is_accepted(&self) -> bool {
         self.status == ACCEPTED
     }
 }
 
 /// What the library says of a text whose nodes it writes.
 #[repr(C)]
-pub struct ReadAnswer {
+struct ReadAnswer {
     status: u32,
     value: usize,
     nodes: usize,
@@ -32,7 +73,7 @@ pub struct ReadAnswer {
 }
 
 impl ReadAnswer {
-    pub fn is_written(&self) -> bool {
+    fn is_written(&self) -> bool {
         self.status == ACCEPTED && self.written
     }
 }
@@ -40,7 +81,7 @@ impl ReadAnswer {
 /// A node, which nobody looks into here.
 #[repr(C, align(8))]
 #[derive(Clone, Copy)]
-pub struct Node([u8; 32]);
+struct Node([u8; 32]);
 
 /// Where the nodes and the literals of texts are written.
 pub struct Room {
@@ -70,18 +111,18 @@ unsafe extern "C" {
         literals: *mut u8,
         literal_room: usize,
     ) -> ReadAnswer;
+
+    fn timefd_parse_borrowed(kind: u32, text: *const u8, len: usize) -> bool;
 }
 
-/// Reads the text, counts what it holds, and answers without a sentence.
 #[inline(always)]
-pub fn judge(kind: Kind, text: &str) -> Answer {
+fn judge(kind: Kind, text: &str) -> Answer {
     // SAFETY: the pointer and the length are those of one slice, which is borrowed for the call.
     unsafe { timefd_judge(kind.number(), text.as_ptr(), text.len()) }
 }
 
-/// Reads the text and writes its nodes.
 #[inline(always)]
-pub fn read(kind: Kind, text: &str, room: &mut Room) -> ReadAnswer {
+fn read(kind: Kind, text: &str, room: &mut Room) -> ReadAnswer {
     let Room { nodes, literals } = room;
     let (node_room, literal_room) = (nodes.len(), literals.len());
     // SAFETY: each pointer and length are those of one slice, which is borrowed for the call, and `Node` has the size and
@@ -96,5 +137,25 @@ pub fn read(kind: Kind, text: &str, room: &mut Room) -> ReadAnswer {
             literals.as_mut_ptr(),
             literal_room,
         )
+    }
+}
+
+#[inline(always)]
+fn parse_borrowed(kind: Kind, text: &str) -> bool {
+    // SAFETY: the pointer and the length are those of one text in UTF-8, which is borrowed for the call.
+    unsafe { timefd_parse_borrowed(kind.number(), text.as_ptr(), text.len()) }
+}
+
+#[inline(always)]
+fn parse_in_rust(kind: Kind, text: &str) -> bool {
+    black_box(FormatDescription::parse_in(language(kind), text)).is_ok()
+}
+
+fn language(kind: Kind) -> Language {
+    match kind {
+        Kind::One => Language::Version(Version::One),
+        Kind::Two => Language::Version(Version::Two),
+        Kind::Three => Language::Version(Version::Three),
+        Kind::Strftime => Language::Strftime,
     }
 }

@@ -1,6 +1,7 @@
 //! What was measured, by text.
 
 use crate::kind::Kind;
+use crate::library::Call;
 use crate::peer::Peer;
 use crate::sampling::{Task, Work};
 use crate::text::Text;
@@ -8,22 +9,16 @@ use crate::text::Text;
 /// The medians of a text, in nanoseconds.
 pub struct Row<'a> {
     pub text: &'a Text,
-    judged: Vec<(Kind, f64)>,
-    read: Vec<(Kind, f64)>,
+    calls: Vec<(Call, Kind, f64)>,
     peers: Vec<(&'a str, f64)>,
     pub copy: f64,
     pub count: f64,
 }
 
 impl Row<'_> {
-    pub fn judged(&self, kind: Kind) -> Option<f64> {
-        let found = self.judged.iter().find(|(of, _)| *of == kind);
-        found.map(|(_, time)| *time)
-    }
-
-    pub fn read(&self, kind: Kind) -> Option<f64> {
-        let found = self.read.iter().find(|(of, _)| *of == kind);
-        found.map(|(_, time)| *time)
+    pub fn time(&self, call: Call, kind: Kind) -> Option<f64> {
+        let found = self.calls.iter().find(|(made, of, _)| (*made, *of) == (call, kind));
+        found.map(|(_, _, time)| *time)
     }
 
     pub fn peer(&self, name: &str) -> Option<f64> {
@@ -49,8 +44,7 @@ impl<'a> Measured<'a> {
             let row =
                 rows.iter_mut().find(|row| std::ptr::eq(row.text, task.text)).expect("each task has one of the texts");
             match task.work {
-                Work::Judge(kind) => row.judged.push((kind, task.median())),
-                Work::Read(kind) => row.read.push((kind, task.median())),
+                Work::Call(call, kind) => row.calls.push((call, kind, task.median())),
                 Work::Peer(peer) => row.peers.push((peer.name, task.median())),
                 Work::Copy => row.copy = task.median(),
                 Work::Count => row.count = task.median(),
@@ -72,7 +66,7 @@ impl<'a> Measured<'a> {
 }
 
 fn empty_row(text: &Text) -> Row<'_> {
-    Row { text, judged: Vec::new(), read: Vec::new(), peers: Vec::new(), copy: f64::NAN, count: f64::NAN }
+    Row { text, calls: Vec::new(), peers: Vec::new(), copy: f64::NAN, count: f64::NAN }
 }
 
 /// Two times for each of some texts.

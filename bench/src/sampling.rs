@@ -1,7 +1,7 @@
 //! Interleaved samples of short loops.
 
 use crate::kind::Kind;
-use crate::library::{self, Room};
+use crate::library::{Call, Room};
 use crate::peer::Peer;
 use crate::text::Text;
 use std::hint::black_box;
@@ -19,10 +19,8 @@ const LEAST_ROUNDS: usize = 3 * MOST_STRIDE;
 /// What is done with a text.
 #[derive(Clone, Copy)]
 pub enum Work<'a> {
-    /// The library says whether it is a description of a language.
-    Judge(Kind),
-    /// The library writes its nodes.
-    Read(Kind),
+    /// A call reads it in a language.
+    Call(Call, Kind),
     /// Another reader reads it.
     Peer(&'a Peer),
     /// Its bytes are copied.
@@ -87,8 +85,7 @@ impl<'a> Task<'a> {
         let Buffers { copied, room } = buffers;
         let start = Instant::now();
         match self.work {
-            Work::Judge(kind) => repeat(repetitions, || library::judge(kind, black_box(text))),
-            Work::Read(kind) => repeat(repetitions, || library::read(kind, black_box(text), room)),
+            Work::Call(call, kind) => repeat(repetitions, || call.accepts(kind, black_box(text), room)),
             Work::Peer(peer) => repeat(repetitions, || (peer.read)(black_box(text))),
             Work::Copy => repeat(repetitions, || copy(black_box(text), copied)),
             Work::Count => repeat(repetitions, || count(black_box(text))),

@@ -6,8 +6,8 @@ use timefd_bench::{Kind, Peer};
 
 fn main() {
     timefd_bench::run(&[
-        Peer { name: "time", kind: Kind::One, read: peers::read_by_time },
-        Peer { name: "chrono", kind: Kind::Strftime, read: peers::counted_by_chrono },
-        Peer { name: "chrono's Vec", kind: Kind::Strftime, read: peers::collected_from_chrono },
+        Peer { name: "time", kind: Kind::One, answers_items: true, read: peers::read_by_time },
+        Peer { name: "chrono", kind: Kind::Strftime, answers_items: false, read: peers::counted_by_chrono },
+        Peer { name: "chrono's Vec", kind: Kind::Strftime, answers_items: true, read: peers::collected_from_chrono },
     ]);
 }

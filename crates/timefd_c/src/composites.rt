@@ -4,7 +4,7 @@ ghost use Rattle.timefd_c.specs.Composites.{ReadsComposites};
 
 use crate::answer::{ACCEPTED, NO_MEMORY, NOT_UTF8, REFUSED, ReadAnswer};
 use timefd_c_nodes::Node;
-use timefd_c_read::read_composites;
+use timefd_c_read::{read_composites, text_of};
 use timefd_parse::BorrowedParseError;
 
 /// Says what `timefd_judge` says of a text of strftime, and writes its nodes and the bytes of its
@@ -18,7 +18,7 @@ pub extern "C" fn timefd_read_composites(
 ) -> ReadAnswer
     ensures reads { ReadsComposites text.now nodes.old nodes.new literals.old literals.new result }
 {
-    let Ok(text) = str::from_utf8(text) else {
+    let Ok(text) = text_of(text) else {
         return ReadAnswer::plain(NOT_UTF8, 0);
     };
     match read_composites(text, nodes, literals) {

@@ -6,6 +6,7 @@ ghost use Rattle.timefd_c.specs.Conversions.{ConvertsBetween, ConvertsTo};
 use crate::answer::{ACCEPTED, Answer, NO_CONVERSION, NOT_UTF8, UNKNOWN_KIND};
 use crate::whole::write_whole;
 use std::alloc::Global;
+use timefd_c_read::text_of;
 use timefd_convert::{Conversion, conversion_between, convert_by_borrowed};
 use timefd_parse::Language;
 
@@ -36,7 +37,7 @@ pub fn convert_between(
 fn convert_bytes(alloc: Global, conversion: Conversion, text: &[u8], buffer: &mut [u8]) -> Answer
     ensures converts { ConvertsTo conversion text.now buffer.old buffer.new result }
 {
-    let Ok(text) = str::from_utf8(text) else {
+    let Ok(text) = text_of(text) else {
         return Answer::plain(NOT_UTF8, 0);
     };
     match convert_by_borrowed(alloc, conversion, text) {

@@ -13,6 +13,7 @@ use crate::diagnosis::{Diagnosis, FaultFields};
 use crate::exports::timefd_check;
 use crate::numbers::from_number;
 use std::alloc::Global;
+use timefd_c_read::text_of;
 use timefd_parse::{BorrowedParseError, Language, NESTING_LIMIT, amount_all_borrowed};
 
 /// Says what `timefd_check` says, and of a refused text which fault it is, which bytes are at fault,
@@ -76,7 +77,7 @@ fn fault_in(alloc: Global, language: Option<Language>, bytes: &[u8], word: &mut 
     let Some(language) = language else {
         return FaultFields::none();
     };
-    let Ok(text) = str::from_utf8(bytes) else {
+    let Ok(text) = text_of(bytes) else {
         return FaultFields::none();
     };
     match amount_all_borrowed(alloc, language, NESTING_LIMIT, text) {

@@ -12,6 +12,7 @@ use crate::numbers::from_number;
 use crate::verdict::{Verdict, verdict_on};
 use crate::whole::write_whole;
 use std::alloc::Global;
+use timefd_c_read::text_of;
 use timefd_lift::{v1_to_v2_borrowed, v2_to_v3_borrowed};
 
 /// Says what the bytes are as a text of the language with this number: 1, 2 and 3 are the versions
@@ -67,7 +68,7 @@ pub extern "C" fn timefd_check(alloc: Global, kind: u32, text: &[u8], sentence: 
 pub extern "C" fn timefd_v1_to_v2(alloc: Global, text: &[u8], buffer: &mut [u8]) -> Answer
     ensures converts { Converts text.now buffer.old buffer.new result }
 {
-    let Ok(text) = str::from_utf8(text) else {
+    let Ok(text) = text_of(text) else {
         return Answer::plain(NOT_UTF8, 0);
     };
     match v1_to_v2_borrowed(alloc, text) {
@@ -87,7 +88,7 @@ pub extern "C" fn timefd_v1_to_v2(alloc: Global, text: &[u8], buffer: &mut [u8])
 pub extern "C" fn timefd_v2_to_v3(alloc: Global, text: &[u8], buffer: &mut [u8]) -> Answer
     ensures converts { Modernizes text.now buffer.old buffer.new result }
 {
-    let Ok(text) = str::from_utf8(text) else {
+    let Ok(text) = text_of(text) else {
         return Answer::plain(NOT_UTF8, 0);
     };
     match v2_to_v3_borrowed(alloc, text) {

@@ -10,6 +10,7 @@ use crate::moment::MomentFields;
 use crate::numbers::from_number;
 use crate::whole::write_bytes;
 use std::alloc::Global;
+use timefd_c_read::text_of;
 use timefd_format_text::{FormatTextError, format_text};
 use timefd_moment::Moment;
 use timefd_parse::Language;
@@ -44,7 +45,7 @@ fn format_by(
     let Some(language) = language else {
         return FormatAnswer::silent(UNKNOWN_KIND, 0);
     };
-    let Ok(text) = str::from_utf8(bytes) else {
+    let Ok(text) = text_of(bytes) else {
         return FormatAnswer::silent(NOT_UTF8, 0);
     };
     match format_text(alloc, language, text, moment) {

@@ -9,7 +9,7 @@ use crate::answer::{ACCEPTED, NO_MEMORY, NOT_UTF8, REFUSED, ReadAnswer, UNKNOWN_
 use crate::numbers::{from_number, limit_from};
 use std::alloc::Global;
 use timefd_c_nodes::Node;
-use timefd_c_read::read_within;
+use timefd_c_read::{read_within, text_of};
 use timefd_parse::{BorrowedParseError, NESTING_LIMIT};
 
 /// The number of this version, 0.2.0: a million for each major one, a thousand for each minor one.
@@ -76,7 +76,7 @@ fn read_bytes(
     let Some(language) = from_number(kind) else {
         return ReadAnswer::plain(UNKNOWN_KIND, 0);
     };
-    let Ok(text) = str::from_utf8(text) else {
+    let Ok(text) = text_of(text) else {
         return ReadAnswer::plain(NOT_UTF8, 0);
     };
     match read_within(alloc, language, limit, text, nodes, literals) {

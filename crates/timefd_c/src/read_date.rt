@@ -7,6 +7,7 @@ use crate::answer::{NOT_UTF8, UNKNOWN_KIND};
 use crate::date_answer::{DATE_NOT_UTF8, DateAnswer};
 use crate::numbers::from_number;
 use std::alloc::Global;
+use timefd_c_read::text_of;
 use timefd_parse::Language;
 use timefd_read_text::read_text;
 
@@ -25,10 +26,10 @@ fn read_by(alloc: Global, language: Option<Language>, text: &[u8], date: &[u8]) 
     let Some(language) = language else {
         return DateAnswer::silent(UNKNOWN_KIND, 0);
     };
-    let Ok(text) = str::from_utf8(text) else {
+    let Ok(text) = text_of(text) else {
         return DateAnswer::silent(NOT_UTF8, 0);
     };
-    let Ok(date) = str::from_utf8(date) else {
+    let Ok(date) = text_of(date) else {
         return DateAnswer::silent(DATE_NOT_UTF8, 0);
     };
     let read = read_text(alloc, language, text, date);

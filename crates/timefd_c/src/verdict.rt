@@ -10,6 +10,7 @@ ghost use Rattle.timefd_c.specs.Verdicts.{Says, Accepts, Refuses, IsAccepted};
 
 use crate::answer::{ACCEPTED, Answer, NO_MEMORY, NOT_UTF8, REFUSED, UNKNOWN_KIND};
 use std::alloc::Global;
+use timefd_c_read::text_of;
 use timefd_parse::{
     BorrowedFault, BorrowedParseError, Language, NESTING_LIMIT, amount_all_borrowed,
 };
@@ -67,7 +68,7 @@ pub fn verdict_on(alloc: Global, language: Option<Language>, bytes: &[u8]) -> Ve
     let Some(language) = language else {
         return Verdict::UnknownKind;
     };
-    let Ok(text) = str::from_utf8(bytes) else {
+    let Ok(text) = text_of(bytes) else {
         return Verdict::NotUtf8;
     };
     text_verdict(alloc, language, text)

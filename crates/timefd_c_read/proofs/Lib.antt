@@ -1,3 +1,4 @@
+pub mod AsciiLemmas
 pub mod PieceLemmas
 pub mod ProgressLemmas
 pub mod ReportLemmas

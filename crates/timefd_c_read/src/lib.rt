@@ -11,9 +11,11 @@ mod progress;
 mod reading;
 mod report;
 mod strftime;
+mod text;
 mod version;
 mod version_three;
 
 pub use composite::COMPOSITES;
 pub use reading::{read, read_composites, read_within};
 pub use report::Report;
+pub use text::text_of;

@@ -1,0 +1,80 @@
+//! The text that some bytes are.
+
+ghost use Rattle.std.specs.Prelude.{◌≡◌, ◌≤◌, ◌<◌, ◌+◌, ℕ, IsTrue, MatchResult, length, slice_index};
+ghost use Rattle.std.specs.Str.{IsAscii, IsUtf8};
+
+use std::simd::prelude::*;
+use std::str::Utf8Error;
+
+/// The text that these bytes are. The error is that they aren't UTF-8. It says what `str::from_utf8`
+/// does, and says so sooner of ASCII, which most formats are.
+#[inline(always)]
+pub fn text_of(bytes: &[u8]) -> Result<&str, Utf8Error>
+    ensures cases { MatchResult result (λ text. (text.now ≡ bytes.now) × IsUtf8 bytes.now)
+        (λ _. ¬ (IsUtf8 bytes.now)) }
+{
+    if is_ascii(bytes) {
+        // SAFETY: ASCII is UTF-8.
+        return Ok(unsafe { str::from_utf8_unchecked(bytes) });
+    }
+    str::from_utf8(bytes)
+}
+
+#[inline(always)]
+fn is_ascii(bytes: &[u8]) -> bool
+    ensures { IsTrue result → IsAscii bytes.now }
+{
+    let len = bytes.len();
+    if len < 8 {
+        return few_are_ascii(bytes);
+    }
+    if len < 16 {
+        return are_ascii::<8>(bytes, 0) && are_ascii::<8>(bytes, len - 8);
+    }
+    let far = front_of_ascii::<64>(bytes, 0);
+    let near = front_of_ascii::<16>(bytes, far);
+    len - near <= 16 && are_ascii::<16>(bytes, len - 16)
+}
+
+// Where bytes end of which each is ASCII: near the end, where all are.
+#[inline(always)]
+fn front_of_ascii<const N: usize>(bytes: &[u8], from: usize) -> usize
+    requires lanes { N ≤ 64 }
+    requires some { 1 ≤ N }
+    requires within { from ≤ length bytes.now }
+    requires front { (i : ℕ) → i < from → slice_index bytes.now i < 128 }
+    ensures within { result ≤ length bytes.now }
+    ensures front { (i : ℕ) → i < result → slice_index bytes.now i < 128 }
+{
+    let mut at = from;
+    'vectors: while bytes.len() - at > N {
+        if !are_ascii::<N>(bytes, at) {
+            return at;
+        }
+        at += N;
+    }
+    at
+}
+
+// Whether the `N` bytes at a place are ASCII.
+#[inline(always)]
+fn are_ascii<const N: usize>(bytes: &[u8], at: usize) -> bool
+    requires lanes { N ≤ 64 }
+    requires within { at + N ≤ length bytes.now }
+    ensures { IsTrue result → (i : ℕ) → i < N → slice_index bytes.now (at + i) < 128 }
+{
+    let next = Simd::<u8, N>::from_slice(&bytes[at..]);
+    !next.simd_ge(Simd::splat(128)).any()
+}
+
+// The same of all bytes, where they are too few for a vector.
+fn few_are_ascii(bytes: &[u8]) -> bool
+    ensures { IsTrue result → IsAscii bytes.now }
+{
+    for byte in bytes {
+        if *byte >= 128 {
+            return false;
+        }
+    }
+    true
+}
