@@ -74,6 +74,12 @@ if [ -d /usr/share/cargo/registry/time-0.3.9 ]; then
 else
     echo "run.sh: time 0.3.9 (librust-time-dev) is not installed, so bindings/rust/time is not tested"
 fi
+if [ -d /usr/share/cargo/registry/serde_derive-1.0.152 ] && [ -d /usr/share/cargo/registry/serde_json-1.0.87 ]; then
+    check_package ../bindings/rust/serde
+else
+    echo "run.sh: serde 1.0.152 (librust-serde-derive-dev) or serde_json 1.0.87 (librust-serde-json-dev) is not installed, so" \
+        "bindings/rust/serde is not tested"
+fi
 cp dates/target/debug/format out/format_rust
 cp dates/target/debug/read out/read_rust
 compare format_rust out/expected_format.txt dates.txt
