@@ -71,6 +71,17 @@ pub fn safe(alloc: Global, text: &str) -> Result<String, AllocError>
     text.chars().map(shown_char).collect(alloc)
 }
 
+/// The same of a text that is owned, which is kept where nothing of it is hidden.
+#[tactic(auto, using(crate::proofs::ShownLemmas::shown_as_it_is))]
+pub fn safe_string(alloc: Global, text: String) -> Result<String, AllocError>
+    ensures { IfOk result (λ shown. string_bytes shown ≡ spec.safe (string_bytes text)) }
+{
+    if are_printable(text.as_bytes()) {
+        return Ok(text);
+    }
+    safe(alloc, &text)
+}
+
 /// The columns that a text takes in a terminal once it is made safe.
 pub fn columns(alloc: Global, text: &str) -> Result<usize, AllocError>
     ensures value { IfOk result (λ columns.
@@ -111,6 +122,28 @@ pub fn cut_start(alloc: Global, text: &str, most: usize) -> Result<String, Alloc
     }
     let rest = chars_behind(alloc, text, count - most)?;
     format!(in alloc; "..{rest}")
+}
+
+/// The first characters of a text as a terminal may show them, with the same mark.
+pub fn shown_end(alloc: Global, text: &str, most: usize) -> Result<String, AllocError>
+    ensures { IfOk result (λ shown. string_bytes shown ≡ spec.safe (spec.cut_end most text.now)) }
+{
+    if char_count(text) <= most {
+        return safe(alloc, text);
+    }
+    let cut = cut_end(alloc, text, most)?;
+    safe(alloc, &cut)
+}
+
+/// The last characters of a text, likewise.
+pub fn shown_start(alloc: Global, text: &str, most: usize) -> Result<String, AllocError>
+    ensures { IfOk result (λ shown. string_bytes shown ≡ spec.safe (spec.cut_start most text.now)) }
+{
+    if char_count(text) <= most {
+        return safe(alloc, text);
+    }
+    let cut = cut_start(alloc, text, most)?;
+    safe(alloc, &cut)
 }
 
 fn first_chars(alloc: Global, text: &str, count: usize) -> Result<String, AllocError>
