@@ -2,6 +2,7 @@
 
 ghost use Rattle.std.specs.Prelude.{◌≡◌, ◌++◌, IfOk, OnOk, string_bytes};
 ghost use Rattle.timefd_drawing.specs.Drawing as spec;
+ghost use Rattle.timefd_drawing.specs.Lines as lines;
 
 use crate::help_text::help_text;
 use crate::lines::{
@@ -9,6 +10,7 @@ use crate::lines::{
     push_text_line,
 };
 use crate::position::{Line, Origin, line_of, position_of};
+use crate::rows::{carets, spaces};
 use crate::sentence::shown_sentence;
 use crate::shown::{shown_end, shown_start};
 use std::alloc::{AllocError, Global};
@@ -71,9 +73,12 @@ fn push_source(
     let before = shown_start(alloc, line.before, MOST_SHOWN)?;
     let at = shown_end(alloc, line.at, MOST_SHOWN)?;
     let behind = shown_end(alloc, line.behind, MOST_SHOWN)?;
-    push_source_of(
-        alloc, out, is_colored, number, margin, &before, &at, &behind,
-    )
+    let shown = Line {
+        before: &before,
+        at: &at,
+        behind: &behind,
+    };
+    push_source_of(alloc, out, is_colored, number, margin, shown)
 }
 
 fn push_source_of(
@@ -82,17 +87,36 @@ fn push_source_of(
     is_colored: bool,
     number: u64,
     margin: &str,
-    before: &str,
-    at: &str,
-    behind: &str,
+    line: Line<'_>,
 ) -> Result<(), AllocError>
     requires { margin.now ≡ spec.margin number }
     ensures { OnOk result (string_bytes out.new ≡ string_bytes out.old
-        ++ spec.source_of is_colored number before.now at.now behind.now) }
+        ++ spec.source_of is_colored number line.entry.before.now line.entry.at.now line.entry.behind.now) }
 {
-    let indent = " ".repeat(alloc, before.width())?;
-    let carets = "^".repeat(alloc, at.width().max(1))?;
+    let (indent, under) = (line.before.width(), line.at.width().max(1));
+    if let (Some(indent), Some(carets)) = (spaces(indent), carets(under)) {
+        return push_lines(out, is_colored, number, margin, line, indent, carets);
+    }
+    let indent = " ".repeat(alloc, indent)?;
+    let carets = "^".repeat(alloc, under)?;
+    push_lines(out, is_colored, number, margin, line, &indent, &carets)
+}
+
+fn push_lines(
+    out: &mut String,
+    is_colored: bool,
+    number: u64,
+    margin: &str,
+    line: Line<'_>,
+    indent: &str,
+    carets: &str,
+) -> Result<(), AllocError>
+    ensures { OnOk result (string_bytes out.new ≡ string_bytes out.old
+        ++ (lines.bar_line is_colored margin.now
+        ++ (lines.text_line is_colored number line.entry.before.now line.entry.at.now line.entry.behind.now
+        ++ lines.caret_line is_colored margin.now indent.now carets.now))) }
+{
     push_bar_line(out, is_colored, margin)?;
-    push_text_line(out, is_colored, number, before, at, behind)?;
-    push_caret_line(out, is_colored, margin, &indent, &carets)
+    push_text_line(out, is_colored, number, line.before, line.at, line.behind)?;
+    push_caret_line(out, is_colored, margin, indent, carets)
 }

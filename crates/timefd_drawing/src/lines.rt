@@ -41,6 +41,9 @@ pub fn push_error_line(
     ensures { OnOk result (string_bytes out.new ≡ string_bytes out.old
         ++ spec.error_line is_colored code.now sentence.now) }
 {
+    if !is_colored {
+        return write!(out, "error[{code}]: {sentence}\n");
+    }
     let (red, plain) = (red(is_colored), plain(is_colored));
     write!(out, "{red}error[{code}]{plain}: {sentence}\n")
 }
@@ -57,9 +60,12 @@ pub fn push_place_line(
     ensures { OnOk result (string_bytes out.new ≡ string_bytes out.old
         ++ spec.place_line is_colored margin.now file.now place.line place.column) }
 {
-    let (blue, plain) = (blue(is_colored), plain(is_colored));
     let file = safe(alloc, file)?;
     let Position { line, column } = place;
+    if !is_colored {
+        return write!(out, "{margin}--> {file}:{line}:{column}\n");
+    }
+    let (blue, plain) = (blue(is_colored), plain(is_colored));
     write!(out, "{margin}{blue}-->{plain} {file}:{line}:{column}\n")
 }
 
@@ -68,6 +74,9 @@ pub fn push_bar_line(out: &mut String, is_colored: bool, margin: &str) -> Result
     ensures { OnOk result (string_bytes out.new ≡ string_bytes out.old
         ++ spec.bar_line is_colored margin.now) }
 {
+    if !is_colored {
+        return write!(out, "{margin} |\n");
+    }
     let (blue, plain) = (blue(is_colored), plain(is_colored));
     write!(out, "{margin} {blue}|{plain}\n")
 }
@@ -84,6 +93,9 @@ pub fn push_text_line(
     ensures { OnOk result (string_bytes out.new ≡ string_bytes out.old
         ++ spec.text_line is_colored number before.now at.now behind.now) }
 {
+    if !is_colored {
+        return write!(out, "{number} | {before}{at}{behind}\n");
+    }
     let (blue, plain) = (blue(is_colored), plain(is_colored));
     write!(out, "{blue}{number} |{plain} {before}{at}{behind}\n")
 }
@@ -99,6 +111,9 @@ pub fn push_caret_line(
     ensures { OnOk result (string_bytes out.new ≡ string_bytes out.old
         ++ spec.caret_line is_colored margin.now indent.now carets.now) }
 {
+    if !is_colored {
+        return write!(out, "{margin} | {indent}{carets}\n");
+    }
     let (red, blue, plain) = (red(is_colored), blue(is_colored), plain(is_colored));
     write!(
         out,
@@ -116,6 +131,9 @@ fn push_help_line(
     ensures { OnOk result (string_bytes out.new ≡ string_bytes out.old
         ++ spec.help_line is_colored margin.now help.now) }
 {
+    if !is_colored {
+        return write!(out, "{margin} = help: {help}\n");
+    }
     let (blue, plain) = (blue(is_colored), plain(is_colored));
     write!(out, "{margin} {blue}={plain} help: {help}\n")
 }
