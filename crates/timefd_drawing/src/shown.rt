@@ -1,6 +1,6 @@
 //! Texts as a terminal may show them.
 
-ghost use Rattle.std.specs.Prelude.{◌≡◌, ◌<◌, ◌-◌, ◌^◌, chars, drop, false, IfOk, length, string_bytes, take};
+ghost use Rattle.std.specs.Prelude.{◌≡◌, ◌<◌, ◌-◌, ◌^◌, ◌++◌, chars, drop, false, IfOk, length, OnOk, string_bytes, take};
 ghost use Rattle.std.specs.List.{list_all};
 ghost use Rattle.std.specs.Str.{encode_utf8_all};
 ghost use Rattle.timefd_drawing.specs.Shown as spec;
@@ -80,6 +80,18 @@ pub fn safe_string(alloc: Global, text: String) -> Result<String, AllocError>
         return Ok(text);
     }
     safe(alloc, &text)
+}
+
+/// Appends what stands for a text to a string.
+#[tactic(auto, using(crate::proofs::ShownLemmas::shown_as_it_is))]
+pub fn push_safe(alloc: Global, out: &mut String, text: &str) -> Result<(), AllocError>
+    ensures { OnOk result (string_bytes out.new ≡ string_bytes out.old ++ spec.safe text.now) }
+{
+    if are_printable(text.as_bytes()) {
+        return out.push_str(text);
+    }
+    let shown = safe(alloc, text)?;
+    out.push_str(&shown)
 }
 
 /// The columns that a text takes in a terminal once it is made safe.
