@@ -16,7 +16,10 @@ use timefd_drawing::Origin;
 use timefd_drawing::shown::push_safe;
 use timefd_parse::Language;
 
-// Room for the lines of a short text.
+// Room for the nodes of a short text.
+const NODES: usize = 8;
+
+// Room for its lines.
 const ROOM: usize = 512;
 
 /// What is shown of a text.
@@ -45,7 +48,7 @@ pub fn explanation_of(
     // Each node, however deep, has its example.
     ensures examples { IfOk result (λ found. Examples found.nodes.items) }
 {
-    let mut nodes = Vec::new(alloc);
+    let mut nodes = Vec::with_capacity(alloc, NODES)?;
     let bytes = push_pieces(alloc, &mut nodes, language, 0, 0, text)?;
     Ok(Explanation { nodes, bytes })
 }
