@@ -17,7 +17,7 @@ edit_behind : (c : ℕ) (a b : List ℕ) → IsEdit a b → IsEdit (c ∷ a) (c 
 edit_behind c a b e =
     (c ∷ e.0, e.1, e.2, e.3, e.4, ap (λ l. c ∷ l) e.5, ap (λ l. c ∷ l) e.6)
 
-made_behind : (n c : ℕ) (a b : List ℕ) → IsMadeBy n a b → IsMadeBy n (c ∷ a) (c ∷ b)
+pub made_behind : (n c : ℕ) (a b : List ℕ) → IsMadeBy n a b → IsMadeBy n (c ∷ a) (c ∷ b)
 made_behind zero c a b e = ap (λ l. c ∷ l) e
 made_behind (suc n) c a b (m, edit, rest) =
     (c ∷ m, edit_behind c a m edit, made_behind n c m b rest)

@@ -8,5 +8,6 @@ pub mod WayLemmas
 pub mod EditLemmas
 pub mod DistanceLemmas
 pub mod LackingLemmas
+pub mod FewLemmas
 pub mod ModifierPlaceLemmas
 pub mod FurtherLemmas

@@ -1,5 +1,5 @@
 -- How many edits lead from one word to another.
-use Rattle.std.specs.Prelude.{ℕ, zero, suc, ◌≡◌, ◌≤◌, List, [], ◌∷◌, ◌++◌}
+use Rattle.std.specs.Prelude.{ℕ, zero, suc, ◌≡◌, ◌≤◌, ◌<◌, List, [], ◌∷◌, ◌++◌}
 
 -- What one edit makes of the characters at a place: one is put in, taken away or replaced, or two
 -- neighbours are swapped.
@@ -24,3 +24,9 @@ IsMadeBy (suc n) a b = (c : List ℕ) × IsEdit a c × IsMadeBy n c b
 pub record IsDistance (a b : List ℕ) (n : ℕ) : Type 0 where
   pub made : IsMadeBy n a b
   pub least : (m : ℕ) → IsMadeBy m a b → n ≤ m
+
+-- So many edits make the second of the first, and no fewer do; two where it takes more than one.
+pub record IsFew (a b : List ℕ) (n : ℕ) : Type 0 where
+  pub made : n < 2 → IsMadeBy n a b
+  pub least : (m : ℕ) → IsMadeBy m a b → n ≤ m
+  pub few : n ≤ 2

@@ -2,6 +2,7 @@ pub mod Spans
 pub mod Words
 pub mod Edits
 pub mod Nearest
+pub mod Few
 pub mod Places
 pub mod Codes
 pub mod Advice

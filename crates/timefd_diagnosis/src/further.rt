@@ -96,7 +96,11 @@ fn with_spaces(alloc: Global, text: &str, sides: Sides<'_>) -> Result<String, Al
         .saturating_sub(before.len())
         .saturating_sub(behind.len());
     let spaces = " ".repeat(alloc, len)?;
-    format!(in alloc; "{before}{spaces}{behind}")
+    let mut left = String::with_capacity(alloc, text.len())?;
+    left.push_str(before)?;
+    left.push_str(&spaces)?;
+    left.push_str(behind)?;
+    Ok(left)
 }
 
 // What begins the stretch that is left out for a fault, if one is.

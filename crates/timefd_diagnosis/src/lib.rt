@@ -5,6 +5,7 @@
 mod code;
 mod cure;
 mod diagnostic;
+mod few;
 mod further;
 mod help;
 pub mod laws;

@@ -7,6 +7,7 @@ ghost use Rattle.timefd_diagnosis.specs.Nearest as spec;
 ghost use Rattle.timefd_diagnosis.specs.Nearest.{IsNearest, IsNext, IsSoFar};
 ghost use Rattle.timefd_diagnosis.specs.Words.{texts};
 
+use crate::few::few_edits;
 use std::alloc::{AllocError, Global};
 use strsim::damerau_levenshtein;
 
@@ -73,6 +74,9 @@ fn next_best(
     requires { count ≡ length (chars word.now) }
     ensures { IfOk result (IsNext word.now best candidate.entry) }
 {
+    if best.edits <= 2 {
+        return Ok(next_few(word, best, candidate));
+    }
     if count.abs_diff(char_count(candidate)) >= best.edits {
         return Ok(best);
     }
@@ -87,6 +91,22 @@ fn next_best(
         })
     } else {
         Ok(best)
+    }
+}
+
+// The same where the best is two edits away at most, which takes no memory.
+fn next_few(word: &str, best: Best, candidate: &'static str) -> Best
+    requires { best.edits ≤ 2 }
+    ensures { IsNext word.now best candidate.entry result }
+{
+    let few = few_edits(word, candidate);
+    if few < best.edits {
+        Best {
+            edits: few,
+            found: Some(candidate),
+        }
+    } else {
+        best
     }
 }
 

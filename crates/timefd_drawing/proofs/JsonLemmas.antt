@@ -1,18 +1,19 @@
 -- What JSON writes of a text holds no hidden character.
-use Rattle.std.proofs.Common.{ℕ, ◌≡◌, ◌<◌, ◌≤◌, ◌+◌, ◌-◌, ◌/◌, ◌%◌, true, false, nat_lt, not, ◌==◌, ◌||◌, List, [], ◌∷◌, ◌++◌, chars, codes, flat_map, refl, sym, ap, subst, ◌∙◌, inl, inr, arith, ltb-true, eqb-true, get_or, IsUtf8}
-use Rattle.std.proofs.lemmas.Bool.{cases_Bool}
+use Rattle.std.proofs.Common.{Bool, true≢false, ℕ, ◌≡◌, ◌<◌, ◌≤◌, ◌+◌, ◌-◌, ◌/◌, ◌%◌, true, false, nat_lt, not, ◌==◌, ◌||◌, List, [], ◌∷◌, ◌++◌, chars, codes, flat_map, refl, sym, ap, subst, ◌∙◌, inl, inr, arith, ltb-true, eqb-true, get_or, IsUtf8}
+use Rattle.std.proofs.lemmas.Bool.{and_parts, cases_Bool}
 use Rattle.std.proofs.lemmas.Bool.Decides.{nat_tests}
 use Rattle.std.proofs.lemmas.List.{append-nil}
 use Rattle.std.proofs.lemmas.List.FromFn.{get_or-range_with_len, length-range_with_len}
 use Rattle.std.proofs.lemmas.List.Sums.{AllPass-from_list_all}
-use Rattle.std.proofs.lemmas.Str.{chars-encodes, encode_ascii, encodes-append, scalars-chars}
+use Rattle.std.proofs.lemmas.Str.{chars-IsAscii, chars-encodes, encode_ascii, encodes-append, scalars-chars}
+use Rattle.std.specs.Prelude.{if◌then◌else◌}
 use Rattle.std.specs.Char.{encode_utf8}
 use Rattle.std.specs.List.{list_all, range_with_len}
 use Rattle.std.specs.Str.{NonePass, all_scalars, encode_utf8_all}
 use Rattle.timefd_component.specs.Tree.{Text}
-use Rattle.timefd_drawing.specs.Json.{NoneIsHiddenInJson, all_escaped, escaped, hex_digit, quoted, unit, units}
-use Rattle.timefd_drawing.specs.Shown.{is_hidden}
-use Rattle.timefd_drawing.proofs.ShownLemmas.{first_scalar, joined, not_true, other_scalars, prints}
+use Rattle.timefd_drawing.specs.Json.{NoneIsHiddenInJson, all_escaped, escaped, hex_digit, is_plain, quoted, unit, units}
+use Rattle.timefd_drawing.specs.Shown.{is_hidden, is_printable}
+use Rattle.timefd_drawing.proofs.ShownLemmas.{all_ascii, bounds, first_scalar, joined, not_true, other_scalars, prints}
 
 -- the bytes spell characters of which none is hidden
 record IsClear (bytes : Text) : Type 0 where
@@ -134,3 +135,29 @@ read bytes is =
 
 pub none_is_hidden_in_json : NoneIsHiddenInJson
 none_is_hidden_in_json text utf8 = read (quoted text) (quoted_clear text utf8)
+
+plain_parts : (x y : Bool) → (if x then false else y) ≡ true → (x ≡ false) × (y ≡ true)
+plain_parts true y e = absurd (true≢false (sym e))
+plain_parts false y e = (refl, e)
+
+plain_prints : (text : Text) → list_all is_plain text ≡ true → list_all is_printable text ≡ true
+plain_prints [] are = refl
+plain_prints (b ∷ bytes) are =
+    let parts = and_parts (is_plain b) (list_all is_plain bytes) are in
+    rw (plain_parts ((b == 34) || (b == 92)) (is_printable b) parts.0).1 (plain_prints bytes parts.1)
+
+plain_escaped : (text : Text) → list_all is_plain text ≡ true → flat_map escaped text ≡ text
+plain_escaped [] are = refl
+plain_escaped (b ∷ bytes) are =
+    let parts = and_parts (is_plain b) (list_all is_plain bytes) are in
+    let one = plain_parts ((b == 34) || (b == 92)) (is_printable b) parts.0 in
+    let ends = bounds b one.1 in
+    let first : escaped b ≡ b ∷ [] =
+    rw one.0 (rw (prints b ends.0 ends.1) (encode_ascii b (omega (arith, ends.1)))) in
+    ap (λ t. t ++ flat_map escaped bytes) first ∙ ap (λ t. b ∷ t) (plain_escaped bytes parts.1)
+
+-- What prints, and is no quote and no backslash, stands in quotes as it is.
+pub plain_as_it_is : (text : Text) → list_all is_plain text ≡ true → all_escaped text ≡ text
+plain_as_it_is text are =
+    ap (flat_map escaped) (chars-IsAscii text (all_ascii text (plain_prints text are))) ∙
+    plain_escaped text are

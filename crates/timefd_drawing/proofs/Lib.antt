@@ -4,3 +4,4 @@ pub mod DrawLemmas
 pub mod JsonLemmas
 pub mod SarifLemmas
 pub mod GithubLemmas
+pub mod RowLemmas

@@ -102,13 +102,13 @@ itself c low high =
     let other : (c == 0x7F) ≡ false = grind (arith, nat_tests) in
     rw (le-ltb c 0x20 low) (rw other (rw (prints c low high) refl))
 
-bounds : (c : ℕ) → is_printable c ≡ true → (0x20 ≤ c) × (c < 0x7F)
+pub bounds : (c : ℕ) → is_printable c ≡ true → (0x20 ≤ c) × (c < 0x7F)
 bounds c is =
     let parts = and_parts (nat_le 0x20 c) (nat_le c 0x7E) is in
     let high : c ≤ 0x7E = leb-true c 0x7E parts.1 in
     (leb-true 0x20 c parts.0, omega arith)
 
-all_ascii : (text : Text) → list_all is_printable text ≡ true → IsAscii text
+pub all_ascii : (text : Text) → list_all is_printable text ≡ true → IsAscii text
 all_ascii [] are = IsAscii-nil
 all_ascii (b ∷ bytes) are =
     let parts = and_parts (is_printable b) (list_all is_printable bytes) are in

@@ -5,7 +5,7 @@ use Rattle.std.specs.Str.{IsUtf8, NonePass}
 use Rattle.timefd_component.specs.Tree.{Text}
 use Rattle.timefd_drawing.specs.declared.json.Entry.{Entry}
 use Rattle.timefd_drawing.specs.declared.json.Detail.{Detail}
-use Rattle.timefd_drawing.specs.Shown.{is_hidden}
+use Rattle.timefd_drawing.specs.Shown.{is_hidden, is_printable}
 
 abbrev pub hex_digit : ℕ → ℕ
 hex_digit n = if nat_lt n 10 then 48 + n else 97 + (n - 10)
@@ -28,6 +28,10 @@ escaped c =
     if (c == 34) || (c == 92) then 92 ∷ c ∷ []
     else if is_hidden c then units c
     else encode_utf8 c
+
+-- a byte that stands in quotes as it is
+abbrev pub is_plain : ℕ → Bool
+is_plain b = if (b == 34) || (b == 92) then false else is_printable b
 
 abbrev pub all_escaped : Text → Text
 all_escaped text = flat_map escaped (chars text)

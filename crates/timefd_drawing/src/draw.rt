@@ -8,7 +8,7 @@ use crate::github::{Command, annotation};
 use crate::help_text::help_text;
 use crate::human::human;
 use crate::json::{Detail, Entry, note_object, object};
-use crate::lines::{error_line, place_line, short_line};
+use crate::lines::{push_error_line, push_place_line, short_line};
 use crate::position::{Origin, Position, position_of};
 use crate::sarif::note_result;
 use crate::sentence::told_sentence;
@@ -254,7 +254,9 @@ fn human_note(
     ensures { IfOk result (λ drawing. string_bytes drawing
         ≡ spec.human_note is_colored file.now place.line place.column code.now message.now) }
 {
-    let error = error_line(alloc, is_colored, code, message)?;
-    let arrow = place_line(alloc, is_colored, " ", file, place)?;
-    format!(in alloc; "{error}{arrow}\n")
+    let mut out = String::new(alloc);
+    push_error_line(&mut out, is_colored, code, message)?;
+    push_place_line(alloc, &mut out, is_colored, " ", file, place)?;
+    out.push_str("\n")?;
+    Ok(out)
 }

@@ -7,6 +7,9 @@ use std::alloc::{AllocError, Global};
 use timefd_diagnosis::Help;
 use timefd_diagnosis::place::Place;
 
+// Room for most of what helps.
+const ROOM: usize = 48;
+
 /// The help in words. An `Err` says that memory ran out.
 pub fn help_text(alloc: Global, help: Help) -> Result<String, AllocError>
     ensures { IfOk result (λ text. string_bytes text ≡ spec.help_text help) }
@@ -18,7 +21,9 @@ pub fn help_text(alloc: Global, help: Help) -> Result<String, AllocError>
             ..
         } => {
             let subject = subject(place);
-            format!(in alloc; "the nearest {subject} is `{word}`")
+            let mut text = String::with_capacity(alloc, ROOM)?;
+            write!(text, "the nearest {subject} is `{word}`")?;
+            Ok(text)
         }
         Help::Words {
             place,

@@ -1,19 +1,27 @@
 //! A diagnostic as it is drawn.
 
-ghost use Rattle.std.specs.Prelude.{◌≡◌, IfOk, string_bytes};
+ghost use Rattle.std.specs.Prelude.{◌≡◌, ◌++◌, IfOk, OnOk, string_bytes};
 ghost use Rattle.timefd_drawing.specs.Drawing as spec;
+ghost use Rattle.timefd_drawing.specs.Lines as lines;
 
 use crate::help_text::help_text;
-use crate::lines::{bar_line, caret_line, error_line, help_lines, place_line, text_line};
+use crate::lines::{
+    push_bar_line, push_caret_line, push_error_line, push_help_lines, push_place_line,
+    push_text_line,
+};
 use crate::position::{Line, Origin, line_of, position_of};
+use crate::rows::{carets, spaces};
 use crate::sentence::shown_sentence;
-use crate::shown::{cut_end, cut_start, safe};
+use crate::shown::{shown_end, shown_start};
 use std::alloc::{AllocError, Global};
 use timefd_diagnosis::{Diagnostic, code_of};
 use unicode_width::UnicodeWidthStr;
 
 // The most characters that are shown of what stands before a span, of the span, and behind it.
 const MOST_SHOWN: usize = 40;
+
+// Room for the drawing of a short line.
+const ROOM: usize = 256;
 
 /// The drawing. An `Err` says that memory ran out.
 pub fn human(
@@ -30,17 +38,15 @@ pub fn human(
     let place = position_of(alloc, origin.line, text, diagnostic.span.start)?;
     let margin = margin(alloc, place.line)?;
     let sentence = shown_sentence(alloc, &diagnostic.fault)?;
-    let error = error_line(alloc, is_colored, code_of(&diagnostic.fault), &sentence)?;
-    let arrow = place_line(alloc, is_colored, &margin, origin.file, place)?;
-    let source = source(
-        alloc,
-        is_colored,
-        place.line,
-        line_of(text, diagnostic.span),
-    )?;
     let words = help_text(alloc, diagnostic.help)?;
-    let help = help_lines(alloc, is_further, is_colored, &margin, &words)?;
-    format!(in alloc; "{error}{arrow}{source}{help}\n")
+    let line = line_of(text, diagnostic.span);
+    let mut out = String::with_capacity(alloc, ROOM)?;
+    push_error_line(&mut out, is_colored, code_of(&diagnostic.fault), &sentence)?;
+    push_place_line(alloc, &mut out, is_colored, &margin, origin.file, place)?;
+    push_source(alloc, &mut out, is_colored, place.line, &margin, line)?;
+    push_help_lines(&mut out, is_further, is_colored, &margin, &words)?;
+    out.push_str("\n")?;
+    Ok(out)
 }
 
 // As many spaces as the number of a line has digits.
@@ -52,40 +58,65 @@ fn margin(alloc: Global, line: u64) -> Result<String, AllocError>
 }
 
 // The line with the span, and carets under the span. Each part is cut where it is long.
-fn source(
+fn push_source(
     alloc: Global,
+    out: &mut String,
     is_colored: bool,
     number: u64,
+    margin: &str,
     line: Line<'_>,
-) -> Result<String, AllocError>
-    ensures { IfOk result (λ source. string_bytes source ≡ spec.source is_colored number
-        line.entry.before.now line.entry.at.now line.entry.behind.now) }
+) -> Result<(), AllocError>
+    requires { margin.now ≡ spec.margin number }
+    ensures { OnOk result (string_bytes out.new ≡ string_bytes out.old
+        ++ spec.source is_colored number line.entry.before.now line.entry.at.now line.entry.behind.now) }
 {
-    let before = cut_start(alloc, line.before, MOST_SHOWN)?;
-    let at = cut_end(alloc, line.at, MOST_SHOWN)?;
-    let behind = cut_end(alloc, line.behind, MOST_SHOWN)?;
-    let before = safe(alloc, &before)?;
-    let at = safe(alloc, &at)?;
-    let behind = safe(alloc, &behind)?;
-    source_of(alloc, is_colored, number, &before, &at, &behind)
+    let before = shown_start(alloc, line.before, MOST_SHOWN)?;
+    let at = shown_end(alloc, line.at, MOST_SHOWN)?;
+    let behind = shown_end(alloc, line.behind, MOST_SHOWN)?;
+    let shown = Line {
+        before: &before,
+        at: &at,
+        behind: &behind,
+    };
+    push_source_of(alloc, out, is_colored, number, margin, shown)
 }
 
-fn source_of(
+fn push_source_of(
     alloc: Global,
+    out: &mut String,
     is_colored: bool,
     number: u64,
-    before: &str,
-    at: &str,
-    behind: &str,
-) -> Result<String, AllocError>
-    ensures { IfOk result (λ source. string_bytes source
-        ≡ spec.source_of is_colored number before.now at.now behind.now) }
+    margin: &str,
+    line: Line<'_>,
+) -> Result<(), AllocError>
+    requires { margin.now ≡ spec.margin number }
+    ensures { OnOk result (string_bytes out.new ≡ string_bytes out.old
+        ++ spec.source_of is_colored number line.entry.before.now line.entry.at.now line.entry.behind.now) }
 {
-    let margin = margin(alloc, number)?;
-    let indent = " ".repeat(alloc, before.width())?;
-    let carets = "^".repeat(alloc, at.width().max(1))?;
-    let bar = bar_line(alloc, is_colored, &margin)?;
-    let text = text_line(alloc, is_colored, number, before, at, behind)?;
-    let below = caret_line(alloc, is_colored, &margin, &indent, &carets)?;
-    format!(in alloc; "{bar}{text}{below}")
+    let (indent, under) = (line.before.width(), line.at.width().max(1));
+    if let (Some(indent), Some(carets)) = (spaces(indent), carets(under)) {
+        return push_lines(out, is_colored, number, margin, line, indent, carets);
+    }
+    let indent = " ".repeat(alloc, indent)?;
+    let carets = "^".repeat(alloc, under)?;
+    push_lines(out, is_colored, number, margin, line, &indent, &carets)
+}
+
+fn push_lines(
+    out: &mut String,
+    is_colored: bool,
+    number: u64,
+    margin: &str,
+    line: Line<'_>,
+    indent: &str,
+    carets: &str,
+) -> Result<(), AllocError>
+    ensures { OnOk result (string_bytes out.new ≡ string_bytes out.old
+        ++ (lines.bar_line is_colored margin.now
+        ++ (lines.text_line is_colored number line.entry.before.now line.entry.at.now line.entry.behind.now
+        ++ lines.caret_line is_colored margin.now indent.now carets.now))) }
+{
+    push_bar_line(out, is_colored, margin)?;
+    push_text_line(out, is_colored, number, line.before, line.at, line.behind)?;
+    push_caret_line(out, is_colored, margin, indent, carets)
 }

@@ -1,10 +1,14 @@
 //! Objects of JSON.
 
 ghost use Rattle.std.specs.Prelude.{◌≡◌, ◌≢◌, [], ◌<◌, ◌++◌, decimal, flat_map, option_map, IfOk, OnOk};
+ghost use Rattle.std.specs.List.{list_all};
 ghost use Rattle.timefd_drawing.specs.Json as spec;
 
 use crate::shown::is_hidden;
 use std::alloc::{AllocError, Global};
+
+// Room for most objects.
+const ROOM: usize = 256;
 
 /// What an object, or an annotation, holds of a diagnostic.
 #[derive(Clone, Copy)]
@@ -37,7 +41,7 @@ pub struct Detail<'a> {
 pub fn object(alloc: Global, entry: Entry<'_>, detail: Detail<'_>) -> Result<Vec<u8>, AllocError>
     ensures { IfOk result (λ line. line.items ≡ spec.object_of entry.entry detail.entry) }
 {
-    let mut out = Vec::new(alloc);
+    let mut out = Vec::with_capacity(alloc, ROOM)?;
     push_text(&mut out, "{\"code\":", entry.code)?;
     push_number(alloc, &mut out, ",\"column\":", entry.column)?;
     push_number(alloc, &mut out, ",\"end\":", detail.end)?;
@@ -95,8 +99,34 @@ pub fn push_quoted(out: &mut Vec<u8>, text: &str) -> Result<(), AllocError>
     ensures { OnOk result (out.new.items ≡ out.old.items ++ spec.quoted text.now) }
 {
     out.extend_from_slice(b"\"")?;
-    push_all_escaped(out, text)?;
+    push_in_quotes(out, text)?;
     out.extend_from_slice(b"\"")
+}
+
+#[tactic(auto, using(crate::proofs::JsonLemmas::plain_as_it_is))]
+fn push_in_quotes(out: &mut Vec<u8>, text: &str) -> Result<(), AllocError>
+    ensures { OnOk result (out.new.items ≡ out.old.items ++ spec.all_escaped text.now) }
+{
+    if are_plain(text.as_bytes()) {
+        return out.extend_from_slice(text.as_bytes());
+    }
+    push_all_escaped(out, text)
+}
+
+// Whether each of the bytes stands in quotes as it is.
+fn are_plain(bytes: &[u8]) -> bool
+    ensures { result ≡ list_all spec.is_plain bytes.now }
+{
+    bytes.iter().all(|byte| is_plain(*byte))
+}
+
+fn is_plain(byte: u8) -> bool
+    ensures { result ≡ spec.is_plain byte }
+{
+    if byte == b'"' || byte == b'\\' {
+        return false;
+    }
+    matches!(byte, b' '..=b'~')
 }
 
 fn push_all_escaped(out: &mut Vec<u8>, text: &str) -> Result<(), AllocError>

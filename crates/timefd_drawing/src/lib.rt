@@ -11,6 +11,7 @@ pub mod json;
 pub mod laws;
 mod lines;
 mod position;
+mod rows;
 pub mod sarif;
 mod sentence;
 pub mod shown;

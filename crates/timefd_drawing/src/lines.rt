@@ -1,11 +1,14 @@
 //! The lines of a drawing, and the line that editors read.
 
-ghost use Rattle.std.specs.Prelude.{◌≡◌, IfOk, string_bytes};
+ghost use Rattle.std.specs.Prelude.{◌≡◌, ◌++◌, IfOk, OnOk, string_bytes};
 ghost use Rattle.timefd_drawing.specs.Lines as spec;
 
 use crate::position::Position;
 use crate::shown::safe;
 use std::alloc::{AllocError, Global};
+
+// Room for the numbers of a line and what stands between its parts.
+const ROOM: usize = 32;
 
 // What is put in front of what is red.
 fn red(is_colored: bool) -> &'static str
@@ -29,114 +32,139 @@ fn plain(is_colored: bool) -> &'static str
 }
 
 /// The first line: the fault's name, and its sentence.
-pub fn error_line(
-    alloc: Global,
+pub fn push_error_line(
+    out: &mut String,
     is_colored: bool,
     code: &str,
     sentence: &str,
-) -> Result<String, AllocError>
-    ensures { IfOk result (λ line. string_bytes line
-        ≡ spec.error_line is_colored code.now sentence.now) }
+) -> Result<(), AllocError>
+    ensures { OnOk result (string_bytes out.new ≡ string_bytes out.old
+        ++ spec.error_line is_colored code.now sentence.now) }
 {
+    if !is_colored {
+        return write!(out, "error[{code}]: {sentence}\n");
+    }
     let (red, plain) = (red(is_colored), plain(is_colored));
-    format!(in alloc; "{red}error[{code}]{plain}: {sentence}\n")
+    write!(out, "{red}error[{code}]{plain}: {sentence}\n")
 }
 
 /// The line with the place.
-pub fn place_line(
+pub fn push_place_line(
     alloc: Global,
+    out: &mut String,
     is_colored: bool,
     margin: &str,
     file: &str,
     place: Position,
-) -> Result<String, AllocError>
-    ensures { IfOk result (λ line. string_bytes line
-        ≡ spec.place_line is_colored margin.now file.now place.line place.column) }
+) -> Result<(), AllocError>
+    ensures { OnOk result (string_bytes out.new ≡ string_bytes out.old
+        ++ spec.place_line is_colored margin.now file.now place.line place.column) }
 {
-    let (blue, plain) = (blue(is_colored), plain(is_colored));
     let file = safe(alloc, file)?;
     let Position { line, column } = place;
-    format!(in alloc; "{margin}{blue}-->{plain} {file}:{line}:{column}\n")
+    if !is_colored {
+        return write!(out, "{margin}--> {file}:{line}:{column}\n");
+    }
+    let (blue, plain) = (blue(is_colored), plain(is_colored));
+    write!(out, "{margin}{blue}-->{plain} {file}:{line}:{column}\n")
 }
 
 /// A bar.
-pub fn bar_line(alloc: Global, is_colored: bool, margin: &str) -> Result<String, AllocError>
-    ensures { IfOk result (λ line. string_bytes line ≡ spec.bar_line is_colored margin.now) }
+pub fn push_bar_line(out: &mut String, is_colored: bool, margin: &str) -> Result<(), AllocError>
+    ensures { OnOk result (string_bytes out.new ≡ string_bytes out.old
+        ++ spec.bar_line is_colored margin.now) }
 {
+    if !is_colored {
+        return write!(out, "{margin} |\n");
+    }
     let (blue, plain) = (blue(is_colored), plain(is_colored));
-    format!(in alloc; "{margin} {blue}|{plain}\n")
+    write!(out, "{margin} {blue}|{plain}\n")
 }
 
 /// The line of the text, by its three parts.
-pub fn text_line(
-    alloc: Global,
+pub fn push_text_line(
+    out: &mut String,
     is_colored: bool,
     number: u64,
     before: &str,
     at: &str,
     behind: &str,
-) -> Result<String, AllocError>
-    ensures { IfOk result (λ line. string_bytes line
-        ≡ spec.text_line is_colored number before.now at.now behind.now) }
+) -> Result<(), AllocError>
+    ensures { OnOk result (string_bytes out.new ≡ string_bytes out.old
+        ++ spec.text_line is_colored number before.now at.now behind.now) }
 {
+    if !is_colored {
+        return write!(out, "{number} | {before}{at}{behind}\n");
+    }
     let (blue, plain) = (blue(is_colored), plain(is_colored));
-    format!(in alloc; "{blue}{number} |{plain} {before}{at}{behind}\n")
+    write!(out, "{blue}{number} |{plain} {before}{at}{behind}\n")
 }
 
 /// A bar, and carets behind an indent.
-pub fn caret_line(
-    alloc: Global,
+pub fn push_caret_line(
+    out: &mut String,
     is_colored: bool,
     margin: &str,
     indent: &str,
     carets: &str,
-) -> Result<String, AllocError>
-    ensures { IfOk result (λ line. string_bytes line
-        ≡ spec.caret_line is_colored margin.now indent.now carets.now) }
+) -> Result<(), AllocError>
+    ensures { OnOk result (string_bytes out.new ≡ string_bytes out.old
+        ++ spec.caret_line is_colored margin.now indent.now carets.now) }
 {
+    if !is_colored {
+        return write!(out, "{margin} | {indent}{carets}\n");
+    }
     let (red, blue, plain) = (red(is_colored), blue(is_colored), plain(is_colored));
-    format!(in alloc; "{margin} {blue}|{plain} {indent}{red}{carets}{plain}\n")
+    write!(
+        out,
+        "{margin} {blue}|{plain} {indent}{red}{carets}{plain}\n"
+    )
 }
 
 // The line with the help.
-fn help_line(
-    alloc: Global,
+fn push_help_line(
+    out: &mut String,
     is_colored: bool,
     margin: &str,
     help: &str,
-) -> Result<String, AllocError>
-    ensures { IfOk result (λ line. string_bytes line
-        ≡ spec.help_line is_colored margin.now help.now) }
+) -> Result<(), AllocError>
+    ensures { OnOk result (string_bytes out.new ≡ string_bytes out.old
+        ++ spec.help_line is_colored margin.now help.now) }
 {
+    if !is_colored {
+        return write!(out, "{margin} = help: {help}\n");
+    }
     let (blue, plain) = (blue(is_colored), plain(is_colored));
-    format!(in alloc; "{margin} {blue}={plain} help: {help}\n")
+    write!(out, "{margin} {blue}={plain} help: {help}\n")
 }
 
 /// The same, and behind it what a further fault was found without.
-pub fn help_lines(
-    alloc: Global,
+pub fn push_help_lines(
+    out: &mut String,
     is_further: bool,
     is_colored: bool,
     margin: &str,
     help: &str,
-) -> Result<String, AllocError>
-    ensures { IfOk result (λ lines. string_bytes lines
-        ≡ spec.help_lines is_further is_colored margin.now help.now) }
+) -> Result<(), AllocError>
+    ensures { OnOk result (string_bytes out.new ≡ string_bytes out.old
+        ++ spec.help_lines is_further is_colored margin.now help.now) }
 {
-    let help = help_line(alloc, is_colored, margin, help)?;
+    push_help_line(out, is_colored, margin, help)?;
     if is_further {
-        let note = note_line(alloc, is_colored, margin)?;
-        format!(in alloc; "{help}{note}")
-    } else {
-        Ok(help)
+        return push_note_line(out, is_colored, margin);
     }
+    Ok(())
 }
 
-fn note_line(alloc: Global, is_colored: bool, margin: &str) -> Result<String, AllocError>
-    ensures { IfOk result (λ line. string_bytes line ≡ spec.note_line is_colored margin.now) }
+fn push_note_line(out: &mut String, is_colored: bool, margin: &str) -> Result<(), AllocError>
+    ensures { OnOk result (string_bytes out.new ≡ string_bytes out.old
+        ++ spec.note_line is_colored margin.now) }
 {
     let (blue, plain) = (blue(is_colored), plain(is_colored));
-    format!(in alloc; "{margin} {blue}={plain} note: found with the errors before it left out\n")
+    write!(
+        out,
+        "{margin} {blue}={plain} note: found with the errors before it left out\n"
+    )
 }
 
 /// `FILE:LINE:COLUMN: SENTENCE`, as editors read it.
@@ -151,5 +179,11 @@ pub fn short_line(
 {
     let name = safe(alloc, file)?;
     let Position { line, column } = place;
-    format!(in alloc; "{name}:{line}:{column}: {sentence}\n")
+    let room = sentence
+        .len()
+        .saturating_add(name.len())
+        .saturating_add(ROOM);
+    let mut out = String::with_capacity(alloc, room)?;
+    write!(out, "{name}:{line}:{column}: {sentence}\n")?;
+    Ok(out)
 }

@@ -1,15 +1,19 @@
 //! The sentence of a fault as it is shown.
 
-ghost use Rattle.std.specs.Prelude.{◌≡◌, IfOk, string_bytes};
+ghost use Rattle.std.specs.Prelude.{◌≡◌, true, IfOk, string_bytes};
 ghost use Rattle.timefd_fault.specs.Faults.{fault_of};
+ghost use Rattle.timefd_fault.specs.Sentences.{sentence};
 ghost use Rattle.timefd_drawing.specs.Sentence as spec;
 
-use crate::shown::{cut_end, safe};
+use crate::shown::{char_count, cut_end, safe_string};
 use std::alloc::{AllocError, Global};
 use timefd_fault::InvalidFormatDescription;
 
 // The most characters of a word that a sentence shows.
 const MOST_OF_A_WORD: usize = 80;
+
+// Room for most sentences.
+const ROOM: usize = 96;
 
 /// The sentence of the fault, with a long word cut, and no character that a terminal would obey. An
 /// `Err` says that memory ran out.
@@ -17,9 +21,42 @@ pub fn shown_sentence(alloc: Global, fault: &InvalidFormatDescription) -> Result
     ensures { IfOk result (λ sentence. string_bytes sentence
         ≡ spec.shown_sentence (fault_of fault.now)) }
 {
+    if is_brief(fault) {
+        let sentence = sentence_of(alloc, fault)?;
+        return safe_string(alloc, sentence);
+    }
     let fault = brief(alloc, fault)?;
-    let sentence = format!(in alloc; "{fault}")?;
-    safe(alloc, &sentence)
+    let sentence = sentence_of(alloc, &fault)?;
+    safe_string(alloc, sentence)
+}
+
+fn sentence_of(alloc: Global, fault: &InvalidFormatDescription) -> Result<String, AllocError>
+    ensures { IfOk result (λ text. string_bytes text ≡ sentence (fault_of fault.now)) }
+{
+    let mut text = String::with_capacity(alloc, ROOM)?;
+    write!(text, "{fault}")?;
+    Ok(text)
+}
+
+// Whether a sentence shows the whole word that is at fault.
+fn is_brief(fault: &InvalidFormatDescription) -> bool
+    ensures { result ≡ true → spec.brief (fault_of fault.now) ≡ fault_of fault.now }
+{
+    match fault {
+        InvalidFormatDescription::InvalidComponentName { name, .. } => {
+            char_count(name) <= MOST_OF_A_WORD
+        }
+        InvalidFormatDescription::InvalidModifier { value, .. } => {
+            char_count(value) <= MOST_OF_A_WORD
+        }
+        InvalidFormatDescription::UnclosedOpeningBracket { .. }
+        | InvalidFormatDescription::MissingComponentName { .. }
+        | InvalidFormatDescription::MissingRequiredModifier { .. }
+        | InvalidFormatDescription::Expected { .. }
+        | InvalidFormatDescription::NotSupported { .. }
+        | InvalidFormatDescription::DuplicateModifier { .. }
+        | InvalidFormatDescription::InvalidModifierCombination { .. } => true,
+    }
 }
 
 /// The same, and behind the sentence of a further fault what it was found without.

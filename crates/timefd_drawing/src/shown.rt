@@ -1,6 +1,6 @@
 //! Texts as a terminal may show them.
 
-ghost use Rattle.std.specs.Prelude.{◌≡◌, ◌<◌, ◌-◌, ◌^◌, chars, drop, false, IfOk, length, string_bytes, take};
+ghost use Rattle.std.specs.Prelude.{◌≡◌, ◌<◌, ◌-◌, ◌^◌, ◌++◌, chars, drop, false, IfOk, length, OnOk, string_bytes, take};
 ghost use Rattle.std.specs.List.{list_all};
 ghost use Rattle.std.specs.Str.{encode_utf8_all};
 ghost use Rattle.timefd_drawing.specs.Shown as spec;
@@ -71,6 +71,29 @@ pub fn safe(alloc: Global, text: &str) -> Result<String, AllocError>
     text.chars().map(shown_char).collect(alloc)
 }
 
+/// The same of a text that is owned, which is kept where nothing of it is hidden.
+#[tactic(auto, using(crate::proofs::ShownLemmas::shown_as_it_is))]
+pub fn safe_string(alloc: Global, text: String) -> Result<String, AllocError>
+    ensures { IfOk result (λ shown. string_bytes shown ≡ spec.safe (string_bytes text)) }
+{
+    if are_printable(text.as_bytes()) {
+        return Ok(text);
+    }
+    safe(alloc, &text)
+}
+
+/// Appends what stands for a text to a string.
+#[tactic(auto, using(crate::proofs::ShownLemmas::shown_as_it_is))]
+pub fn push_safe(alloc: Global, out: &mut String, text: &str) -> Result<(), AllocError>
+    ensures { OnOk result (string_bytes out.new ≡ string_bytes out.old ++ spec.safe text.now) }
+{
+    if are_printable(text.as_bytes()) {
+        return out.push_str(text);
+    }
+    let shown = safe(alloc, text)?;
+    out.push_str(&shown)
+}
+
 /// The columns that a text takes in a terminal once it is made safe.
 pub fn columns(alloc: Global, text: &str) -> Result<usize, AllocError>
     ensures value { IfOk result (λ columns.
@@ -111,6 +134,28 @@ pub fn cut_start(alloc: Global, text: &str, most: usize) -> Result<String, Alloc
     }
     let rest = chars_behind(alloc, text, count - most)?;
     format!(in alloc; "..{rest}")
+}
+
+/// The first characters of a text as a terminal may show them, with the same mark.
+pub fn shown_end(alloc: Global, text: &str, most: usize) -> Result<String, AllocError>
+    ensures { IfOk result (λ shown. string_bytes shown ≡ spec.safe (spec.cut_end most text.now)) }
+{
+    if char_count(text) <= most {
+        return safe(alloc, text);
+    }
+    let cut = cut_end(alloc, text, most)?;
+    safe(alloc, &cut)
+}
+
+/// The last characters of a text, likewise.
+pub fn shown_start(alloc: Global, text: &str, most: usize) -> Result<String, AllocError>
+    ensures { IfOk result (λ shown. string_bytes shown ≡ spec.safe (spec.cut_start most text.now)) }
+{
+    if char_count(text) <= most {
+        return safe(alloc, text);
+    }
+    let cut = cut_start(alloc, text, most)?;
+    safe(alloc, &cut)
 }
 
 fn first_chars(alloc: Global, text: &str, count: usize) -> Result<String, AllocError>

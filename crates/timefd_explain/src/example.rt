@@ -50,7 +50,7 @@ fn text_of(alloc: Global, moment: Moment, component: Component) -> Result<String
     ensures { IfOk result (λ text. shown moment component ≡ Ok (string_bytes text)) }
 {
     match bytes_of(alloc, moment, component) {
-        Ok(bytes) => String::from_str(alloc, std::str::from_utf8(&bytes).unwrap()),
+        Ok(bytes) => Ok(String::from_utf8(bytes).unwrap()),
         Err(TextError::Unshown(_)) => unreachable!(),
         Err(TextError::Memory(error)) => Err(error),
     }

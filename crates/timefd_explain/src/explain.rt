@@ -13,8 +13,14 @@ use crate::node::{Node, push_line};
 use crate::tree::push_pieces;
 use std::alloc::{AllocError, Global};
 use timefd_drawing::Origin;
-use timefd_drawing::shown::safe;
+use timefd_drawing::shown::push_safe;
 use timefd_parse::Language;
+
+// Room for the nodes of a short text.
+const NODES: usize = 8;
+
+// Room for its lines.
+const ROOM: usize = 512;
 
 /// What is shown of a text.
 #[derive(Drop)]
@@ -42,7 +48,7 @@ pub fn explanation_of(
     // Each node, however deep, has its example.
     ensures examples { IfOk result (λ found. Examples found.nodes.items) }
 {
-    let mut nodes = Vec::new(alloc);
+    let mut nodes = Vec::with_capacity(alloc, NODES)?;
     let bytes = push_pieces(alloc, &mut nodes, language, 0, 0, text)?;
     Ok(Explanation { nodes, bytes })
 }
@@ -55,13 +61,15 @@ pub fn explained(
     origin: Origin<'_>,
     text: &str,
 ) -> Result<String, AllocError> {
-    let (file, line, shown) = (safe(alloc, origin.file)?, origin.line, safe(alloc, text)?);
-    let mut out = format!(in alloc; "{file}:{line}: {shown}\n")?;
     let Explanation { nodes, bytes } = explanation_of(alloc, language, text)?;
+    let mut out = String::with_capacity(alloc, text.len().saturating_add(ROOM))?;
+    push_safe(alloc, &mut out, origin.file)?;
+    write!(out, ":{}: ", origin.line)?;
+    push_safe(alloc, &mut out, text)?;
+    out.push_str("\n")?;
     for node in &nodes {
         push_line(alloc, &mut out, text, node)?;
     }
-    let total = format!(in alloc; "{bytes:5}  in all\n")?;
-    out.push_str(&total)?;
+    write!(out, "{bytes:5}  in all\n")?;
     Ok(out)
 }

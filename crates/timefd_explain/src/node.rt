@@ -13,7 +13,7 @@ use crate::piece::What;
 use crate::words::words_of;
 use std::alloc::{AllocError, Global};
 use timefd_component::Component;
-use timefd_drawing::shown::safe;
+use timefd_drawing::shown::{push_safe, safe};
 use timefd_parse::{Language, bracket_name, first_modifier};
 
 /// What kind of node it is.
@@ -147,25 +147,27 @@ pub fn push_line(
     text: &str,
     node: &Node,
 ) -> Result<(), AllocError> {
-    let text = safe(alloc, text.get(node.start..node.end).unwrap_or(""))?;
-    let example = safe(alloc, &node.example)?;
-    let head = format!(in alloc; "{:5}  ", node.bytes)?;
-    out.push_str(&head)?;
+    write!(out, "{:5}  ", node.bytes)?;
     for _ in 0..node.depth {
         out.push_str("  ")?;
     }
+    let text = text.get(node.start..node.end).unwrap_or("");
     if !text.is_empty() {
-        let quoted = format!(in alloc; "`{text}`  ")?;
-        out.push_str(&quoted)?;
+        out.push_str("`")?;
+        push_safe(alloc, out, text)?;
+        out.push_str("`  ")?;
     }
     out.push_str(&node.words)?;
-    if example.is_empty() {
+    if node.example.is_empty() {
         return out.push_str("\n");
     }
-    let line = format!(in alloc; ", as `{example}`\n")?;
-    out.push_str(&line)
+    out.push_str(", as `")?;
+    push_safe(alloc, out, &node.example)?;
+    out.push_str("`\n")
 }
 
+// The words of a component, and behind them which modifiers the text sets. That isn't said where it
+// came from no text.
 #[tactic(auto, using(crate::proofs::ExampleLemmas::named_alone, crate::proofs::ExampleLemmas::named_so))]
 fn component_words(
     alloc: Global,
@@ -176,21 +178,17 @@ fn component_words(
     ensures { IfOk result (λ words. Names component (string_bytes words)) }
 {
     let mut words = words_of(alloc, component)?;
-    let set = set_words(alloc, language, text)?;
+    if text.is_empty() {
+        return Ok(words);
+    }
+    let set = set_in(alloc, language, text)?;
+    if set.is_empty() {
+        words.push_str(", by default")?;
+        return Ok(words);
+    }
+    let set = format!(in alloc; ", set: {}", safe(alloc, &set)?)?;
     words.push_str(&set)?;
     Ok(words)
-}
-
-// Which modifiers the text sets, in words. They are empty where it came from no text.
-fn set_words(alloc: Global, language: Language, text: &str) -> Result<String, AllocError> {
-    let set = set_in(alloc, language, text)?;
-    if text.is_empty() {
-        Ok(String::new(alloc))
-    } else if set.is_empty() {
-        String::from_str(alloc, ", by default")
-    } else {
-        format!(in alloc; ", set: {}", safe(alloc, &set)?)
-    }
 }
 
 // The modifiers of a bracket, or the flag of a directive.

@@ -13,6 +13,9 @@ use crate::piece::{Shown, piece_of};
 use std::alloc::{AllocError, Global};
 use timefd_parse::{Language, first_piece};
 
+// Room for the pieces of a short text.
+const ROOM: usize = 8;
+
 /// The pieces of a text that a language accepts, in turn.
 pub fn pieces_of<'a>(
     alloc: Global,
@@ -26,7 +29,7 @@ pub fn pieces_of<'a>(
     // What they have of the text is no more than the text.
     ensures within { IfOk result (λ shown. length (texts shown.items) ≤ length text.now) }
 {
-    let mut shown = Vec::new(alloc);
+    let mut shown = Vec::with_capacity(alloc, ROOM)?;
     let mut rest = text;
     'pieces: while let Some((piece, behind)) = first_of(alloc, language, rest) {
         shown.push(piece_of(alloc, language, piece)?)?;
