@@ -30,9 +30,8 @@ use crate::version::{Language, Version};
 /// they were read from.
 #[derive(Clone)]
 pub struct FormatDescription<'a> {
-    text: &'a str,
     language: Language,
-    tree: Tree<'a>,
+    pub(crate) tree: Tree<'a>,
     max_bytes: usize,
 }
 
@@ -89,33 +88,47 @@ impl<'a> FormatDescription<'a> {
         let answer = sys::read(language.number(), text, &mut nodes, &mut literals);
         expect_accepted(language, text, answer.status)?;
         if answer.written {
-            return Self::built(language, text, &answer, &nodes, &literals);
+            Self::built(language, text, &answer, &mut nodes, &literals)
+        } else {
+            Self::parse_long(language, text, &answer)
         }
+    }
+
+    /// Reads a text that was read before, by an answer that tells how much room it needs.
+    #[cold]
+    #[inline(never)]
+    fn parse_long(
+        language: Language,
+        text: &'a str,
+        answer: &ReadAnswer,
+    ) -> Result<Self, ParseError> {
         let nodes = buffer::filled(answer.nodes, RawNode::default());
         let literals = buffer::filled(answer.literals, 0);
         let (mut nodes, mut literals) = nodes.zip(literals).ok_or(ParseError::OutOfMemory)?;
         let answer = sys::read(language.number(), text, &mut nodes, &mut literals);
         expect_accepted(language, text, answer.status)?;
         assert!(answer.written, "there was room for what the library told");
-        Self::built(language, text, &answer, &nodes, &literals)
+        Self::built(language, text, &answer, &mut nodes, &literals)
     }
 
     /// The description of what the library wrote to the fronts of two buffers.
+    #[inline(always)]
     fn built(
         language: Language,
         text: &'a str,
         answer: &ReadAnswer,
-        nodes: &[RawNode],
+        nodes: &mut [RawNode],
         literals: &[u8],
     ) -> Result<Self, ParseError> {
-        let is_one_tree = language == Language::Version(Version::Three);
-        let nodes = match nodes[..answer.nodes].split_last() {
+        let mut nodes = &mut nodes[..answer.nodes];
+        if language == Language::Version(Version::Three) {
             // The members of the whole tree are the items, as in the other languages.
-            Some((whole, members)) if is_one_tree && whole.what == COMPOUND => members,
-            _ => &nodes[..answer.nodes],
-        };
+            if let [members @ .., RawNode { what: COMPOUND, .. }] = nodes {
+                nodes = members;
+            }
+        }
         match Tree::build(nodes, Literals::new(text, &literals[..answer.literals])) {
-            Ok(tree) => Ok(Self { text, language, tree, max_bytes: answer.bytes }),
+            Ok(tree) => Ok(Self { language, tree, max_bytes: answer.bytes }),
             Err(BuildError::OutOfMemory) => Err(ParseError::OutOfMemory),
             Err(BuildError::Malformed) => unreachable!("the nodes are as the header says"),
         }
@@ -123,7 +136,7 @@ impl<'a> FormatDescription<'a> {
 
     /// The text that was read.
     pub fn text(&self) -> &'a str {
-        self.text
+        self.tree.text
     }
 
     /// The language that it was read in.

@@ -54,10 +54,12 @@ mod component;
 mod convert;
 mod decode;
 mod description;
+#[cfg(test)]
 mod encode;
 mod error;
 mod fault;
 mod format;
+mod links;
 mod literal;
 mod modifier;
 mod moment;

@@ -6,11 +6,9 @@ use core::fmt;
 
 use crate::buffer;
 use crate::description::FormatDescription;
-use crate::encode;
 use crate::format::{FormatError, NO_MEMORY, Pattern};
 use crate::moment::Moment;
-use crate::parts::Part;
-use crate::sys::{self, RawNode};
+use crate::sys::{self, LITERAL, RawNode};
 
 impl FormatDescription<'_> {
     /// Writes the moment. The text of the description isn't read again.
@@ -110,7 +108,10 @@ impl FormatDescription<'_> {
         &self,
         call: impl FnOnce(Pattern<'_>) -> Result<T, E>,
     ) -> Result<T, E> {
-        let (count, len) = (self.parts().len(), self.literals_len());
+        if let Some((nodes, literals)) = self.tree.as_taken() {
+            return call(Pattern::Nodes(nodes, literals.as_bytes()));
+        }
+        let (count, len) = (self.tree.written_len(), self.literals_len());
         if count <= SHORT_NODES && len <= SHORT_LITERALS {
             let mut nodes = sys::zeroed_nodes::<SHORT_NODES>();
             let mut literals = [0; SHORT_LITERALS];
@@ -124,27 +125,22 @@ impl FormatDescription<'_> {
 
     /// How many bytes the literals have that a formatter writes.
     fn literals_len(&self) -> usize {
-        let len = |part| match part {
-            Part::Literal(text) => text.len(),
-            Part::Component(_) => 0,
-        };
-        self.parts().map(len).sum()
+        let literals = self.tree.written().filter(|node| node.what == LITERAL);
+        literals.map(|node| node.count).sum()
     }
 
     /// What a formatter writes of the description, in a buffer of as many nodes and one of as many
     /// bytes.
     fn pattern_in<'b>(&self, nodes: &'b mut [RawNode], literals: &'b mut [u8]) -> Pattern<'b> {
         let mut at = 0;
-        for (node, part) in nodes.iter_mut().zip(self.parts()) {
-            *node = match part {
-                Part::Literal(text) => {
-                    let start = at;
-                    at += text.len();
-                    literals[start..at].copy_from_slice(text.as_bytes());
-                    encode::literal(start, text.len())
-                }
-                Part::Component(component) => encode::component(component),
-            };
+        for (node, written) in nodes.iter_mut().zip(self.tree.written()) {
+            *node = *written;
+            if node.what == LITERAL {
+                node.start = at;
+                at += node.count;
+                let text = self.tree.literal(written);
+                literals[node.start..at].copy_from_slice(text.as_bytes());
+            }
         }
         Pattern::Nodes(nodes, literals)
     }
