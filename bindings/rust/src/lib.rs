@@ -70,6 +70,7 @@ mod sys;
 mod tree;
 mod version;
 mod write;
+mod written;
 
 pub use component::Component;
 pub use convert::{ConvertError, convert, v1_to_v2, v2_to_v3};

@@ -2,7 +2,6 @@
 //! walks go by and the places of literals. A node is decoded when it is looked at.
 
 use alloc::boxed::Box;
-use alloc::vec::Vec;
 use core::hash::{Hash, Hasher};
 
 use crate::component::Component;
@@ -11,6 +10,7 @@ use crate::links;
 use crate::literal::{self, ASCII, Literals};
 use crate::modifier::boolean;
 use crate::sys::{self, COMPONENT, COMPOUND, FIRST, LITERAL, OPTIONAL, RawNode};
+use crate::written::written;
 
 /// What a node is.
 #[derive(Debug, Clone, Copy, PartialEq, Eq, Hash)]
@@ -134,18 +134,13 @@ impl Tree<'_> {
     pub(crate) fn content(&self, index: u32) -> Content<'_> {
         let node = &self.nodes[index as usize];
         match node.what {
-            LITERAL => Content::Literal(self.literal(node)),
+            LITERAL => Content::Literal(literal::lent(self.text, node.start, node.count)),
             COMPONENT => Content::Component(decode::component(node).expect(AS_THE_HEADER_SAYS)),
             _ => {
                 let nesting = Nesting::of(node).expect(AS_THE_HEADER_SAYS);
                 Content::Nested(nesting, links::begin(&self.nodes, index))
             }
         }
-    }
-
-    /// The text of a literal of these nodes.
-    pub(crate) fn literal(&self, node: &RawNode) -> &str {
-        literal::lent(self.text, node.start, node.count)
     }
 
     /// The greatest length of what a node is shown as, in bytes, at most `u32::MAX`.
@@ -192,9 +187,16 @@ impl Tree<'_> {
         }
     }
 
-    /// The nodes that a formatter writes, in turn.
-    pub(crate) fn written(&self) -> impl Iterator<Item = &RawNode> {
-        (0..self.written_len()).map(|place| &self.nodes[self.written_at(place) as usize])
+    /// Copies the nodes that a formatter writes, in turn, to as many.
+    pub(crate) fn copy_written(&self, nodes: &mut [RawNode]) {
+        match &self.shape {
+            Shape::Flat { .. } => nodes.copy_from_slice(&self.nodes),
+            Shape::Nested { written, .. } => {
+                for (node, index) in nodes.iter_mut().zip(written) {
+                    *node = self.nodes[*index as usize];
+                }
+            }
+        }
     }
 
     /// The nodes as the library takes them, with what lends their literals, where one text lends all.
@@ -211,7 +213,7 @@ const AS_THE_HEADER_SAYS: &str = "the nodes are as the header says";
 
 impl Nesting {
     /// Why a node has members that is neither a literal nor a component.
-    fn of(node: &RawNode) -> Option<Self> {
+    pub(crate) fn of(node: &RawNode) -> Option<Self> {
         Some(match node.what {
             COMPOUND => Self::Compound,
             OPTIONAL if boolean(node.format)? => Self::Optional,
@@ -242,47 +244,6 @@ impl Hash for Tree<'_> {
             self.content(index).hash(state);
         }
     }
-}
-
-/// What a formatter writes, from the last part to the first.
-struct Backwards<'a> {
-    nodes: &'a [RawNode],
-    /// How many nodes are still in front.
-    rest: u32,
-}
-
-impl Iterator for Backwards<'_> {
-    type Item = u32;
-
-    fn next(&mut self) -> Option<u32> {
-        while let Some(index) = self.rest.checked_sub(1) {
-            let node = &self.nodes[index as usize];
-            self.rest = index;
-            if links::is_leaf(node) {
-                return Some(index);
-            }
-            let begin = links::begin(self.nodes, index);
-            match Nesting::of(node) {
-                Some(Nesting::Unwritten) => self.rest = begin,
-                Some(Nesting::First) if begin < index => {
-                    // The ring leads from the last alternative to the first.
-                    self.rest = links::next(self.nodes, index - 1) + 1;
-                }
-                _ => {}
-            }
-        }
-        None
-    }
-}
-
-/// The indices of what a formatter writes, in turn. `None` where there is no memory for them.
-fn written(nodes: &[RawNode]) -> Option<Box<[u32]>> {
-    let backwards = || Backwards { nodes, rest: nodes.len() as u32 };
-    let mut indices = Vec::new();
-    indices.try_reserve_exact(backwards().count()).ok()?;
-    indices.extend(backwards());
-    indices.reverse();
-    Some(indices.into_boxed_slice())
 }
 
 #[cfg(test)]

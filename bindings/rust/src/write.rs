@@ -7,6 +7,7 @@ use core::fmt;
 use crate::buffer;
 use crate::description::FormatDescription;
 use crate::format::{FormatError, NO_MEMORY, Pattern};
+use crate::literal::ASCII;
 use crate::moment::Moment;
 use crate::sys::{self, LITERAL, RawNode};
 
@@ -111,7 +112,7 @@ impl FormatDescription<'_> {
         if let Some((nodes, literals)) = self.tree.as_taken() {
             return call(Pattern::Nodes(nodes, literals.as_bytes()));
         }
-        let (count, len) = (self.tree.written_len(), self.literals_len());
+        let (count, len) = (self.tree.written_len(), ASCII.len() + self.text().len());
         if count <= SHORT_NODES && len <= SHORT_LITERALS {
             let mut nodes = sys::zeroed_nodes::<SHORT_NODES>();
             let mut literals = [0; SHORT_LITERALS];
@@ -123,23 +124,16 @@ impl FormatDescription<'_> {
         }
     }
 
-    /// How many bytes the literals have that a formatter writes.
-    fn literals_len(&self) -> usize {
-        let literals = self.tree.written().filter(|node| node.what == LITERAL);
-        literals.map(|node| node.count).sum()
-    }
-
-    /// What a formatter writes of the description, in a buffer of as many nodes and one of as many
-    /// bytes.
+    /// What a formatter writes of the description, in a buffer of as many nodes and one that has room
+    /// for what lends literals: ASCII, and the text behind it.
     fn pattern_in<'b>(&self, nodes: &'b mut [RawNode], literals: &'b mut [u8]) -> Pattern<'b> {
-        let mut at = 0;
-        for (node, written) in nodes.iter_mut().zip(self.tree.written()) {
-            *node = *written;
-            if node.what == LITERAL {
-                node.start = at;
-                at += node.count;
-                let text = self.tree.literal(written);
-                literals[node.start..at].copy_from_slice(text.as_bytes());
+        let (ascii, text) = literals.split_at_mut(ASCII.len());
+        ascii.copy_from_slice(ASCII.as_bytes());
+        text.copy_from_slice(self.text().as_bytes());
+        self.tree.copy_written(nodes);
+        for node in nodes.iter_mut() {
+            if node.what == LITERAL && node.count != 1 {
+                node.start += ASCII.len();
             }
         }
         Pattern::Nodes(nodes, literals)
@@ -147,8 +141,8 @@ impl FormatDescription<'_> {
 }
 
 /// Room on the stack for what most descriptions have.
-const SHORT_NODES: usize = 32;
-const SHORT_LITERALS: usize = 128;
+const SHORT_NODES: usize = 24;
+const SHORT_LITERALS: usize = 320;
 
 /// A moment as a description writes it, for `Display`. [`FormatDescription::show`] makes it.
 #[derive(Debug, Clone, Copy)]
