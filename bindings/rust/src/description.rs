@@ -1,5 +1,6 @@
 //! A description that was read.
 
+use alloc::vec::Vec;
 use core::fmt;
 use core::hash::{Hash, Hasher};
 
@@ -87,47 +88,14 @@ impl<'a> FormatDescription<'a> {
         let mut literals = [0; SHORT_LITERALS];
         let answer = sys::read(language.number(), text, &mut nodes, &mut literals);
         expect_accepted(language, text, answer.status)?;
-        if answer.written {
-            Self::built(language, text, &answer, &mut nodes, &literals)
+        let mut long;
+        let (nodes, literals) = if answer.written {
+            (&mut nodes[..answer.nodes], &literals[..answer.literals])
         } else {
-            Self::parse_long(language, text, &answer)
-        }
-    }
-
-    /// Reads a text that was read before, by an answer that tells how much room it needs.
-    #[cold]
-    #[inline(never)]
-    fn parse_long(
-        language: Language,
-        text: &'a str,
-        answer: &ReadAnswer,
-    ) -> Result<Self, ParseError> {
-        let nodes = buffer::filled(answer.nodes, RawNode::default());
-        let literals = buffer::filled(answer.literals, 0);
-        let (mut nodes, mut literals) = nodes.zip(literals).ok_or(ParseError::OutOfMemory)?;
-        let answer = sys::read(language.number(), text, &mut nodes, &mut literals);
-        expect_accepted(language, text, answer.status)?;
-        assert!(answer.written, "there was room for what the library told");
-        Self::built(language, text, &answer, &mut nodes, &literals)
-    }
-
-    /// The description of what the library wrote to the fronts of two buffers.
-    #[inline(always)]
-    fn built(
-        language: Language,
-        text: &'a str,
-        answer: &ReadAnswer,
-        nodes: &mut [RawNode],
-        literals: &[u8],
-    ) -> Result<Self, ParseError> {
-        let mut nodes = &mut nodes[..answer.nodes];
-        if language == Language::Version(Version::Three) {
-            // The members of the whole tree are the items, as in the other languages.
-            if let [members @ .., RawNode { what: COMPOUND, .. }] = nodes {
-                nodes = members;
-            }
-        }
-        match Tree::build(nodes, Literals::new(text, &literals[..answer.literals])) {
+            long = read_long(language, text, &answer)?;
+            (&mut long.0[..], &long.1[..])
+        };
+        match Tree::build(items_of(language, nodes), Literals::new(text, literals)) {
             Ok(tree) => Ok(Self { language, tree, max_bytes: answer.bytes }),
             Err(BuildError::OutOfMemory) => Err(ParseError::OutOfMemory),
             Err(BuildError::Malformed) => unreachable!("the nodes are as the header says"),
@@ -256,5 +224,35 @@ fn expect_accepted(language: Language, text: &str, status: u32) -> Result<(), Pa
     match status {
         sys::ACCEPTED => Ok(()),
         _ => Err(ParseError::of(language.number(), text, status)),
+    }
+}
+
+/// The nodes and the bytes of literals of a text that was read before, by an answer that tells how much
+/// room they need.
+#[cold]
+#[inline(never)]
+fn read_long(
+    language: Language,
+    text: &str,
+    answer: &ReadAnswer,
+) -> Result<(Vec<RawNode>, Vec<u8>), ParseError> {
+    let nodes = buffer::filled(answer.nodes, RawNode::default());
+    let literals = buffer::filled(answer.literals, 0);
+    let (mut nodes, mut literals) = nodes.zip(literals).ok_or(ParseError::OutOfMemory)?;
+    let answer = sys::read(language.number(), text, &mut nodes, &mut literals);
+    expect_accepted(language, text, answer.status)?;
+    assert!(answer.written, "there was room for what the library told");
+    Ok((nodes, literals))
+}
+
+/// The nodes of the items of a text in a language: but for the whole tree all of it are, whose members are
+/// the items then, as in the other languages.
+#[inline]
+fn items_of(language: Language, nodes: &mut [RawNode]) -> &mut [RawNode] {
+    match (language, nodes) {
+        (Language::Version(Version::Three), [members @ .., RawNode { what: COMPOUND, .. }]) => {
+            members
+        }
+        (_, nodes) => nodes,
     }
 }

@@ -51,6 +51,7 @@ extern crate std;
 
 mod buffer;
 mod component;
+mod content;
 mod convert;
 mod decode;
 mod description;

@@ -40,8 +40,8 @@ pub(crate) fn is_leaf(node: &RawNode) -> bool {
     matches!(node.what, LITERAL | COMPONENT)
 }
 
-/// Says which member is next.
-pub(crate) fn set_next(node: &mut RawNode, next: u32) {
+/// Says which member is next to a node.
+fn set_next(node: &mut RawNode, next: u32) {
     match node.what {
         LITERAL => node.bytes = next,
         COMPONENT => node.start = next as usize,

@@ -53,21 +53,8 @@ impl<'a, 'b> Literals<'a, 'b> {
             let byte = *self.bytes.get(start)?;
             return byte.is_ascii().then_some(usize::from(byte));
         }
-        self.place_in_text(start, count)
-    }
-
-    /// The same of a literal that ASCII doesn't lend. It is no part of the loop over nodes, which most
-    /// texts have none of.
-    #[inline(never)]
-    fn place_in_text(&mut self, start: usize, count: usize) -> Option<usize> {
         let literal = self.bytes.get(start..start.checked_add(count)?)?;
-        let behind = &self.text[self.at..];
-        let found = if count > SHORT {
-            find_long(behind, literal)
-        } else {
-            find_short(behind.as_bytes(), literal)
-        };
-        let place = self.at + found?;
+        let place = find(self.text, self.at, literal)?;
         self.at = place + count;
         Some(place)
     }
@@ -76,23 +63,28 @@ impl<'a, 'b> Literals<'a, 'b> {
 /// The longest literal that is sought by its first byte.
 const SHORT: usize = 16;
 
-/// Where a few bytes stand first in others.
-fn find_short(bytes: &[u8], sought: &[u8]) -> Option<usize> {
+/// Where some bytes stand first in a text from a place on. It is no part of the loop over nodes, which
+/// most texts have no long literals of.
+#[inline(never)]
+fn find(text: &str, from: usize, sought: &[u8]) -> Option<usize> {
+    if sought.len() > SHORT {
+        return find_long(text, from, sought);
+    }
     let (first, behind) = sought.split_first()?;
-    let mut at = 0;
+    let mut at = from;
     loop {
-        at += find_byte(bytes.get(at..)?, *first)? + 1;
-        let rest = bytes[at..].iter();
-        if rest.len() >= behind.len() && rest.zip(behind).all(|(byte, wanted)| byte == wanted) {
+        at += find_byte(text.as_bytes().get(at..)?, *first)? + 1;
+        let rest = text.as_bytes().get(at..at + behind.len())?;
+        if rest.iter().zip(behind).all(|(byte, wanted)| byte == wanted) {
             return Some(at - 1);
         }
     }
 }
 
-/// Where many bytes stand first in a text, in a time that many like them in front don't make longer.
+/// The same of many bytes, in a time that much that is like them in front doesn't make longer.
 #[inline(never)]
-fn find_long(text: &str, sought: &[u8]) -> Option<usize> {
-    text.find(from_utf8(sought).ok()?)
+fn find_long(text: &str, from: usize, sought: &[u8]) -> Option<usize> {
+    Some(from + text[from..].find(from_utf8(sought).ok()?)?)
 }
 
 /// Where a byte stands first in others.
@@ -100,7 +92,10 @@ fn find_byte(bytes: &[u8], sought: u8) -> Option<usize> {
     // So many are compared at once.
     const CHUNK: usize = 16;
     let has = |chunk: &[u8]| chunk.iter().fold(false, |found, byte| found | (*byte == sought));
-    let chunks = bytes.chunks_exact(CHUNK);
-    let skipped = CHUNK * chunks.take_while(|chunk| !has(chunk)).count();
+    let skipped = CHUNK * bytes.chunks_exact(CHUNK).take_while(|chunk| !has(chunk)).count();
     Some(skipped + bytes[skipped..].iter().position(|byte| *byte == sought)?)
 }
+
+#[cfg(test)]
+#[path = "literal_tests.rs"]
+mod tests;

@@ -4,7 +4,8 @@ use core::fmt;
 use core::iter::FusedIterator;
 
 use crate::component::Component;
-use crate::tree::{Content, Nesting, Tree};
+use crate::content::{Content, Nesting};
+use crate::tree::Tree;
 
 /// What a node of a description is.
 #[derive(Debug, Clone)]

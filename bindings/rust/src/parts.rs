@@ -4,7 +4,8 @@ use core::iter::FusedIterator;
 use core::ops::Range;
 
 use crate::component::Component;
-use crate::tree::{Content, Tree};
+use crate::content::Content;
+use crate::tree::Tree;
 
 /// A part of what a formatter writes.
 #[derive(Debug, Clone, Copy, PartialEq, Eq)]

@@ -62,8 +62,8 @@ pub(crate) fn zeroed_nodes<const COUNT: usize>() -> [RawNode; COUNT] {
     unsafe { core::mem::zeroed() }
 }
 
-/// These nodes in a block of their own. `None` where there is no memory for it. A `Vec` would take 60
-/// instructions more to say so, of some 1,000 in which a date is parsed.
+/// These nodes in a block of their own. `None` where there is no memory for it. A `Vec` says so too, and
+/// takes some 50 instructions more, of 1,000 in which a date is parsed.
 pub(crate) fn boxed(nodes: &[RawNode]) -> Option<Box<[RawNode]>> {
     if nodes.is_empty() {
         return Some(Box::default());

@@ -4,32 +4,11 @@
 use alloc::boxed::Box;
 use core::hash::{Hash, Hasher};
 
-use crate::component::Component;
-use crate::decode;
+use crate::content::{Content, Nesting};
 use crate::links;
-use crate::literal::{self, ASCII, Literals};
-use crate::modifier::boolean;
-use crate::sys::{self, COMPONENT, COMPOUND, FIRST, LITERAL, OPTIONAL, RawNode};
+use crate::literal::{ASCII, Literals};
+use crate::sys::{self, COMPONENT, LITERAL, RawNode};
 use crate::written::written;
-
-/// What a node is.
-#[derive(Debug, Clone, Copy, PartialEq, Eq, Hash)]
-pub(crate) enum Content<'a> {
-    Literal(&'a str),
-    Component(Component),
-    /// A node with members. The first node of all below it has this index, or it itself.
-    Nested(Nesting, u32),
-}
-
-/// Why a node has members.
-#[derive(Debug, Clone, Copy, PartialEq, Eq, Hash)]
-pub(crate) enum Nesting {
-    Compound,
-    /// With the one member that a formatter writes, or one that it doesn't.
-    Optional,
-    Unwritten,
-    First,
-}
 
 /// Why a description is not made.
 #[derive(Debug, PartialEq, Eq)]
@@ -70,17 +49,15 @@ enum Shape {
 
 impl<'a> Tree<'a> {
     /// The tree of the library's list, which is changed, and which lends its literals.
-    #[inline(always)]
+    #[inline]
     pub(crate) fn build(
         nodes: &mut [RawNode],
         mut literals: Literals<'a, '_>,
     ) -> Result<Self, BuildError> {
         u32::try_from(nodes.len()).map_err(|_| BuildError::OutOfMemory)?;
         let is_flat = settle(nodes, &mut literals).ok_or(BuildError::Malformed)?;
-        let shape = match is_flat {
-            true => Shape::Flat { is_ascii: literals.are_ascii() },
-            false => link(nodes)?,
-        };
+        let shape =
+            if is_flat { Shape::Flat { is_ascii: literals.are_ascii() } } else { link(nodes)? };
         let nodes = sys::boxed(nodes).ok_or(BuildError::OutOfMemory)?;
         Ok(Self { text: literals.text, nodes, shape })
     }
@@ -91,11 +68,11 @@ impl<'a> Tree<'a> {
 #[inline]
 fn settle(nodes: &mut [RawNode], literals: &mut Literals<'_, '_>) -> Option<bool> {
     let mut is_flat = true;
-    for node in nodes {
-        match node.what {
-            LITERAL => node.start = literals.place(node.start, node.count)?,
-            COMPONENT => {}
-            _ => is_flat = false,
+    for node in nodes.iter_mut().filter(|node| node.what != COMPONENT) {
+        if node.what == LITERAL {
+            node.start = literals.place(node.start, node.count)?;
+        } else {
+            is_flat = false;
         }
     }
     Some(is_flat)
@@ -132,15 +109,7 @@ impl Tree<'_> {
 
     /// What a node is.
     pub(crate) fn content(&self, index: u32) -> Content<'_> {
-        let node = &self.nodes[index as usize];
-        match node.what {
-            LITERAL => Content::Literal(literal::lent(self.text, node.start, node.count)),
-            COMPONENT => Content::Component(decode::component(node).expect(AS_THE_HEADER_SAYS)),
-            _ => {
-                let nesting = Nesting::of(node).expect(AS_THE_HEADER_SAYS);
-                Content::Nested(nesting, links::begin(&self.nodes, index))
-            }
-        }
+        Content::of(&self.nodes[index as usize], self.text)
     }
 
     /// The greatest length of what a node is shown as, in bytes, at most `u32::MAX`.
@@ -205,22 +174,6 @@ impl Tree<'_> {
             Shape::Flat { is_ascii: true } => Some((&self.nodes, ASCII)),
             Shape::Flat { is_ascii: false } | Shape::Nested { .. } => None,
         }
-    }
-}
-
-/// What each node is that the library wrote.
-const AS_THE_HEADER_SAYS: &str = "the nodes are as the header says";
-
-impl Nesting {
-    /// Why a node has members that is neither a literal nor a component.
-    pub(crate) fn of(node: &RawNode) -> Option<Self> {
-        Some(match node.what {
-            COMPOUND => Self::Compound,
-            OPTIONAL if boolean(node.format)? => Self::Optional,
-            OPTIONAL => Self::Unwritten,
-            FIRST => Self::First,
-            _ => return None,
-        })
     }
 }
 

@@ -3,9 +3,9 @@
 use alloc::boxed::Box;
 use alloc::vec::Vec;
 
+use crate::content::Nesting;
 use crate::links;
 use crate::sys::RawNode;
-use crate::tree::Nesting;
 
 /// The indices of what a formatter writes of linked nodes, in turn. `None` where there is no memory
 /// for them.
