@@ -11,7 +11,7 @@ const SOUGHT: [&str; 6] =
     [", ", "é", "aab", "abcdefghijklmnop", "abcdefghijklmnopq", "aaaaaaaaaaaaaaaaaaab"];
 
 /// What the library's bytes are lent as, in turn.
-fn lent_in_turn<'a>(text: &'a str, literals: &[&str]) -> Option<String> {
+fn lent_in_turn(text: &str, literals: &[&str]) -> Option<String> {
     let bytes = literals.concat();
     let mut found = Literals::new(text, bytes.as_bytes());
     let mut start = 0;
