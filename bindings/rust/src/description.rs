@@ -245,14 +245,15 @@ fn read_long(
     Ok((nodes, literals))
 }
 
-/// The nodes of the items of a text in a language: but for the whole tree all of it are, whose members are
-/// the items then, as in the other languages.
+/// The nodes of the items of a text in a language. In version 3 the last one may be the whole text: then
+/// its members are the items, as in the other languages.
 #[inline]
 fn items_of(language: Language, nodes: &mut [RawNode]) -> &mut [RawNode] {
-    match (language, nodes) {
-        (Language::Version(Version::Three), [members @ .., RawNode { what: COMPOUND, .. }]) => {
-            members
-        }
-        (_, nodes) => nodes,
+    if !matches!(language, Language::Version(Version::Three)) {
+        return nodes;
+    }
+    match nodes {
+        [members @ .., RawNode { what: COMPOUND, .. }] => members,
+        nodes => nodes,
     }
 }
