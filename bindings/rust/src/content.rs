@@ -30,16 +30,20 @@ const AS_THE_HEADER_SAYS: &str = "the nodes are as the header says";
 
 impl<'a> Content<'a> {
     /// What a node of a tree is, whose literals this text lends.
+    #[inline]
     pub(crate) fn of(node: &RawNode, text: &'a str) -> Self {
         match node.what {
             LITERAL => Self::Literal(literal::lent(text, node.start, node.count)),
             COMPONENT => Self::Component(decode::component(node).expect(AS_THE_HEADER_SAYS)),
-            _ => {
-                let nesting = Nesting::of(node).expect(AS_THE_HEADER_SAYS);
-                Self::Nested(nesting, node.start as u32) // A u32 counts the nodes.
-            }
+            _ => Self::Nested(nesting(node), node.start as u32), // A u32 counts the nodes.
         }
     }
+}
+
+/// Why a node has members. Most texts have none that does.
+#[cold]
+fn nesting(node: &RawNode) -> Nesting {
+    Nesting::of(node).expect(AS_THE_HEADER_SAYS)
 }
 
 impl Nesting {

@@ -42,12 +42,18 @@ impl<'a> Item<'a> {
         match self.tree.content(self.index) {
             Content::Literal(text) => Node::Literal(text),
             Content::Component(component) => Node::Component(component),
-            Content::Nested(nesting, begin) => match nesting {
-                Nesting::Compound => Node::Compound(self.members(begin)),
-                Nesting::Optional => Node::Optional { format: true, item: self.member() },
-                Nesting::Unwritten => Node::Optional { format: false, item: self.member() },
-                Nesting::First => Node::First(self.members(begin)),
-            },
+            Content::Nested(nesting, begin) => self.nested(nesting, begin),
+        }
+    }
+
+    /// What a node with members is. It is a call of its own, as most texts have none.
+    #[inline(never)]
+    fn nested(self, nesting: Nesting, begin: u32) -> Node<'a> {
+        match nesting {
+            Nesting::Compound => Node::Compound(self.members(begin)),
+            Nesting::Optional => Node::Optional { format: true, item: self.member() },
+            Nesting::Unwritten => Node::Optional { format: false, item: self.member() },
+            Nesting::First => Node::First(self.members(begin)),
         }
     }
 

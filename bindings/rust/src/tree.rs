@@ -108,6 +108,7 @@ impl Tree<'_> {
     }
 
     /// What a node is.
+    #[inline]
     pub(crate) fn content(&self, index: u32) -> Content<'_> {
         Content::of(&self.nodes[index as usize], self.text)
     }
