@@ -1,5 +1,6 @@
 //! A description that was read.
 
+use alloc::vec::Vec;
 use core::fmt;
 use core::hash::{Hash, Hasher};
 
@@ -30,9 +31,8 @@ use crate::version::{Language, Version};
 /// they were read from.
 #[derive(Clone)]
 pub struct FormatDescription<'a> {
-    text: &'a str,
     language: Language,
-    tree: Tree<'a>,
+    pub(crate) tree: Tree<'a>,
     max_bytes: usize,
 }
 
@@ -88,34 +88,15 @@ impl<'a> FormatDescription<'a> {
         let mut literals = [0; SHORT_LITERALS];
         let answer = sys::read(language.number(), text, &mut nodes, &mut literals);
         expect_accepted(language, text, answer.status)?;
-        if answer.written {
-            return Self::built(language, text, &answer, &nodes, &literals);
-        }
-        let nodes = buffer::filled(answer.nodes, RawNode::default());
-        let literals = buffer::filled(answer.literals, 0);
-        let (mut nodes, mut literals) = nodes.zip(literals).ok_or(ParseError::OutOfMemory)?;
-        let answer = sys::read(language.number(), text, &mut nodes, &mut literals);
-        expect_accepted(language, text, answer.status)?;
-        assert!(answer.written, "there was room for what the library told");
-        Self::built(language, text, &answer, &nodes, &literals)
-    }
-
-    /// The description of what the library wrote to the fronts of two buffers.
-    fn built(
-        language: Language,
-        text: &'a str,
-        answer: &ReadAnswer,
-        nodes: &[RawNode],
-        literals: &[u8],
-    ) -> Result<Self, ParseError> {
-        let is_one_tree = language == Language::Version(Version::Three);
-        let nodes = match nodes[..answer.nodes].split_last() {
-            // The members of the whole tree are the items, as in the other languages.
-            Some((whole, members)) if is_one_tree && whole.what == COMPOUND => members,
-            _ => &nodes[..answer.nodes],
+        let mut long;
+        let (nodes, literals) = if answer.written {
+            (&mut nodes[..answer.nodes], &literals[..answer.literals])
+        } else {
+            long = read_long(language, text, &answer)?;
+            (&mut long.0[..], &long.1[..])
         };
-        match Tree::build(nodes, Literals::new(text, &literals[..answer.literals])) {
-            Ok(tree) => Ok(Self { text, language, tree, max_bytes: answer.bytes }),
+        match Tree::build(items_of(language, nodes), Literals::new(text, literals)) {
+            Ok(tree) => Ok(Self { language, tree, max_bytes: answer.bytes }),
             Err(BuildError::OutOfMemory) => Err(ParseError::OutOfMemory),
             Err(BuildError::Malformed) => unreachable!("the nodes are as the header says"),
         }
@@ -123,7 +104,7 @@ impl<'a> FormatDescription<'a> {
 
     /// The text that was read.
     pub fn text(&self) -> &'a str {
-        self.text
+        self.tree.text
     }
 
     /// The language that it was read in.
@@ -243,5 +224,36 @@ fn expect_accepted(language: Language, text: &str, status: u32) -> Result<(), Pa
     match status {
         sys::ACCEPTED => Ok(()),
         _ => Err(ParseError::of(language.number(), text, status)),
+    }
+}
+
+/// The nodes and the bytes of literals of a text that was read before, by an answer that tells how much
+/// room they need.
+#[cold]
+#[inline(never)]
+fn read_long(
+    language: Language,
+    text: &str,
+    answer: &ReadAnswer,
+) -> Result<(Vec<RawNode>, Vec<u8>), ParseError> {
+    let nodes = buffer::filled(answer.nodes, RawNode::default());
+    let literals = buffer::filled(answer.literals, 0);
+    let (mut nodes, mut literals) = nodes.zip(literals).ok_or(ParseError::OutOfMemory)?;
+    let answer = sys::read(language.number(), text, &mut nodes, &mut literals);
+    expect_accepted(language, text, answer.status)?;
+    assert!(answer.written, "there was room for what the library told");
+    Ok((nodes, literals))
+}
+
+/// The nodes of the items of a text in a language. In version 3 the last one may be the whole text: then
+/// its members are the items, as in the other languages.
+#[inline]
+fn items_of(language: Language, nodes: &mut [RawNode]) -> &mut [RawNode] {
+    if !matches!(language, Language::Version(Version::Three)) {
+        return nodes;
+    }
+    match nodes {
+        [members @ .., RawNode { what: COMPOUND, .. }] => members,
+        nodes => nodes,
     }
 }

@@ -1,8 +1,9 @@
-//! The numbers that a node has for a component, as the library takes them.
+//! The numbers that a node has for a component. A description is written by the library's own nodes, so
+//! only tests want these.
 
 use crate::component::Component;
 use crate::modifier::{Padding, boolean_number};
-use crate::sys::{COMPONENT, LITERAL, RawNode};
+use crate::sys::{COMPONENT, RawNode};
 
 /// The node of a component.
 pub(crate) fn component(component: Component) -> RawNode {
@@ -73,11 +74,6 @@ pub(crate) fn component(component: Component) -> RawNode {
             RawNode { trailing_input: trailing_input.number(), ..numbered(37) }
         }
     }
-}
-
-/// The node of a literal, which has so many bytes from a place on.
-pub(crate) fn literal(start: usize, count: usize) -> RawNode {
-    RawNode { what: LITERAL, start, count, ..RawNode::default() }
 }
 
 fn numbered(number: u8) -> RawNode {

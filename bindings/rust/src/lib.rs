@@ -51,13 +51,16 @@ extern crate std;
 
 mod buffer;
 mod component;
+mod content;
 mod convert;
 mod decode;
 mod description;
+#[cfg(test)]
 mod encode;
 mod error;
 mod fault;
 mod format;
+mod links;
 mod literal;
 mod modifier;
 mod moment;
@@ -68,6 +71,7 @@ mod sys;
 mod tree;
 mod version;
 mod write;
+mod written;
 
 pub use component::Component;
 pub use convert::{ConvertError, convert, v1_to_v2, v2_to_v3};

@@ -4,7 +4,7 @@ use core::str::from_utf8;
 
 /// Each text of one ASCII character. It has those that letters of strftime stand for, which no text
 /// need hold.
-const ASCII: &str = {
+pub(crate) const ASCII: &str = {
     const BYTES: [u8; 128] = {
         let mut bytes = [0; 128];
         let mut at = 0;
@@ -20,11 +20,18 @@ const ASCII: &str = {
     }
 };
 
+/// The literal of so many bytes that has this place: in `ASCII` where it has one byte, or else in the
+/// text.
+pub(crate) fn lent(text: &str, place: usize, count: usize) -> &str {
+    let lender = if count == 1 { ASCII } else { text };
+    &lender[place..place + count]
+}
+
 /// The bytes of literals as the library writes them, and the text that has them too.
 pub(crate) struct Literals<'a, 'b> {
-    text: &'a str,
+    pub(crate) text: &'a str,
     bytes: &'b [u8],
-    /// Where the literal ends that was found last.
+    /// Where the literal ends that was found in the text last.
     at: usize,
 }
 
@@ -33,31 +40,62 @@ impl<'a, 'b> Literals<'a, 'b> {
         Self { text, bytes, at: 0 }
     }
 
-    /// So many bytes from a place among the library's, lent by the text, which holds them behind the
-    /// literal before. `None` where it doesn't, which the library never answers.
-    pub(crate) fn lent(&mut self, start: usize, count: usize) -> Option<&'a str> {
-        let literal = self.bytes.get(start..start.checked_add(count)?)?;
-        if let [byte] = literal {
-            let at = usize::from(*byte);
-            return ASCII.get(at..at + 1);
+    /// Whether ASCII lends all whose places were asked for.
+    pub(crate) fn are_ascii(&self) -> bool {
+        self.at == 0
+    }
+
+    /// By which place so many bytes from an index among the library's are [`lent`]. The text holds
+    /// them behind the literal before. `None` where it doesn't, which the library never answers.
+    #[inline]
+    pub(crate) fn place(&mut self, start: usize, count: usize) -> Option<usize> {
+        if count == 1 {
+            let byte = *self.bytes.get(start)?;
+            return byte.is_ascii().then_some(usize::from(byte));
         }
-        let start = self.at + find(&self.text[self.at..], literal)?;
-        let lent = self.text.get(start..start + count)?;
-        self.at = start + count;
-        Some(lent)
+        let literal = self.bytes.get(start..start.checked_add(count)?)?;
+        let place = find(self.text, self.at, literal)?;
+        self.at = place + count;
+        Some(place)
     }
 }
 
-/// The longest literal that is sought byte by byte.
+/// The longest literal that is sought by its first byte.
 const SHORT: usize = 16;
 
-/// Where some bytes stand first in a text.
-fn find(text: &str, sought: &[u8]) -> Option<usize> {
+/// Where some bytes stand first in a text from a place on. It is no part of the loop over nodes, which
+/// most texts have no long literals of.
+#[inline(never)]
+fn find(text: &str, from: usize, sought: &[u8]) -> Option<usize> {
     if sought.len() > SHORT {
-        return text.find(from_utf8(sought).ok()?);
+        return find_long(text, from, sought);
     }
     let (first, behind) = sought.split_first()?;
-    let bytes = text.as_bytes();
-    let stands_at = |at: usize| bytes[at] == *first && bytes[at + 1..].starts_with(behind);
-    (0..bytes.len()).find(|at| stands_at(*at))
+    let mut at = from;
+    loop {
+        at += find_byte(text.as_bytes().get(at..)?, *first)? + 1;
+        let rest = text.as_bytes().get(at..at + behind.len())?;
+        if rest.iter().zip(behind).all(|(byte, wanted)| byte == wanted) {
+            return Some(at - 1);
+        }
+    }
 }
+
+/// The same of many bytes, in a time that much that is like them in front doesn't make longer.
+#[inline(never)]
+fn find_long(text: &str, from: usize, sought: &[u8]) -> Option<usize> {
+    Some(from + text[from..].find(from_utf8(sought).ok()?)?)
+}
+
+/// Where a byte stands first in others.
+fn find_byte(bytes: &[u8], sought: u8) -> Option<usize> {
+    // So many are compared at once.
+    const CHUNK: usize = 16;
+    let has = |chunk: &[u8]| chunk.iter().fold(false, |found, byte| found | (*byte == sought));
+    let skipped = CHUNK * bytes.chunks_exact(CHUNK).take_while(|chunk| !has(chunk)).count();
+    Some(skipped + bytes[skipped..].iter().position(|byte| *byte == sought)?)
+}
+
+#[cfg(test)]
+#[path = "literal_tests.rs"]
+mod tests;

@@ -22,6 +22,7 @@ impl Padding {
         }
     }
 
+    #[cfg(test)]
     pub(crate) fn number(self) -> u8 {
         match self {
             Self::Space => 1,
@@ -74,6 +75,7 @@ impl SubsecondDigits {
         }
     }
 
+    #[cfg(test)]
     pub(crate) fn number(self) -> u8 {
         match self {
             Self::One => 1,
@@ -126,6 +128,7 @@ impl TrailingInput {
         }
     }
 
+    #[cfg(test)]
     pub(crate) fn number(self) -> u8 {
         match self {
             Self::Prohibit => 1,
@@ -144,6 +147,7 @@ pub(crate) fn boolean(number: u8) -> Option<bool> {
 }
 
 /// The number of a modifier that is true or false.
+#[cfg(test)]
 pub(crate) fn boolean_number(is_true: bool) -> u8 {
     if is_true { 2 } else { 1 }
 }

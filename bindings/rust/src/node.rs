@@ -4,7 +4,8 @@ use core::fmt;
 use core::iter::FusedIterator;
 
 use crate::component::Component;
-use crate::tree::{Content, Markup, Nesting, Record, Tree};
+use crate::content::{Content, Nesting};
+use crate::tree::Tree;
 
 /// What a node of a description is.
 #[derive(Debug, Clone)]
@@ -31,38 +32,41 @@ pub enum Node<'a> {
 /// copied for nothing.
 #[derive(Clone, Copy)]
 pub struct Item<'a> {
-    records: &'a [Record<'a>],
+    tree: &'a Tree<'a>,
     index: u32,
 }
 
 impl<'a> Item<'a> {
     /// What the node is.
     pub fn node(self) -> Node<'a> {
-        match self.record().content {
+        match self.tree.content(self.index) {
             Content::Literal(text) => Node::Literal(text),
-            Content::Markup(Markup::Component(component)) => Node::Component(component),
-            Content::Markup(Markup::Nested(nesting, count)) => match nesting {
-                Nesting::Compound => Node::Compound(self.members(count)),
-                Nesting::Optional => Node::Optional { format: true, item: self.member() },
-                Nesting::Unwritten => Node::Optional { format: false, item: self.member() },
-                Nesting::First => Node::First(self.members(count)),
-            },
+            Content::Component(component) => Node::Component(component),
+            Content::Nested(nesting, begin) => self.nested(nesting, begin),
+        }
+    }
+
+    /// What a node with members is. It is a call of its own, as most texts have none.
+    #[inline(never)]
+    fn nested(self, nesting: Nesting, begin: u32) -> Node<'a> {
+        match nesting {
+            Nesting::Compound => Node::Compound(self.members(begin)),
+            Nesting::Optional => Node::Optional { format: true, item: self.member() },
+            Nesting::Unwritten => Node::Optional { format: false, item: self.member() },
+            Nesting::First => Node::First(self.members(begin)),
         }
     }
 
     /// The greatest length of any text that the node is shown as, in bytes; `u32::MAX` where it is
     /// longer.
     pub fn max_bytes_needed(self) -> usize {
-        self.record().bytes
+        self.tree.max_bytes(self.index)
     }
 
-    pub(crate) fn record(self) -> &'a Record<'a> {
-        &self.records[self.index as usize]
-    }
-
-    /// The members, of which there are so many: the last one stands in front of the node.
-    fn members(self, count: u32) -> Members<'a> {
-        Members::in_front_of(self.index, self.records, count)
+    /// The members: the last one stands in front of the node, and the first node of all below it has
+    /// the index `begin`.
+    fn members(self, begin: u32) -> Members<'a> {
+        Members::in_front_of(self.index, self.tree, self.tree.members(self.index, begin))
     }
 
     /// The one member of an optional part.
@@ -80,7 +84,7 @@ impl fmt::Debug for Item<'_> {
 /// The items of a description, or the members of a node, in their order.
 #[derive(Clone)]
 pub struct Members<'a> {
-    records: &'a [Record<'a>],
+    tree: &'a Tree<'a>,
     /// The index of the next one from the front, and from the back, where any is left.
     front: u32,
     back: u32,
@@ -90,15 +94,15 @@ pub struct Members<'a> {
 impl<'a> Members<'a> {
     /// The items of a description.
     pub(crate) fn items(tree: &'a Tree<'a>) -> Self {
-        Self::in_front_of(tree.records.len() as u32, &tree.records, tree.items)
+        Self::in_front_of(tree.len(), tree, tree.items())
     }
 
     /// So many members, of which the last one stands in front of a place.
-    fn in_front_of(place: u32, records: &'a [Record<'a>], count: u32) -> Self {
+    fn in_front_of(place: u32, tree: &'a Tree<'a>, count: u32) -> Self {
         let back = place.saturating_sub(1);
         // The ring leads from the last one to the first.
-        let front = if count > 0 { records[back as usize].next } else { back };
-        Self { records, front, back, left: count }
+        let front = if count > 0 { tree.next(back) } else { back };
+        Self { tree, front, back, left: count }
     }
 }
 
@@ -107,8 +111,8 @@ impl<'a> Iterator for Members<'a> {
 
     fn next(&mut self) -> Option<Item<'a>> {
         self.left = self.left.checked_sub(1)?;
-        let item = Item { records: self.records, index: self.front };
-        self.front = item.record().next;
+        let item = Item { tree: self.tree, index: self.front };
+        self.front = self.tree.next(item.index);
         Some(item)
     }
 
@@ -120,9 +124,9 @@ impl<'a> Iterator for Members<'a> {
 impl<'a> DoubleEndedIterator for Members<'a> {
     fn next_back(&mut self) -> Option<Item<'a>> {
         self.left = self.left.checked_sub(1)?;
-        let item = Item { records: self.records, index: self.back };
+        let item = Item { tree: self.tree, index: self.back };
         // In front of all that is below it stands the member before.
-        self.back = item.record().begin.saturating_sub(1);
+        self.back = self.tree.begin(item.index).saturating_sub(1);
         Some(item)
     }
 }
@@ -141,28 +145,27 @@ impl fmt::Debug for Members<'_> {
 /// description that is deeply nested.
 #[derive(Debug, Clone)]
 pub struct Nodes<'a> {
-    records: &'a [Record<'a>],
+    tree: &'a Tree<'a>,
     next: u32,
     left: u32,
 }
 
 impl<'a> Nodes<'a> {
     pub(crate) fn new(tree: &'a Tree<'a>) -> Self {
-        let items = Members::items(tree);
-        Self { records: items.records, next: items.front, left: tree.records.len() as u32 }
+        Self { tree, next: Members::items(tree).front, left: tree.len() }
     }
 
     /// Where to go on behind a node and all below it.
     fn behind(&self, index: u32) -> u32 {
         let mut index = index;
         // The last member leads back to the first, and the node of which it is one stands behind it.
-        while self.records[index as usize].next <= index {
+        while self.tree.next(index) <= index {
             index += 1;
-            if index as usize == self.records.len() {
+            if index == self.tree.len() {
                 return index;
             }
         }
-        self.records[index as usize].next
+        self.tree.next(index)
     }
 }
 
@@ -171,14 +174,12 @@ impl<'a> Iterator for Nodes<'a> {
 
     fn next(&mut self) -> Option<Item<'a>> {
         self.left = self.left.checked_sub(1)?;
-        let item = Item { records: self.records, index: self.next };
-        self.next = match item.record().content {
-            Content::Markup(Markup::Nested(_, 1..)) => {
-                self.records[item.index as usize - 1].next // the first member
-            }
-            _ if self.left > 0 => self.behind(item.index),
-            _ => self.next,
-        };
+        let item = Item { tree: self.tree, index: self.next };
+        if self.tree.begin(item.index) < item.index {
+            self.next = self.tree.next(item.index - 1); // the first member
+        } else if self.left > 0 {
+            self.next = self.behind(item.index);
+        }
         Some(item)
     }
 

@@ -4,7 +4,8 @@ use core::iter::FusedIterator;
 use core::ops::Range;
 
 use crate::component::Component;
-use crate::tree::{Content, Markup, Record, Tree};
+use crate::content::Content;
+use crate::tree::Tree;
 
 /// A part of what a formatter writes.
 #[derive(Debug, Clone, Copy, PartialEq, Eq)]
@@ -18,25 +19,21 @@ pub enum Part<'a> {
 /// What a formatter writes, in turn.
 #[derive(Debug, Clone)]
 pub struct Parts<'a> {
-    records: &'a [Record<'a>],
-    /// The indices of those that are written, if not all are.
-    written: Option<&'a [u32]>,
+    tree: &'a Tree<'a>,
+    /// The places of those that are left, among all that are written.
     left: Range<usize>,
 }
 
 impl<'a> Parts<'a> {
     pub(crate) fn new(tree: &'a Tree<'a>) -> Self {
-        let written = tree.written.as_deref();
-        let left = 0..written.map_or(tree.records.len(), <[u32]>::len);
-        Self { records: &tree.records, written, left }
+        Self { tree, left: 0..tree.written_len() }
     }
 
     fn part(&self, place: usize) -> Part<'a> {
-        let index = self.written.map_or(place, |indices| indices[place] as usize);
-        match self.records[index].content {
+        match self.tree.content(self.tree.written_at(place)) {
             Content::Literal(text) => Part::Literal(text),
-            Content::Markup(Markup::Component(component)) => Part::Component(component),
-            Content::Markup(Markup::Nested(..)) => unreachable!("its members are written"),
+            Content::Component(component) => Part::Component(component),
+            Content::Nested(..) => unreachable!("its members are written"),
         }
     }
 }

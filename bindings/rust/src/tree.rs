@@ -1,59 +1,14 @@
-//! How a description keeps its nodes: in the library's order, each behind its members, with the
-//! links by which walks go forwards, backwards and down with neither recursion nor memory.
+//! How a description keeps its nodes: as the library wrote them, in its order, with the links that
+//! walks go by and the places of literals. A node is decoded when it is looked at.
 
 use alloc::boxed::Box;
-use alloc::vec::Vec;
+use core::hash::{Hash, Hasher};
 
-use crate::component::Component;
-use crate::decode;
-use crate::literal::Literals;
-use crate::modifier::boolean;
-use crate::sys::{COMPONENT, COMPOUND, FIRST, LITERAL, OPTIONAL, RawNode};
-
-/// A node, which stands behind all that is below it.
-#[derive(Debug, Clone, Copy, PartialEq, Eq, Hash)]
-pub(crate) struct Record<'a> {
-    pub(crate) content: Content<'a>,
-    /// The greatest length of what it is shown as, in bytes, at most `u32::MAX`.
-    pub(crate) bytes: usize,
-    /// The index of the first of all nodes below it, or its own where there is none.
-    pub(crate) begin: u32,
-    /// The index of the next member of the node around it, and of the last member that of the first.
-    pub(crate) next: u32,
-}
-
-impl Record<'_> {
-    /// What stands for a node that is none.
-    const NONE: Self = Self { content: Content::Literal(""), bytes: 0, begin: 0, next: 0 };
-}
-
-/// What a node is.
-#[derive(Debug, Clone, Copy, PartialEq, Eq, Hash)]
-pub(crate) enum Content<'a> {
-    Literal(&'a str),
-    Markup(Markup),
-}
-
-/// What a node is that quotes nothing.
-#[derive(Debug, Clone, Copy, PartialEq, Eq, Hash)]
-pub(crate) enum Markup {
-    Component(Component),
-    /// A node with so many members.
-    Nested(Nesting, u32),
-}
-
-/// Why a node has members.
-#[derive(Debug, Clone, Copy, PartialEq, Eq, Hash)]
-pub(crate) enum Nesting {
-    Compound,
-    /// With the one member that a formatter writes, or one that it doesn't.
-    Optional,
-    Unwritten,
-    First,
-}
-
-// A word more than the two of a literal, and two indices.
-const _: () = assert!(size_of::<Record<'_>>() <= 4 * size_of::<u64>());
+use crate::content::{Content, Nesting};
+use crate::links;
+use crate::literal::{ASCII, Literals};
+use crate::sys::{self, COMPONENT, LITERAL, RawNode};
+use crate::written::written;
 
 /// Why a description is not made.
 #[derive(Debug, PartialEq, Eq)]
@@ -65,145 +20,184 @@ pub(crate) enum BuildError {
 }
 
 /// The nodes of a description.
-#[derive(Debug, Clone, PartialEq, Eq, Hash)]
+#[derive(Debug, Clone)]
 pub(crate) struct Tree<'a> {
-    pub(crate) records: Box<[Record<'a>]>,
-    /// How many items there are.
-    pub(crate) items: u32,
-    /// The indices of what a formatter writes, in turn, where that is not each node.
-    pub(crate) written: Option<Box<[u32]>>,
+    /// What lends the literals.
+    pub(crate) text: &'a str,
+    /// The nodes as the library wrote them, but that `start` of a literal is the place by which it is
+    /// lent, and that they are linked where some have members.
+    nodes: Box<[RawNode]>,
+    shape: Shape,
+}
+
+/// What is known of all nodes.
+#[derive(Debug, Clone)]
+enum Shape {
+    /// None has members: each is an item, and each is written.
+    Flat {
+        /// Whether each literal has one byte, so that ASCII lends all.
+        is_ascii: bool,
+    },
+    /// Some have members.
+    Nested {
+        /// How many are items.
+        items: u32,
+        /// The indices of what a formatter writes, in turn.
+        written: Box<[u32]>,
+    },
 }
 
 impl<'a> Tree<'a> {
-    /// The tree of the library's list, which lends its literals.
-    pub(crate) fn build(nodes: &[RawNode], literals: Literals<'a, '_>) -> Result<Self, BuildError> {
+    /// The tree of the library's list, which is changed, and which lends its literals.
+    #[inline]
+    pub(crate) fn build(
+        nodes: &mut [RawNode],
+        mut literals: Literals<'a, '_>,
+    ) -> Result<Self, BuildError> {
         u32::try_from(nodes.len()).map_err(|_| BuildError::OutOfMemory)?;
-        let mut records = Vec::new();
-        records.try_reserve_exact(nodes.len()).map_err(|_| BuildError::OutOfMemory)?;
-        let mut literals = literals;
-        let (mut is_flat, mut is_sound) = (true, true);
-        records.extend((0..).zip(nodes).map(|(index, node)| {
-            is_flat &= node.what == LITERAL || node.what == COMPONENT;
-            record(index, node, &mut literals).unwrap_or_else(|| {
-                is_sound = false;
-                Record::NONE
-            })
-        }));
-        if !is_sound {
+        let is_flat = settle(nodes, &mut literals).ok_or(BuildError::Malformed)?;
+        let shape =
+            if is_flat { Shape::Flat { is_ascii: literals.are_ascii() } } else { link(nodes)? };
+        let nodes = sys::boxed(nodes).ok_or(BuildError::OutOfMemory)?;
+        Ok(Self { text: literals.text, nodes, shape })
+    }
+}
+
+/// Gives each literal the place by which it is lent, and answers whether nodes are flat: literals and
+/// components alone. `None` where a literal has no place.
+#[inline]
+fn settle(nodes: &mut [RawNode], literals: &mut Literals<'_, '_>) -> Option<bool> {
+    let mut is_flat = true;
+    for node in nodes.iter_mut().filter(|node| node.what != COMPONENT) {
+        if node.what == LITERAL {
+            node.start = literals.place(node.start, node.count)?;
+        } else {
+            is_flat = false;
+        }
+    }
+    Some(is_flat)
+}
+
+/// Links a list that isn't flat.
+#[inline(never)]
+fn link(nodes: &mut [RawNode]) -> Result<Shape, BuildError> {
+    for node in nodes.iter().filter(|node| !links::is_leaf(node)) {
+        let nesting = Nesting::of(node).ok_or(BuildError::Malformed)?;
+        let is_one = matches!(nesting, Nesting::Optional | Nesting::Unwritten);
+        if is_one && node.count != 1 {
             return Err(BuildError::Malformed);
         }
-        if is_flat {
-            if let Some(last) = records.last_mut() {
-                last.next = 0;
-            }
-            let items = records.len() as u32; // It fits, as was tested.
-            return Ok(Self { records: records.into_boxed_slice(), items, written: None });
-        }
-        let items = link(&mut records).ok_or(BuildError::Malformed)?;
-        let written = written(&records).ok_or(BuildError::OutOfMemory)?;
-        Ok(Self { records: records.into_boxed_slice(), items, written: Some(written) })
     }
+    let items = links::link(nodes).ok_or(BuildError::Malformed)?;
+    let written = written(nodes).ok_or(BuildError::OutOfMemory)?;
+    Ok(Shape::Nested { items, written })
 }
 
-/// The record of a node, followed by the next one in the list.
-fn record<'a>(index: u32, node: &RawNode, literals: &mut Literals<'a, '_>) -> Option<Record<'a>> {
-    let (content, begin) = match node.what {
-        LITERAL => (Content::Literal(literals.lent(node.start, node.count)?), index),
-        COMPONENT => (Content::Markup(Markup::Component(decode::component(node)?)), index),
-        _ => nested(index, node)?,
-    };
-    Some(Record { content, bytes: node.bytes as usize, begin, next: index + 1 })
-}
+impl Tree<'_> {
+    /// How many nodes there are.
+    pub(crate) fn len(&self) -> u32 {
+        self.nodes.len() as u32 // It fits, as was tested.
+    }
 
-/// What a node with members is, and the first of all nodes below it. It is no part of the loop over
-/// nodes, which most texts have none of.
-#[inline(never)]
-fn nested<'a>(index: u32, node: &RawNode) -> Option<(Content<'a>, u32)> {
-    let nesting = match node.what {
-        COMPOUND => Nesting::Compound,
-        OPTIONAL if boolean(node.format)? => Nesting::Optional,
-        OPTIONAL => Nesting::Unwritten,
-        FIRST => Nesting::First,
-        _ => return None,
-    };
-    let count = u32::try_from(node.count).ok()?;
-    let begin = u32::try_from(node.start).ok().filter(|begin| *begin <= index)?;
-    Some((Content::Markup(Markup::Nested(nesting, count)), begin))
-}
-
-/// Links the members of each node in a ring, and the items. It answers how many items there are, and
-/// `None` where the nodes are nested in no order.
-fn link(records: &mut [Record<'_>]) -> Option<u32> {
-    for index in 0..records.len() {
-        let record = records[index];
-        if let Content::Markup(Markup::Nested(nesting, count)) = record.content {
-            let is_one = matches!(nesting, Nesting::Optional | Nesting::Unwritten);
-            if link_members(records, record.begin as usize, index)? != count || is_one && count != 1
-            {
-                return None;
-            }
+    /// How many of them are items.
+    pub(crate) fn items(&self) -> u32 {
+        match self.shape {
+            Shape::Flat { .. } => self.len(),
+            Shape::Nested { items, .. } => items,
         }
     }
-    link_members(records, 0, records.len())
-}
 
-/// Links the members that end in front of a place, and answers how many there are. The first node of
-/// all below the first member has the index `begin`.
-fn link_members(records: &mut [Record<'_>], begin: usize, end: usize) -> Option<u32> {
-    if begin == end {
-        return Some(0);
+    /// What a node is.
+    #[inline]
+    pub(crate) fn content(&self, index: u32) -> Content<'_> {
+        Content::of(&self.nodes[index as usize], self.text)
     }
-    let last = end - 1;
-    let (mut member, mut count) = (last, 1);
-    while records[member].begin as usize > begin {
-        let previous = records[member].begin as usize - 1;
-        records[previous].next = member as u32; // It indexes a list that a u32 counts.
-        (member, count) = (previous, count + 1);
+
+    /// The greatest length of what a node is shown as, in bytes, at most `u32::MAX`.
+    pub(crate) fn max_bytes(&self, index: u32) -> usize {
+        let node = &self.nodes[index as usize];
+        match node.what {
+            LITERAL => node.count.min(u32::MAX as usize),
+            _ => node.bytes as usize,
+        }
     }
-    records[last].next = member as u32;
-    (records[member].begin as usize == begin).then_some(count)
-}
 
-/// What a formatter writes, from the last part to the first.
-struct Backwards<'a> {
-    records: &'a [Record<'a>],
-    /// How many records are still in front.
-    rest: usize,
-}
+    /// The index of the first of all nodes below a node, or its own where there is none.
+    pub(crate) fn begin(&self, index: u32) -> u32 {
+        links::begin(&self.nodes, index)
+    }
 
-impl Iterator for Backwards<'_> {
-    type Item = u32;
+    /// The index of the next member of the node around it, and of the last member that of the first.
+    pub(crate) fn next(&self, index: u32) -> u32 {
+        match self.shape {
+            Shape::Flat { .. } if index + 1 == self.len() => 0,
+            Shape::Flat { .. } => index + 1,
+            Shape::Nested { .. } => links::next(&self.nodes, index),
+        }
+    }
 
-    fn next(&mut self) -> Option<u32> {
-        while let Some(index) = self.rest.checked_sub(1) {
-            let record = &self.records[index];
-            self.rest = index;
-            match record.content {
-                Content::Literal(_) | Content::Markup(Markup::Component(_)) => {
-                    return Some(index as u32); // It indexes a list that a u32 counts.
+    /// How many members a node has, whose first node of all below has the index `begin`.
+    pub(crate) fn members(&self, index: u32, begin: u32) -> u32 {
+        links::count(&self.nodes, begin, index)
+    }
+
+    /// How many nodes a formatter writes.
+    pub(crate) fn written_len(&self) -> usize {
+        match &self.shape {
+            Shape::Flat { .. } => self.nodes.len(),
+            Shape::Nested { written, .. } => written.len(),
+        }
+    }
+
+    /// The index of the node that a formatter writes at a place.
+    pub(crate) fn written_at(&self, place: usize) -> u32 {
+        match &self.shape {
+            Shape::Flat { .. } => place as u32, // It indexes a list that a u32 counts.
+            Shape::Nested { written, .. } => written[place],
+        }
+    }
+
+    /// Copies the nodes that a formatter writes, in turn, to as many.
+    pub(crate) fn copy_written(&self, nodes: &mut [RawNode]) {
+        match &self.shape {
+            Shape::Flat { .. } => nodes.copy_from_slice(&self.nodes),
+            Shape::Nested { written, .. } => {
+                for (node, index) in nodes.iter_mut().zip(written) {
+                    *node = self.nodes[*index as usize];
                 }
-                Content::Markup(Markup::Nested(Nesting::Unwritten, _)) => {
-                    self.rest = record.begin as usize;
-                }
-                Content::Markup(Markup::Nested(Nesting::First, 1..)) => {
-                    // The ring leads from the last alternative to the first.
-                    self.rest = self.records[index - 1].next as usize + 1;
-                }
-                Content::Markup(Markup::Nested(..)) => {}
             }
         }
-        None
+    }
+
+    /// The nodes as the library takes them, with what lends their literals, where one text lends all.
+    pub(crate) fn as_taken(&self) -> Option<(&[RawNode], &'static str)> {
+        match self.shape {
+            Shape::Flat { is_ascii: true } => Some((&self.nodes, ASCII)),
+            Shape::Flat { is_ascii: false } | Shape::Nested { .. } => None,
+        }
     }
 }
 
-/// The indices of what a formatter writes, in turn. `None` where there is no memory for them.
-fn written(records: &[Record<'_>]) -> Option<Box<[u32]>> {
-    let backwards = || Backwards { records, rest: records.len() };
-    let mut indices = Vec::new();
-    indices.try_reserve_exact(backwards().count()).ok()?;
-    indices.extend(backwards());
-    indices.reverse();
-    Some(indices.into_boxed_slice())
+/// Two are equal where their nodes are, wherever their literals stand.
+impl PartialEq for Tree<'_> {
+    fn eq(&self, other: &Self) -> bool {
+        let is_same = |index| {
+            self.content(index) == other.content(index)
+                && self.max_bytes(index) == other.max_bytes(index)
+        };
+        self.len() == other.len() && (0..self.len()).all(is_same)
+    }
+}
+
+impl Eq for Tree<'_> {}
+
+impl Hash for Tree<'_> {
+    fn hash<H: Hasher>(&self, state: &mut H) {
+        self.len().hash(state);
+        for index in 0..self.len() {
+            self.content(index).hash(state);
+        }
+    }
 }
 
 #[cfg(test)]

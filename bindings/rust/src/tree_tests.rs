@@ -1,12 +1,13 @@
 //! Lists of nodes made by hand, as the library would answer them.
 
 use std::format;
+use std::hash::{DefaultHasher, Hash, Hasher};
 use std::string::String;
 use std::vec::Vec;
 
 use super::{BuildError, Tree};
 use crate::literal::Literals;
-use crate::node::{Members, Nodes};
+use crate::node::{Item, Members, Node, Nodes};
 use crate::parts::{Part, Parts};
 use crate::sys::RawNode;
 
@@ -109,7 +110,7 @@ fn literal_text(part: Part<'_>) -> &str {
 
 /// The tree of a list, whose literals stand in the text of all of them.
 fn build(nodes: &[RawNode]) -> Result<Tree<'static>, BuildError> {
-    Tree::build(nodes, Literals::new(LITERALS, LITERALS.as_bytes()))
+    Tree::build(&mut nodes.to_vec(), Literals::new(LITERALS, LITERALS.as_bytes()))
 }
 
 #[test]
@@ -161,19 +162,64 @@ fn from_both_ends() {
     assert!(members.next().is_none() && members.next_back().is_none());
 }
 
+/// How many members the nodes have that are a compound or have alternatives.
+fn counts(tree: &Tree<'_>) -> Vec<usize> {
+    let count = |item: Item<'_>| match item.node() {
+        Node::Compound(members) | Node::First(members) => Some(members.len()),
+        Node::Literal(_) | Node::Component(_) | Node::Optional { .. } => None,
+    };
+    Nodes::new(tree).filter_map(count).collect()
+}
+
+#[test]
+fn members_are_counted() {
+    let nodes = [A, B, first(0, 2), C, A, B, compound(3, 3), C, compound(0, 3), compound(9, 0)];
+    let tree = build(&nodes).expect("this is a list");
+    assert_eq!(counts(&tree), [3, 2, 3, 0]);
+    assert_eq!(Members::items(&tree).len(), 2);
+}
+
+/// Two trees are equal where they have the same nodes, wherever their literals stand.
+#[test]
+fn equality() {
+    let texts = [("ab: cd", "abcd"), ("cd; ab", "abcd")];
+    let trees = texts.map(|(text, bytes)| {
+        let mut nodes = [literal(0, 2), literal(3, 1), optional(1)];
+        Tree::build(&mut nodes, Literals::new(text, bytes.as_bytes())).expect("this is a list")
+    });
+    assert_eq!(trees[0], trees[1]);
+    assert_eq!(hash(&trees[0]), hash(&trees[1]));
+    for (nodes, items, _) in LISTS {
+        for (others, other_items, _) in LISTS {
+            let is_same = build(nodes).ok() == build(others).ok();
+            assert_eq!(is_same, items == other_items, "{items} and {other_items}");
+        }
+    }
+}
+
+fn hash(tree: &Tree<'_>) -> u64 {
+    let mut state = DefaultHasher::new();
+    tree.hash(&mut state);
+    state.finish()
+}
+
 /// Lists that the library doesn't answer.
 const BROKEN: &[&[RawNode]] = &[
     &[node(0, 0, 0)],
     &[node(6, 0, 0)],
-    &[node(2, 0, 0)],
     &[node(4, 0, 1)],
     &[literal(5, 1)],
     &[literal(6, 1)],
     &[literal(1, usize::MAX)],
+    &[literal(1, 0)],
     &[compound(1, 1)],
     &[compound(2, 0)],
+    &[compound(usize::MAX, 0)],
+    &[A, compound(0, 0)],
+    &[A, compound(0, 2)],
     &[A, compound(0, 1), compound(1, 1)],
     &[A, optional(1)],
+    &[A, B, RawNode { count: 2, ..optional(0) }],
 ];
 
 #[test]
@@ -181,4 +227,12 @@ fn what_is_no_list_is_not_taken() {
     for nodes in BROKEN {
         assert_eq!(build(nodes).err(), Some(BuildError::Malformed), "{nodes:?}");
     }
+}
+
+/// A component is decoded when it is looked at, and then it has to be one.
+#[test]
+#[should_panic(expected = "the nodes are as the header says")]
+fn what_is_no_component_is_not_shown() {
+    let tree = build(&[node(2, 0, 0)]).expect("its component isn't looked at");
+    Parts::new(&tree).next();
 }

@@ -6,11 +6,10 @@ use core::fmt;
 
 use crate::buffer;
 use crate::description::FormatDescription;
-use crate::encode;
 use crate::format::{FormatError, NO_MEMORY, Pattern};
+use crate::literal::ASCII;
 use crate::moment::Moment;
-use crate::parts::Part;
-use crate::sys::{self, RawNode};
+use crate::sys::{self, LITERAL, RawNode};
 
 impl FormatDescription<'_> {
     /// Writes the moment. The text of the description isn't read again.
@@ -110,7 +109,10 @@ impl FormatDescription<'_> {
         &self,
         call: impl FnOnce(Pattern<'_>) -> Result<T, E>,
     ) -> Result<T, E> {
-        let (count, len) = (self.parts().len(), self.literals_len());
+        if let Some((nodes, literals)) = self.tree.as_taken() {
+            return call(Pattern::Nodes(nodes, literals.as_bytes()));
+        }
+        let (count, len) = (self.tree.written_len(), ASCII.len() + self.text().len());
         if count <= SHORT_NODES && len <= SHORT_LITERALS {
             let mut nodes = sys::zeroed_nodes::<SHORT_NODES>();
             let mut literals = [0; SHORT_LITERALS];
@@ -122,37 +124,25 @@ impl FormatDescription<'_> {
         }
     }
 
-    /// How many bytes the literals have that a formatter writes.
-    fn literals_len(&self) -> usize {
-        let len = |part| match part {
-            Part::Literal(text) => text.len(),
-            Part::Component(_) => 0,
-        };
-        self.parts().map(len).sum()
-    }
-
-    /// What a formatter writes of the description, in a buffer of as many nodes and one of as many
-    /// bytes.
+    /// What a formatter writes of the description, in a buffer of as many nodes and one that has room
+    /// for what lends literals: ASCII, and the text behind it.
     fn pattern_in<'b>(&self, nodes: &'b mut [RawNode], literals: &'b mut [u8]) -> Pattern<'b> {
-        let mut at = 0;
-        for (node, part) in nodes.iter_mut().zip(self.parts()) {
-            *node = match part {
-                Part::Literal(text) => {
-                    let start = at;
-                    at += text.len();
-                    literals[start..at].copy_from_slice(text.as_bytes());
-                    encode::literal(start, text.len())
-                }
-                Part::Component(component) => encode::component(component),
-            };
+        let (ascii, text) = literals.split_at_mut(ASCII.len());
+        ascii.copy_from_slice(ASCII.as_bytes());
+        text.copy_from_slice(self.text().as_bytes());
+        self.tree.copy_written(nodes);
+        for node in nodes.iter_mut() {
+            if node.what == LITERAL && node.count != 1 {
+                node.start += ASCII.len();
+            }
         }
         Pattern::Nodes(nodes, literals)
     }
 }
 
 /// Room on the stack for what most descriptions have.
-const SHORT_NODES: usize = 32;
-const SHORT_LITERALS: usize = 128;
+const SHORT_NODES: usize = 24;
+const SHORT_LITERALS: usize = 320;
 
 /// A moment as a description writes it, for `Display`. [`FormatDescription::show`] makes it.
 #[derive(Debug, Clone, Copy)]
