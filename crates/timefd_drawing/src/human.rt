@@ -81,6 +81,7 @@ fn push_source(
     push_source_of(alloc, out, is_colored, number, margin, shown)
 }
 
+// The same by the three parts as they are shown.
 fn push_source_of(
     alloc: Global,
     out: &mut String,
@@ -102,6 +103,7 @@ fn push_source_of(
     push_lines(out, is_colored, number, margin, line, &indent, &carets)
 }
 
+// The three lines, by what stands below the text.
 fn push_lines(
     out: &mut String,
     is_colored: bool,

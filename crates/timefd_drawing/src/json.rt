@@ -103,6 +103,7 @@ pub fn push_quoted(out: &mut Vec<u8>, text: &str) -> Result<(), AllocError>
     out.extend_from_slice(b"\"")
 }
 
+// Appends what stands between the quotes.
 #[tactic(auto, using(crate::proofs::JsonLemmas::plain_as_it_is))]
 fn push_in_quotes(out: &mut Vec<u8>, text: &str) -> Result<(), AllocError>
     ensures { OnOk result (out.new.items ≡ out.old.items ++ spec.all_escaped text.now) }
@@ -120,6 +121,7 @@ fn are_plain(bytes: &[u8]) -> bool
     bytes.iter().all(|byte| is_plain(*byte))
 }
 
+// Whether it prints, and is no quote and no backslash.
 fn is_plain(byte: u8) -> bool
     ensures { result ≡ spec.is_plain byte }
 {
