@@ -1,10 +1,11 @@
 -- Bytes below 128, by lanes that are compared.
-use Rattle.std.proofs.Common.{◌≡◌, ℕ, zero, suc, ◌+◌, ◌-◌, ◌*◌, ◌%◌, ◌^◌, ◌≤◌, ◌<◌, Bool, true, false, not, eqb-true, nat_eq, nat_le, cond, List, [], ◌∷◌, length, map, get_or, slice_index, replicate, inl, inr, w8, refl, sym, ap, ◌∙◌, arith, IsTrue, subst}
+use Rattle.std.proofs.Common.{◌≡◌, ℕ, zero, suc, ◌+◌, ◌-◌, ◌*◌, ◌%◌, ◌^◌, ◌≤◌, ◌<◌, Bool, true, false, not, nat_eq, nat_le, cond, List, [], ◌∷◌, length, map, get_or, slice_index, replicate, inl, inr, w8, refl, sym, ap, ◌∙◌, arith, IsTrue, subst}
 use Rattle.std.proofs.lemmas.Bool.{cases_lt, leb-false}
 use Rattle.std.proofs.lemmas.List.{get_or_past, length-replicate}
 use Rattle.std.proofs.lemmas.Simd.{tops_compared, mask_l-mod, length-zip2}
 use Rattle.std.specs.Simd.Lanes.{zip2, mask_l, top}
 use Rattle.std.specs.Str.{IsAscii}
+use Rattle.timefd_parse.proofs.BeginLemmas.{zero_of}
 
 -- where no lane is marked, each is low
 none_high : (xs : List ℕ) (n : ℕ) → length xs ≡ n → mask_l (zip2 (λ a b. nat_le a b) (replicate n 128) xs) ≡ 0
@@ -21,13 +22,6 @@ none_high (x ∷ xs) (suc n) long e i below =
     by true h f more i under = absurd (omega (arith, f))
     by false h f more zero under = omega (arith, leb-false 128 x h)
     by false h f more (suc i) under = more (omega (arith, f)) i (omega (arith, under))
-
-zero_of : (k : ℕ) → IsTrue (not (not (nat_eq k 0))) → k ≡ 0
-zero_of k is = eqb-true k 0 (twice (nat_eq k 0) is)
-  where
-    twice : (b : Bool) → IsTrue (not (not b)) → b ≡ true
-    twice true is = refl
-    twice false is = is
 
 pub all_low : (xs : List ℕ) (n : ℕ) → length xs ≡ n → n ≤ 64
     → IsTrue (not (not (nat_eq (mask_l (map (top 7)

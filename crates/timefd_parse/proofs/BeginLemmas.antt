@@ -26,7 +26,7 @@ none_differ (x ∷ xs) (y ∷ ys) long e =
     by true h f more = ap₂ (λ z zs. z ∷ zs) (eqb-true x y h) (more (half _ f))
     by false h f more = odd _ f
 
-zero_of : (k : ℕ) → IsTrue (not (not (nat_eq k 0))) → k ≡ 0
+pub zero_of : (k : ℕ) → IsTrue (not (not (nat_eq k 0))) → k ≡ 0
 zero_of k is = eqb-true k 0 (twice (nat_eq k 0) is)
   where
     twice : (b : Bool) → IsTrue (not (not b)) → b ≡ true

@@ -39,6 +39,7 @@ pub enum BorrowedOutput<'a> {
 ///
 /// The error is `Invalid` with the fault of the text, or `Memory` where memory ran out. A fault that
 /// quotes nothing of the text is answered even then.
+#[inline(always)]
 pub fn parse_borrowed<'a>(
     alloc: Global,
     version: DescriptionVersion,
@@ -76,6 +77,7 @@ pub fn parse_borrowed<'a>(
 ///
 /// The error is `Invalid` with the fault of the text, or `Memory` where memory ran out. A fault that
 /// quotes nothing of the text is answered even then.
+#[inline(always)]
 pub fn parse_borrowed_within<'a>(
     alloc: Global,
     version: DescriptionVersion,

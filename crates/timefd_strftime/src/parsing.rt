@@ -28,6 +28,7 @@ use timefd_language::parse_error::ParseError;
 ///
 /// The error is `Invalid` with the fault of the text, or `Memory` where memory ran out. A fault that
 /// quotes nothing of the text is answered even then.
+#[inline(always)]
 pub fn parse_strftime_borrowed<'a>(
     alloc: Global,
     tables: &'a StrftimeTables<'a>,
