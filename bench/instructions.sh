@@ -1,7 +1,8 @@
 #!/bin/sh
-# Prints how many instructions a call takes, as callgrind counts them: the difference of 520 calls and 20 by 500. It counts `timefd_read`,
-# `parse_borrowed` of Rattle, `parse` of the crate for Rust, and `timefd_judge`; and `parse` of Debian's `time` 0.3.9, of the texts
-# of version 1 that it takes. The crate and `time` are counted where Debian's packages of `time` and `chrono` are installed. It needs valgrind.
+# Prints how many instructions a call takes, as callgrind counts those of its function and of what that calls: the difference of
+# 520 calls and 20 by 500. It counts `timefd_read`, `parse_borrowed` of Rattle, `parse` of the crate for Rust and `timefd_judge`, and
+# `parse` of Debian's `time` 0.3.9, of the texts of version 1 that it takes. The crate and `time` are counted where Debian's packages of
+# `time` and `chrono` are installed. It needs valgrind.
 set -eu
 cd "$(dirname "$0")"
 registry=/usr/share/cargo/registry
@@ -18,10 +19,22 @@ if [ -d "$registry/time-0.3.9" ] && [ -d "$registry/chrono-0.4.23" ]; then
 fi
 cc -std=gnu11 -Wall -Wextra -Werror -O2 -o out/instructions instructions.c "$@" "$TIMEFD_LIB_DIR/libtimefd.a" out/libtimefd_borrowed.a
 
+# function_of CALL: the function that is counted
+function_of() {
+    case $1 in
+    read) echo timefd_read ;;
+    composites) echo timefd_read_composites ;;
+    borrowed) echo timefd_parse_borrowed ;;
+    judge) echo timefd_judge ;;
+    rust) echo parse_in_rust ;;
+    time) echo peer_time ;;
+    esac
+}
+
 # count CALL KIND TIMES TEXT
 count() {
-    valgrind --tool=callgrind --callgrind-out-file=/dev/null out/instructions "$1" "$2" "$3" "$4" 2>&1 \
-        | sed -n 's/.*Collected : //p'
+    valgrind --tool=callgrind --toggle-collect="$(function_of "$1")" --callgrind-out-file=/dev/null \
+        out/instructions "$1" "$2" "$3" "$4" 2>&1 | sed -n 's/.*Collected : //p'
 }
 
 # per_call CALL KIND TEXT: nothing where the call isn't there, or doesn't read the text
