@@ -70,6 +70,11 @@ fn find(text: &str, from: usize, sought: &[u8]) -> Option<usize> {
     if sought.len() > SHORT {
         return find_long(text, from, sought);
     }
+    find_short(text, from, sought)
+}
+
+/// The same of few bytes, or of the front of many.
+fn find_short(text: &str, from: usize, sought: &[u8]) -> Option<usize> {
     let (first, behind) = sought.split_first()?;
     let mut at = from;
     loop {
@@ -81,9 +86,14 @@ fn find(text: &str, from: usize, sought: &[u8]) -> Option<usize> {
     }
 }
 
-/// The same of many bytes, in a time that much that is like them in front doesn't make longer.
+/// The same of many bytes, in a time that much that is like them in front doesn't make longer: where
+/// their front stands first, nearly always all of them do.
 #[inline(never)]
 fn find_long(text: &str, from: usize, sought: &[u8]) -> Option<usize> {
+    let place = find_short(text, from, &sought[..SHORT])?;
+    if text.as_bytes()[place..].starts_with(sought) {
+        return Some(place);
+    }
     Some(from + text[from..].find(from_utf8(sought).ok()?)?)
 }
 
