@@ -15,7 +15,7 @@ HERE = pathlib.Path(__file__).resolve().parent
 UNITS = {"ns": 1.0, "µs": 1000.0}
 COLOURS = ("#1f5fa8", "#5b9bd5", "#a9cbe8", "#c9c9c9")
 CALLS = ("`timefd_read`", "`parse_borrowed`", "the crate's `parse`", "counted")
-LEFT, UNIT, BAR, MOST = 250, 130, 11, 5.0
+LEFT, UNIT, BAR, MOST = 250, 200, 11, 2.5
 
 
 def tables(page):
