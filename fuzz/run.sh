@@ -5,6 +5,7 @@
 #     fuzz/run.sh [COUNT] [SEED]              COUNT texts of each of four sorts: 300000, from seed 1
 #     fuzz/run.sh --valgrind [COUNT] [SEED]   the same under valgrind's memcheck: 1000
 #
+# It takes the library of the folder TIMEFD_LIB_DIR, or else that which `rt lib` leaves, and has it built where there is none.
 # With TIMEFD_PROCESSOR=aarch64 it takes the library for that processor, and qemu runs it.
 set -eu
 cd "$(dirname "$0")"
@@ -21,7 +22,7 @@ if [ "${1:-}" = --valgrind ]; then
     }
 fi
 mkdir -p out
-[ -e "../$readers/libtimefd_c.a" ] || [ "$processor" != x86_64 ] || (cd ../crates/timefd_c && rt lib --cpu x86-64 > /dev/null)
+[ -n "${TIMEFD_LIB_DIR:-}" ] || [ -e "../$readers/libtimefd_c.a" ] || [ "$processor" != x86_64 ] || (cd ../crates/timefd_c && rt lib --cpu x86-64 > /dev/null)
 library=$(../packages/library)
 "$cc" -std=c11 -Wall -Wextra -Werror -g -O2 -Wl,--wrap=malloc,--wrap=realloc,--wrap=free \
     -o "out/fuzz-$processor" ./*.c "$library/libtimefd.a"

@@ -78,14 +78,23 @@ def form(it):
     return f'"{it.form}"' if it.form == it.short_form else f'defaults.choose("{it.form}", "{it.short_form}")'
 
 
-def in_words():
+def word(field):
+    return "digits" if field == "count" else f"{WORDS_OF[field]}(fields.{field}, defaults)"
+
+
+def first_words():
     lines = []
     for it in ALL:
-        words = ["digits" if field == "count" else f"{WORDS_OF[field]}(fields.{field}, defaults)" for field in it.modifiers]
-        fields = "_" if words in ([], ["digits"]) else "fields"
-        value = ", ".join([*words, '""', '""'][:2])
-        lines += arms([it], lambda it: f"({value})", fields)
+        value = word(it.modifiers[0]) if it.modifiers else '""'
+        lines += arms([it], lambda it: value, "fields" if "fields" in value else "_")
     return lines
+
+
+def second_words():
+    """The many that have no second modifier stand in one arm."""
+    some = [it for it in ALL if len(it.modifiers) == 2]
+    others = [it for it in ALL if it not in some]
+    return arms(some, lambda it: word(it.modifiers[1]), "fields") + arm_of_many(8, patterns(others), '""')
 
 
 def named():
@@ -137,6 +146,10 @@ TABLES = [
     *map(types, sorted({it.module for it in ALL})),
     Table("crates/timefd_component/src/component.rt", Between(("pub enum Component {",), "}"), lambda: variants(ALL)),
     Table(
+        "crates/timefd_component/src/debug.rt", Between(("fn variant_name", MATCH), "    }"),
+        lambda: arms(ALL, lambda it: f'"{it.variant}"', "_"),
+    ),
+    Table(
         "crates/timefd_component/src/debug.rt", Between(("impl fmt::Debug for ModifiersOf", "match &self.0 {"), "        }"),
         lambda: arms(ALL, lambda it: "fmt::Debug::fmt(fields, f)", "fields", 12),
     ),
@@ -167,7 +180,8 @@ TABLES = [
         Between(("pub(crate) fn component_of", "Some(match"), "        _ =>"), from_nodes,
     ),
     Table("crates/timefd_words/src/form.rt", Between(("pub fn form", MATCH), "    }"), lambda: arms(ALL, form)),
-    Table("crates/timefd_words/src/modifiers.rt", Between(("pub fn modifiers", MATCH), "    }"), in_words),
+    Table("crates/timefd_words/src/modifiers.rt", Between(("fn first_modifier", MATCH), "    }"), first_words),
+    Table("crates/timefd_words/src/modifiers.rt", Between(("fn second_modifier", MATCH), "    }"), second_words),
     Table(f"{FORMAT}/naming.rt", Between(("pub fn component_name", MATCH), "    }"), named),
     Table(f"{FORMAT}/shown.rt", Between(("fn kind", MATCH), "    }"), kinds),
     all_others("shown.rt", "fn date_field", MODERN, "Date", "Ok(Field::Nothing)"),

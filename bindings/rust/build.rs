@@ -5,7 +5,9 @@
 //! 3. where `pkg-config` knows it. With `TIMEFD_DYNAMIC=1` it is asked before the package's own is
 //!    taken, and the shared library is linked;
 //! 4. in the repository around this package, as `rt lib` leaves it, with the toolchain's library
-//!    that it allocates with.
+//!    that it allocates with;
+//! 5. in that repository's folder `out/`, as `./build` leaves it: nothing proved that one. A file
+//!    beside it says so, and then Cargo does too.
 
 use std::env;
 use std::path::{Path, PathBuf};
@@ -24,7 +26,11 @@ const OLDEST: &str = "0.2.0";
 const READERS: &str = "libtimefd_c.a";
 const MEMORY: &str = "liblibc_c.a";
 
+/// The file beside a library that nothing proved.
+const UNPROVED: &str = "UNPROVED";
+
 fn main() {
+    println!("cargo::rustc-check-cfg=cfg(timefd_unproved)");
     for name in [FOLDER, DYNAMIC, "PKG_CONFIG_PATH"] {
         println!("cargo::rerun-if-env-changed={name}");
     }
@@ -50,12 +56,14 @@ fn link() -> Result<(), String> {
         link_folder(&own, &own)
             .or_else(|| link_system(false))
             .or_else(|| link_folder(&here.join("../../crates/timefd_c/out"), &toolchain_folder()?))
+            .or_else(|| link_folder(&here.join("../../out"), &here))
     };
     found.ok_or_else(|| {
         format!(
             "no library of timefd was found for {}: install libtimefd-dev or a release, and have \
              PKG_CONFIG_PATH name its folder lib/pkgconfig; or name the folder of {INSTALLED} in \
-             {FOLDER}; or run `rt lib` in the folder crates/timefd_c of timefd's repository",
+             {FOLDER}; or run `./build` in timefd's repository, which proves nothing, or `rt lib` in \
+             its folder crates/timefd_c",
             given("TARGET")
         )
     })
@@ -72,6 +80,7 @@ fn link_folder(folder: &Path, toolchain: &Path) -> Option<()> {
     let folder = folder.canonicalize().ok()?;
     if folder.join(INSTALLED).is_file() {
         link_static(&folder, INSTALLED);
+        say_if_unproved(&folder);
         return Some(());
     }
     let memory = if folder.join(MEMORY).is_file() { &folder } else { toolchain };
@@ -81,7 +90,16 @@ fn link_folder(folder: &Path, toolchain: &Path) -> Option<()> {
     // In this order: the first calls the second.
     link_static(&folder, READERS);
     link_static(memory, MEMORY);
+    say_if_unproved(&folder);
     Some(())
+}
+
+/// Has the crate take a library that nothing proved, and Cargo say so.
+fn say_if_unproved(folder: &Path) {
+    if folder.join(UNPROVED).is_file() {
+        println!("cargo::rustc-cfg=timefd_unproved");
+        println!("cargo::warning=nothing proved the library in {}", folder.display());
+    }
 }
 
 fn link_static(folder: &Path, file: &str) {

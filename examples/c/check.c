@@ -1,6 +1,6 @@
 /* Prints what a few texts are. ../run.sh builds and runs it. */
 
-#include "../timefd.h"
+#include "timefd.h"
 
 #include <inttypes.h>
 #include <stdio.h>

@@ -1,7 +1,7 @@
 /* Rewrites a few texts of version 1 as ones of version 2, one of version 2 as one of version 3, and one of each language in
    version 3's normal form. ../run.sh builds and runs it. */
 
-#include "../timefd.h"
+#include "timefd.h"
 
 #include <stdio.h>
 #include <stdlib.h>

@@ -1,6 +1,6 @@
 /* Asks how many bytes a date needs. ../run.sh builds and runs it. */
 
-#include "../timefd.h"
+#include "timefd.h"
 
 #include <stdio.h>
 #include <string.h>

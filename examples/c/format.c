@@ -5,7 +5,7 @@
 
 #define _POSIX_C_SOURCE 200809L
 
-#include "../timefd.h"
+#include "timefd.h"
 
 #include <inttypes.h>
 #include <stdio.h>

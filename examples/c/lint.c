@@ -4,7 +4,7 @@
 
 #define _POSIX_C_SOURCE 200809L
 
-#include "../timefd.h"
+#include "timefd.h"
 
 #include <stdbool.h>
 #include <stdio.h>

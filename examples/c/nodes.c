@@ -1,6 +1,6 @@
 /* Prints the nodes of a description. ../run.sh builds and runs it. */
 
-#include "../timefd.h"
+#include "timefd.h"
 
 #include <stdio.h>
 #include <stdlib.h>

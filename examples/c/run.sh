@@ -1,10 +1,15 @@
 #!/bin/sh
 # Builds the programs in C over the static library, and compares what they print with what they have to. It takes the library
-# that `../run.sh` or gate/c-library leaves; with TIMEFD_PROCESSOR=aarch64 the one for that processor, and qemu runs them.
+# that `../run.sh` or gate/c-library leaves, or that of the folder TIMEFD_LIB_DIR; with TIMEFD_PROCESSOR=aarch64 the one for that
+# processor, and qemu runs them.
 set -eu
 cd "$(dirname "$0")/.."
 . ../packages/processors
-library=$(../packages/library)/libtimefd.a
+folder=$(../packages/library)
+library=$folder/libtimefd.a
+# A library that nothing proved has a header of its own beside it.
+header=.
+[ ! -e "$folder/timefd.h" ] || header=$folder
 out=out/$processor
 rm -rf "$out"
 mkdir -p "$out"
@@ -16,7 +21,7 @@ fail() {
 
 # Builds NAME.c, runs it, given a file if there is one, and compares what it prints with another file:   compare NAME WANTED [FILE]
 compare() {
-    "$cc" -std=c11 -Wall -Wextra -Werror -O2 -o "$out/$1" "c/$1.c" "$library"
+    "$cc" -std=c11 -Wall -Wextra -Werror -O2 "-I$header" -o "$out/$1" "c/$1.c" "$library"
     status=0
     $runner "$out/$1" ${3:+"$3"} > "$out/$1.txt" || status=$?
     # The linter ends with status 1, since it finds something in its file.

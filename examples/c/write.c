@@ -1,6 +1,6 @@
 /* Writes a date. ../run.sh builds and runs it. */
 
-#include "../timefd.h"
+#include "timefd.h"
 
 #include <stdio.h>
 #include <string.h>

@@ -27,7 +27,7 @@ for page in $declared; do
 done
 
 expected=$(cat "$top/examples/expected_first.txt")
-sed 's|"../timefd.h"|<timefd.h>|' "$top/examples/c/first.c" > "$room/first.c"
+sed 's|"timefd.h"|<timefd.h>|' "$top/examples/c/first.c" > "$room/first.c"
 strict='-Wall -Wextra -Werror'
 if has pkg-config 'programs built by pkg-config'; then
     export PKG_CONFIG_PATH="$prefix/lib/pkgconfig"

@@ -40,6 +40,7 @@ if has aarch64-linux-gnu-g++ 'the packages for aarch64'; then
         cmp "$("$here/library")/libtimefd.a" "$prefix/lib/libtimefd.a" || fail "what is tried is not the release's library"
         "$top/examples/c/run.sh"
         "$top/fuzz/run.sh" 1000
+        "$top/gate/c-rows"
         "$top/gate/library"
         "$top/gate/stack"
         unset TIMEFD_PROCESSOR

@@ -1,9 +1,15 @@
 """The shared library behind `ctypes`, by its header `timefd.h`, which says what each call answers."""
 
 import ctypes
+import os
 import pathlib
+from typing import Optional
 
 VERSION = 2000
+# The bit that a library which nothing proved has beside its version. A file beside it says the same.
+UNPROVED_BIT = 1 << 31
+UNPROVED_FILE = "UNPROVED"
+SHARED = "libtimefd.so.0.2"
 
 ACCEPTED, REFUSED, NOT_UTF8, NO_MEMORY, UNKNOWN_KIND, UNSHOWN, OUT_OF_RANGE, NO_CONVERSION = range(8)
 UNREAD, CONTRADICTION, MISSING = 9, 10, 11
@@ -105,9 +111,21 @@ class DateAnswer(ctypes.Structure):
     ]
 
 
+def _found() -> Optional[pathlib.Path]:
+    """The library of the folder `TIMEFD_LIB_DIR`, the one in this package, or what the repository around it has built."""
+    given = os.environ.get("TIMEFD_LIB_DIR")
+    if given:
+        return pathlib.Path(given, SHARED)
+    here = pathlib.Path(__file__).resolve()
+    beside = here.with_name("libtimefd.so")
+    top = here.parents[3] if here.parts[-4:-1] == ("bindings", "python", "timefd") else None
+    built = [top / "packages/out/lib" / SHARED, top / "out" / SHARED] if top else []
+    return next((it for it in (beside, *built) if it.exists()), None)
+
+
 def _load() -> ctypes.CDLL:
-    beside = pathlib.Path(__file__).with_name("libtimefd.so")
-    library = ctypes.CDLL(str(beside) if beside.exists() else "libtimefd.so.0.2")
+    path = _found()
+    library = ctypes.CDLL(str(path or SHARED))
     kind, size, text = ctypes.c_uint32, ctypes.c_size_t, ctypes.c_char_p
     buffer, nodes = ctypes.POINTER(ctypes.c_char), ctypes.POINTER(RawNode)
     moment = ctypes.POINTER(RawMoment)
@@ -123,9 +141,14 @@ def _load() -> ctypes.CDLL:
         call = getattr(library, name)
         call.argtypes, call.restype = arguments, answer
     found = library.timefd_version()
-    if found != VERSION:
-        raise ImportError(f"libtimefd has the version {found}, and this module is for {VERSION}")
+    wanted = VERSION
+    if path and path.with_name(UNPROVED_FILE).exists():
+        wanted |= UNPROVED_BIT
+    if found != wanted:
+        raise ImportError(f"libtimefd has the version {found}, and this module is for {wanted}")
     return library
 
 
 LIBRARY = _load()
+# Whether nothing proved the library: it is what `./build` of the repository leaves, for trying.
+IS_UNPROVED = bool(LIBRARY.timefd_version() & UNPROVED_BIT)

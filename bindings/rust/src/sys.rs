@@ -20,6 +20,10 @@ use core::ptr::NonNull;
 /// The version of the header that this module is written for.
 const VERSION: u32 = 2000;
 
+/// What the library has to answer. One that nothing proved has the highest bit too, and is taken
+/// where the build has found that file beside it which says so.
+const ANSWERED: u32 = if cfg!(timefd_unproved) { 1 << 31 | VERSION } else { VERSION };
+
 pub(crate) const ACCEPTED: u32 = 0;
 pub(crate) const REFUSED: u32 = 1;
 pub(crate) const NO_MEMORY: u32 = 3;
@@ -261,7 +265,7 @@ unsafe extern "C" {
 /// Stops a program that was linked with another library.
 fn expect_version() {
     let found = timefd_version();
-    assert_eq!(found, VERSION, "libtimefd is of another version than this crate");
+    assert_eq!(found, ANSWERED, "libtimefd is of another version than this crate");
 }
 
 /// What the text is in a language, with its nodes and the bytes of its literals where both buffers

@@ -2,7 +2,6 @@
 
 mod arguments;
 mod failures;
-mod limits;
 mod memory;
 mod program;
 mod rows;

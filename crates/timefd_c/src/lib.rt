@@ -21,8 +21,6 @@ mod moment;
 mod nodes;
 mod numbers;
 mod read_date;
-#[cfg(test)]
-mod tests;
 mod verdict;
 mod whole;
 

@@ -1,7 +1,66 @@
-//! How the modifiers of a component print.
+//! How a component prints, and its modifiers alone. Arms that call are dear to prove, so only the
+//! modifiers have them: each other arm is a name.
 
 use crate::component::Component;
 use std::fmt;
+
+impl fmt::Debug for Component {
+    fn fmt<W: fmt::Write>(&self, f: &mut fmt::Formatter<W>) -> fmt::Result {
+        let modifiers = ModifiersOf(*self);
+        f.debug_tuple(variant_name(*self))
+            .field(&modifiers)
+            .finish()
+    }
+}
+
+/// The name of a component's variant.
+fn variant_name(component: Component) -> &'static str {
+    match component {
+        Component::Day(_) => "Day",
+        Component::MonthShort(_) => "MonthShort",
+        Component::MonthLong(_) => "MonthLong",
+        Component::MonthNumerical(_) => "MonthNumerical",
+        Component::Ordinal(_) => "Ordinal",
+        Component::WeekdayShort(_) => "WeekdayShort",
+        Component::WeekdayLong(_) => "WeekdayLong",
+        Component::WeekdaySunday(_) => "WeekdaySunday",
+        Component::WeekdayMonday(_) => "WeekdayMonday",
+        Component::WeekNumberIso(_) => "WeekNumberIso",
+        Component::WeekNumberSunday(_) => "WeekNumberSunday",
+        Component::WeekNumberMonday(_) => "WeekNumberMonday",
+        Component::CalendarYearFullExtendedRange(_) => "CalendarYearFullExtendedRange",
+        Component::CalendarYearFullStandardRange(_) => "CalendarYearFullStandardRange",
+        Component::CalendarYearCenturyExtendedRange(_) => "CalendarYearCenturyExtendedRange",
+        Component::CalendarYearCenturyStandardRange(_) => "CalendarYearCenturyStandardRange",
+        Component::IsoYearFullExtendedRange(_) => "IsoYearFullExtendedRange",
+        Component::IsoYearFullStandardRange(_) => "IsoYearFullStandardRange",
+        Component::IsoYearCenturyExtendedRange(_) => "IsoYearCenturyExtendedRange",
+        Component::IsoYearCenturyStandardRange(_) => "IsoYearCenturyStandardRange",
+        Component::CalendarYearLastTwo(_) => "CalendarYearLastTwo",
+        Component::IsoYearLastTwo(_) => "IsoYearLastTwo",
+        Component::Hour12(_) => "Hour12",
+        Component::Hour24(_) => "Hour24",
+        Component::Minute(_) => "Minute",
+        Component::Period(_) => "Period",
+        Component::Second(_) => "Second",
+        Component::Subsecond(_) => "Subsecond",
+        Component::OffsetHour(_) => "OffsetHour",
+        Component::OffsetMinute(_) => "OffsetMinute",
+        Component::OffsetSecond(_) => "OffsetSecond",
+        Component::Ignore(_) => "Ignore",
+        Component::UnixTimestampSecond(_) => "UnixTimestampSecond",
+        Component::UnixTimestampMillisecond(_) => "UnixTimestampMillisecond",
+        Component::UnixTimestampMicrosecond(_) => "UnixTimestampMicrosecond",
+        Component::UnixTimestampNanosecond(_) => "UnixTimestampNanosecond",
+        Component::End(_) => "End",
+        Component::Month(_) => "Month",
+        Component::Weekday(_) => "Weekday",
+        Component::WeekNumber(_) => "WeekNumber",
+        Component::Hour(_) => "Hour",
+        Component::UnixTimestamp(_) => "UnixTimestamp",
+        Component::Year(_) => "Year",
+    }
+}
 
 /// A component that prints as its modifiers alone, as a part of a description of version 3 does.
 #[derive(Clone, Copy)]

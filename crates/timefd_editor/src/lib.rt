@@ -11,8 +11,6 @@ mod hovered;
 mod hovering;
 pub mod laws;
 mod position;
-#[cfg(test)]
-mod tests;
 mod walk;
 mod warned;
 

@@ -7,7 +7,7 @@ use crate::put::put;
 use crate::unshown::Unshown;
 
 /// How far a buffer is written, from its end on.
-#[derive(Debug, Clone, Copy)]
+#[derive(Clone, Copy)]
 pub enum Place {
     /// What is written begins here.
     At(usize),

@@ -8,7 +8,7 @@ use crate::format::Format;
 use timefd_sources::class::{is_blank, is_line_end};
 
 /// How a string is written.
-#[derive(Clone, Copy, Debug, PartialEq, Eq)]
+#[derive(Clone, Copy)]
 pub enum Style {
     /// In JSON.
     Json,

@@ -12,7 +12,7 @@ use timefd_streams::transfer::ReadError;
 const MOST_HEAD: usize = 4096;
 
 /// How a head ends.
-#[derive(Clone, Copy, Debug, PartialEq, Eq)]
+#[derive(Clone, Copy)]
 pub enum HeadEnd {
     /// With an empty line.
     Whole,

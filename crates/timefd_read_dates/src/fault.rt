@@ -24,7 +24,7 @@ pub enum Reason {
 }
 
 /// The same, with how many bytes were left.
-#[derive(Debug, Clone, Copy)]
+#[derive(Clone, Copy)]
 pub(crate) struct Fault {
     pub reason: Reason,
     pub left: usize,

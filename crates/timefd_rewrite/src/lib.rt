@@ -12,8 +12,6 @@ mod layout;
 mod lines;
 mod nearest;
 mod rewrite;
-#[cfg(test)]
-mod tests;
 
 pub use counts::{Counts, Outcome};
 pub use diff::write_diff;

@@ -8,8 +8,6 @@ mod change;
 mod counts;
 mod outcome;
 mod source;
-#[cfg(test)]
-mod tests;
 
 pub use answer::{Anew, Answer, answer_to};
 pub use change::{Change, layout_of, new_digit};

@@ -81,26 +81,3 @@ pub fn expect(
         assert_eq!(rt; printed.as_str(), expected, "{text} by parse");
     }
 }
-
-/// Expects that each text is read in this version as the row says.
-pub fn expect_rows(
-    rt: &impl Abort,
-    alloc: Global,
-    version: DescriptionVersion,
-    rows: &[(&'static str, &'static str)],
-) {
-    for (text, expected) in rows {
-        expect(rt, alloc, version, text, expected);
-    }
-}
-
-/// Expects that each text is read in every version as the row says.
-pub fn expect_in_every_version(
-    rt: &impl Abort,
-    alloc: Global,
-    rows: &[(&'static str, &'static str)],
-) {
-    expect_rows(rt, alloc, DescriptionVersion::One, rows);
-    expect_rows(rt, alloc, DescriptionVersion::Two, rows);
-    expect_rows(rt, alloc, DescriptionVersion::Three, rows);
-}

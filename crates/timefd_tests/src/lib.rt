@@ -1,13 +1,19 @@
-//! Tests of the readers and of conversions through their public calls: rows of texts, as tables of data, in
-//! few test functions. They stand at the top, since a crate with tests is proved twice, with them and without.
+//! Tests that aren't rows of `timefd_rows`: of values that no text spells, of memory that is refused, of long texts,
+//! and of what borrows. They stand at the top, since a crate with tests is proved twice, with them and without.
 #![tactic(auto)]
 
 #[cfg(test)]
 mod answers;
 #[cfg(test)]
+mod builder;
+#[cfg(test)]
 mod copies;
 #[cfg(test)]
-mod every_version;
+mod deprecated;
+#[cfg(test)]
+mod faults;
+#[cfg(test)]
+mod items;
 #[cfg(test)]
 mod joining;
 #[cfg(test)]
@@ -15,21 +21,20 @@ mod large;
 #[cfg(test)]
 mod lent;
 #[cfg(test)]
-mod limits;
-pub mod longest_literal;
+mod lint_files;
 #[cfg(test)]
-mod print;
+mod modern;
+#[cfg(test)]
+mod modifiers;
 #[cfg(test)]
 mod printed;
 #[cfg(test)]
+mod refused_copies;
+#[cfg(test)]
 mod refused_memory;
 #[cfg(test)]
-mod rewritten;
+mod reservation;
 #[cfg(test)]
-mod strftime;
+mod trees;
 #[cfg(test)]
-mod version3;
-#[cfg(test)]
-mod versions;
-#[cfg(test)]
-mod views;
+mod unspelled;

@@ -1,4 +1,4 @@
-//! Texts read twice, where one allocation may be refused. `gate/memory` runs these tests once for
+//! Texts read and rewritten twice, where one allocation may be refused. `gate/memory` runs these tests once for
 //! each allocation, and refuses that one: the call that asked for it answers so or as it does with
 //! ample memory, and the other call answers as ever.
 
@@ -6,47 +6,71 @@ use super::answers::{REFUSED, answer, answer_of_parse, print_error, print_items}
 use super::printed::AMPLE;
 use std::alloc::Global;
 use std::process::Abort;
-use timefd_parse::{DescriptionVersion, StrftimeTables, parse_strftime_borrowed};
+use timefd_lift::{v1_to_v2, v2_to_v3};
+use timefd_parse::{DescriptionVersion, ParseError, StrftimeTables, parse_strftime_borrowed};
 
-/// Expects that one call answered so, and that the other did too or was refused memory.
-fn expect_one_at_least(rt: &impl Abort, first: &str, second: &str, expected: &str) {
-    if first == REFUSED {
-        assert_eq!(rt; second, expected, "behind a refusal");
+/// What reads or rewrites a text.
+#[derive(Clone, Copy, Debug)]
+enum Call {
+    Version(DescriptionVersion),
+    Parse,
+    Strftime,
+    OneToTwo,
+    TwoToThree,
+}
+
+/// What the text is read as or rewritten to, in print, or that memory ran out.
+fn answer_of(rt: &impl Abort, alloc: Global, call: Call, text: &str) -> String {
+    match call {
+        Call::Version(version) => answer(rt, alloc, version, text),
+        Call::Parse => answer_of_parse(rt, alloc, text),
+        Call::Strftime => strftime_answer(rt, alloc, text),
+        Call::OneToTwo => text_or_fault(rt, alloc, v1_to_v2(alloc, text)),
+        Call::TwoToThree => text_or_fault(rt, alloc, v2_to_v3(alloc, text)),
+    }
+}
+
+fn strftime_answer(rt: &impl Abort, alloc: Global, text: &str) -> String {
+    let tables = StrftimeTables::new();
+    match parse_strftime_borrowed(alloc, &tables, text) {
+        Ok(items) => print_items(rt, alloc, &items),
+        Err(error) => print_error(rt, alloc, error),
+    }
+}
+
+fn text_or_fault(rt: &impl Abort, alloc: Global, text: Result<String, ParseError>) -> String {
+    match text {
+        Ok(text) => text,
+        Err(error) => print_error(rt, alloc, error),
+    }
+}
+
+/// Expects that one of two calls answers so, and that the other does too or is refused memory.
+fn expect_twice(rt: &impl Abort, alloc: Global, call: Call, text: &str, expected: &str) {
+    let first = answer_of(rt, alloc, call, text);
+    let second = answer_of(rt, alloc, call, text);
+    if first.as_str() == REFUSED {
+        assert_eq!(rt;
+            second.as_str(),
+            expected,
+            "{text} by {call:?} after a refusal"
+        );
         return;
     }
-    assert_eq!(rt; first, expected);
-    if second == REFUSED {
+    assert_eq!(rt; first.as_str(), expected, "{text} by {call:?}");
+    if second.as_str() == REFUSED {
         return;
     }
-    assert_eq!(rt; second, expected, "a second time");
+    assert_eq!(rt;
+        second.as_str(),
+        expected,
+        "{text} by {call:?} a second time"
+    );
 }
 
-fn expect_read(
-    rt: &impl Abort,
-    alloc: Global,
-    version: DescriptionVersion,
-    text: &str,
-    expected: &str,
-) {
-    let first = answer(rt, alloc, version, text);
-    let second = answer(rt, alloc, version, text);
-    expect_one_at_least(rt, first.as_str(), second.as_str(), expected);
-}
-
-fn expect_parsed(rt: &impl Abort, alloc: Global, text: &str, expected: &str) {
-    let first = answer_of_parse(rt, alloc, text);
-    let second = answer_of_parse(rt, alloc, text);
-    expect_one_at_least(rt, first.as_str(), second.as_str(), expected);
-}
-
-fn expect_rows(
-    rt: &impl Abort,
-    alloc: Global,
-    version: DescriptionVersion,
-    rows: &[(&'static str, &'static str)],
-) {
+fn expect_rows(rt: &impl Abort, alloc: Global, call: Call, rows: &[(&'static str, &'static str)]) {
     for (text, expected) in rows {
-        expect_read(rt, alloc, version, text, expected);
+        expect_twice(rt, alloc, call, text, expected);
     }
 }
 
@@ -76,16 +100,6 @@ const IN_EVERY_VERSION: &[(&str, &str)] = &[
     ("[foo]", "invalid component name `foo` at byte index 1"),
 ];
 
-#[test]
-fn version_1(rt: HostRuntime) {
-    expect_rows(&rt, rt.alloc(), DescriptionVersion::One, IN_EVERY_VERSION);
-}
-
-#[test]
-fn version_2(rt: HostRuntime) {
-    expect_rows(&rt, rt.alloc(), DescriptionVersion::Two, IN_EVERY_VERSION);
-}
-
 const IN_THE_THIRD: &[(&str, &str)] = &[
     ("", "0 bytes: Compound([])"),
     (
@@ -102,19 +116,63 @@ const IN_THE_THIRD: &[(&str, &str)] = &[
     ),
 ];
 
-#[test]
-fn version_3(rt: HostRuntime) {
-    expect_rows(&rt, rt.alloc(), DescriptionVersion::Three, IN_EVERY_VERSION);
-    expect_rows(&rt, rt.alloc(), DescriptionVersion::Three, IN_THE_THIRD);
-}
+const OF_PARSE: &[(&str, &str)] = &[("[[day]]", "\"[\", \"day\", \"]\", \"]\"")];
+
+const OF_STRFTIME: &[(&str, &str)] = &[
+    ("%", "expected valid escape sequence at byte index 0"),
+    ("%_", "expected valid escape sequence at byte index 2"),
+    ("%O", "modifier is not supported at byte index 1"),
+    ("%_Z", "component is not supported at byte index 2"),
+    ("%E", "invalid component name `E` at byte index 1"),
+    ("%-d", "Day(Day { padding: None })"),
+    ("%_%", "\"%\""),
+    (
+        "%Y-%m-%d",
+        "CalendarYearFullExtendedRange(CalendarYearFullExtendedRange { padding: Zero, sign_is_mandatory: false }), \"-\", MonthNumerical(MonthNumerical { padding: Zero }), \"-\", Day(Day { padding: Zero })",
+    ),
+];
+
+/// Texts of version 1, and what they are rewritten to or the sentence of their fault.
+const OF_ONE: &[(&str, &str)] = &[
+    ("", ""),
+    ("[[day]]", "\\[day\\]\\]"),
+    ("[[[day]]\\", "\\[[day]\\]\\\\"),
+    ("\u{e9}\\\u{e9}", "\u{e9}\\\\\u{e9}"),
+    ("[YEAR Repr:Century]", "[YEAR Repr:Century]"),
+    (
+        "[optional [x]]",
+        "optional item is not supported in runtime-parsed format descriptions at byte index 0",
+    ),
+    ("a[foo]", "invalid component name `foo` at byte index 2"),
+];
+
+/// Texts of version 2, and what they are rewritten to or the sentence of their fault.
+const OF_TWO: &[(&str, &str)] = &[
+    ("", ""),
+    ("[YEAR]", "[year range:extended]"),
+    ("a]b", "a\\]b"),
+    ("[ignore count:65535]", "[ignore count:65535]"),
+    ("a[foo]", "invalid component name `foo` at byte index 2"),
+];
+
+const ONE: Call = Call::Version(DescriptionVersion::One);
+
+const TWO: Call = Call::Version(DescriptionVersion::Two);
+
+const THREE: Call = Call::Version(DescriptionVersion::Three);
 
 #[test]
-fn parse(rt: HostRuntime) {
-    for (text, expected) in IN_EVERY_VERSION {
-        expect_parsed(&rt, rt.alloc(), text, expected);
-    }
-    let four = "\"[\", \"day\", \"]\", \"]\"";
-    expect_parsed(&rt, rt.alloc(), "[[day]]", four);
+fn texts(rt: HostRuntime) {
+    let alloc = rt.alloc();
+    expect_rows(&rt, alloc, ONE, IN_EVERY_VERSION);
+    expect_rows(&rt, alloc, TWO, IN_EVERY_VERSION);
+    expect_rows(&rt, alloc, THREE, IN_EVERY_VERSION);
+    expect_rows(&rt, alloc, Call::Parse, IN_EVERY_VERSION);
+    expect_rows(&rt, alloc, THREE, IN_THE_THIRD);
+    expect_rows(&rt, alloc, Call::Parse, OF_PARSE);
+    expect_rows(&rt, alloc, Call::Strftime, OF_STRFTIME);
+    expect_rows(&rt, alloc, Call::OneToTwo, OF_ONE);
+    expect_rows(&rt, alloc, Call::TwoToThree, OF_TWO);
 }
 
 /// The opening so many times, the middle part, and the closing so many times.
@@ -131,56 +189,16 @@ fn around(rt: &impl Abort, alloc: Global, opening: &str, middle: &str, closing: 
 }
 
 #[test]
-fn deepest_accepted(rt: HostRuntime) {
+fn deepest_texts(rt: HostRuntime) {
     let alloc = rt.alloc();
     let text = around(&rt, alloc, "[optional [", "x", "]]");
     let opening = "Optional { should_format: true, item: ";
     let tree = around(&rt, alloc, opening, "Literal(\"x\")", " }");
-    let tree = format!(in alloc; "1 bytes: {tree}").expect(&rt, AMPLE);
-    let text = text.as_str();
-    expect_read(&rt, alloc, DescriptionVersion::Three, text, tree.as_str());
-}
-
-#[test]
-fn deepest_refused(rt: HostRuntime) {
-    let alloc = rt.alloc();
-    let text = around(&rt, alloc, "[optional [", "x", "]]");
+    let accepted = format!(in alloc; "1 bytes: {tree}").expect(&rt, AMPLE);
     let refused =
         "optional item is not supported in runtime-parsed format descriptions at byte index 1386";
-    let text = text.as_str();
-    expect_read(&rt, alloc, DescriptionVersion::One, text, refused);
-    expect_read(&rt, alloc, DescriptionVersion::Two, text, refused);
-    expect_parsed(&rt, alloc, text, refused);
-}
-
-const OF_STRFTIME: &[(&str, &str)] = &[
-    ("%", "expected valid escape sequence at byte index 0"),
-    ("%_", "expected valid escape sequence at byte index 2"),
-    ("%O", "modifier is not supported at byte index 1"),
-    ("%_Z", "component is not supported at byte index 2"),
-    ("%E", "invalid component name `E` at byte index 1"),
-    ("%-d", "Day(Day { padding: None })"),
-    ("%_%", "\"%\""),
-    (
-        "%Y-%m-%d",
-        "CalendarYearFullExtendedRange(CalendarYearFullExtendedRange { padding: Zero, sign_is_mandatory: false }), \"-\", MonthNumerical(MonthNumerical { padding: Zero }), \"-\", Day(Day { padding: Zero })",
-    ),
-];
-
-/// What the text of strftime is read as, in print.
-fn strftime_answer(rt: &impl Abort, alloc: Global, text: &str) -> String {
-    let tables = StrftimeTables::new();
-    match parse_strftime_borrowed(alloc, &tables, text) {
-        Ok(items) => print_items(rt, alloc, &items),
-        Err(error) => print_error(rt, alloc, error),
-    }
-}
-
-#[test]
-fn strftime(rt: HostRuntime) {
-    for (text, expected) in OF_STRFTIME {
-        let first = strftime_answer(&rt, rt.alloc(), text);
-        let second = strftime_answer(&rt, rt.alloc(), text);
-        expect_one_at_least(&rt, first.as_str(), second.as_str(), expected);
-    }
+    expect_twice(&rt, alloc, THREE, &text, &accepted);
+    expect_twice(&rt, alloc, ONE, &text, refused);
+    expect_twice(&rt, alloc, TWO, &text, refused);
+    expect_twice(&rt, alloc, Call::Parse, &text, refused);
 }

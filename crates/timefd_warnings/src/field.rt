@@ -7,7 +7,7 @@ use timefd_component::Component;
 
 /// What a component shows. A month and a weekday by name and by number are two, as one explains the
 /// other.
-#[derive(Debug, Clone, Copy, PartialEq, Eq)]
+#[derive(Clone, Copy, PartialEq, Eq)]
 pub enum Field {
     Year,
     Century,

@@ -4,7 +4,7 @@ ghost use Rattle.std.specs.Prelude.{◌≡◌};
 ghost use Rattle.timefd_warnings.specs.Marks as spec;
 
 /// What begins a component in some language.
-#[derive(Debug, Clone, Copy, PartialEq, Eq)]
+#[derive(Clone, Copy)]
 pub enum Mark {
     /// A percent sign and a letter, as in `%Y`: strftime's.
     Percent,

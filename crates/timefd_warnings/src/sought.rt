@@ -27,7 +27,7 @@ pub enum Sought {
 }
 
 /// How many there are.
-#[derive(Debug, Clone, Copy, PartialEq, Eq)]
+#[derive(Clone, Copy)]
 pub enum Amount {
     Absent,
     Once,

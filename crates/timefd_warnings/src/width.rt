@@ -7,7 +7,7 @@ use timefd_component::Component;
 use timefd_modifier::{Padding, SubsecondDigits};
 
 /// Whether a number has the same width whatever it is.
-#[derive(Debug, Clone, Copy, PartialEq, Eq)]
+#[derive(Clone, Copy, PartialEq, Eq)]
 pub enum Width {
     /// It is no number, or has one width.
     Same,

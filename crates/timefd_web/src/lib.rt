@@ -12,8 +12,6 @@ mod reading;
 mod refused;
 mod report;
 mod silence;
-#[cfg(test)]
-mod tests;
 mod written;
 
 pub use answer::{NO_LANGUAGE, NO_MEMORY, NOT_UTF8, OUT_OF_RANGE, REPORTED, ReportAnswer};

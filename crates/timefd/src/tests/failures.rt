@@ -32,14 +32,6 @@ fn expect_failed_reads(rt: &impl Abort, alloc: Global, kind: Kind, bytes: &[u8])
     }
 }
 
-// Each read of each text fails in turn.
-#[test]
-fn reads(rt: HostRuntime) {
-    for row in ROWS {
-        expect_failed_reads(&rt, rt.alloc(), row.kind, row.text.as_bytes());
-    }
-}
-
 /// Expects the same of bytes that are no text.
 fn expect_failed_reads_of_no_text(rt: &impl Abort, alloc: Global, kind: Kind) {
     for bytes in NO_TEXTS {
@@ -47,9 +39,12 @@ fn expect_failed_reads_of_no_text(rt: &impl Abort, alloc: Global, kind: Kind) {
     }
 }
 
-// What came before the failure is no text.
+// Each read of each text fails in turn, and so does each where what came before is no text.
 #[test]
-fn reads_of_no_text(rt: HostRuntime) {
+fn reads(rt: HostRuntime) {
+    for row in ROWS {
+        expect_failed_reads(&rt, rt.alloc(), row.kind, row.text.as_bytes());
+    }
     for kind in KINDS {
         expect_failed_reads_of_no_text(&rt, rt.alloc(), *kind);
     }

@@ -1,4 +1,4 @@
-//! The whole program: arguments and bytes in, status and line out.
+//! The whole program where it says nothing: wrong arguments, bytes that are no text, and failures.
 
 use super::arguments::owned;
 use super::memory::{Countdown, Feed, Log};
@@ -19,53 +19,6 @@ fn ends(
     let mut reader = FromReader::new(feed);
     let mut writer = ToWriter::new(log);
     execute(alloc, &args, &mut reader, &mut writer)
-}
-
-/// Arguments and a text, with the status and the line of the run.
-type Row = (&'static [&'static str], &'static str, u8, &'static str);
-
-const NESTED: &str = "[optional [x]]";
-
-const RUNS: &[Row] = &[
-    (&["timefd", "3"], "due [day]", 0, "ok bytes 6\n"),
-    (
-        &["timefd", "3"],
-        "due [day",
-        1,
-        "unclosed opening bracket at byte index 4\n",
-    ),
-    (
-        &["timefd", "2"],
-        "[day][foo]",
-        1,
-        "invalid component name `foo` at byte index 6\n",
-    ),
-    (&["timefd", "strftime"], "%F\n", 0, "ok items 2\n"),
-    (&["timefd", "1"], "", 0, "ok items 0\n"),
-    (&["timefd", "3", "007"], "[day]", 0, "ok bytes 2\n"),
-    (
-        &["timefd", "3", "0"],
-        NESTED,
-        1,
-        "highly-nested format description is not supported at byte index 10\n",
-    ),
-    (&["timefd", "3", "1"], NESTED, 0, "ok bytes 1\n"),
-];
-
-/// Expects the row's status and line.
-fn expect_run(rt: &impl Abort, alloc: Global, row: &Row) {
-    let (words, text, status, line) = *row;
-    let mut log = Log::new(alloc);
-    let ended = ends(rt, alloc, words, &mut Feed::new(text.as_bytes()), &mut log);
-    assert_eq!(rt; ended, status, "{words:?} {text}");
-    assert_eq!(rt; log.written.as_slice(), line.as_bytes(), "{words:?} {text}");
-}
-
-#[test]
-fn runs(rt: HostRuntime) {
-    for row in RUNS {
-        expect_run(&rt, rt.alloc(), row);
-    }
 }
 
 const WRONG_ARGUMENTS: &[&[&str]] = &[

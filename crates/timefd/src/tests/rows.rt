@@ -3,8 +3,10 @@
 use super::memory::{AMPLE, Feed, Log, run_over};
 use crate::end::RunEnd;
 use crate::kind::Kind;
+use crate::run::run_within;
 use std::alloc::Global;
 use std::process::Abort;
+use timefd_streams::{FromReader, ToWriter};
 
 /// A text with its line.
 pub struct Row {
@@ -87,6 +89,15 @@ fn expect_line(rt: &impl Abort, alloc: Global, row: &Row, most: usize) {
     assert!(rt; writer.is_flushed, "{}", row.text);
 }
 
+/// Expects that a text of many pieces is one text.
+fn expect_line_of_long_text(rt: &impl Abort, alloc: Global) {
+    let text = vec![in alloc; b']'; 200_000].expect(rt, AMPLE);
+    let mut writer = Log::new(alloc);
+    let end = run_over(alloc, Kind::One, &mut Feed::new(&text), &mut writer);
+    assert_eq!(rt; end, RunEnd::Accepted);
+    assert_eq!(rt; writer.written.as_slice(), b"ok items 200000\n".as_slice());
+}
+
 #[test]
 fn lines(rt: HostRuntime) {
     for row in ROWS {
@@ -94,16 +105,19 @@ fn lines(rt: HostRuntime) {
         expect_line(&rt, rt.alloc(), row, 2);
         expect_line(&rt, rt.alloc(), row, usize::MAX);
     }
+    expect_line_of_long_text(&rt, rt.alloc());
 }
 
-// A text of many pieces is one text.
+// Texts of strftime nest nothing. The program takes no limit for them.
 #[test]
-fn long_text(rt: HostRuntime) {
-    let text = vec![in rt.alloc(); b']'; 200_000].expect(&rt, AMPLE);
-    let mut writer = Log::new(rt.alloc());
-    let end = run_over(rt.alloc(), Kind::One, &mut Feed::new(&text), &mut writer);
+fn strftime_within_the_least_limit(rt: HostRuntime) {
+    let mut feed = Feed::new(b"%F\n");
+    let mut log = Log::new(rt.alloc());
+    let mut reader = FromReader::new(&mut feed);
+    let mut writer = ToWriter::new(&mut log);
+    let end = run_within(rt.alloc(), Kind::Strftime, 0, &mut reader, &mut writer);
     assert_eq!(rt; end, RunEnd::Accepted);
-    assert_eq!(rt; writer.written.as_slice(), b"ok items 200000\n".as_slice());
+    assert_eq!(rt; log.written.as_slice(), b"ok items 2\n".as_slice());
 }
 
 /// Expects that the bytes are no text, by a reader that moves at most so many a call.

@@ -6,18 +6,22 @@ use std::process::Abort;
 use timefd_streams::transfer::{read_all, write_all};
 use timefd_streams::{Failed, FromReader, Sink, Source, ToWriter};
 
+// A flush reaches the writer, and an empty write is no failure.
 #[test]
-fn flush_reaches_the_writer(rt: HostRuntime) {
+fn flushes(rt: HostRuntime) {
     let mut log = Log::new(rt.alloc());
     let mut sink = ToWriter::new(&mut log);
     assert_eq!(rt; sink.write(b"day"), Ok(3));
     assert_eq!(rt; sink.flush(), Ok(()));
     assert!(rt; log.is_flushed);
     assert_eq!(rt; log.written.as_slice(), b"day".as_slice());
+    let mut sink = ToWriter::new(Log::new(rt.alloc()));
+    assert_eq!(rt; sink.write(b""), Ok(0));
+    assert_eq!(rt; sink.flush(), Ok(()));
 }
 
-#[test]
-fn failed_reader_is_left_alone(rt: HostRuntime) {
+/// Expects that a reader that failed is not called again.
+fn expect_reader_left_alone(rt: &impl Abort) {
     let mut feed = Feed::new(b"day");
     feed.failure = Countdown(Some(0));
     let mut source = FromReader::new(&mut feed);
@@ -28,7 +32,7 @@ fn failed_reader_is_left_alone(rt: HostRuntime) {
 }
 
 /// Expects that a writer that failed, or took no byte, is not called again.
-fn expect_left_alone(rt: &impl Abort, alloc: Global, stalls: bool) {
+fn expect_writer_left_alone(rt: &impl Abort, alloc: Global, stalls: bool) {
     let mut log = Log::new(alloc);
     log.failure = Countdown(Some(0));
     log.stalls = stalls;
@@ -41,16 +45,10 @@ fn expect_left_alone(rt: &impl Abort, alloc: Global, stalls: bool) {
 }
 
 #[test]
-fn failed_writer_is_left_alone(rt: HostRuntime) {
-    expect_left_alone(&rt, rt.alloc(), false);
-    expect_left_alone(&rt, rt.alloc(), true);
-}
-
-#[test]
-fn empty_write_is_no_failure(rt: HostRuntime) {
-    let mut sink = ToWriter::new(Log::new(rt.alloc()));
-    assert_eq!(rt; sink.write(b""), Ok(0));
-    assert_eq!(rt; sink.flush(), Ok(()));
+fn failed_streams_are_left_alone(rt: HostRuntime) {
+    expect_reader_left_alone(&rt);
+    expect_writer_left_alone(&rt, rt.alloc(), false);
+    expect_writer_left_alone(&rt, rt.alloc(), true);
 }
 
 #[test]

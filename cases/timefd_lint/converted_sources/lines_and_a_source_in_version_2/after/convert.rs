@@ -1,0 +1,1 @@
+format_description!(version = 2, "\\[x\\]")

@@ -1,0 +1,2 @@
+let a = format_description!(version = 3, "[day]");
+let b = parse_owned::<3>("\\]");

@@ -1,0 +1,2 @@
+let a = format_description!("[Day]");
+let b = parse_owned::<2>("]");

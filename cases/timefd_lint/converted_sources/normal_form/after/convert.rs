@@ -1,0 +1,2 @@
+format_description!(version = 3, "[day]"); parse_owned::<3>("[hour repr:12]");
+"[day]" // timefd: 3

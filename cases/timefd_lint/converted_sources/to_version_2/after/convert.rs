@@ -1,0 +1,1 @@
+f!(); format_description!(version = 2, "\\[[Day]"); parse_owned::<2>("[Day]"); parse_owned::<3>("[day]")

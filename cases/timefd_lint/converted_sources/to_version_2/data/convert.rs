@@ -1,0 +1,1 @@
+f!(); format_description!("[[[Day]"); parse_owned::<2>("[Day]"); parse_owned::<3>("[day]")

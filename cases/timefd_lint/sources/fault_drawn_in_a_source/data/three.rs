@@ -1,0 +1,3 @@
+let a = format_description!(
+    "[year]-[mnth]",
+);

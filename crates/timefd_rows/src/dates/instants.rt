@@ -1,0 +1,100 @@
+//! Instants, the dates and times that they are in UTC, and how moments and instants are printed.
+
+use super::moments::{date_of, moment_of, offset_of, time_of};
+use crate::fault::RowFault;
+use std::alloc::Global;
+use timefd_moment::{Moment, UnixTime};
+
+/// What is asked of an instant or a moment.
+#[derive(Clone, Copy)]
+pub enum InstantAsk {
+    /// `nanoseconds DATE TIME OFFSET`: the nanoseconds after the start of 1970.
+    Nanoseconds,
+    /// `utc NANOSECONDS`: the date, the time of day and the offset of the instant, or what is out of range.
+    Utc,
+    /// `moment DATE TIME OFFSET`, as it is printed.
+    Moment,
+    /// `instant NANOSECONDS`, as it is printed.
+    Instant,
+}
+
+impl InstantAsk {
+    /// The ask that the word names.
+    pub fn of_word(word: &str) -> Option<InstantAsk> {
+        match word {
+            "nanoseconds" => Some(InstantAsk::Nanoseconds),
+            "utc" => Some(InstantAsk::Utc),
+            "moment" => Some(InstantAsk::Moment),
+            "instant" => Some(InstantAsk::Instant),
+            _ => None,
+        }
+    }
+
+    fn fields(self) -> &'static str {
+        match self {
+            InstantAsk::Nanoseconds | InstantAsk::Moment => "DATE TIME OFFSET",
+            InstantAsk::Utc | InstantAsk::Instant => "NANOSECONDS",
+        }
+    }
+}
+
+/// The answer to the ask.
+pub fn answer(alloc: Global, ask: InstantAsk, fields: &[&str]) -> Result<String, RowFault> {
+    match (ask, fields) {
+        (InstantAsk::Nanoseconds, [date, time, offset]) => {
+            let date = date_of(alloc, date)?;
+            let time = time_of(alloc, time)?;
+            let unix = UnixTime::of(date, time, offset_of(offset)?);
+            nanoseconds(alloc, unix)
+        }
+        (InstantAsk::Utc, [count]) => in_utc(alloc, unix_of(count)?),
+        (InstantAsk::Moment, [date, time, offset]) => {
+            Ok(moment_of(alloc, date, time, offset)?.to_string(alloc)?)
+        }
+        (InstantAsk::Instant, [count]) => Ok(unix_of(count)?.to_string(alloc)?),
+        _ => Err(RowFault::Fields(ask.fields())),
+    }
+}
+
+/// The instant so many nanoseconds after the start of 1970.
+fn unix_of(field: &str) -> Result<UnixTime, RowFault> {
+    match field.parse::<i128>() {
+        Ok(count) => Ok(UnixTime::from_nanoseconds(count)),
+        Err(_) => Err(RowFault::Field("a number of nanoseconds")),
+    }
+}
+
+fn nanoseconds(alloc: Global, unix: UnixTime) -> Result<String, RowFault> {
+    let sign = if unix.is_negative { "-" } else { "" };
+    let count = unix.nanoseconds;
+    Ok(format!(in alloc; "{sign}{count}")?)
+}
+
+/// The date, the time of day and the offset in numbers.
+fn in_utc(alloc: Global, unix: UnixTime) -> Result<String, RowFault> {
+    match Moment::from_unix(unix) {
+        Ok(moment) => moment_numbers(alloc, moment),
+        Err(fault) => Ok(format!(in alloc; "{fault:?}")?),
+    }
+}
+
+/// A moment as rows name it.
+fn moment_numbers(alloc: Global, moment: Moment) -> Result<String, RowFault> {
+    let mut numbers = String::new(alloc);
+    match moment.date {
+        Some(date) => write!(numbers, "{},{},{} ", date.year(), date.month, date.day)?,
+        None => numbers.push_str("none ")?,
+    }
+    match moment.time {
+        Some(time) => {
+            write!(numbers, "{},{},", time.hour, time.minute)?;
+            write!(numbers, "{},{} ", time.second, time.nanosecond)?;
+        }
+        None => numbers.push_str("none ")?,
+    }
+    match moment.offset {
+        Some(offset) => write!(numbers, "{}", offset.whole_seconds())?,
+        None => numbers.push_str("none")?,
+    }
+    Ok(numbers)
+}

@@ -1,0 +1,66 @@
+//! Tokens and descriptions of sources of Rust.
+
+use crate::fault::RowFault;
+use crate::sources::shown::all_shown;
+use std::alloc::{AllocError, Global};
+use timefd_sources::{Encoding, Kind, Token, VersionPlace, descriptions_of, pieces_of};
+
+fn encoding_mark(encoding: Encoding) -> &'static str {
+    match encoding {
+        Encoding::Str => "str",
+        Encoding::Bytes => "bytes",
+        Encoding::C => "c",
+    }
+}
+
+fn token_mark(token: Token) -> &'static str {
+    match token {
+        Token::White => "white",
+        Token::Comment => "comment",
+        Token::Word => "word",
+        Token::Lifetime => "lifetime",
+        Token::Character => "char",
+        Token::Literal(Kind::Escaped(encoding)) => encoding_mark(encoding),
+        Token::Literal(Kind::Raw(_, _)) => "raw",
+        Token::Sign => "sign",
+        Token::Unclosed => "unclosed",
+    }
+}
+
+/// The tokens of a source but white ones, each as its kind and its text, between bars.
+pub fn tokens(alloc: Global, source: &str) -> Result<String, RowFault> {
+    let mut shown = String::new(alloc);
+    for piece in &pieces_of(alloc, source)? {
+        if piece.token != Token::White {
+            shown.push_str(token_mark(piece.token))?;
+            shown.push_str(" ")?;
+            shown.push_str(source.get(piece.start..piece.end).unwrap_or("?"))?;
+            shown.push_str("|")?;
+        }
+    }
+    Ok(shown)
+}
+
+/// The descriptions of a source, each as its language and its text, between bars.
+pub fn descriptions(alloc: Global, source: &str) -> Result<String, RowFault> {
+    Ok(all_shown(alloc, &descriptions_of(alloc, source)?)?)
+}
+
+fn place_mark(alloc: Global, version: VersionPlace) -> Result<String, AllocError> {
+    match version {
+        VersionPlace::Digit(at) => format!(in alloc; "{at}"),
+        VersionPlace::Unsaid => String::from_str(alloc, "unsaid"),
+        VersionPlace::Call => String::from_str(alloc, "call"),
+        VersionPlace::Elsewhere => String::from_str(alloc, "elsewhere"),
+    }
+}
+
+/// Where the versions of a source's descriptions are said: a byte, or a word, between bars.
+pub fn versions(alloc: Global, source: &str) -> Result<String, RowFault> {
+    let mut shown = String::new(alloc);
+    for description in &descriptions_of(alloc, source)? {
+        shown.push_str(&place_mark(alloc, description.version)?)?;
+        shown.push_str("|")?;
+    }
+    Ok(shown)
+}

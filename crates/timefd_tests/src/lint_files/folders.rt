@@ -1,0 +1,89 @@
+//! Which files a name of the command line stands for.
+
+use crate::lint_files::fake::Fake;
+use std::alloc::{AllocError, Global};
+use std::io::ErrorKind;
+use timefd_lint_files::{Reason, Sought, WalkError, expanded};
+
+/// Sources of Rust, and nothing excluded.
+const RUST: Sought<'static> = Sought {
+    endings: &[".rs"],
+    excluded: "",
+};
+
+/// Names, and those that they stand for, each after a bar.
+const EXPANDED: &[(&[&str], &str)] = &[
+    // Folders and files.
+    (
+        &["src"],
+        "|src/a/generated.rs|src/a/kept.rs|src/a.rs|src/z.rs",
+    ),
+    (
+        &["src/"],
+        "|src/a/generated.rs|src/a/kept.rs|src/a.rs|src/z.rs",
+    ),
+    (&["notes.txt"], "|notes.txt"),
+    (&["-"], "|-"),
+    (&[], ""),
+    (
+        &["b.txt", "src", "absent"],
+        "|b.txt|src/a/generated.rs|src/a/kept.rs|src/a.rs|src/z.rs|absent",
+    ),
+    // Folders of repositories.
+    (&["made"], "|made/b.rs|made/c.rs"),
+    (&["young"], "|young/a.rs|young/b.rs|young/c.rs"),
+    (&["linked"], "|linked/a.rs|linked/b.rs|linked/c.rs"),
+];
+
+/// The names, each after a bar.
+fn shown(alloc: Global, names: &[String]) -> Result<String, AllocError> {
+    let mut all = String::new(alloc);
+    for name in names {
+        all.push('|')?;
+        all.push_str(name.as_str())?;
+    }
+    Ok(all)
+}
+
+#[test]
+fn names_stand_for_files(rt: HostRuntime) {
+    for &(names, all) in EXPANDED {
+        let found = expanded(&Fake, rt.alloc(), RUST, names).expect(&rt, "names");
+        let found = shown(rt.alloc(), &found).expect(&rt, "memory");
+        assert_eq!(rt; found.as_str(), all);
+    }
+}
+
+/// Whether a name fails, for this reason, and which name is reported.
+fn fails(alloc: Global, name: &str, path: &str, reason: Reason) -> bool {
+    match expanded(&Fake, alloc, RUST, &[name]) {
+        Err(
+            WalkError::Failed {
+                path: told,
+                reason: why,
+            },
+        ) => told.as_str() == path && why == reason,
+        Err(WalkError::Memory) | Ok(_) => false,
+    }
+}
+
+/// How long the name of the folder is that stands in too many others below this one.
+fn length_too_deep(alloc: Global, name: &str) -> Option<usize> {
+    match expanded(&Fake, alloc, RUST, &[name]) {
+        Err(WalkError::Failed { path, reason }) => {
+            if reason == Reason::TooDeep {
+                Some(path.len())
+            } else {
+                None
+            }
+        }
+        Err(WalkError::Memory) | Ok(_) => None,
+    }
+}
+
+#[test]
+fn folders_that_fail_are_reported(rt: HostRuntime) {
+    let denied = Reason::Unread(ErrorKind::PermissionDenied);
+    assert!(rt; fails(rt.alloc(), "closed", "closed/", denied));
+    assert_eq!(rt; length_too_deep(rt.alloc(), "deep"), Some(5 * 256));
+}

@@ -1,0 +1,110 @@
+"""What `./build` makes, each by itself: programs, and the library."""
+import os
+import pathlib
+import shutil
+import subprocess
+import tempfile
+import typing
+
+import crates
+import exports
+import kit_try
+import module
+
+HERE = pathlib.Path(__file__).resolve().parent
+HEADER = crates.TOP / "examples/timefd.h"
+# The programs that users call otherwise than their crates.
+CALLED = {"timefd_write": "timefd_format"}
+USED = ("timefd", "timefd_lint", "timefd_write")
+LIBRARY = "timefd_c"
+# The page's library, which a test calls on this machine.
+WEB = "timefd_web"
+# The parts are what the one archive is made of: a test that takes the place of calls for memory sees these in them alone.
+LIBRARY_FILES = ("libtimefd.a", "libtimefd.so", "timefd.h", "parts/libtimefd_c.a", "parts/liblibc_c.a")
+
+
+class Product(typing.NamedTuple):
+    """A program or the library: its crate, and the files that it leaves."""
+
+    crate: str
+    files: tuple
+
+    def sum(self):
+        """The sum of all that it is made of."""
+        own = [*sorted(HERE.glob("*.py")), HERE / "main.c", pathlib.Path(kit_try.__file__)]
+        own += [HEADER, crates.TOP / "packages/library", crates.TOP / "packages/names"]
+        texts = [it.read_text(encoding="utf-8") for it in own]
+        return crates.sum_of([self.crate, *crates.below(self.crate)], kit_try.identity(), *texts)
+
+    def make(self, out):
+        """Makes the files in the folder `out`."""
+        with tempfile.TemporaryDirectory(prefix="unproved-") as room:
+            MAKERS.get(self.crate, make_program)(self, out, pathlib.Path(room))
+
+
+def chosen(with_tests):
+    """The products that users take, and with those that tests alone run, which stand in a folder of their own."""
+    programs = [Product(it, (CALLED.get(it, it),)) for it in USED]
+    if with_tests:
+        programs += [Product(it, (f"tests/{it}",)) for it in crates.programs() if it not in USED]
+        programs.append(Product(WEB, (f"parts/lib{WEB}.a",)))
+    # The linter takes the longest: it begins first.
+    return sorted([*programs, Product(LIBRARY, LIBRARY_FILES)], key=lambda it: len(crates.below(it.crate)), reverse=True)
+
+
+def run(*words, **more):
+    """Runs a command, whose complaint is the reason where it fails."""
+    ran = subprocess.run(words, capture_output=True, text=True, errors="replace", env={**os.environ, **more})
+    if ran.returncode:
+        raise kit_try.Lacking(f"`{words[0]}` ended with status {ran.returncode}:\n{ran.stdout}{ran.stderr}".rstrip())
+
+
+def link(program, to, *more):
+    """Links the object of a program with what it calls of the system."""
+    run("cc", "-Wl,--gc-sections", "-o", to, *more, program, *kit_try.archives())
+
+
+def make_program(product, out, room):
+    """Links a program, whose start says that nothing proved it."""
+    name = product.crate
+    text = module.text_of(name, crates.root(name), module.libraries_below(name), room)
+    program = module.compile_text(text.replace("@main(", "@unproved_main("), room, name)
+    run("cc", "-O2", "-c", "-o", room / "main.o", HERE / "main.c")
+    link(program, room / "linked", room / "main.o")
+    to = out / product.files[0]
+    to.parent.mkdir(parents=True, exist_ok=True)
+    shutil.copy(room / "linked", f"{to}.new")
+    os.replace(f"{to}.new", to)
+
+
+def make_archive(crate, shim, room):
+    """Makes the archive of a library: its exports, and the file of C by which C calls them."""
+    (room / "shim.c").write_text(shim, encoding="utf-8")
+    (room / "main.rt").write_text(exports.reaching(crate), encoding="utf-8")
+    name = "reaches_each_export"
+    libraries = [crates.as_library(crate), *module.libraries_below(crate)]
+    text = module.text_of(name, room / "main.rt", libraries, room)
+    made = module.compile_text(exports.renamed(text, crate), room, name)
+    run("cc", "-std=c11", "-O2", "-fPIC", "-c", "-o", room / "shim.o", room / "shim.c")
+    archive = room / f"lib{crate}.a"
+    run("ar", "rcD", archive, made, room / "shim.o")
+    return archive
+
+
+def make_library(product, out, room):
+    """Makes the library as the packages have it, static and shared, with its header and its parts."""
+    header = HEADER.read_text(encoding="utf-8")
+    (room / "timefd.h").write_text(exports.signed(header), encoding="utf-8")
+    archive = make_archive(product.crate, exports.shim(header, product.crate), room)
+    run(crates.TOP / "packages/library", out, TIMEFD_ARCHIVE=str(archive))
+    for it in (archive, kit_try.folder() / "c/liblibc_c.a", out / "UNPROVED"):
+        shutil.copy(it, out / "parts")
+    shutil.copy(room / "timefd.h", out)
+
+
+def make_web(product, out, room):
+    """Makes the archive of the page's library for this machine."""
+    shutil.copy(make_archive(product.crate, exports.shim_without_header(product.crate), room), out / "parts")
+
+
+MAKERS = {LIBRARY: make_library, WEB: make_web}
