@@ -1,8 +1,8 @@
 //! What the linter, the editor and the language server report of a text.
 
+mod accepted;
 mod editing;
 mod ignored;
-mod told;
 
 use crate::fault::RowFault;
 use std::alloc::Global;
@@ -60,8 +60,8 @@ impl WarningAsk {
 /// The answer to the ask.
 pub fn answer(alloc: Global, ask: WarningAsk, fields: &[&str]) -> Result<String, RowFault> {
     match ask {
-        WarningAsk::Warned => told::warned(alloc, fields),
-        WarningAsk::Elsewhere => told::elsewhere(alloc, fields),
+        WarningAsk::Warned => accepted::warned(alloc, fields),
+        WarningAsk::Elsewhere => accepted::elsewhere(alloc, fields),
         WarningAsk::Pattern => ignored::pattern(alloc, fields),
         WarningAsk::IgnoreLine => ignored::line(alloc, fields),
         WarningAsk::IgnoreFile => ignored::file(alloc, fields),

@@ -7,7 +7,7 @@ use std::alloc::Global;
 #[derive(Drop)]
 pub struct Answers {
     first: Option<String>,
-    /// Each answer behind the name of what gave it.
+    /// Each answer after the name of what gave it.
     all: String,
     differ: bool,
 }

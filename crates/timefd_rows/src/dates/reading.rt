@@ -70,7 +70,7 @@ pub fn answer(alloc: Global, ask: ReadingAsk, fields: &[&str]) -> Result<String,
     }
 }
 
-/// An answer, with that of another program behind it where it is another.
+/// An answer, with that of another program after it where it is another.
 pub fn beside(
     alloc: Global,
     ours: String,

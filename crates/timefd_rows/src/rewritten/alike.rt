@@ -91,7 +91,7 @@ fn in_turn(alloc: Global, items: &[BorrowedFormatItem<'_>]) -> Result<String, Ro
     Ok(printed)
 }
 
-/// The same of a description. What the members of a compound are is printed before it.
+/// The literals and components of a description in print. What the members of a compound are is printed before it.
 fn parts(alloc: Global, description: &FormatDescriptionV3<'_>) -> Result<String, RowFault> {
     let mut printed = String::new(alloc);
     for part in description.view().walk() {

@@ -7,7 +7,7 @@ use crate::longest_literal::longest_literal;
 use std::alloc::Global;
 use timefd_items::{FormatDescriptionV3Inner, Members, Shape, View};
 
-/// Each part after its members, and a semicolon behind each.
+/// Each part after its members, and a semicolon after each.
 pub fn parts(alloc: Global, text: &str) -> Result<String, RowFault> {
     let description = described(alloc, text)?;
     let mut names = String::new(alloc);
@@ -39,7 +39,7 @@ fn members_of<'v, 'a>(view: View<'v, 'a>) -> Result<Members<'v, 'a>, RowFault> {
     }
 }
 
-/// The members in turn, with a semicolon behind each.
+/// The members in turn, with a semicolon after each.
 pub fn members(alloc: Global, text: &str) -> Result<String, RowFault> {
     let description = described(alloc, text)?;
     let mut names = String::new(alloc);

@@ -44,7 +44,7 @@ fn has(
     }
 }
 
-/// The same of a text of strftime.
+/// Whether a text of strftime has a warning.
 fn has_strftime(alloc: Global, warning: Warning, text: &str) -> Result<bool, RowFault> {
     let tables = StrftimeTables::new();
     match parse_strftime_borrowed(alloc, &tables, text) {
