@@ -4,7 +4,7 @@ use Rattle.timefd_fault.specs.Faults.{Kind, Fault, fault, unclosed_bracket, inva
 use Rattle.timefd_language.specs.declared.fault.ReadError.{ReadError}
 use Rattle.timefd_language.specs.declared.fault.ReadError.TheVariants as errors
 use Rattle.timefd_language.specs.declared.parse_error.ParseError.{ParseError}
-use Rattle.timefd_language.specs.FaultMeaning.{kind_of, IsFault}
+use Rattle.timefd_language.specs.FaultMeaning.{rule_kind, IsFault}
 use Rattle.timefd_language.specs.Told.{IsFaultOrMemory, MemoryAlone}
 use Rattle.timefd_borrowed_fault.specs.declared.borrowed_fault.BorrowedFault.{BorrowedFault}
 use Rattle.timefd_borrowed_fault.specs.declared.borrowed_parse_error.BorrowedParseError.{BorrowedParseError}
@@ -12,7 +12,7 @@ use Rattle.timefd_borrowed_fault.specs.declared.borrowed_parse_error.BorrowedPar
 
 -- the fault that is borrowed
 abbrev pub lent_fault : BorrowedFault → Fault
-lent_fault f = fault (kind_of f.kind) f.index
+lent_fault f = fault (rule_kind f.rule) f.index
 
 -- A kind that quotes two words has short ones, as each fault of a text does. So a `usize` counts
 -- its sentence.
@@ -39,7 +39,7 @@ IsRefusal (Memory e) = ⊥
 
 -- a fault with short words, or out of memory
 abbrev pub HasShortFault : BorrowedParseError → Type 0
-HasShortFault (Invalid f) = HasShortWords (kind_of f.kind)
+HasShortFault (Invalid f) = HasShortWords (rule_kind f.rule)
 HasShortFault (Memory e) = ⊤
 
 -- this fault

@@ -1,7 +1,7 @@
 //! Faults that borrow what they quote.
 
 ghost use Rattle.std.specs.Prelude.{◌≡◌, ◌≤◌};
-ghost use Rattle.timefd_language.specs.FaultMeaning.{IsFault, kind_of};
+ghost use Rattle.timefd_language.specs.FaultMeaning.{IsFault, rule_kind};
 ghost use Rattle.timefd_fault.specs.Faults as spec;
 ghost use Rattle.timefd_fault.specs.Sentences.{sentence};
 ghost use Rattle.timefd_borrowed_fault.specs.BorrowedFaults.{HasShortWords, lent_fault};
@@ -10,14 +10,14 @@ ghost use Rattle.timefd_borrowed_fault.specs.Excerpts.{IsExcerpt};
 use crate::digits::Digits;
 use crate::excerpt::Excerpt;
 use crate::sentence::write_kind;
-use timefd_language::fault::{Fault, FaultKind};
+use timefd_language::fault::{Fault, Rule};
 
 /// Why a text is no format description, and where: `InvalidFormatDescription`, which borrows the
 /// name or the value that it quotes. It is this port's own.
 #[derive(Clone, Copy)]
 pub struct BorrowedFault<'a> {
-    /// Why.
-    pub kind: FaultKind<'a>,
+    /// The rule that is broken.
+    pub rule: Rule<'a>,
     /// Where: a byte index from the text's start.
     pub index: usize,
 }
@@ -29,7 +29,7 @@ impl<'a> BorrowedFault<'a> {
         ensures { (g : spec.Fault) → IsFault len fault.entry g → lent_fault result ≡ g }
     {
         BorrowedFault {
-            kind: fault.kind,
+            rule: fault.rule,
             index: len - fault.remaining,
         }
     }
@@ -37,11 +37,11 @@ impl<'a> BorrowedFault<'a> {
     /// Writes the sentence of the fault over the front of the buffer: as many of its characters as
     /// the buffer has room for. It takes no memory.
     pub fn write_sentence(&self, buffer: &mut [u8]) -> Excerpt
-        requires { HasShortWords (kind_of self.now.kind) }
+        requires { HasShortWords (rule_kind self.now.rule) }
         ensures { IsExcerpt (sentence (lent_fault self.now)) buffer.old buffer.new result }
     {
         let mut digits = Digits::new();
         let index = digits.format(self.index);
-        write_kind(self.kind, index, buffer)
+        write_kind(self.rule.kind(), index, buffer)
     }
 }

@@ -36,7 +36,7 @@ fn owned(alloc: Global, fault: BorrowedFault) -> ParseError
     ensures { IsOwned (BorrowedParseError.Invalid fault.entry) result }
 {
     let at_the_end = Fault {
-        kind: fault.kind,
+        rule: fault.rule,
         remaining: 0,
     };
     told(alloc, ReadError::Invalid(at_the_end), fault.index)

@@ -9,7 +9,7 @@ ghost use Rattle.timefd_c.specs.Diagnoses.{IsDiagnosed, IsWordTold, no_fault};
 use crate::answer::Answer;
 use crate::whole::write_whole;
 use std::alloc::Global;
-use timefd_diagnosis::{Code, borrowed_span_of, help_against};
+use timefd_diagnosis::{Code, help_against, span_of};
 use timefd_parse::{BorrowedFault, Language};
 
 /// What is told of a fault, beside its sentence. Of a text that is not refused all of it is 0.
@@ -73,8 +73,8 @@ impl FaultFields {
         requires { IsPlaced text.now (lent_fault fault) }
         ensures { IsDiagnosed language text.now (lent_fault fault.entry) word.old word.new result }
     {
-        let span = borrowed_span_of(language, text, fault);
-        let code = code_number(Code::of_kind(fault.kind));
+        let span = span_of(language, text, fault);
+        let code = code_number(Code::of(fault.rule));
         match help_against(alloc, language, text, fault) {
             Ok(help) => {
                 let (nearest_len, nearest_written) = write_word(help.nearest(), word);

@@ -1,7 +1,9 @@
 -- The stable names of faults.
-use Rattle.std.specs.Prelude.{◌≡◌, codes, bytes_eq, if◌then◌else◌}
+use Rattle.std.specs.Prelude.{◌≡◌, [], codes, bytes_eq, if◌then◌else◌}
 use Rattle.timefd_component.specs.Tree.{Text}
 use Rattle.timefd_fault.specs.Faults.{Kind, unclosed_bracket, invalid_name, invalid_modifier, missing_name, missing_modifier, expected, not_supported, duplicate_modifier, invalid_combination}
+use Rattle.timefd_language.specs.Fault.{expected_escape, expected_closing_escape, expected_white, expected_nested, too_highly_nested, many_nested, optional_item, first_item}
+use Rattle.timefd_language.specs.Strftime.{unknown_kind}
 use Rattle.timefd_diagnosis.specs.declared.code.Code.{Code}
 use Rattle.timefd_diagnosis.specs.declared.code.Code.TheVariants.{UnclosedBracket, UnknownName, InvalidModifier, MissingName, MissingModifier, InvalidEscape, UnescapedBracket, MissingSpace, MissingDescription, MissingAlternative, NestedTooDeep, SeveralDescriptions, OptionalItem, FirstItem, UnsupportedFlag, UnsupportedLetter, NestedInComponent, DuplicateModifier, RefusedModifier}
 
@@ -26,24 +28,30 @@ name_of NestedInComponent = codes "nested-in-component"
 name_of DuplicateModifier = codes "duplicate-modifier"
 name_of RefusedModifier = codes "refused-modifier"
 
--- of what is expected, and of what is not supported
+-- what a kind says was expected, or isn't supported
+abbrev words_of : Kind → Text
+words_of (expected what) = what
+words_of (not_supported what context) = what
+words_of other = []
+
+-- of what is expected, and of what is not supported: the flag `O` of strftime, and its letter `Z`
 
 abbrev pub expected_code : Text → Code
 expected_code what =
-    if bytes_eq what (codes "valid escape sequence") then InvalidEscape
-    else if bytes_eq what (codes "right bracket to be escaped") then UnescapedBracket
-    else if bytes_eq what (codes "whitespace before nested format description") then MissingSpace
-    else if bytes_eq what (codes "nested format description") then MissingDescription
+    if bytes_eq what (words_of expected_escape) then InvalidEscape
+    else if bytes_eq what (words_of expected_closing_escape) then UnescapedBracket
+    else if bytes_eq what (words_of expected_white) then MissingSpace
+    else if bytes_eq what (words_of expected_nested) then MissingDescription
     else MissingAlternative
 
 abbrev pub unsupported_code : Text → Code
 unsupported_code what =
-    if bytes_eq what (codes "highly-nested format description") then NestedTooDeep
-    else if bytes_eq what (codes "more than one nested format description") then SeveralDescriptions
-    else if bytes_eq what (codes "optional item") then OptionalItem
-    else if bytes_eq what (codes "'first' item") then FirstItem
-    else if bytes_eq what (codes "modifier") then UnsupportedFlag
-    else if bytes_eq what (codes "component") then UnsupportedLetter
+    if bytes_eq what (words_of too_highly_nested) then NestedTooDeep
+    else if bytes_eq what (words_of many_nested) then SeveralDescriptions
+    else if bytes_eq what (words_of optional_item) then OptionalItem
+    else if bytes_eq what (words_of first_item) then FirstItem
+    else if bytes_eq what (words_of (unknown_kind 79)) then UnsupportedFlag
+    else if bytes_eq what (words_of (unknown_kind 90)) then UnsupportedLetter
     else NestedInComponent
 
 abbrev pub code_of : Kind → Code

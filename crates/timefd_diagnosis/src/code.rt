@@ -1,12 +1,10 @@
 //! The stable names of faults.
 
 ghost use Rattle.std.specs.Prelude.{◌≡◌};
-ghost use Rattle.timefd_fault.specs.Faults.{fault_of};
-ghost use Rattle.timefd_language.specs.FaultMeaning.{kind_of};
+ghost use Rattle.timefd_language.specs.FaultMeaning.{rule_kind};
 ghost use Rattle.timefd_diagnosis.specs.Codes as spec;
 
-use crate::lent::lent;
-use timefd_parse::{FaultKind, InvalidFormatDescription};
+use timefd_parse::Rule;
 
 /// What a fault is, whatever word of the text it is about.
 #[derive(Clone, Copy)]
@@ -52,27 +50,30 @@ pub enum Code {
 }
 
 impl Code {
-    /// That of a fault.
-    pub fn of(fault: &InvalidFormatDescription) -> Code
-        ensures { result ≡ spec.code_of (fault_of fault.now).kind }
+    /// The code of a rule that is broken.
+    pub fn of(rule: Rule<'_>) -> Code
+        ensures { result ≡ spec.code_of (rule_kind rule.entry) }
     {
-        Code::of_kind(lent(fault).kind)
-    }
-
-    /// That of a fault of this kind.
-    pub fn of_kind(kind: FaultKind<'_>) -> Code
-        ensures { result ≡ spec.code_of (kind_of kind.entry) }
-    {
-        match kind {
-            FaultKind::UnclosedBracket => Code::UnclosedBracket,
-            FaultKind::InvalidName(_) => Code::UnknownName,
-            FaultKind::InvalidModifier(_) => Code::InvalidModifier,
-            FaultKind::MissingName => Code::MissingName,
-            FaultKind::MissingModifier(_) => Code::MissingModifier,
-            FaultKind::Expected(what) => expected(what),
-            FaultKind::NotSupported(what, _) => unsupported(what),
-            FaultKind::DuplicateModifier(_) => Code::DuplicateModifier,
-            FaultKind::InvalidCombination(_, _) => Code::RefusedModifier,
+        match rule {
+            Rule::UnclosedBracket => Code::UnclosedBracket,
+            Rule::UnknownName(_) => Code::UnknownName,
+            Rule::InvalidModifier(_) => Code::InvalidModifier,
+            Rule::MissingName => Code::MissingName,
+            Rule::MissingModifier(_) => Code::MissingModifier,
+            Rule::InvalidEscape => Code::InvalidEscape,
+            Rule::UnescapedBracket => Code::UnescapedBracket,
+            Rule::MissingSpace => Code::MissingSpace,
+            Rule::MissingDescription => Code::MissingDescription,
+            Rule::MissingAlternative => Code::MissingAlternative,
+            Rule::NestedTooDeep => Code::NestedTooDeep,
+            Rule::SeveralDescriptions => Code::SeveralDescriptions,
+            Rule::OptionalItem => Code::OptionalItem,
+            Rule::FirstItem => Code::FirstItem,
+            Rule::UnsupportedFlag => Code::UnsupportedFlag,
+            Rule::UnsupportedLetter => Code::UnsupportedLetter,
+            Rule::NestedInComponent => Code::NestedInComponent,
+            Rule::DuplicateModifier(_) => Code::DuplicateModifier,
+            Rule::RefusedModifier(_, _) => Code::RefusedModifier,
         }
     }
 
@@ -108,36 +109,3 @@ impl Code {
 pub fn names_differ()
     ensures { spec.NamesDiffer }
 {}
-
-/// The name of a fault.
-pub fn code_of(fault: &InvalidFormatDescription) -> &'static str
-    ensures code { result.now ≡ spec.name_of (spec.code_of (fault_of fault.now).kind) }
-{
-    Code::of(fault).name()
-}
-
-fn expected(what: &str) -> Code
-    ensures { result ≡ spec.expected_code what.now }
-{
-    match what {
-        "valid escape sequence" => Code::InvalidEscape,
-        "right bracket to be escaped" => Code::UnescapedBracket,
-        "whitespace before nested format description" => Code::MissingSpace,
-        "nested format description" => Code::MissingDescription,
-        _ => Code::MissingAlternative,
-    }
-}
-
-fn unsupported(what: &str) -> Code
-    ensures { result ≡ spec.unsupported_code what.now }
-{
-    match what {
-        "highly-nested format description" => Code::NestedTooDeep,
-        "more than one nested format description" => Code::SeveralDescriptions,
-        "optional item" => Code::OptionalItem,
-        "'first' item" => Code::FirstItem,
-        "modifier" => Code::UnsupportedFlag,
-        "component" => Code::UnsupportedLetter,
-        _ => Code::NestedInComponent,
-    }
-}

@@ -2,26 +2,42 @@
 
 ghost use Rattle.std.specs.Prelude.{◌≡◌, ◌↔◌, List, None, IfOk, IfSome};
 ghost use Rattle.timefd_component.specs.Tree.{Tree};
+ghost use Rattle.timefd_borrowed_fault.specs.BorrowedFaults.{lent_fault};
 ghost use Rattle.timefd_borrowed_fault.specs.Placed.{IsPlaced};
 ghost use Rattle.timefd_fault.specs.Faults.{fault_of};
 ghost use Rattle.timefd_language.specs.Grammar.{nesting_limit};
 ghost use Rattle.timefd_parse.specs.Language.{SpellsIn, FaultIn};
+ghost use Rattle.timefd_diagnosis.specs.Codes as spec;
 ghost use Rattle.timefd_diagnosis.specs.Diagnoses.{IsDiagnosis, IsOfFault};
 
-use crate::help::{Help, help_for};
+use crate::code::Code;
+use crate::help::{Help, help_against};
 use crate::span::{Span, span_of};
 use std::alloc::{AllocError, Global};
-use timefd_parse::{InvalidFormatDescription, Language, NESTING_LIMIT, ParseError, amount_within};
+use timefd_parse::{
+    BorrowedFault, BorrowedParseError, InvalidFormatDescription, Language, NESTING_LIMIT,
+    ParseError, amount_all_borrowed,
+};
 
 /// Why a text is refused, and where.
 #[derive(Drop)]
 pub struct Diagnostic {
     /// The fault.
     pub fault: InvalidFormatDescription,
+    /// The code of the rule that is broken.
+    pub code: Code,
     /// The bytes that are at fault.
     pub span: Span,
     /// What helps against it.
     pub help: Help,
+    pub ghost named: { code ≡ spec.code_of (fault_of fault).kind },
+}
+
+/// The name of a diagnostic's code, which stays the same whatever the fault's sentence says.
+pub fn code_of(diagnostic: &Diagnostic) -> &'static str
+    ensures code { result.now ≡ spec.name_of (spec.code_of (fault_of diagnostic.now.fault).kind) }
+{
+    diagnostic.code.name()
 }
 
 /// What is wrong with a text of a language: `None` where it is accepted. An `Err` says that memory
@@ -39,10 +55,12 @@ pub fn diagnose(
     ensures place { IfOk result (λ found. IfSome found (λ d. IsPlaced text.now (fault_of d.fault))) }
     ensures diagnosis { IfOk result (λ found. IfSome found (IsDiagnosis language text.now)) }
 {
-    match amount_within(alloc, language, NESTING_LIMIT, text) {
+    match amount_all_borrowed(alloc, language, NESTING_LIMIT, text) {
         Ok(_) => Ok(None),
-        Err(ParseError::Invalid(fault)) => Ok(Some(described(alloc, language, text, fault)?)),
-        Err(ParseError::Memory(error)) => Err(error),
+        Err(BorrowedParseError::Invalid(fault)) => {
+            Ok(Some(described(alloc, language, text, fault)?))
+        }
+        Err(BorrowedParseError::Memory(error)) => Err(error),
     }
 }
 
@@ -51,13 +69,22 @@ fn described(
     alloc: Global,
     language: Language,
     text: &str,
-    fault: InvalidFormatDescription,
+    fault: BorrowedFault<'_>,
 ) -> Result<Diagnostic, AllocError>
-    requires { IsPlaced text.now (fault_of fault) }
-    ensures fault { IfOk result (IsOfFault (fault_of fault)) }
+    requires { IsPlaced text.now (lent_fault fault) }
+    ensures fault { IfOk result (IsOfFault (lent_fault fault.entry)) }
     ensures diagnosis { IfOk result (IsDiagnosis language text.now) }
 {
-    let span = span_of(language, text, &fault);
-    let help = help_for(alloc, language, text, &fault)?;
-    Ok(Diagnostic { fault, span, help })
+    let code = Code::of(fault.rule);
+    let span = span_of(language, text, fault);
+    let help = help_against(alloc, language, text, fault)?;
+    match BorrowedParseError::Invalid(fault).into_owned(alloc) {
+        ParseError::Invalid(fault) => Ok(Diagnostic {
+            fault,
+            code,
+            span,
+            help,
+        }),
+        ParseError::Memory(error) => Err(error),
+    }
 }

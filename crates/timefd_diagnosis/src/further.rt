@@ -11,7 +11,7 @@ use crate::code::Code;
 use crate::diagnostic::{Diagnostic, diagnose};
 use std::alloc::{AllocError, Global};
 use timefd_language::text::{Class, cut};
-use timefd_parse::{InvalidFormatDescription, Language};
+use timefd_parse::Language;
 
 /// How many faults of a text are told at most, besides its first one.
 pub const MOST_FURTHER: usize = 19;
@@ -36,7 +36,7 @@ pub struct Sides<'a> {
     pub behind: &'a str,
 }
 
-/// What is wrong with a text besides this fault of it: what was at fault is left out, and the text is
+/// What is wrong with a text besides this first fault of it: what was at fault is left out, and the text is
 /// looked at again, up to so many times. Each diagnostic has its bytes in the text as it is. An `Err`
 /// says that memory ran out.
 #[tactic(auto, using(crate::proofs::FurtherLemmas::at_first, crate::proofs::FurtherLemmas::one_more, crate::proofs::FurtherLemmas::nothing_left, crate::proofs::FurtherLemmas::accepted, crate::proofs::FurtherLemmas::enough))]
@@ -44,15 +44,15 @@ pub fn further_faults(
     alloc: Global,
     language: Language,
     text: &str,
-    fault: &InvalidFormatDescription,
+    first: &Diagnostic,
     most: usize,
 ) -> Result<Vec<Diagnostic>, AllocError>
-    requires { IsPlaced text.now (fault_of fault.now) }
+    requires { IsPlaced text.now (fault_of first.now.fault) }
     ensures { IfOk result (λ found. AreFurther most language
-        (spec.without language text.now (fault_of fault.now)) found.items) }
+        (spec.without language text.now (fault_of first.now.fault)) found.items) }
 {
     let mut found = Vec::new(alloc);
-    let mut rest = without(alloc, language, text, fault)?;
+    let mut rest = without(alloc, language, text, first)?;
     'faults: for count in 0..most {
         let Some(left) = rest else {
             return Ok(found);
@@ -60,7 +60,7 @@ pub fn further_faults(
         let Some(diagnostic) = diagnose(alloc, language, &left)? else {
             return Ok(found);
         };
-        rest = without(alloc, language, &left, &diagnostic.fault)?;
+        rest = without(alloc, language, &left, &diagnostic)?;
         found.push(diagnostic)?;
     }
     Ok(found)
@@ -71,16 +71,16 @@ fn without(
     alloc: Global,
     language: Language,
     text: &str,
-    fault: &InvalidFormatDescription,
+    diagnostic: &Diagnostic,
 ) -> Result<Option<String>, AllocError>
-    requires { IsPlaced text.now (fault_of fault.now) }
+    requires { IsPlaced text.now (fault_of diagnostic.now.fault) }
     ensures { IfOk result (λ left. option_map string_bytes left
-        ≡ spec.without language text.now (fault_of fault.now)) }
+        ≡ spec.without language text.now (fault_of diagnostic.now.fault)) }
 {
-    let Some(mark) = mark_of(language, Code::of(fault)) else {
+    let Some(mark) = mark_of(language, diagnostic.code) else {
         return Ok(None);
     };
-    match sides_at(mark, text, fault.index()) {
+    match sides_at(mark, text, diagnostic.fault.index()) {
         Some(sides) => Ok(Some(with_spaces(alloc, text, sides)?)),
         None => Ok(None),
     }

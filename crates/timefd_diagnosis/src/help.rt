@@ -4,18 +4,14 @@ ghost use Rattle.std.specs.Prelude.{◌≡◌, IfOk, MatchOption, option_map};
 ghost use Rattle.std.specs.Str.{IsCharBoundary};
 ghost use Rattle.timefd_borrowed_fault.specs.BorrowedFaults.{lent_fault};
 ghost use Rattle.timefd_borrowed_fault.specs.Placed.{IsPlaced};
-ghost use Rattle.timefd_fault.specs.Faults.{fault_of};
 ghost use Rattle.timefd_diagnosis.specs.Helps.{HasNoModifierPlace, IsHelpFor, IsModifierPlace, IsWordsHelp, nearest_in};
 
 use crate::code::Code;
 use crate::cure::{advice, strftime_advice};
-use crate::lent::lent;
 use crate::nearest::nearest;
 use crate::place::{Place, place_behind};
 use std::alloc::{AllocError, Global};
-use timefd_parse::{
-    BorrowedFault, DescriptionVersion, FaultKind, InvalidFormatDescription, Language,
-};
+use timefd_parse::{BorrowedFault, DescriptionVersion, Language, Rule};
 
 /// What helps against a fault.
 #[derive(Clone, Copy)]
@@ -48,19 +44,6 @@ impl Help {
 }
 
 /// What helps against a fault of a text. An `Err` says that memory ran out.
-pub fn help_for(
-    alloc: Global,
-    language: Language,
-    text: &str,
-    fault: &InvalidFormatDescription,
-) -> Result<Help, AllocError>
-    requires { IsPlaced text.now (fault_of fault.now) }
-    ensures help { IfOk result (IsHelpFor language text.now (fault_of fault.now)) }
-{
-    help_against(alloc, language, text, lent(fault))
-}
-
-/// The same of a fault that borrows what it quotes.
 pub fn help_against(
     alloc: Global,
     language: Language,
@@ -72,7 +55,7 @@ pub fn help_against(
 {
     match language {
         Language::Version(version) => version_help(alloc, version, text, fault),
-        Language::Strftime => Ok(Help::Advice(strftime_advice(Code::of_kind(fault.kind)))),
+        Language::Strftime => Ok(Help::Advice(strftime_advice(Code::of(fault.rule)))),
     }
 }
 
@@ -85,25 +68,31 @@ fn version_help(
     requires { IsPlaced text.now (lent_fault fault) }
     ensures { IfOk result (IsHelpFor (Language.Version version) text.now (lent_fault fault.entry)) }
 {
-    match fault.kind {
-        FaultKind::InvalidName(name) => {
-            words_help(alloc, version.is_strict(), Place::Name, name)
-        }
-        FaultKind::InvalidModifier(value) => {
+    match fault.rule {
+        Rule::UnknownName(name) => words_help(alloc, version.is_strict(), Place::Name, name),
+        Rule::InvalidModifier(value) => {
             match modifier_place(version.is_strict(), text, fault.index, value) {
                 Some(place) => words_help(alloc, version.is_strict(), place, value),
                 None => Ok(Help::Advice(advice(version, Code::InvalidModifier))),
             }
         }
-        FaultKind::InvalidCombination(modifier, _) => Ok(Help::LeaveOut(modifier)),
-        FaultKind::UnclosedBracket
-        | FaultKind::MissingName
-        | FaultKind::MissingModifier(_)
-        | FaultKind::Expected(_)
-        | FaultKind::NotSupported(_, _)
-        | FaultKind::DuplicateModifier(_) => {
-            Ok(Help::Advice(advice(version, Code::of_kind(fault.kind))))
-        }
+        Rule::RefusedModifier(modifier, _) => Ok(Help::LeaveOut(modifier)),
+        Rule::UnclosedBracket
+        | Rule::MissingName
+        | Rule::MissingModifier(_)
+        | Rule::InvalidEscape
+        | Rule::UnescapedBracket
+        | Rule::MissingSpace
+        | Rule::MissingDescription
+        | Rule::MissingAlternative
+        | Rule::NestedTooDeep
+        | Rule::SeveralDescriptions
+        | Rule::OptionalItem
+        | Rule::FirstItem
+        | Rule::UnsupportedFlag
+        | Rule::UnsupportedLetter
+        | Rule::NestedInComponent
+        | Rule::DuplicateModifier(_) => Ok(Help::Advice(advice(version, Code::of(fault.rule)))),
     }
 }
 

@@ -9,14 +9,13 @@ mod few;
 mod further;
 mod help;
 pub mod laws;
-mod lent;
 pub mod nearest;
 pub mod place;
 mod span;
 pub mod words;
 
-pub use code::{Code, code_of, names_differ};
-pub use diagnostic::{Diagnostic, diagnose};
+pub use code::{Code, names_differ};
+pub use diagnostic::{Diagnostic, code_of, diagnose};
 pub use further::{MOST_FURTHER, further_faults};
 pub use help::{Help, help_against};
-pub use span::{Extent, Span, borrowed_span_of, span_of};
+pub use span::{Extent, Span, span_of};

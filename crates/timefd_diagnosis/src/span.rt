@@ -4,14 +4,12 @@ ghost use Rattle.std.specs.Prelude.{◌≡◌, ◌≤◌, chars, length};
 ghost use Rattle.std.specs.List.{prefix_len};
 ghost use Rattle.timefd_borrowed_fault.specs.BorrowedFaults.{lent_fault};
 ghost use Rattle.timefd_borrowed_fault.specs.Placed.{IsPlaced};
-ghost use Rattle.timefd_fault.specs.Faults as faults;
 ghost use Rattle.timefd_language.specs.Cut.{class_test};
-ghost use Rattle.timefd_language.specs.FaultMeaning.{kind_of};
+ghost use Rattle.timefd_language.specs.FaultMeaning.{rule_kind};
 ghost use Rattle.timefd_diagnosis.specs.Spans as spec;
 
-use crate::lent::lent;
 use timefd_language::text::{Class, cut};
-use timefd_parse::{BorrowedFault, FaultKind, InvalidFormatDescription, Language};
+use timefd_parse::{BorrowedFault, Language, Rule};
 
 /// Bytes of a text, by their indices: those from `start` on, up to `end`.
 #[derive(Debug, Clone, Copy, PartialEq, Eq)]
@@ -35,16 +33,7 @@ pub enum Extent {
 
 /// The bytes at fault: from the fault's index on, up to the end of the name, key or value there, or
 /// else of the one character there.
-pub fn span_of(language: Language, text: &str, fault: &InvalidFormatDescription) -> Span
-    requires { IsPlaced text.now (faults.fault_of fault.now) }
-    ensures start { result.start ≡ faults.index fault.now }
-    ensures end { result.end ≡ spec.end_of language text.now (faults.fault_of fault.now) }
-{
-    borrowed_span_of(language, text, lent(fault))
-}
-
-/// The same of a fault that borrows what it quotes.
-pub fn borrowed_span_of(language: Language, text: &str, fault: BorrowedFault<'_>) -> Span
+pub fn span_of(language: Language, text: &str, fault: BorrowedFault<'_>) -> Span
     requires { IsPlaced text.now (lent_fault fault) }
     ensures start { result.start ≡ fault.entry.index }
     ensures end { result.end ≡ spec.end_of language text.now (lent_fault fault.entry) }
@@ -53,30 +42,40 @@ pub fn borrowed_span_of(language: Language, text: &str, fault: BorrowedFault<'_>
     let (_, rest) = text.split_at(start);
     Span {
         start,
-        end: start + measured(extent_of(language, fault.kind), rest),
+        end: start + measured(extent_of(language, fault.rule), rest),
     }
 }
 
-fn extent_of(language: Language, kind: FaultKind<'_>) -> Extent
-    ensures { result ≡ spec.extent_of language (kind_of kind.entry) }
+fn extent_of(language: Language, rule: Rule<'_>) -> Extent
+    ensures { result ≡ spec.extent_of language (rule_kind rule.entry) }
 {
     match language {
         Language::Strftime => Extent::Character,
-        Language::Version(_) => version_extent(kind),
+        Language::Version(_) => version_extent(rule),
     }
 }
 
-fn version_extent(kind: FaultKind<'_>) -> Extent
-    ensures { result ≡ spec.version_extent (kind_of kind.entry) }
+fn version_extent(rule: Rule<'_>) -> Extent
+    ensures { result ≡ spec.version_extent (rule_kind rule.entry) }
 {
-    match kind {
-        FaultKind::InvalidName(_) | FaultKind::MissingModifier(_) => Extent::Word,
-        FaultKind::InvalidModifier(value) => modifier_extent(value),
-        FaultKind::DuplicateModifier(_) | FaultKind::InvalidCombination(_, _) => Extent::Key,
-        FaultKind::UnclosedBracket
-        | FaultKind::MissingName
-        | FaultKind::Expected(_)
-        | FaultKind::NotSupported(_, _) => Extent::Character,
+    match rule {
+        Rule::UnknownName(_) | Rule::MissingModifier(_) => Extent::Word,
+        Rule::InvalidModifier(value) => modifier_extent(value),
+        Rule::DuplicateModifier(_) | Rule::RefusedModifier(_, _) => Extent::Key,
+        Rule::UnclosedBracket
+        | Rule::MissingName
+        | Rule::InvalidEscape
+        | Rule::UnescapedBracket
+        | Rule::MissingSpace
+        | Rule::MissingDescription
+        | Rule::MissingAlternative
+        | Rule::NestedTooDeep
+        | Rule::SeveralDescriptions
+        | Rule::OptionalItem
+        | Rule::FirstItem
+        | Rule::UnsupportedFlag
+        | Rule::UnsupportedLetter
+        | Rule::NestedInComponent => Extent::Character,
     }
 }
 

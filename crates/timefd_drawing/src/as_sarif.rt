@@ -28,7 +28,7 @@ pub fn sarif(
     let help = help_text(alloc, diagnostic.help)?;
     let message = with_help(alloc, &sentence, &help)?;
     let entry = Entry {
-        code: code_of(&diagnostic.fault),
+        code: code_of(diagnostic),
         file: origin.file,
         line: start.line,
         column: start.column as u64,

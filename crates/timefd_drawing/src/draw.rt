@@ -165,7 +165,7 @@ fn github(
     let Position { line, column } = position_of(alloc, origin.line, text, diagnostic.span.start)?;
     let sentence = told_sentence(alloc, is_further, &diagnostic.fault)?;
     let entry = Entry {
-        code: code_of(&diagnostic.fault),
+        code: code_of(diagnostic),
         file: origin.file,
         line,
         column: column as u64,
@@ -188,7 +188,7 @@ fn json(
     let message = format!(in alloc; "{}", diagnostic.fault)?;
     let help = help_text(alloc, diagnostic.help)?;
     let entry = Entry {
-        code: code_of(&diagnostic.fault),
+        code: code_of(diagnostic),
         file: origin.file,
         line,
         column: column as u64,

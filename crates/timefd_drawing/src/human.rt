@@ -41,7 +41,7 @@ pub fn human(
     let words = help_text(alloc, diagnostic.help)?;
     let line = line_of(text, diagnostic.span);
     let mut out = String::with_capacity(alloc, ROOM)?;
-    push_error_line(&mut out, is_colored, code_of(&diagnostic.fault), &sentence)?;
+    push_error_line(&mut out, is_colored, code_of(diagnostic), &sentence)?;
     push_place_line(alloc, &mut out, is_colored, &margin, origin.file, place)?;
     push_source(alloc, &mut out, is_colored, place.line, &margin, line)?;
     push_help_lines(&mut out, is_further, is_colored, &margin, &words)?;

@@ -102,7 +102,7 @@ fn push_judged(
             push_warnings(alloc, spot, warned, found)
         }
         Some(diagnostic) => {
-            let further = further_faults(alloc, language, text, &diagnostic.fault, MOST_FURTHER)?;
+            let further = further_faults(alloc, language, text, &diagnostic, MOST_FURTHER)?;
             push_faults(alloc, spot, &diagnostic, &further, found)
         }
     }

@@ -59,6 +59,6 @@ fn push_fault(
     let message = told_sentence(alloc, is_further, &diagnostic.fault)?;
     let start = place_of(spot.description, diagnostic.span.start);
     let end = place_of(spot.description, diagnostic.span.end);
-    let code = code_of(&diagnostic.fault);
+    let code = code_of(diagnostic);
     push(found, spot, start, end, Severity::Error, code, message)
 }

@@ -19,5 +19,5 @@ pub mod text;
 pub mod value;
 
 pub use description_version::DescriptionVersion;
-pub use fault::{Fault, FaultKind, ReadError};
+pub use fault::{Fault, FaultKind, ReadError, Rule};
 pub use parse_error::ParseError;

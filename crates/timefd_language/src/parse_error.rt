@@ -2,7 +2,7 @@
 
 ghost use Rattle.std.specs.Prelude.{◌≡◌, ◌≤◌, IfOk, IsErr, IsTrue};
 ghost use Rattle.timefd_fault.specs.Faults as spec;
-ghost use Rattle.timefd_language.specs.FaultMeaning.{IsFault, MemoryOr, kind_of};
+ghost use Rattle.timefd_language.specs.FaultMeaning.{IsFault, MemoryOr, rule_kind};
 ghost use Rattle.timefd_language.specs.Told.{Tells};
 
 use crate::fault::{Fault, FaultKind, ReadError};
@@ -41,10 +41,10 @@ fn invalid_description(
     requires { fault.remaining ≤ len }
     ensures fault { IfOk result (λ e. (g : spec.Fault) → IsFault len fault.entry g
         → spec.fault_of e ≡ g) }
-    ensures memory { IsErr result → IsTrue (spec.quotes (kind_of fault.entry.kind)) }
+    ensures memory { IsErr result → IsTrue (spec.quotes (rule_kind fault.entry.rule)) }
 {
     let index = len - fault.remaining;
-    Ok(match fault.kind {
+    Ok(match fault.rule.kind() {
         FaultKind::UnclosedBracket => InvalidFormatDescription::UnclosedOpeningBracket { index },
         FaultKind::InvalidName(name) => {
             let name = String::from_str(alloc, name)?;

@@ -107,8 +107,7 @@ fn judged<W: Write>(
     match diagnose(alloc, options.language, text)? {
         None => accepted(alloc, options, origin, text, writer),
         Some(diagnostic) => {
-            let fault = &diagnostic.fault;
-            let further = further_faults(alloc, options.language, text, fault, MOST_FURTHER)?;
+            let further = further_faults(alloc, options.language, text, &diagnostic, MOST_FURTHER)?;
             refused(alloc, options, origin, text, &diagnostic, &further, writer)
         }
     }

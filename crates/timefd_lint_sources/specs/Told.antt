@@ -37,8 +37,10 @@ column_of style s d = told_column style.format s.text.now d.piece.start
 abbrev pub placed_in : Description → Diagnostic → Diagnostic
 placed_in d g = record {
   fault = g.fault;
+  code = g.code;
   span = record { start = place_of d g.span.start; end = place_of d g.span.end };
   help = g.help;
+  named = g.named;
 }
 
 -- A tree where it is asked for, and else nothing.

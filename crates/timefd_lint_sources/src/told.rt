@@ -142,8 +142,7 @@ fn judged(
     match diagnose(alloc, language, text)? {
         None => accepted(alloc, telling, source, description, language, text),
         Some(diagnostic) => {
-            let fault = &diagnostic.fault;
-            let further = further_faults(alloc, language, text, fault, MOST_FURTHER)?;
+            let further = further_faults(alloc, language, text, &diagnostic, MOST_FURTHER)?;
             refused(
                 alloc,
                 telling.style,
@@ -202,9 +201,15 @@ fn all_placed_in(
 fn placed_in(description: &Description, diagnostic: Diagnostic) -> Diagnostic
     ensures { result ≡ spec.placed_in description.now diagnostic }
 {
-    let Diagnostic { fault, span, help } = diagnostic;
+    let Diagnostic {
+        fault,
+        code,
+        span,
+        help,
+    } = diagnostic;
     Diagnostic {
         fault,
+        code,
         span: Span {
             start: place_of(description, span.start),
             end: place_of(description, span.end),

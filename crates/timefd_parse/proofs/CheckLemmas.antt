@@ -6,7 +6,7 @@ use Rattle.std.proofs.lemmas.Bool.{true≢false}
 use Rattle.timefd_component.specs.Tree.{Text}
 use Rattle.timefd_fault.specs.Faults.{Fault, fault, invalid_modifier, duplicate_modifier}
 use Rattle.timefd_language.specs.declared.fault.Fault as code_fault
-use Rattle.timefd_language.specs.declared.fault.FaultKind.TheVariants as kinds
+use Rattle.timefd_language.specs.declared.fault.Rule.TheVariants as broken
 use Rattle.timefd_language.specs.declared.key.Key as code_key
 use Rattle.timefd_language.specs.declared.key.Key.TheVariants.{Padding, TrailingInput, HourRepr, Count, MonthRepr, CaseSensitive, Sign, Case, Digits, Precision, WeekdayRepr, OneIndexed, WeekNumberRepr, YearRepr, Range, Base, Format}
 use Rattle.timefd_parse.specs.declared.modifier.Modifier as code
@@ -166,7 +166,7 @@ module _ (strict : Bool) (name : Option Name) (total : ℕ) (m : code.Modifier) 
   -- a key that isn't known
   pub at_unknown : (o : Option code_key.Key)
       → option_map key_for o ≡ key_in strict m.key.now (keys_of name) → o ≡ None
-      → Refused (record { kind = kinds.InvalidModifier m.key; remaining = m.key_remaining })
+      → Refused (record { rule = broken.InvalidModifier m.key; remaining = m.key_remaining })
   at_unknown o known e =
       let none : key_in strict p.key (keys_of name) ≡ None =
       looked_up None (sym known ∙ ap (option_map key_for) e) in (
@@ -186,7 +186,7 @@ module _ (strict : Bool) (name : Option Name) (total : ℕ) (m : code.Modifier) 
       → option_map key_for o ≡ key_in strict m.key.now (keys_of name) → o ≡ Some key
       → strict ≡ true → is_some (first_place (key_for key).key ps) ≡ true
       → spelling.now ≡ (key_for key).key
-      → Refused (record { kind = kinds.DuplicateModifier spelling; remaining = m.key_remaining })
+      → Refused (record { rule = broken.DuplicateModifier spelling; remaining = m.key_remaining })
   at_again o key spelling known e exact there spelled = (
     fault (duplicate_modifier (key_for key).key) p.key_index,
     subst (λ k. bad_modifier strict k ps p ≡ Some
@@ -222,7 +222,7 @@ module _ (strict : Bool) (name : Option Name) (total : ℕ) (m : code.Modifier) 
       → option_map key_for o ≡ key_in strict m.key.now (keys_of name) → o ≡ Some key
       → (strict ≡ true → is_some (first_place (key_for key).key ps) ≡ false)
       → v ≡ setting_in strict (key_for key).values m.value.now → v ≡ None
-      → Refused (record { kind = kinds.InvalidModifier m.value; remaining = m.value_remaining })
+      → Refused (record { rule = broken.InvalidModifier m.value; remaining = m.value_remaining })
   at_bad_value o key v known e new valued none = (
     fault (invalid_modifier p.value) p.value_index,
     checked o key v known e new valued ∙

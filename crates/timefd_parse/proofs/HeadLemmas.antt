@@ -9,7 +9,7 @@ use Rattle.timefd_parse.specs.declared.modifiers.Modifiers as code_modifiers
 use Rattle.timefd_parse.specs.declared.head.Head as code_head
 use Rattle.timefd_language.specs.declared.name.Name.{Name}
 use Rattle.timefd_language.specs.declared.fault.Fault as code_fault
-use Rattle.timefd_language.specs.declared.fault.FaultKind.TheVariants as kinds
+use Rattle.timefd_language.specs.declared.fault.Rule.TheVariants as broken
 use Rattle.timefd_language.specs.Bytes.{left, is_white, is_word_byte, OneOrMore, StopsBefore}
 use Rattle.timefd_language.specs.Head.{Modifier, IsModifier, AreModifiers, modifier_text, modifiers_text, Head, IsHead, Placed, placed_at, placed_from}
 use Rattle.timefd_language.specs.Broken.{Misfit, no_colon, no_key, no_value, misfit_fault, nameless, ill_modified, name_wanted_index, BeginsNoEscape}
@@ -125,7 +125,7 @@ pub nameless_fault : (v : DescriptionVersion) (limit n : ℕ) (inside white name
     → IsCut is_word_byte named name after → length name ≡ 0
     → remaining + name_wanted_index white ≡ length inside + 1
     → IsFaultAt v limit n (left ∷ inside)
-    (record { kind = kinds.MissingName; remaining = remaining })
+    (record { rule = broken.MissingName; remaining = remaining })
 nameless_fault v limit n inside white named name after remaining none_escaped w u none place = (
   nameless white named,
   (

@@ -5,7 +5,7 @@ use Rattle.timefd_component.specs.declared.component.Component.{Component}
 use Rattle.timefd_fault.specs.Faults.{Kind, Fault, fault, missing_modifier, invalid_combination, invalid_name}
 use Rattle.timefd_component.specs.Tree.{Text, Tree, component, optional, first, trees, pack}
 use Rattle.timefd_language.specs.declared.fault.Fault as code_fault
-use Rattle.timefd_language.specs.declared.fault.FaultKind.TheVariants as kinds
+use Rattle.timefd_language.specs.declared.fault.Rule.TheVariants as broken
 use Rattle.timefd_parse.specs.declared.head.Head as code_head
 use Rattle.timefd_parse.specs.declared.head_verdict.HeadVerdict.{HeadVerdict}
 use Rattle.timefd_parse.specs.declared.head_verdict.HeadVerdict.TheVariants as verdicts
@@ -75,7 +75,7 @@ pub refused_here : (total : ℕ) (places : Places) (ps : List Placed) (r : code_
     → all ≡ combined (refusal_for r ∷ rest) ps
     → ShowsFault total
     (Some (record {
-      kind = kinds.InvalidCombination spelling r.context;
+      rule = broken.RefusedModifier spelling r.context;
       remaining =
           remaining;
     })) all
@@ -87,7 +87,7 @@ refused_here total places ps r rest remaining spelling all shows at spelled e =
         → ShowsPlace total (Some remaining) o
         → ShowsFault total
         (Some (record {
-          kind = kinds.InvalidCombination spelling r.context;
+          rule = broken.RefusedModifier spelling r.context;
           remaining =
               remaining;
         })) all
@@ -95,7 +95,7 @@ refused_here total places ps r rest remaining spelling all shows at spelled e =
     by (Some i) f is =
         let g : Fault = fault (invalid_combination (key_for r.key).key r.context.now) i in
         subst (ShowsFault total (Some
-        (record { kind = kinds.InvalidCombination spelling r.context; remaining = remaining })))
+        (record { rule = broken.RefusedModifier spelling r.context; remaining = remaining })))
         (sym (e ∙ ap (λ x. x or combined rest ps) (misplaced_at (refusal_for r) ps ∙
         ap (option_map (λ j. fault (invalid_combination (key_for r.key).key r.context.now) j))
         f)))
@@ -142,7 +142,7 @@ module _ (strict : Bool) (total : ℕ) (head : code_head.Head) (modifiers : code
   pub component_missing : (key : Bor (List ℕ)) → modifiers.fault ≡ None
       → (row_for n).component modifiers.settings ≡ Err (missing_modifier key.now)
       → JudgedFault total (component_verdict strict h (Some (row_for n)))
-      (record { kind = kinds.MissingModifier key; remaining = head.remaining })
+      (record { rule = broken.MissingModifier key; remaining = head.remaining })
   component_missing key none e = (
     fault (missing_modifier key.now) (name_index h),
     good none _ e,
@@ -241,7 +241,7 @@ pub refused_name : (strict : Bool) (total : ℕ) (head : code_head.Head)
     (modifiers : code_modifiers.Modifiers) (h : Head) → ShowsHead strict total head modifiers h
     → head.name ≡ None
     → IsVerdict strict total h (nests head.name) (verdicts.Refused
-    (record { kind = kinds.InvalidName head.word; remaining = head.remaining }))
+    (record { rule = broken.UnknownName head.word; remaining = head.remaining }))
 refused_name strict total head modifiers h shows none = (
   fault (invalid_name h.name) (name_index h),
   record { kind = ap invalid_name shows.word; place = shows.place },

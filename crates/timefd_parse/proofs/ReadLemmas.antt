@@ -17,7 +17,7 @@ use Rattle.timefd_language.specs.Grammar.{Pieces, no_pieces, run, escape, closin
 use Rattle.timefd_language.specs.Broken.{bare_closing, half_escape, broken_fault, escape_index}
 use Rattle.timefd_language.specs.Cut.{IsCut}
 use Rattle.timefd_parse.specs.Pieces.{IsBuilt}
-use Rattle.timefd_language.specs.FaultMeaning.{kind_of, IsFault, IsFaultAt, MemoryOr}
+use Rattle.timefd_language.specs.FaultMeaning.{rule_kind, IsFault, IsFaultAt, MemoryOr}
 use Rattle.timefd_parse.specs.Read.{Leads, LeadsOn, IsFaultIn, PiecesToEnd, AreMembers, IsEnd, BeginsRun}
 
 -- Runs.
@@ -142,7 +142,7 @@ closing_fault limit text rest f e is = (bare_closing rest, (refl, refl), e, is)
 
 pub closing_fault_of : (v : DescriptionVersion) (limit : ℕ) (text rest : Text)
     (f : code_fault.Fault) → v ≡ Three → text ≡ right ∷ rest
-    → expected_closing_escape ≡ kind_of f.kind → f.remaining ≡ length text
+    → expected_closing_escape ≡ rule_kind f.rule → f.remaining ≡ length text
     → IsFaultAt v limit 0 text f
 closing_fault_of v limit text rest f is e kind at =
     subst (λ w. IsFaultAt w limit 0 text f) (sym is)

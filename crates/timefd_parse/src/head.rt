@@ -8,7 +8,7 @@ ghost use Rattle.timefd_parse.specs.Heads.{ReadsHead};
 
 use crate::modifier::read_modifier;
 use crate::modifiers::Modifiers;
-use timefd_language::fault::{Fault, FaultKind};
+use timefd_language::fault::{Fault, Rule};
 use timefd_language::name::{Name, name_of};
 use timefd_language::text::{Class, cut};
 
@@ -43,7 +43,7 @@ pub fn read_head<'a>(
             inside.len()
         };
         return Err(Fault {
-            kind: FaultKind::MissingName,
+            rule: Rule::MissingName,
             remaining,
         });
     }

@@ -13,14 +13,14 @@ ghost use Rattle.timefd_parse.specs.HeadVerdicts as judging;
 ghost use Rattle.timefd_parse.specs.HeadVerdicts.{BeginsJudged, IsPlain, IsVerdict, ReadsJudgedHead};
 ghost use Rattle.timefd_parse.specs.Judged.{JudgedComponent, ShowsPlaces};
 
+use crate::fast::words::behind;
 use crate::head::{Head, read_head};
 use crate::modifiers::Modifiers;
 use crate::places::Places;
-use crate::words::behind;
 use timefd_items::Component;
 use timefd_language::combination::refusals;
 use timefd_language::component::component_of;
-use timefd_language::fault::{Fault, FaultKind};
+use timefd_language::fault::{Fault, Rule};
 use timefd_language::name::{ComponentName, Name};
 use timefd_language::text::{Start, start_of};
 
@@ -119,7 +119,7 @@ fn head_verdict<'a>(strict: bool, head: &Head<'a>, modifiers: &Modifiers<'a>) ->
 {
     let Some(name) = head.name else {
         return HeadVerdict::Refused(Fault {
-            kind: FaultKind::InvalidName(head.word),
+            rule: Rule::UnknownName(head.word),
             remaining: head.remaining,
         });
     };
@@ -153,8 +153,8 @@ pub fn combination_fault(
     }
     'refusals: for refusal in refusals(component) {
         if let Some(remaining) = places.of(refusal.key) {
-            let kind = FaultKind::InvalidCombination(refusal.key.spelling(), refusal.context);
-            return Some(Fault { kind, remaining });
+            let rule = Rule::RefusedModifier(refusal.key.spelling(), refusal.context);
+            return Some(Fault { rule, remaining });
         }
     }
     None
@@ -177,7 +177,7 @@ fn component<'a>(
     }
     let Some(component) = component_of(name, modifiers.settings) else {
         return Err(Fault {
-            kind: FaultKind::MissingModifier("count"),
+            rule: Rule::MissingModifier("count"),
             remaining: head.remaining,
         });
     };

@@ -3,27 +3,31 @@
 //! that.
 #![tactic(auto)]
 
-mod bare;
-mod begins;
+// The public calls: of versions, of any language, of the first piece alone, of amounts without items.
 mod borrowing;
-mod bracket;
-mod building;
 mod counting;
-mod head;
-mod head_verdict;
 mod language;
 mod leading;
-mod modified;
+mod parsing;
+
+// Quick readers of what most texts have, tried first.
+mod fast;
+
+// A bracket's head: its name, its modifiers and where their keys stand, or its fault; what a head is by itself.
+mod head;
+mod head_verdict;
 mod modifier;
 mod modifiers;
-mod parsing;
-mod piece;
 mod places;
-mod read;
-mod reprs;
-mod values;
+
+// A bracket: its parts, and what it is once it is closed.
+mod bracket;
 mod verdict;
-mod words;
+
+// Pieces one after another, and the trees that version 3 builds of them.
+mod building;
+mod piece;
+mod read;
 
 pub use borrowing::parse_all_borrowed;
 pub use bracket::{bracket_name, first_modifier, first_nested};
@@ -36,7 +40,7 @@ pub use piece::Piece;
 pub use read::next_piece;
 pub use timefd_borrowed_fault::{BorrowedFault, BorrowedParseError, Excerpt};
 pub use timefd_items::{BorrowedFormatItem, FormatDescriptionV3, InvalidFormatDescription};
-pub use timefd_language::fault::FaultKind;
+pub use timefd_language::fault::{FaultKind, Rule};
 pub use timefd_language::{DescriptionVersion, ParseError, laws};
 pub use timefd_strftime::{
     StrftimeTables, count_strftime, parse_strftime_all_borrowed, parse_strftime_borrowed,

@@ -2,7 +2,7 @@
 
 ghost use Rattle.timefd_parse.specs.ReadModifiers.{ReadsModifier};
 
-use timefd_language::fault::{Fault, FaultKind};
+use timefd_language::fault::{Fault, Rule};
 use timefd_language::text::{Class, behind_colon, cut};
 
 /// A key and its value. A place is given by how many bytes of the text remain.
@@ -25,20 +25,20 @@ pub fn read_modifier<'a>(text: &'a str) -> Result<Option<(Modifier<'a>, &'a str)
             return Ok(None);
         }
         return Err(Fault {
-            kind: FaultKind::InvalidModifier(key),
+            rule: Rule::InvalidModifier(key),
             remaining: text.len(),
         });
     };
     let (value, rest) = cut(after, Class::Word);
     if key.is_empty() {
         return Err(Fault {
-            kind: FaultKind::InvalidModifier(""),
+            rule: Rule::InvalidModifier(""),
             remaining: text.len(),
         });
     }
     if value.is_empty() {
         return Err(Fault {
-            kind: FaultKind::InvalidModifier(""),
+            rule: Rule::InvalidModifier(""),
             remaining: behind.len(),
         });
     }

@@ -9,7 +9,7 @@ ghost use Rattle.timefd_language.specs.Values.{key_in};
 
 use crate::modifier::Modifier;
 use crate::places::Places;
-use timefd_language::fault::{Fault, FaultKind};
+use timefd_language::fault::{Fault, Rule};
 use timefd_language::key::{Key, key_of};
 use timefd_language::name::Name;
 use timefd_language::setting::{Setting, Settings};
@@ -69,20 +69,20 @@ impl<'a> Modifiers<'a> {
     {
         let Some(key) = known_key(strict, name, modifier.key) else {
             return Err(Fault {
-                kind: FaultKind::InvalidModifier(modifier.key),
+                rule: Rule::InvalidModifier(modifier.key),
                 remaining: modifier.key_remaining,
             });
         };
         if strict && self.places.of(key).is_some() {
             return Err(Fault {
-                kind: FaultKind::DuplicateModifier(key.spelling()),
+                rule: Rule::DuplicateModifier(key.spelling()),
                 remaining: modifier.key_remaining,
             });
         }
         match setting_of(key, strict, modifier.value) {
             Some(setting) => Ok((key, setting)),
             None => Err(Fault {
-                kind: FaultKind::InvalidModifier(modifier.value),
+                rule: Rule::InvalidModifier(modifier.value),
                 remaining: modifier.value_remaining,
             }),
         }

@@ -14,16 +14,16 @@ ghost use Rattle.timefd_items.specs.Builder.{built};
 ghost use Rattle.timefd_fault.specs.Faults.{fault, unclosed_bracket};
 ghost use Rattle.timefd_component.specs.Tree.{literal};
 
-use crate::bare::bare;
 use crate::building::{add, pack};
+use crate::fast::bare::bare;
+use crate::fast::modified::with_modifiers;
 use crate::head_verdict::judged_head;
-use crate::modified::with_modifiers;
 use crate::piece::{Piece, component_piece};
 use crate::verdict::{Nested, Span, verdict};
 use std::alloc::Global;
 use timefd_items::{BorrowedFormatItem, DescriptionBuilder};
 use timefd_language::description_version::DescriptionVersion;
-use timefd_language::fault::{Fault, FaultKind, ReadError};
+use timefd_language::fault::{Fault, ReadError, Rule};
 use timefd_language::text::{Class, Start, cut, cut_run, escaped, start_of};
 
 /// The run that a text begins with.
@@ -42,7 +42,7 @@ fn closing<'a>(version: DescriptionVersion, text: &'a str) -> Result<(&'a str, &
 {
     if let DescriptionVersion::Three = version {
         return Err(Fault {
-            kind: FaultKind::Expected("right bracket to be escaped"),
+            rule: Rule::UnescapedBracket,
             remaining: text.len(),
         });
     }
@@ -66,7 +66,7 @@ fn backslash<'a>(
         None => {
             let remaining = if after.is_empty() { 1 } else { after.len() };
             Err(Fault {
-                kind: FaultKind::Expected("valid escape sequence"),
+                rule: Rule::InvalidEscape,
                 remaining,
             })
         }
@@ -93,7 +93,7 @@ fn enclosed<'a>(error: ReadError<'a>, start: usize) -> ReadError<'a>
     match error {
         ReadError::Invalid(
             Fault {
-                kind: FaultKind::UnclosedBracket,
+                rule: Rule::UnclosedBracket,
                 remaining: _,
             },
         ) => unclosed(start),
@@ -107,7 +107,7 @@ fn unclosed<'a>(start: usize) -> ReadError<'a>
     ensures invalid { IsInvalid result }
 {
     ReadError::Invalid(Fault {
-        kind: FaultKind::UnclosedBracket,
+        rule: Rule::UnclosedBracket,
         remaining: start,
     })
 }
@@ -118,7 +118,7 @@ fn too_deep<'a>(remaining: usize) -> ReadError<'a>
     ensures invalid { IsInvalid result }
 {
     ReadError::Invalid(Fault {
-        kind: FaultKind::NotSupported("highly-nested format description", ""),
+        rule: Rule::NestedTooDeep,
         remaining,
     })
 }

@@ -17,7 +17,7 @@ ghost use Rattle.timefd_parse.specs.Judged.{ShowsNested, Judged, packed};
 use crate::head_verdict::{HeadVerdict, JudgedHead};
 use crate::piece::{Piece, component_piece};
 use timefd_items::DescriptionBuilder;
-use timefd_language::fault::{Fault, FaultKind, ReadError};
+use timefd_language::fault::{Fault, ReadError, Rule};
 
 /// The nested descriptions of a bracket.
 #[derive(Clone, Copy)]
@@ -55,26 +55,20 @@ fn optional<'a, const BUILDS: bool>(
     ensures invalid { IsFalse BUILDS → IfErr result IsInvalid }
 {
     if nested.count == 0 {
-        let kind = FaultKind::Expected("nested format description");
         return Err(ReadError::Invalid(Fault {
-            kind,
+            rule: Rule::MissingDescription,
             remaining: span.end,
         }));
     }
     if nested.count > 1 {
-        let kind = FaultKind::NotSupported(
-            "more than one nested format description",
-            "`optional` components",
-        );
         return Err(ReadError::Invalid(Fault {
-            kind,
+            rule: Rule::SeveralDescriptions,
             remaining: nested.remaining,
         }));
     }
     if !strict {
-        let kind = FaultKind::NotSupported("optional item", "runtime-parsed format descriptions");
         return Err(ReadError::Invalid(Fault {
-            kind,
+            rule: Rule::OptionalItem,
             remaining: span.start,
         }));
     }
@@ -102,16 +96,14 @@ fn first<'a, const BUILDS: bool>(
     ensures invalid { IsFalse BUILDS → IfErr result IsInvalid }
 {
     if !strict {
-        let kind = FaultKind::NotSupported("'first' item", "runtime-parsed format descriptions");
         return Err(ReadError::Invalid(Fault {
-            kind,
+            rule: Rule::FirstItem,
             remaining: span.start,
         }));
     }
     if nested.count == 0 {
-        let kind = FaultKind::Expected("at least one nested format description");
         return Err(ReadError::Invalid(Fault {
-            kind,
+            rule: Rule::MissingAlternative,
             remaining: span.end,
         }));
     }
@@ -132,7 +124,7 @@ fn placing_fault(nests: bool, nested: Nested, span: Span) -> Option<Fault<'stati
     }
     if !nested.spaced {
         return Some(Fault {
-            kind: FaultKind::Expected("whitespace before nested format description"),
+            rule: Rule::MissingSpace,
             remaining: nested.remaining,
         });
     }
@@ -140,7 +132,7 @@ fn placing_fault(nests: bool, nested: Nested, span: Span) -> Option<Fault<'stati
         return None;
     }
     Some(Fault {
-        kind: FaultKind::NotSupported("nested format descriptions", "on this component"),
+        rule: Rule::NestedInComponent,
         remaining: span.start,
     })
 }

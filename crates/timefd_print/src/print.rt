@@ -15,9 +15,7 @@ use crate::push::push;
 use crate::reason;
 use std::alloc::{AllocError, Global};
 use timefd_items::View;
-
-/// How many descriptions stand around one another at most.
-const NESTING_LIMIT: u8 = 127;
+use timefd_parse::NESTING_LIMIT;
 
 /// The text of version 3 of a description, in its normal form: components with the modifiers that
 /// aren't the default and with the range of each year that has one, `[`, `]` and `\` of literals

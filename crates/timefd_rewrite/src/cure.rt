@@ -39,7 +39,7 @@ fn mark_for(language: Language, fixes: Fixes, diagnostic: &Diagnostic) -> Option
 {
     let span = diagnostic.span;
     if span.start < span.end {
-        mark_before(language, fixes, Code::of(&diagnostic.fault))
+        mark_before(language, fixes, diagnostic.code)
     } else {
         None
     }

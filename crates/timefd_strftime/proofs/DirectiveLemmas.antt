@@ -32,7 +32,7 @@ use Rattle.timefd_borrowed_fault.proofs.OwnedLemmas.{owned_of}
 use Rattle.timefd_language.specs.Fault.{raised, expected_escape}
 use Rattle.timefd_language.specs.Cut.{IsCut}
 use Rattle.timefd_strftime.specs.StrftimeReading.{MayFollow, BeginsWithFlag, BeginsWithPiece, Leads, LeadsTo, HasItems, IsStrftimeFaultAt, IsStrftimeFaultIn, IsRestOf}
-use Rattle.timefd_language.specs.FaultMeaning.{kind_of, IsFault, MemoryOr}
+use Rattle.timefd_language.specs.FaultMeaning.{rule_kind, IsFault, MemoryOr}
 use Rattle.timefd_strftime.specs.StrftimeAnswers.{IsStrftimeFault}
 use Rattle.timefd_language.proofs.StrftimeReader.{directive_regrouped, begins_no_plain, strftime_one_answer_law}
 
@@ -97,7 +97,7 @@ directive_leads_to behind rest after padding b letter h e of utf8 = record {
 pub directive_unknown : (behind rest : Text) (padding : Option Padding) (bad : code_fault.Fault)
     → BeginsWithFlag behind padding rest → 0 < length rest
     → ((f : Flag) → item_of f (get_or rest 0 0) ≡ None)
-    → kind_of bad.kind ≡ unknown_kind (get_or rest 0 0) → bad.remaining ≡ length rest
+    → rule_kind bad.rule ≡ unknown_kind (get_or rest 0 0) → bad.remaining ≡ length rest
     → IsStrftimeFaultAt (percent ∷ behind) bad
 directive_unknown behind rest padding bad h some none kind place =
     let e : rest ≡ get_or rest 0 0 ∷ drop 1 rest = first_and_rest rest some in (
@@ -113,7 +113,7 @@ directive_unknown behind rest padding bad h some none kind place =
 
 pub directive_cut_short : (behind rest : Text) (padding : Option Padding) (bad : code_fault.Fault)
     → BeginsWithFlag behind padding rest → rest ≡ []
-    → kind_of bad.kind ≡ expected_escape
+    → rule_kind bad.rule ≡ expected_escape
     → ((f : Flag) → flag_padding f ≡ padding
     → cut_index f + bad.remaining ≡ 1 + length (flag_text f))
     → IsStrftimeFaultAt (percent ∷ behind) bad

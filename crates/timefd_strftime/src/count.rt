@@ -5,7 +5,7 @@ ghost use Rattle.std.specs.Result.{IfErr};
 ghost use Rattle.timefd_component.specs.Tree.{Tree};
 ghost use Rattle.timefd_strftime.specs.declared.text.PieceStart.TheVariants.{Literal};
 ghost use Rattle.timefd_language.specs.Strftime.{SpellsStrftime, StrftimeFaultOf, percent};
-ghost use Rattle.timefd_language.specs.FaultMeaning.{kind_of};
+ghost use Rattle.timefd_language.specs.FaultMeaning.{rule_kind};
 ghost use Rattle.timefd_borrowed_fault.specs.BorrowedFaults.{HasShortWords, lent_fault};
 ghost use Rattle.timefd_borrowed_fault.specs.Placed.{IsPlaced};
 ghost use Rattle.timefd_strftime.specs.StrftimeReading.{BeginsPiece, HasItems, IsStrftimeFaultAt, IsStrftimeFaultIn, LeadsTo};
@@ -28,7 +28,7 @@ pub fn count_strftime<'a>(s: &'a str) -> Result<usize, BorrowedFault<'a>>
     // The fault's index lies in the text or at its end, between two characters. Its words are short,
     // so that its sentence can be written.
     ensures place { IfErr result (λ f. IsPlaced s.now (lent_fault f)) }
-    ensures words { IfErr result (λ f. HasShortWords (kind_of f.kind)) }
+    ensures words { IfErr result (λ f. HasShortWords (rule_kind f.rule)) }
 {
     match count_of(s) {
         Ok(count) => Ok(count),
@@ -66,7 +66,7 @@ pub fn behind_directive<'a>(behind: &'a str) -> Result<&'a str, Fault<'a>>
     match letter_of(*byte) {
         Some(_) => Ok(tail(text)),
         None => Err(Fault {
-            kind: unknown(text),
+            rule: unknown(text),
             remaining: text.len(),
         }),
     }

@@ -5,14 +5,14 @@ ghost use Rattle.timefd_strftime.specs.LetterMeaning.{flag_padding, letter_tree}
 ghost use Rattle.timefd_strftime.specs.PieceMeaning.{piece_tree};
 ghost use Rattle.timefd_language.specs.Letters.{Flag};
 ghost use Rattle.timefd_language.specs.Fault.{expected_escape};
-ghost use Rattle.timefd_language.specs.FaultMeaning.{kind_of};
+ghost use Rattle.timefd_language.specs.FaultMeaning.{rule_kind};
 ghost use Rattle.timefd_language.specs.Strftime.{cut_index, flag_text, percent, unknown_kind};
 ghost use Rattle.timefd_strftime.specs.StrftimeReading.{ReadsDirective};
 
 use crate::letter::{Letter, letter_of, padded};
 use crate::piece::StrftimePiece;
 use crate::text::cut_flag;
-use timefd_language::fault::{Fault, FaultKind};
+use timefd_language::fault::{Fault, Rule};
 use timefd_language::text::tail;
 use timefd_modifier::Padding;
 
@@ -28,7 +28,7 @@ pub fn directive<'a>(behind: &'a str) -> Result<(StrftimePiece<'a>, &'a str), Fa
     match letter_of(*byte) {
         Some(letter) => Ok((piece(letter, padding), tail(text))),
         None => Err(Fault {
-            kind: unknown(text),
+            rule: unknown(text),
             remaining: text.len(),
         }),
     }
@@ -36,7 +36,7 @@ pub fn directive<'a>(behind: &'a str) -> Result<(StrftimePiece<'a>, &'a str), Fa
 
 /// The fault of a text that ends before a letter: it stands at the `%`, or right behind the flag.
 pub fn cut_short<'a>(padding: Option<Padding>) -> Fault<'a>
-    ensures kind { kind_of result.kind ≡ expected_escape }
+    ensures kind { rule_kind result.rule ≡ expected_escape }
     ensures place { (f : Flag) → flag_padding f ≡ padding
         → cut_index f + result.remaining ≡ 1 + length (flag_text f) }
 {
@@ -45,7 +45,7 @@ pub fn cut_short<'a>(padding: Option<Padding>) -> Fault<'a>
         None => 1,
     };
     Fault {
-        kind: FaultKind::Expected("valid escape sequence"),
+        rule: Rule::InvalidEscape,
         remaining,
     }
 }
@@ -67,16 +67,16 @@ fn piece<'a>(letter: Letter, padding: Option<Padding>) -> StrftimePiece<'a>
     }
 }
 
-/// Why a text in a letter's place, which begins with none, is refused.
-pub fn unknown(text: &str) -> FaultKind<'_>
+/// The rule that a text breaks which begins with no letter, where one has to stand.
+pub fn unknown(text: &str) -> Rule<'_>
     requires { 0 < length text.now }
-    ensures { kind_of result ≡ unknown_kind (slice_index text.now 0) }
+    ensures { rule_kind result ≡ unknown_kind (slice_index text.now 0) }
 {
     let first = text.as_bytes()[0];
     match first {
-        b'O' => FaultKind::NotSupported("modifier", ""),
-        b'Z' => FaultKind::NotSupported("component", ""),
-        byte if byte.is_ascii() => FaultKind::InvalidName(text.split_at(1).0),
-        _ => FaultKind::InvalidName("\u{FFFD}"),
+        b'O' => Rule::UnsupportedFlag,
+        b'Z' => Rule::UnsupportedLetter,
+        byte if byte.is_ascii() => Rule::UnknownName(text.split_at(1).0),
+        _ => Rule::UnknownName("\u{FFFD}"),
     }
 }

@@ -32,7 +32,7 @@ pub fn refused(alloc: Global, diagnostic: &Diagnostic) -> Result<Vec<u8>, AllocE
     let message = format!(in alloc; "{}", diagnostic.fault)?;
     let help = help_text(alloc, diagnostic.help)?;
     let refusal = Refusal {
-        code: code_of(&diagnostic.fault),
+        code: code_of(diagnostic),
         message: &message,
         help: &help,
         nearest: nearest(diagnostic.help),

@@ -7,5 +7,5 @@ use Rattle.timefd_diagnosis.proofs.further.further_faults.Given as goal
 -- What is wrong with the rest stands behind what is found.
 abbrev pub invariant-faults : goal.invariant-faults
 invariant-faults l =
-    IsFoundTo l.most l.count l.language (without l.language l.text (fault_of l.fault))
+    IsFoundTo l.most l.count l.language (without l.language l.text (fault_of l.first.fault))
     (option_map string_bytes l.rest) l.found.items

@@ -1,14 +1,14 @@
 use Rattle.std.proofs.Common.{subst, sym}
-use Rattle.timefd_language.specs.FaultMeaning.{kind_of}
-use Rattle.timefd_language.specs.declared.fault.FaultKind.{FaultKind}
+use Rattle.timefd_language.specs.FaultMeaning.{rule_kind}
+use Rattle.timefd_language.specs.declared.fault.Rule.{Rule}
 use Rattle.timefd_diagnosis.specs.declared.help.Help.TheVariants.{Advice}
 use Rattle.timefd_diagnosis.specs.Helps as spec
 use Rattle.timefd_diagnosis.proofs.help.version_help.Goals as goal
 
 pub returns-in-None : goal.returns-in-None
 returns-in-None c =
-    subst (λ (k : FaultKind). spec.IsVersionHelp c.args.version c.args.text.now c.args.fault.index
-    (kind_of k) (Advice c.advice.result))
+    subst (λ (k : Rule). spec.IsVersionHelp c.args.version c.args.text.now c.args.fault.index
+    (rule_kind k) (Advice c.advice.result))
     (sym c.in-InvalidModifier.is) (
       subst (λ s. spec.HasNoModifierPlace s c.args.text.now c.args.fault.index
           c.in-InvalidModifier.value.now) c.is_strict-in-InvalidModifier.ensures c.in-None.ensures,

@@ -1,7 +1,7 @@
 use Rattle.std.proofs.Common.{◌++◌, length, sym, ap, ◌∙◌, subst, IsUtf8}
 use Rattle.std.proofs.lemmas.Str.{IsUtf8-drop}
 use Rattle.timefd_parse.proofs.BareLemmas.{word_before, word_ends}
-use Rattle.timefd_parse.proofs.words.behind.Goals as goal
+use Rattle.timefd_parse.proofs.fast.words.behind.Goals as goal
 
 pub range_from-requires : goal.range_from-requires
 range_from-requires c _ =

@@ -1,6 +1,6 @@
 use Rattle.std.proofs.Common.{length, IsUtf8}
 use Rattle.timefd_parse.specs.Quick.{TakenBefore}
-use Rattle.timefd_parse.proofs.modified.take.Given as goal
+use Rattle.timefd_parse.proofs.fast.modified.take.Given as goal
 
 abbrev pub invariant-modifiers : goal.invariant-modifiers
 invariant-modifiers l = record {

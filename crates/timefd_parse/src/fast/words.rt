@@ -9,7 +9,7 @@ ghost use Rattle.timefd_language.specs.Names.{row_for};
 ghost use Rattle.timefd_language.specs.Values as spec;
 ghost use Rattle.timefd_parse.specs.Quick.{BeginsWithName, BeginsWithKey, BeginsWithValue};
 
-use crate::begins::begins;
+use crate::fast::begins::begins;
 use timefd_language::key::Key;
 use timefd_language::name::ComponentName;
 use timefd_language::setting::Setting;

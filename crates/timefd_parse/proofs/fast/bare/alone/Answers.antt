@@ -1,7 +1,7 @@
 use Rattle.std.proofs.Common.{◌++◌, ◌∷◌, [], refl, ap, ◌∙◌, append_assoc}
 use Rattle.timefd_language.specs.Names.{row_for}
 use Rattle.timefd_parse.proofs.BareLemmas.{is_bare}
-use Rattle.timefd_parse.proofs.bare.alone.Goals as goal
+use Rattle.timefd_parse.proofs.fast.bare.alone.Goals as goal
 
 pub returns-clause-component : goal.returns-clause-component
 returns-clause-component c =

@@ -1,7 +1,7 @@
 use Rattle.std.specs.Simd.Lanes.{chunk}
 use Rattle.std.proofs.lemmas.Simd.{length-chunk}
 use Rattle.timefd_parse.proofs.BeginLemmas.{lanes_same}
-use Rattle.timefd_parse.proofs.begins.same_at.Goals as goal
+use Rattle.timefd_parse.proofs.fast.begins.same_at.Goals as goal
 
 pub returns : goal.returns
 returns g c = λ is.

@@ -1,5 +1,5 @@
 use Rattle.timefd_parse.proofs.BareLemmas.{all_taken, none_taken, one_taken}
-use Rattle.timefd_parse.proofs.modified.take.Goals as goal
+use Rattle.timefd_parse.proofs.fast.modified.take.Goals as goal
 
 pub modifiers-init : goal.modifiers-init
 modifiers-init c = record {

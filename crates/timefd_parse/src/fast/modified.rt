@@ -7,10 +7,10 @@ ghost use Rattle.timefd_parse.specs.Places.{no_places};
 ghost use Rattle.timefd_parse.specs.Quick.{IsModified, IsNoted, TakesModifiers};
 ghost use Rattle.timefd_parse.specs.Read.{IsBare};
 
+use crate::fast::values::value_in;
+use crate::fast::words::{behind, key_in, name_in};
 use crate::head_verdict::combination_fault;
 use crate::places::Places;
-use crate::values::value_in;
-use crate::words::{behind, key_in, name_in};
 use timefd_items::Component;
 use timefd_language::component::component_of;
 use timefd_language::description_version::DescriptionVersion;

@@ -8,8 +8,8 @@ ghost use Rattle.timefd_language.specs.declared.key.Key.TheVariants as keys;
 ghost use Rattle.timefd_language.specs.declared.setting.Setting as settings;
 ghost use Rattle.timefd_parse.specs.Quick.{BeginsWithValue};
 
-use crate::reprs::{hour_repr, month_repr, week_number_repr, weekday_repr, year_repr};
-use crate::words::valued;
+use crate::fast::reprs::{hour_repr, month_repr, week_number_repr, weekday_repr, year_repr};
+use crate::fast::words::valued;
 use timefd_language::key::Key;
 use timefd_language::setting::Setting;
 use timefd_modifier::{Padding, SubsecondDigits, TrailingInput, UnixTimestampPrecision, YearRange};

@@ -1,7 +1,7 @@
 use Rattle.std.proofs.Common.{sym}
 use Rattle.timefd_parse.proofs.BareLemmas.{is_modified}
 use Rattle.timefd_parse.proofs.CheckLemmas.{no_fault}
-use Rattle.timefd_parse.proofs.modified.with_modifiers.Goals as goal
+use Rattle.timefd_parse.proofs.fast.modified.with_modifiers.Goals as goal
 
 pub returns : goal.returns
 returns c =

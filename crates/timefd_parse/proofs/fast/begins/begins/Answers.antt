@@ -1,7 +1,7 @@
 use Rattle.std.proofs.Common.{◌-◌, length, take, refl, sym, ◌∙◌, arith}
 use Rattle.timefd_language.proofs.Lookup.{equal-true}
 use Rattle.timefd_parse.proofs.BeginLemmas.{both_ends}
-use Rattle.timefd_parse.proofs.begins.begins.Goals as goal
+use Rattle.timefd_parse.proofs.fast.begins.begins.Goals as goal
 
 pub returns-then-same_at : goal.returns-then-same_at
 returns-then-same_at c = λ is.

@@ -4,7 +4,7 @@ ghost use Rattle.std.specs.Prelude.{MatchOption, ⊤};
 ghost use Rattle.timefd_language.specs.declared.key.Key.TheVariants as keys;
 ghost use Rattle.timefd_parse.specs.Quick.{BeginsWithValue};
 
-use crate::words::valued;
+use crate::fast::words::valued;
 use timefd_language::key::Key;
 use timefd_language::setting::Setting;
 use timefd_modifier::{MonthRepr, WeekNumberRepr, WeekdayRepr, YearRepr};
