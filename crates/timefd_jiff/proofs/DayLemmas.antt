@@ -10,8 +10,9 @@ use Rattle.timefd_moment.specs.declared.date.Date.{Date}
 use Rattle.timefd_moment.specs.Calendar.{counted, days_in_year, days_of_months, days_of_years, is_leap, ordinal}
 use Rattle.timefd_moment.specs.Moments.{day_number, days_from_monday}
 use Rattle.timefd_moment.proofs.CalendarLemmas.{days_before, days_next, months_next, months_none}
+use Rattle.timefd_moment.proofs.LeapLemmas.{periods_apart}
 use Rattle.timefd_jiff.specs.Same.{IsSameDate}
-use Rattle.timefd_jiff.proofs.LeapLemmas.{counted_is, periods_apart, same_months}
+use Rattle.timefd_jiff.proofs.LeapLemmas.{counted_is, same_months}
 
 in_year : (b : Bool) → (if b then 366 else 365) ≡ 365 + cond b 1 0
 in_year true = refl

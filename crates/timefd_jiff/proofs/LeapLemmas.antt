@@ -1,37 +1,14 @@
 -- Leap years, of the years counted from -1,000,000 on and of the signed ones.
-use Rattle.std.proofs.Common.{ℕ, suc, ◌≡◌, ◌≢◌, ◌∙◌, ◌⊎◌, inl, inr, ◌+◌, ◌-◌, ◌*◌, ◌%◌, ◌==◌, ◌||◌, ◌&&◌, not, Bool, true, false, if◌then◌else◌, ℤ, pos, negsuc, ◌+ℤ◌, unsigned_abs, sym, ap, arith}
-use Rattle.std.proofs.Math.Dec.{eqb}
-use Rattle.std.proofs.lemmas.Bool.Decides.{eqb_tells}
+use Rattle.std.proofs.Common.{ℕ, suc, ◌≡◌, ◌∙◌, ◌+◌, ◌-◌, ◌%◌, ◌==◌, ◌||◌, if◌then◌else◌, ℤ, pos, negsuc, ◌+ℤ◌, unsigned_abs, sym, ap, arith}
 use Rattle.jiff_core.specs.Calendar.{IsYear, is_leap_year, days_in_month as jiff_days}
 use Rattle.jiff.proofs.SpanFacts.{signed_arith}
 use Rattle.std.specs.Int.{IsInRange}
 use Rattle.timefd_moment.specs.Calendar.{IsDay, counted, is_leap, days_in_month}
-
--- a test of two numbers that are 0 together
-same : (a b : ℕ) → (a ≡ 0 → b ≡ 0) → (b ≡ 0 → a ≡ 0) → (a == 0) ≡ (b == 0)
-same a b f g = by (eqb_tells a 0) (eqb_tells b 0)
-  where
-    by : ((eqb a 0 ≡ true) × (a ≡ 0)) ⊎ ((eqb a 0 ≡ false) × (a ≢ 0))
-        → ((eqb b 0 ≡ true) × (b ≡ 0)) ⊎ ((eqb b 0 ≡ false) × (b ≢ 0)) → (a == 0) ≡ (b == 0)
-    by (inl x) (inl y) = x.0 ∙ sym y.0
-    by (inl x) (inr y) = absurd (y.1 (f x.1))
-    by (inr x) (inl y) = absurd (x.1 (g y.1))
-    by (inr x) (inr y) = x.0 ∙ sym y.0
-
-abbrev leap_of : Bool → Bool → Bool → Bool
-leap_of a b c = a && (not b || c)
+use Rattle.timefd_moment.proofs.LeapLemmas.{leap_of, periods_apart, same}
 
 -- numbers that make a multiple of 400 together
 together : (c s : ℕ) → c + s ≡ 1000000 → is_leap c ≡ is_leap s
 together c s e =
-    let four : (c % 4 == 0) ≡ (s % 4 == 0) = same (c % 4) (s % 4) (λ h. omega (arith, e, h)) (λ h. omega (arith, e, h)) in
-    let hundred : (c % 100 == 0) ≡ (s % 100 == 0) = same (c % 100) (s % 100) (λ h. omega (arith, e, h)) (λ h. omega (arith, e, h)) in
-    let all : (c % 400 == 0) ≡ (s % 400 == 0) = same (c % 400) (s % 400) (λ h. omega (arith, e, h)) (λ h. omega (arith, e, h)) in
-    λ i. leap_of (four i) (hundred i) (all i)
-
--- numbers that are whole periods of 400 apart
-pub periods_apart : (c s k : ℕ) → c ≡ s + 400 * k → is_leap c ≡ is_leap s
-periods_apart c s k e =
     let four : (c % 4 == 0) ≡ (s % 4 == 0) = same (c % 4) (s % 4) (λ h. omega (arith, e, h)) (λ h. omega (arith, e, h)) in
     let hundred : (c % 100 == 0) ≡ (s % 100 == 0) = same (c % 100) (s % 100) (λ h. omega (arith, e, h)) (λ h. omega (arith, e, h)) in
     let all : (c % 400 == 0) ≡ (s % 400 == 0) = same (c % 400) (s % 400) (λ h. omega (arith, e, h)) (λ h. omega (arith, e, h)) in

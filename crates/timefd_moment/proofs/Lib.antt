@@ -1,2 +1,4 @@
 pub mod CalendarLemmas
+pub mod DayLemmas
 pub mod LawLemmas
+pub mod LeapLemmas

@@ -1,6 +1,23 @@
-//! What holds of the calendar, so that its definitions aren't the code told again.
+//! What holds of the calendar, whatever its definitions look like.
 
-ghost use Rattle.timefd_moment.specs.Laws.{InstantKept, IsoWeeksCounted, MonthsSum, NewYear, OneDate, YearsRepeat};
+ghost use Rattle.timefd_moment.specs.Laws.{InstantKept, IsoWeeksCounted, LeapYears, MonthLengths, MonthsRepeat, MonthsSum, NewYear, NextDay, NextMonth, OneDate, UnixEpoch, WeekdaysFollow, YearsRepeat};
+
+/// February has 29 days in every fourth year, but of the centuries only in every fourth, and else 28.
+#[tactic(auto, using(crate::proofs::DayLemmas::leap_years))]
+pub fn leap_years()
+    ensures { LeapYears }
+{}
+
+/// Each month has as many days 400 years later.
+#[tactic(auto, using(crate::proofs::DayLemmas::months_repeat))]
+pub fn months_repeat()
+    ensures { MonthsRepeat }
+{}
+
+/// April, June, September and November have 30 days, all others but February 31.
+pub fn month_lengths()
+    ensures { MonthLengths }
+{}
 
 /// The months of a year sum to its days.
 #[tactic(auto, using(crate::proofs::LawLemmas::months_sum))]
@@ -14,10 +31,33 @@ pub fn years_repeat()
     ensures { YearsRepeat }
 {}
 
-/// The day behind 31 December is 1 January.
+/// Each day of a month has the number after that of the day before.
+#[tactic(auto, using(crate::proofs::DayLemmas::next_day))]
+pub fn next_day()
+    ensures { NextDay }
+{}
+
+/// The first day of a month comes after the last one of the month before.
+#[tactic(auto, using(crate::proofs::DayLemmas::next_month))]
+pub fn next_month()
+    ensures { NextMonth }
+{}
+
+/// The day after 31 December is 1 January.
 #[tactic(auto, using(crate::proofs::LawLemmas::new_year))]
 pub fn new_year()
     ensures { NewYear }
+{}
+
+/// The weekday of the next day is the next one.
+#[tactic(auto, using(crate::proofs::DayLemmas::weekdays_follow))]
+pub fn weekdays_follow()
+    ensures { WeekdaysFollow }
+{}
+
+/// 1 January 1970 was a Thursday, and its midnight in UTC is the instant 0.
+pub fn unix_epoch()
+    ensures { UnixEpoch }
 {}
 
 /// A day number is that of one date.

@@ -123,8 +123,8 @@ instant_of f d t o (Ok u) date time offset (e, v, p, x, y, z, is) =
     ap (λ (w : UnixTime). Ok w)
     (is ∙ ap unix_at (sym (counted_same d e t v o p (date (Ok e) x) (time (Ok v) y) (offset (Ok p) z))))
 instant_of f d t o (Err r) date time offset (inl x) = absurd (date (Err r) x)
-instant_of f d t o (Err r) date time offset (inr (inl x)) = absurd (time (Err r) x)
-instant_of f d t o (Err r) date time offset (inr (inr x)) = absurd (offset (Err r) x)
+instant_of f d t o (Err r) date time offset (inr (e, inl x)) = absurd (time (Err r) x)
+instant_of f d t o (Err r) date time offset (inr (e, inr (v, x))) = absurd (offset (Err r) x)
 
 pub instant_back : InstantBack
 instant_back f d t o r none way clock shift x y z is =

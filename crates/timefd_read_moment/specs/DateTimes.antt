@@ -6,7 +6,8 @@ use Rattle.timefd_moment.specs.declared.time.Time.{Time}
 use Rattle.timefd_read_moment.specs.declared.error.ValueError.{ValueError}
 use Rattle.timefd_read_moment.specs.Values.{IsDateOf, IsTimeOf}
 
--- the date and the time, or why there is none of the one or of the other
+-- The date and the time. The error is that of the date, else of the time.
 abbrev pub IsDateTimeOf : Fields → Result (Date × Time) ValueError → Type 0
 IsDateTimeOf f (Ok r) = IsDateOf f (Ok r.0) × IsTimeOf f (Ok r.1)
-IsDateTimeOf f (Err e) = IsDateOf f (Err e) ⊎ IsTimeOf f (Err e)
+IsDateTimeOf f (Err e) =
+    IsDateOf f (Err e) ⊎ (((date : Date) × IsDateOf f (Ok date)) × IsTimeOf f (Err e))

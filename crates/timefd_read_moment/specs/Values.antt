@@ -56,8 +56,8 @@ abbrev pub IsOffsetIn : Fields → Result (Option UtcOffset) ValueError → Type
 IsOffsetIn f r = IsPart (has_offset f) (IsOffsetOf f) r
 
 -- the error of the time, where there is one, else of the offset
-abbrev pub IsErrorBehindDate : Fields → ValueError → Type 0
-IsErrorBehindDate f e =
+abbrev pub IsErrorAfterDate : Fields → ValueError → Type 0
+IsErrorAfterDate f e =
     IsTimeIn f (Err e) ⊎ (((time : Option Time) × IsTimeIn f (Ok time)) × IsOffsetIn f (Err e))
 
 -- The moment has all that was read. The error is that of the date, else of the time, else of the offset.
@@ -65,7 +65,7 @@ abbrev pub IsMomentByParts : Fields → Result Moment ValueError → Type 0
 IsMomentByParts f (Ok m) =
     IsDateIn f (Ok m.date) × IsTimeIn f (Ok m.time) × IsOffsetIn f (Ok m.offset)
 IsMomentByParts f (Err e) =
-    IsDateIn f (Err e) ⊎ (((date : Option Date) × IsDateIn f (Ok date)) × IsErrorBehindDate f e)
+    IsDateIn f (Err e) ⊎ (((date : Option Date) × IsDateIn f (Ok date)) × IsErrorAfterDate f e)
 
 -- With a timestamp all three are known.
 abbrev pub IsMomentBy : Option UnixTime → Fields → Result Moment ValueError → Type 0
@@ -77,13 +77,18 @@ IsMomentBy (Some u) f (Err e) = IsStamped f u (Err e)
 abbrev pub IsMomentOf : Fields → Result Moment ValueError → Type 0
 IsMomentOf f r = IsMomentBy (instant_read f) f r
 
--- The instant of fields: that of their date, time and offset. The error is the first one's of these.
+-- The instant of fields: that of their date, time and offset. The error is that of the date, else of the
+-- time, else of the offset.
+
+abbrev IsInstantErrorAfterDate : Fields → ValueError → Type 0
+IsInstantErrorAfterDate f e =
+    IsTimeByParts f (Err e) ⊎ (((time : Time) × IsTimeByParts f (Ok time)) × IsOffsetOf f (Err e))
 
 abbrev pub IsInstantByParts : Fields → Result UnixTime ValueError → Type 0
 IsInstantByParts f (Ok u) = (d : Date) × (t : Time) × (o : UtcOffset) × IsDateByParts f (Ok d)
     × IsTimeByParts f (Ok t) × IsOffsetOf f (Ok o) × (u ≡ unix_time d t o)
-IsInstantByParts f (Err e) =
-    IsDateByParts f (Err e) ⊎ (IsTimeByParts f (Err e) ⊎ IsOffsetOf f (Err e))
+IsInstantByParts f (Err e) = IsDateByParts f (Err e)
+    ⊎ (((date : Date) × IsDateByParts f (Ok date)) × IsInstantErrorAfterDate f e)
 
 abbrev pub IsInstantBy : Option UnixTime → Fields → Result UnixTime ValueError → Type 0
 IsInstantBy None f r = IsInstantByParts f r
