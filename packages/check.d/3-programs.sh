@@ -65,43 +65,11 @@ if has man 'reading the manual pages'; then
         grep -Eq "^ *timefd.* -( |\$)" "$room/said" || fail "man shows something else as $page"
     done
 fi
-if has mandoc 'mandoc over the manual pages'; then
-    for page in "$here"/man/*; do
-        same "mandoc on $(basename "$page")" "$(mandoc -T lint -W warning "$page" 2>&1 || true)" ''
-    done
-fi
-
-# The options of a program, a line each, of a text that has them.
-options() {
-    grep -o -e '--[a-z][a-z]*' | sort -u
-}
-cat > "$room/complete.bash" <<'END'
-. "$1"
-COMP_WORDS=("$2" --) COMP_CWORD=1
-"_$2" "$2" -- "$2"
-printf '%s\n' "${COMPREPLY[@]}"
-END
-cat > "$room/complete.zsh" <<'END'
-_arguments() { print -l -- "$@" }
-service=$2
-. $1
-END
-fishes=$prefix/share/fish/vendor_completions.d
-for name in timefd_lint timefd_format; do
-    wanted=$(clean "$prefix/bin/$name" --help | options)
-    same "the options in the manual page of $name" "$(sed 's/\\-/-/g' "$here/man/$name.1" | options)" "$wanted"
-    same "the options of $name in bash" \
-        "$(bash "$room/complete.bash" "$prefix/share/bash-completion/completions/$name" "$name" | options)" "$wanted"
-    if has fish "completions of fish for $name"; then
-        said=$(HOME="$room" fish --no-config -c "source $fishes/$name.fish; complete -C '$name --'" | options)
-        same "the options of $name in fish" "$said" "$wanted"
-    fi
-    if has zsh "completions of zsh for $name"; then
-        said=$(zsh -f "$room/complete.zsh" "$prefix/share/zsh/site-functions/_timefd" "$name" | options)
-        same "the options of $name in zsh" "$said" "$wanted"
-    fi
+"$here/words" "$prefix/bin" > "$room/said" || fail 'the options of a program'
+passed=$((passed + $(sed -n 's/^packages\/words: \([0-9]*\) passed, 0 failed$/\1/p' "$room/said")))
+sed -n '/SKIPPED/p' "$room/said" >> "$room/skipped"
+share=$prefix/share
+for pair in timefd.bash:bash-completion/completions/timefd_lint _timefd:zsh/site-functions/_timefd \
+    timefd_lint.fish:fish/vendor_completions.d/timefd_lint.fish; do
+    cmp "$here/completions/${pair%:*}" "$share/${pair#*:}" || fail "what completes words is installed otherwise: ${pair#*:}"
 done
-if has fish 'completions of fish for timefd'; then
-    said=$(HOME="$room" fish --no-config -c "source $fishes/timefd.fish; complete -C 'timefd s'")
-    same 'the kinds in fish' "$said" strftime
-fi
