@@ -1,23 +1,13 @@
-//! What is wrong with a text: its fault, which bytes are at fault, and what helps.
+//! Why a text is refused, and the stable name of that.
 
-ghost use Rattle.std.specs.Prelude.{◌≡◌, ◌↔◌, List, None, IfOk, IfSome};
-ghost use Rattle.timefd_component.specs.Tree.{Tree};
-ghost use Rattle.timefd_borrowed_fault.specs.BorrowedFaults.{lent_fault};
-ghost use Rattle.timefd_borrowed_fault.specs.Placed.{IsPlaced};
+ghost use Rattle.std.specs.Prelude.{◌≡◌};
 ghost use Rattle.timefd_fault.specs.Faults.{fault_of};
-ghost use Rattle.timefd_language.specs.Grammar.{nesting_limit};
-ghost use Rattle.timefd_parse.specs.Language.{SpellsIn, FaultIn};
 ghost use Rattle.timefd_diagnosis.specs.Codes as spec;
-ghost use Rattle.timefd_diagnosis.specs.Diagnoses.{IsDiagnosis, IsOfFault};
 
 use crate::code::Code;
-use crate::help::{Help, help_against};
-use crate::span::{Span, span_of};
-use std::alloc::{AllocError, Global};
-use timefd_parse::{
-    BorrowedFault, BorrowedParseError, InvalidFormatDescription, Language, NESTING_LIMIT,
-    ParseError, amount_all_borrowed,
-};
+use crate::help::Help;
+use crate::span::Span;
+use timefd_parse::InvalidFormatDescription;
 
 /// Why a text is refused, and where.
 #[derive(Drop)]
@@ -38,53 +28,4 @@ pub fn code_of(diagnostic: &Diagnostic) -> &'static str
     ensures code { result.now ≡ spec.name_of (spec.code_of (fault_of diagnostic.now.fault).kind) }
 {
     diagnostic.code.name()
-}
-
-/// What is wrong with a text of a language: `None` where it is accepted. An `Err` says that memory
-/// ran out, and nothing of the text.
-pub fn diagnose(
-    alloc: Global,
-    language: Language,
-    text: &str,
-) -> Result<Option<Diagnostic>, AllocError>
-    ensures accepted { IfOk result (λ found. found ≡ None
-        → (list : List Tree) × SpellsIn language nesting_limit text.now list) }
-    ensures refused { IfOk result (λ found. IfSome found (λ d.
-        FaultIn language nesting_limit text.now (fault_of d.fault))) }
-    // The fault's index lies in the text or at its end, between two characters.
-    ensures place { IfOk result (λ found. IfSome found (λ d. IsPlaced text.now (fault_of d.fault))) }
-    ensures diagnosis { IfOk result (λ found. IfSome found (IsDiagnosis language text.now)) }
-{
-    match amount_all_borrowed(alloc, language, NESTING_LIMIT, text) {
-        Ok(_) => Ok(None),
-        Err(BorrowedParseError::Invalid(fault)) => {
-            Ok(Some(described(alloc, language, text, fault)?))
-        }
-        Err(BorrowedParseError::Memory(error)) => Err(error),
-    }
-}
-
-// What is said of a fault.
-fn described(
-    alloc: Global,
-    language: Language,
-    text: &str,
-    fault: BorrowedFault<'_>,
-) -> Result<Diagnostic, AllocError>
-    requires { IsPlaced text.now (lent_fault fault) }
-    ensures fault { IfOk result (IsOfFault (lent_fault fault.entry)) }
-    ensures diagnosis { IfOk result (IsDiagnosis language text.now) }
-{
-    let code = Code::of(fault.rule);
-    let span = span_of(language, text, fault);
-    let help = help_against(alloc, language, text, fault)?;
-    match BorrowedParseError::Invalid(fault).into_owned(alloc) {
-        ParseError::Invalid(fault) => Ok(Diagnostic {
-            fault,
-            code,
-            span,
-            help,
-        }),
-        ParseError::Memory(error) => Err(error),
-    }
 }

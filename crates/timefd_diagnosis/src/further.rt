@@ -8,7 +8,8 @@ ghost use Rattle.timefd_diagnosis.specs.Further.{AreFurther, sides_of};
 ghost use Rattle.timefd_diagnosis.specs.Further as spec;
 
 use crate::code::Code;
-use crate::diagnostic::{Diagnostic, diagnose};
+use crate::diagnosing::diagnose;
+use crate::diagnostic::Diagnostic;
 use std::alloc::{AllocError, Global};
 use timefd_language::text::{Class, cut};
 use timefd_parse::Language;

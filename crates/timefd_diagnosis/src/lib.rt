@@ -4,6 +4,7 @@
 
 mod code;
 mod cure;
+mod diagnosing;
 mod diagnostic;
 mod few;
 mod further;
@@ -15,7 +16,8 @@ mod span;
 pub mod words;
 
 pub use code::{Code, names_differ};
-pub use diagnostic::{Diagnostic, code_of, diagnose};
+pub use diagnosing::diagnose;
+pub use diagnostic::{Diagnostic, code_of};
 pub use further::{MOST_FURTHER, further_faults};
 pub use help::{Help, help_against};
 pub use span::{Extent, Span, span_of};
