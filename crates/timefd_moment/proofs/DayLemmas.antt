@@ -98,9 +98,9 @@ epoch : (d : Date) (t : Time) (o : UtcOffset) → day_number d ≡ 365962028 →
 epoch d t o day second fraction offset = elim o.is_negative as (λ b.
     (if b then day_number d * 86400 + day_second t + 100000 + o.seconds else day_number d * 86400 + day_second t + 100000 - o.seconds) * 1000000000 + t.nanosecond
     ≡ unix_start * 1000000000) [
-  | true ↦ omega (arith, day, second, fraction, offset)
-  | false ↦ omega (arith, day, second, fraction, offset)
-]
+      | true ↦ omega (arith, day, second, fraction, offset)
+      | false ↦ omega (arith, day, second, fraction, offset)
+    ]
 
 start : (d : Date) (t : Time) (o : UtcOffset) → utc_nanoseconds d t o ≡ unix_start * 1000000000
     → (unix_time d t o).nanoseconds ≡ 0
