@@ -1,5 +1,5 @@
 -- Leaves in turn.
-use Rattle.std.proofs.Common.{ℕ, ◌≡◌, ◌∙◌, ◌+◌, ◌<◌, ◌≤◌, List, [], ◌∷◌, ◌++◌, length, take, drop, map, get_or, Option, Some, None, Result, Ok, Err, refl, sym, ap, subst, arith, append_assoc, append-nil, add-one, drop-cons, length-append, length-take}
+use Rattle.std.proofs.Common.{ℕ, ◌≡◌, ◌∙◌, ◌+◌, ◌<◌, ◌≤◌, List, [], ◌∷◌, ◌++◌, length, take, drop, map, get_or, Some, Result, Ok, Err, refl, sym, ap, subst, arith, append_assoc, append-nil, add-one, drop-cons, length-append, length-take}
 use Rattle.std.proofs.lemmas.List.{drop_all}
 use Rattle.timefd_component.specs.Tree.{Text, trees}
 use Rattle.timefd_moment.specs.declared.moment.Moment.{Moment}

@@ -1,21 +1,19 @@
 -- How long texts are.
-use Rattle.std.proofs.Common.{ℕ, ◌≡◌, ◌∙◌, ◌+◌, ◌-◌, ◌^◌, ◌<◌, ◌≤◌, [], ◌++◌, List, Option, Some, None, length, take, drop, map, get_or, Result, Ok, Err, IfOk, refl, sym, ap, subst, arith, append-nil, add-one, drop-cons, length-append, length-take}
-use Rattle.std.proofs.lemmas.List.{drop_all}
+use Rattle.std.proofs.Common.{ℕ, ◌≡◌, ◌+◌, ◌-◌, ◌≤◌, length, Result, Ok, Err, IfOk, refl, subst, arith, length-append}
 use Rattle.timefd_component.specs.declared.component.Component.{Component}
 use Rattle.timefd_component.specs.declared.component.Component.TheVariants.{Subsecond}
 use Rattle.timefd_component.specs.Modern.{modern}
 use Rattle.timefd_component.specs.Reserved.{reserved}
-use Rattle.timefd_component.specs.Tree.{Text, Tree, component, trees}
+use Rattle.timefd_component.specs.Tree.{Text, component}
 use Rattle.timefd_component.proofs.ModernLemmas.{modern_again}
 use Rattle.timefd_modifier.specs.declared.enums.SubsecondDigits.{SubsecondDigits}
 use Rattle.timefd_moment.specs.declared.moment.Moment.{Moment}
 use Rattle.timefd_node_list.specs.Nodes.{kept_bytes}
 use Rattle.timefd_format.specs.declared.unshown.Unshown.{Unshown}
-use Rattle.timefd_format.specs.declared.write.FormatError.{FormatError}
 use Rattle.timefd_format.specs.declared.write.FormatError.TheVariants as fails
 use Rattle.timefd_format.specs.Fields.{field}
 use Rattle.timefd_format.specs.Outcomes.{IsOutcome}
-use Rattle.timefd_format.specs.Written.{followed, shown, text_of, written, written_all}
+use Rattle.timefd_format.specs.Written.{followed, shown, text_of}
 use Rattle.timefd_format.proofs.RoomLemmas.{fits}
 use Rattle.timefd_format.specs.Fronts.{IsLen}
 

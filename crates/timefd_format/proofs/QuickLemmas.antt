@@ -1,18 +1,15 @@
 -- What a component shows, where its part of the moment is known.
-use Rattle.std.proofs.Common.{ℕ, ◌≡◌, ◌∙◌, ◌+◌, ◌-◌, ◌/◌, ◌%◌, ◌<◌, ◌≤◌, nat_lt, nat_le, if◌then◌else◌, true, false, ◌++◌, Option, Some, None, Result, Ok, Err, refl, sym, ap, subst, arith}
+use Rattle.std.proofs.Common.{ℕ, ◌≡◌, ◌∙◌, ◌-◌, ◌/◌, ◌%◌, ◌<◌, ◌≤◌, nat_lt, nat_le, if◌then◌else◌, true, false, ◌++◌, Option, Some, Ok, Err, sym, ap, subst, arith}
 use Rattle.timefd_modifier.specs.declared.enums.Padding.{Padding}
 use Rattle.timefd_component.specs.declared.component.Component.{Component}
 use Rattle.timefd_component.specs.Modern.{modern}
-use Rattle.timefd_component.specs.Texts.{filled}
 use Rattle.timefd_component.specs.Tree.{Text}
 use Rattle.timefd_moment.specs.declared.date.Date.{Date}
 use Rattle.timefd_moment.specs.declared.time.Time.{Time}
 use Rattle.timefd_moment.specs.declared.offset.UtcOffset.{UtcOffset}
 use Rattle.timefd_moment.specs.declared.moment.Moment.{Moment}
-use Rattle.timefd_format.specs.declared.field.Kind.{Kind}
 use Rattle.timefd_format.specs.declared.field.Kind.TheVariants as of
-use Rattle.timefd_format.specs.declared.unshown.Unshown.{Unshown}
-use Rattle.timefd_format.specs.Fields.{by_kind, date_field, field, kind, offset_field, on_date, on_offset, on_time, signed, time_field, year}
+use Rattle.timefd_format.specs.Fields.{by_kind, date_field, kind, offset_field, on_date, on_offset, on_time, signed, time_field, year}
 use Rattle.timefd_format.specs.Puts.{pair}
 use Rattle.timefd_format.specs.Written.{shown, text_of}
 use Rattle.timefd_moment.specs.Moments.{magnitude}

@@ -1,4 +1,4 @@
-use Rattle.std.proofs.Common.{ℕ, Bool, false, ◌≡◌, ◌≤◌, ◌∙◌, Some, sym, subst, arith}
+use Rattle.std.proofs.Common.{Some, sym, subst}
 use Rattle.timefd_modifier.specs.declared.enums.Padding.{Padding}
 use Rattle.timefd_format.specs.Fields.{year}
 use Rattle.timefd_format.specs.Written.{text_of}
