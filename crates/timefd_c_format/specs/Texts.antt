@@ -7,13 +7,6 @@ use Rattle.timefd_c_format.specs.declared.format.NodesText.{NodesText}
 use Rattle.timefd_c_format.specs.declared.format.NodesError.{NodesError}
 use Rattle.timefd_c_format.specs.declared.format.NodesError.TheVariants as fails
 
--- the length of what is to be written, at most the greatest `usize`, or what shows nothing
-abbrev pub IsLen : Result Text Unshown → Result ℕ Unshown → Type 0
-IsLen (Ok text) (Ok len) = len ≡ kept_bytes (length text)
-IsLen (Ok text) (Err u) = ⊥
-IsLen (Err v) (Ok len) = ⊥
-IsLen (Err v) (Err u) = u ≡ v
-
 -- The text stands at the front of the buffer, if that has room for all of it, and what is behind it is as
 -- it was. Its length is told, at most the greatest `usize`.
 pub record IsShown (text before after : Text) (answer : NodesText) : Type 0 where
