@@ -14,10 +14,10 @@ use Rattle.timefd_format.proofs.AppendLemmas.{both_appended, nothing_appended}
 use Rattle.timefd_node_list.specs.Nodes.{Role, text, shown, together, perhaps, either, arity, before, ending, grown}
 use Rattle.timefd_node_list.proofs.NodeLemmas.{before_zero}
 use Rattle.timefd_c_nodes.specs.declared.node.Node.{Node}
-use Rattle.timefd_c_nodes.specs.Decoding.{component_of, grown_with, read_nodes, read_on}
+use Rattle.timefd_c_nodes.specs.Decoding.{read_nodes, read_on}
 use Rattle.timefd_c_format.specs.Forward.{IsAfter, IsForward, role_text}
 use Rattle.timefd_c_format.specs.Nodes.{count_behind, fault_behind, fault_from, node_fault, node_trees, trees_of}
-use Rattle.timefd_c_format.specs.Parts.{by_kind, part_role, perhaps_role, role_in, shown_role}
+use Rattle.timefd_c_format.specs.Parts.{by_kind, perhaps_role, shown_role}
 use Rattle.timefd_c_format.specs.declared.forward.Reached.{Reached}
 use Rattle.timefd_c_format.specs.declared.part.Kind.{Kind}
 use Rattle.timefd_c_format.specs.declared.part.Kind.TheVariants as kind

@@ -1,5 +1,5 @@
 -- What is answered of nodes that are to write a moment.
-use Rattle.std.specs.Prelude.{ℕ, ◌≡◌, ◌<◌, ◌≤◌, ◌++◌, length, drop, Result, Ok, Err}
+use Rattle.std.specs.Prelude.{◌≡◌, ◌<◌, ◌≤◌, ◌++◌, length, drop, Result, Ok, Err}
 use Rattle.timefd_component.specs.Tree.{Text}
 use Rattle.timefd_node_list.specs.Nodes.{kept_bytes}
 use Rattle.timefd_format.specs.declared.unshown.Unshown.{Unshown}
