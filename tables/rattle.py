@@ -114,6 +114,18 @@ def all_others(file, item, components, part, value="Field::Nothing"):
     return Table(f"{FORMAT}/{file}", Alternatives(item, f"{value},"), lambda: arm_of_many(8, patterns(others), value))
 
 
+def by_rule():
+    """The arm of what the formatter appends by its rule: all but the commonest, which have an arm each."""
+    common = {
+        "CalendarYearFullExtendedRange", "CalendarYearFullStandardRange", "MonthNumerical", "MonthShort", "MonthLong", "Day", "WeekdayShort",
+        "WeekdayLong", "Hour24", "Minute", "Second", "Subsecond", "OffsetHour", "OffsetMinute",
+    }
+    others = [it for it in MODERN if it.variant not in common] + DEPRECATED
+    return Table(
+        f"{FORMAT}/quick.rt", Alternatives("pub fn append_quickly", "None,"), lambda: arm_of_many(8, patterns(others), "None"),
+    )
+
+
 def by_length():
     lines = []
     for it in sorted(NAMES, key=lambda it: (len(it.name), it.variant)):
@@ -188,6 +200,7 @@ TABLES = [
     all_others("clock.rt", "pub(crate) fn time_field", ENDS, "Time"),
     all_others("clock.rt", "pub(crate) fn offset_field", NAMED, "Offset"),
     all_others("instant.rt", "fn stamp_field", NAMED, "Instant"),
+    by_rule(),
     each(NAME_FILE, Between(("pub enum ComponentName {",), "}"), NAMES, "    {0.variant},"),
     Table(
         NAME_FILE, Between(("pub fn spelling", "match self {"), "        }"),

@@ -4,3 +4,4 @@ pub mod WriteLemmas
 pub mod SoundLemmas
 pub mod ShortLemmas
 pub mod WalkLemmas
+pub mod ForwardLemmas

@@ -4,3 +4,4 @@ pub mod Places
 pub mod Walk
 pub mod Texts
 pub mod Laws
+pub mod Forward

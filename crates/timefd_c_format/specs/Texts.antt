@@ -1,18 +1,11 @@
 -- What is answered of nodes that are to write a moment.
-use Rattle.std.specs.Prelude.{ℕ, ◌≡◌, ◌<◌, ◌≤◌, ◌++◌, length, drop, Result, Ok, Err}
+use Rattle.std.specs.Prelude.{◌≡◌, ◌<◌, ◌≤◌, ◌++◌, length, drop, Result, Ok, Err}
 use Rattle.timefd_component.specs.Tree.{Text}
 use Rattle.timefd_node_list.specs.Nodes.{kept_bytes}
 use Rattle.timefd_format.specs.declared.unshown.Unshown.{Unshown}
 use Rattle.timefd_c_format.specs.declared.format.NodesText.{NodesText}
 use Rattle.timefd_c_format.specs.declared.format.NodesError.{NodesError}
 use Rattle.timefd_c_format.specs.declared.format.NodesError.TheVariants as fails
-
--- the length of what is to be written, at most the greatest `usize`, or what shows nothing
-abbrev pub IsLen : Result Text Unshown → Result ℕ Unshown → Type 0
-IsLen (Ok text) (Ok len) = len ≡ kept_bytes (length text)
-IsLen (Ok text) (Err u) = ⊥
-IsLen (Err v) (Ok len) = ⊥
-IsLen (Err v) (Err u) = u ≡ v
 
 -- The text stands at the front of the buffer, if that has room for all of it, and what is behind it is as
 -- it was. Its length is told, at most the greatest `usize`.

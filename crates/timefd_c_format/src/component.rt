@@ -18,6 +18,7 @@ use timefd_modifier::{
 };
 
 /// The component that the numbers of a node name, where each of them that it has means something.
+#[inline(always)]
 pub(crate) fn component_of(node: &Node) -> Option<Component>
     ensures { result ≡ spec.component_of node.now }
 {

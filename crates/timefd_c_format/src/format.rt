@@ -3,8 +3,9 @@
 ghost use Rattle.std.specs.Prelude.{◌≡◌, ◌<◌, ◌≤◌, ◌++◌, Err, None, Ok, Some, drop, length};
 ghost use Rattle.timefd_c_format.specs.Nodes as spec;
 ghost use Rattle.timefd_c_format.specs.Nodes.{node_trees};
-ghost use Rattle.timefd_c_format.specs.Texts.{IsLen, ShowsNodes};
+ghost use Rattle.timefd_c_format.specs.Texts.{ShowsNodes};
 ghost use Rattle.timefd_component.specs.Tree.{Text, trees};
+ghost use Rattle.timefd_format.specs.Fronts.{IsLen};
 ghost use Rattle.timefd_format.specs.Written.{written_all};
 ghost use Rattle.std.specs.Prelude.{ℕ};
 
@@ -35,7 +36,7 @@ pub enum NodesError {
 }
 
 /// Writes the moment by nodes over the front of the buffer, if that has room for all that they write.
-/// Else, and behind an `Err`, the buffer is as it was. It takes no memory.
+/// Else, and after an `Err`, the buffer is as it was. It takes no memory.
 pub fn format_nodes(
     nodes: &[Node],
     literals: &[u8],
@@ -48,13 +49,13 @@ pub fn format_nodes(
         → ShowsNodes (written_all moment (trees (node_trees literals.now nodes.now))) buffer.old
         buffer.new result }
 {
-    match format_short(moment, nodes, literals, buffer) {
+    match format_short(&moment, nodes, literals, buffer) {
         Some(text) => Ok(text),
         None => format_long(moment, nodes, literals, buffer),
     }
 }
 
-/// The same, whatever the length of the text. It is first told what is wrong, if something is.
+/// The same, whatever the length of the text. What is wrong is reported first, if something is.
 fn format_long(
     moment: Moment,
     nodes: &[Node],

@@ -6,6 +6,7 @@ ghost use Rattle.timefd_c_nodes.specs.Decoding as spec;
 use std::num::NonZero;
 use timefd_modifier::{Padding, SubsecondDigits, TrailingInput};
 
+#[inline(always)]
 pub(crate) fn flag_of(number: u8) -> Option<bool>
     ensures { result ≡ spec.flag_of number }
 {
@@ -16,6 +17,7 @@ pub(crate) fn flag_of(number: u8) -> Option<bool>
     }
 }
 
+#[inline(always)]
 pub(crate) fn padding_of(number: u8) -> Option<Padding>
     ensures { result ≡ spec.padding_of number }
 {
@@ -27,6 +29,7 @@ pub(crate) fn padding_of(number: u8) -> Option<Padding>
     }
 }
 
+#[inline(always)]
 pub(crate) fn digits_of(number: u8) -> Option<SubsecondDigits>
     ensures { result ≡ spec.digits_of number }
 {
@@ -45,6 +48,7 @@ pub(crate) fn digits_of(number: u8) -> Option<SubsecondDigits>
     }
 }
 
+#[inline(always)]
 pub(crate) fn trailing_input_of(number: u8) -> Option<TrailingInput>
     ensures { result ≡ spec.trailing_input_of number }
 {
@@ -55,6 +59,7 @@ pub(crate) fn trailing_input_of(number: u8) -> Option<TrailingInput>
     }
 }
 
+#[inline(always)]
 pub(crate) fn count_of(number: u16) -> Option<NonZero<u16>>
     ensures { result ≡ spec.count_of number }
 {

@@ -3,21 +3,42 @@
 ghost use Rattle.std.specs.Prelude.{◌≡◌, ◌≤◌, ◌<◌, ◌++◌, IfSome, None, Ok, drop, length};
 ghost use Rattle.timefd_c_format.specs.Nodes as spec;
 ghost use Rattle.timefd_c_format.specs.Nodes.{node_trees};
-ghost use Rattle.timefd_c_format.specs.Texts.{ShowsNodes};
+ghost use Rattle.timefd_c_format.specs.Texts.{IsShown, ShowsNodes};
 ghost use Rattle.timefd_component.specs.Tree.{trees};
 ghost use Rattle.timefd_format.specs.Written.{written_all};
 
 use crate::format::NodesText;
+use crate::forward::append_nodes;
 use crate::write::write_nodes;
 use timefd_c_nodes::Node;
 use timefd_moment::Moment;
 
 // Few texts are longer.
-const SHORT: usize = 96;
+const SHORT: usize = 128;
 
 /// Writes the moment by nodes over the front of the buffer, if that has room for it, where all goes
-/// well and the text is a short one. Behind a `None` the buffer is as it was.
+/// well and the text is a short one. After a `None` the buffer is as it was.
+#[inline(never)]
 pub(crate) fn format_short(
+    moment: &Moment,
+    nodes: &[Node],
+    literals: &[u8],
+    buffer: &mut [u8],
+) -> Option<NodesText>
+    ensures sound { IfSome result (λ _. spec.node_fault literals.now nodes.now ≡ None) }
+    ensures shows { IfSome result (λ text. ShowsNodes (written_all moment.now
+        (trees (node_trees literals.now nodes.now))) buffer.old buffer.new (Ok text)) }
+    ensures kept { result ≡ None → buffer.new ≡ buffer.old }
+{
+    match format_in(moment, nodes, literals, &mut [0; SHORT], buffer) {
+        Some(text) => Some(text),
+        None => format_back(*moment, nodes, literals, buffer),
+    }
+}
+
+/// The same from the last node on: no member that isn't written is written in vain.
+#[inline(never)]
+fn format_back(
     moment: Moment,
     nodes: &[Node],
     literals: &[u8],
@@ -28,12 +49,12 @@ pub(crate) fn format_short(
         (trees (node_trees literals.now nodes.now))) buffer.old buffer.new (Ok text)) }
     ensures kept { result ≡ None → buffer.new ≡ buffer.old }
 {
-    format_in(moment, nodes, literals, &mut [0; SHORT], buffer)
+    format_back_in(moment, nodes, literals, &mut [0; SHORT], buffer)
 }
 
-/// The same, where the text has room in another buffer, which it is written in first.
+/// The same, where the text is written in another buffer first.
 #[tactic(auto, using(crate::proofs::ShortLemmas::copied))]
-fn format_in(
+fn format_back_in(
     moment: Moment,
     nodes: &[Node],
     literals: &[u8],
@@ -46,14 +67,41 @@ fn format_in(
     ensures kept { result ≡ None → buffer.new ≡ buffer.old }
 {
     let at = write_nodes(moment, nodes, literals, room)?;
-    let text = &room[at..];
-    let len = text.len();
-    let written = copy_front(text, buffer);
-    Some(NodesText { len, written })
+    Some(copy_text(&room[at..], buffer))
 }
 
-/// Copies a text over the front of the buffer, if that has room for all of it, and says how many bytes
-/// were written.
+/// The same from the first node on, where all members are written: in another buffer first.
+#[inline(always)]
+#[tactic(auto, using(crate::proofs::ShortLemmas::front_copied))]
+fn format_in(
+    moment: &Moment,
+    nodes: &[Node],
+    literals: &[u8],
+    room: &mut [u8],
+    buffer: &mut [u8],
+) -> Option<NodesText>
+    ensures sound { IfSome result (λ _. spec.node_fault literals.now nodes.now ≡ None) }
+    ensures shows { IfSome result (λ text. ShowsNodes (written_all moment.now
+        (trees (node_trees literals.now nodes.now))) buffer.old buffer.new (Ok text)) }
+    ensures kept { result ≡ None → buffer.new ≡ buffer.old }
+{
+    let end = append_nodes(moment, nodes, literals, room)?;
+    Some(copy_text(&room[..end], buffer))
+}
+
+/// Copies a text over the front of the buffer, if that has room for all of it.
+#[inline(always)]
+#[tactic(auto, using(crate::proofs::ShortLemmas::whole_or_none))]
+fn copy_text(text: &[u8], buffer: &mut [u8]) -> NodesText
+    ensures { IsShown text.now buffer.old buffer.new result }
+{
+    let len = text.len();
+    let written = copy_front(text, buffer);
+    NodesText { len, written }
+}
+
+/// The same, and answers how many bytes were written.
+#[inline(always)]
 fn copy_front(text: &[u8], buffer: &mut [u8]) -> usize
     ensures whole { length text.now ≤ length buffer.old
         → (buffer.new ≡ text.now ++ drop (length text.now) buffer.old) × (result ≡ length text.now) }

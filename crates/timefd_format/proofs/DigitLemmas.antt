@@ -119,10 +119,3 @@ no_room number left two old mid new end at long small w is none =
       ap length (one_step left long small),
       length-append (decimal (left / 100)) (pair (left % 100)),
     )
-
-pub four_filled : (n : ℕ) → 1000 ≤ n → n < 10000 → filled Padding.Zero 4 n ≡ pair (n / 100) ++ pair (n % 100)
-four_filled n long short =
-    let digits : decimal n ≡ pair (n / 100) ++ pair (n % 100) =
-    one_step n (omega (arith, long)) (omega (arith, short))
-    ∙ ap (λ ds. ds ++ pair (n % 100)) (two_digits (n / 100) (omega (arith, long)) (omega (arith, short))) in
-    ap (λ ds. replicate {A = ℕ} (4 - length ds) 48 ++ ds) digits

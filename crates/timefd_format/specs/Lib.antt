@@ -8,3 +8,5 @@ pub mod Literals
 pub mod Answers
 pub mod Sent
 pub mod Sentences
+pub mod Appends
+pub mod Fronts

@@ -1,25 +1,24 @@
 //! The public calls.
 
-ghost use Rattle.std.specs.Prelude.{◌≡◌, ◌≤◌, IfErr, IfOk, IsUtf8, drop, length, map};
+ghost use Rattle.std.specs.Prelude.{◌≡◌, ◌≤◌, IfErr, IfOk, IsUtf8, drop, length};
 ghost use Rattle.timefd_component.specs.Reserved.{reserve};
 ghost use Rattle.timefd_component.specs.Tree.{trees};
 ghost use Rattle.timefd_format_item.specs.Meaning.{item_trees};
 ghost use Rattle.timefd_format.specs.Literals.{HaveUtf8Literals};
 ghost use Rattle.timefd_format.specs.Outcomes.{IsOutcome};
 ghost use Rattle.timefd_format.specs.Written.{shown, written, written_all};
-ghost use Rattle.timefd_node_list.specs.LeafMeaning.{leaf_tree};
 ghost use Rattle.timefd_node_list.specs.Views.{view_tree};
 
+use crate::items;
 use crate::place::Place;
 use crate::put_field::put_field;
 use crate::shown::field;
 use crate::unshown::Unshown;
 use crate::view::write_view;
-use crate::{items, leaves};
 use timefd_component::Component;
 use timefd_format_item::BorrowedFormatItem;
 use timefd_moment::Moment;
-use timefd_node_list::{Leaf, View};
+use timefd_node_list::View;
 
 /// Why nothing is written.
 #[derive(Debug, Clone, Copy)]
@@ -64,24 +63,6 @@ pub fn write_items(
 {
     let end = Place::At(buffer.len());
     match items::write_all(moment, items, buffer, end) {
-        Place::At(at) => Ok(at),
-        Place::NoRoom => Err(FormatError::Room),
-        Place::Unshown(unshown) => Err(FormatError::Unshown(unshown)),
-    }
-}
-
-/// Writes the moment by components and literals in turn at the end of the buffer, and answers where
-/// it begins there.
-pub fn write_leaves(
-    moment: Moment,
-    leaves: &[Leaf<'_>],
-    buffer: &mut [u8],
-) -> Result<usize, FormatError>
-    ensures { IsOutcome (written_all moment (trees (map leaf_tree leaves.now))) buffer.old
-        buffer.new result }
-{
-    let end = Place::At(buffer.len());
-    match leaves::write_all(moment, leaves, buffer, end) {
         Place::At(at) => Ok(at),
         Place::NoRoom => Err(FormatError::Room),
         Place::Unshown(unshown) => Err(FormatError::Unshown(unshown)),

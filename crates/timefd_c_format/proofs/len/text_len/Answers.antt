@@ -5,8 +5,8 @@ use Rattle.timefd_c_format.proofs.len.text_len.Goals as goal
 pub nodes-preserved : goal.nodes-preserved
 nodes-preserved c = (
   c.in-Some.ensures.sound,
-  one_counted c.args.moment _ _ _ _ c.leaf_len.result c.nodes.len c.in_front-len.result c.nodes.invariant.1
-      c.in-Some.ensures.leaves c.leaf_len.ensures c.in_front-len.ensures,
+  one_counted c.args.moment _ _ _ _ c.leaf_len.result c.nodes.len c.len_of_both-len.result c.nodes.invariant.1
+      c.in-Some.ensures.leaves c.leaf_len.ensures c.len_of_both-len.ensures,
 )
 
 pub returns : goal.returns

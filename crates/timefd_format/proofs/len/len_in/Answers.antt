@@ -1,8 +1,8 @@
 use Rattle.std.proofs.Common.{◌∙◌, Err, ap, subst}
 use Rattle.timefd_format.specs.Outcomes.{IsOutcome}
 use Rattle.timefd_format.specs.Written.{shown}
-use Rattle.timefd_c_format.proofs.WriteLemmas.{room_alone}
-use Rattle.timefd_c_format.proofs.len.len_in.Goals as goal
+use Rattle.timefd_format.proofs.LenLemmas.{room_alone}
+use Rattle.timefd_format.proofs.len.len_in.Goals as goal
 
 pub unreachable-requires : goal.unreachable-requires
 unreachable-requires c =

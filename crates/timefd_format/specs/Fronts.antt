@@ -1,0 +1,24 @@
+-- What is written over the front of a buffer.
+use Rattle.std.specs.Prelude.{ℕ, ◌≡◌, ◌<◌, ◌++◌, length, drop, Result, Ok, Err}
+use Rattle.timefd_component.specs.Tree.{Text}
+use Rattle.timefd_node_list.specs.Nodes.{kept_bytes}
+use Rattle.timefd_format.specs.declared.unshown.Unshown.{Unshown}
+use Rattle.timefd_format.specs.declared.write.FormatError.{FormatError}
+use Rattle.timefd_format.specs.declared.write.FormatError.TheVariants as fails
+
+-- The text is the front of the buffer, its length is answered, and what comes after it is as it was. Too little room
+-- is reported, or the first component that shows nothing; then all of the buffer is as it was.
+abbrev pub IsFront : Result Text Unshown → Text → Text → Result ℕ FormatError → Type 0
+IsFront (Ok text) old new (Ok len) = (len ≡ length text) × (new ≡ text ++ drop (length text) old)
+IsFront (Ok text) old new (Err fails.Room) = (length old < length text) × (new ≡ old)
+IsFront (Ok text) old new (Err (fails.Unshown u)) = ⊥
+IsFront (Err v) old new (Ok len) = ⊥
+IsFront (Err v) old new (Err fails.Room) = ⊥
+IsFront (Err v) old new (Err (fails.Unshown u)) = (u ≡ v) × (new ≡ old)
+
+-- the length of what is to be written, at most the greatest `usize`, or what shows nothing
+abbrev pub IsLen : Result Text Unshown → Result ℕ Unshown → Type 0
+IsLen (Ok text) (Ok len) = len ≡ kept_bytes (length text)
+IsLen (Ok text) (Err u) = ⊥
+IsLen (Err v) (Ok len) = ⊥
+IsLen (Err v) (Err u) = u ≡ v

@@ -1,0 +1,43 @@
+//! What any component shows, appended to what is written.
+
+ghost use Rattle.std.specs.Prelude.{◌+◌, ◌≤◌, length};
+ghost use Rattle.timefd_format.specs.Appends.{TriesToAppend};
+ghost use Rattle.timefd_format.specs.Written.{shown};
+
+use crate::append::append_bytes;
+use crate::write::write_component;
+use timefd_component::Component;
+use timefd_moment::Moment;
+
+/// Appends what a component shows, by the rule of any component, and answers where it ends. `None` says nothing.
+#[inline(never)]
+pub fn append_slowly(
+    moment: &Moment,
+    component: &Component,
+    room: &mut [u8],
+    at: usize,
+) -> Option<usize>
+    requires { at + 32 ≤ length room.old }
+    ensures { TriesToAppend (shown moment.now component.now) room.old at room.new result }
+{
+    append_through(moment, component, &mut [0; 32], room, at)
+}
+
+/// The same, where it is written in a buffer of its own first.
+#[inline(always)]
+#[tactic(auto, using(crate::proofs::AppendLemmas::through))]
+fn append_through(
+    moment: &Moment,
+    component: &Component,
+    short: &mut [u8],
+    room: &mut [u8],
+    at: usize,
+) -> Option<usize>
+    requires there { at + length short.old ≤ length room.old }
+    ensures { TriesToAppend (shown moment.now component.now) room.old at room.new result }
+{
+    match write_component(*moment, *component, short) {
+        Ok(start) => Some(append_bytes(&short[start..], room, at)),
+        Err(_) => None,
+    }
+}
