@@ -1,8 +1,7 @@
 -- Tokens of one byte each, at the ends of a pattern.
-use Rattle.std.proofs.Common.{◌≡◌, ℕ, ◌+◌, ◌-◌, ◌<◌, ◌≤◌, Bool, true, false, List, [], ◌∷◌, ◌++◌, length, get_or, take, drop, refl, ap, ◌∙◌, sym, add-one, arith, zero, suc, take-suc, take_all}
+use Rattle.std.proofs.Common.{◌≡◌, ℕ, ◌+◌, ◌-◌, ◌<◌, Bool, true, false, List, [], ◌∷◌, ◌++◌, length, get_or, take, drop, refl, ap, ◌∙◌, sym, add-one, arith, suc, take-suc, take_all}
 use Rattle.std.specs.Prelude.{not, ◌&&◌, ◌||◌, ◌==◌}
 use Rattle.std.proofs.Math.Seq.{drop-cons, drop-length}
-use Rattle.timefd_lint_files.specs.declared.class.Class.{Class}
 use Rattle.timefd_lint_files.specs.declared.token.Token.{Token}
 use Rattle.timefd_lint_files.specs.declared.token.Token.TheVariants.{Byte, Any, OneOf, Star, Folders, Rest, Nothing}
 use Rattle.timefd_lint_files.specs.Ends.{EndsAlike, BeginsAlike}

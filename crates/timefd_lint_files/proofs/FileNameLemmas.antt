@@ -1,15 +1,14 @@
 -- What stays within a name matches the last name of a path alone.
-use Rattle.std.proofs.Common.{◌≡◌, ℕ, ◌+◌, ◌-◌, ◌<◌, ◌≤◌, ◌≢◌, Bool, true, false, List, [], ◌∷◌, ◌++◌, length, get_or, take, drop, refl, ap, ◌∙◌, sym, add-one, arith, zero, suc, inl, inr, take_all}
-use Rattle.std.specs.Prelude.{not, ◌&&◌, ◌||◌, ◌==◌}
+use Rattle.std.proofs.Common.{◌≡◌, ℕ, ◌+◌, ◌-◌, ◌<◌, ◌≤◌, ◌≢◌, Bool, true, false, List, [], ◌∷◌, length, get_or, take, drop, refl, ◌∙◌, sym, add-one, arith, zero, suc, inl, inr, take_all}
+use Rattle.std.specs.Prelude.{◌&&◌, ◌||◌, ◌==◌}
 use Rattle.std.proofs.Math.Seq.{drop-cons, drop-length}
 use Rattle.std.proofs.lemmas.Bool.{and_parts, or_cases, not-true, eqb-true, eqb-false, eq-eqb, ne_eqb, cases_Bool, or_parts, or_left, or_right}
 use Rattle.std.proofs.lemmas.List.{length-drop}
-use Rattle.timefd_lint_files.specs.declared.class.Class.{Class}
 use Rattle.timefd_lint_files.specs.declared.token.Token.{Token}
 use Rattle.timefd_lint_files.specs.declared.token.Token.TheVariants.{Byte, Any, OneOf, Star, Folders, Rest, Nothing}
-use Rattle.timefd_lint_files.specs.FileNames.{are_of_name, are_within_name, file_name, is_folders, is_within_name}
+use Rattle.timefd_lint_files.specs.FileNames.{are_of_name, are_within_name, file_name, is_within_name}
 use Rattle.timefd_lint_files.specs.Lines.{has_slash}
-use Rattle.timefd_lint_files.specs.Matching.{Text, slash, has, matches, takes, takes_none, takes_some}
+use Rattle.timefd_lint_files.specs.Matching.{Text, slash, matches, takes, takes_none, takes_some}
 use Rattle.timefd_lint_files.proofs.EndLemmas.{and_false, nothing_on}
 
 -- A slash isn't matched by what stays within a name.
@@ -74,11 +73,11 @@ last_alone tokens (byte ∷ bytes) within = elim (cases_Bool (has_slash bytes)) 
       rw (whole, slashes, behind) (twice_false (takes_some Folders (matches tokens) bytes) (byte == slash)
       ∙ (rw behind at more))
   | inr none ↦ elim (cases_Bool (byte == slash)) [
-      | inl here ↦
-          let whole = none_with_slash tokens (byte ∷ bytes) within (or_left (byte == slash) (has_slash bytes) here) in
-          rw (whole, none, here, no_folders (matches tokens) bytes none) (or_false (matches tokens bytes))
-      | inr other ↦ rw (none, other, no_folders (matches tokens) bytes none) refl
-    ]
+    | inl here ↦
+        let whole = none_with_slash tokens (byte ∷ bytes) within (or_left (byte == slash) (has_slash bytes) here) in
+        rw (whole, none, here, no_folders (matches tokens) bytes none) (or_false (matches tokens bytes))
+    | inr other ↦ rw (none, other, no_folders (matches tokens) bytes none) refl
+  ]
 ]
 
 pub of_name : (tokens : List Token) (path : Text) → are_of_name tokens ≡ true

@@ -1,9 +1,8 @@
 -- A pattern and a path without what their ends have in common.
-use Rattle.std.specs.Prelude.{ℕ, ◌≡◌, ◌-◌, ◌≤◌, Bool, true, false, not, ◌&&◌, ◌||◌, ◌==◌, if◌then◌else◌, List, [], ◌∷◌, length, take, drop, Option, Some, None}
+use Rattle.std.specs.Prelude.{ℕ, ◌≡◌, ◌-◌, ◌≤◌, Bool, false, List, length, take, drop, Option, Some, None}
 use Rattle.timefd_lint_files.specs.declared.ends.Left.{Left}
 use Rattle.timefd_lint_files.specs.declared.token.Token.{Token}
-use Rattle.timefd_lint_files.specs.declared.token.Token.TheVariants.{Byte, Any, OneOf, Star, Folders, Rest, Nothing}
-use Rattle.timefd_lint_files.specs.Matching.{Text, slash, matches}
+use Rattle.timefd_lint_files.specs.Matching.{Text, matches}
 
 -- Without so many tokens and bytes at their ends the tokens match the path as they do with them.
 pub record EndsAlike (tokens : List Token) (path : Text) (count : ℕ) : Type 0 where

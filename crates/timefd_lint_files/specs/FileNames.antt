@@ -1,5 +1,5 @@
 -- The last name of a path, and patterns that match it in any folder.
-use Rattle.std.specs.Prelude.{ℕ, Bool, true, false, not, ◌&&◌, ◌==◌, if◌then◌else◌, List, [], ◌∷◌}
+use Rattle.std.specs.Prelude.{Bool, true, false, not, ◌&&◌, ◌==◌, if◌then◌else◌, List, [], ◌∷◌}
 use Rattle.timefd_lint_files.specs.declared.token.Token.{Token}
 use Rattle.timefd_lint_files.specs.declared.token.Token.TheVariants.{Byte, Any, OneOf, Star, Folders, Rest, Nothing}
 use Rattle.timefd_lint_files.specs.Lines.{has_slash}

@@ -43,7 +43,6 @@ impl Pattern {
 
     /// Whether it matches a path: from its file's folder on, with a `/` between the names. The row is
     /// room to work in.
-    #[tactic(auto, using(crate::proofs::PatternLemmas::as_stated))]
     pub fn applies(
         &self,
         path: &[u8],

@@ -47,11 +47,7 @@ fn add_all(tokens: &[Token], path: &[u8], row: &mut [bool])
 /// Whether the tokens match the path, by a row for each. It takes a step for each token, or range of a class,
 /// and byte.
 #[tactic(auto, using(crate::proofs::RowLemmas::none_first, crate::proofs::MatchingLemmas::first_place))]
-fn matches_by_rows(
-    tokens: &[Token],
-    path: &[u8],
-    row: &mut Vec<bool>,
-) -> Result<bool, AllocError>
+fn matches_by_rows(tokens: &[Token], path: &[u8], row: &mut Vec<bool>) -> Result<bool, AllocError>
     ensures { IfOk result (λ matches. matches ≡ spec.matches tokens.now path.now) }
 {
     row.clear();
