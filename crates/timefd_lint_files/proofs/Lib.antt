@@ -1,5 +1,8 @@
 pub mod RowLemmas
+pub mod EndLemmas
+pub mod FileNameLemmas
 pub mod MatchingLemmas
+pub mod PatternLemmas
 pub mod ClassLemmas
 pub mod TokenLemmas
 pub mod LineLemmas

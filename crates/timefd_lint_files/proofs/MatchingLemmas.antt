@@ -157,11 +157,12 @@ all_behind (token ∷ tokens) = record {
 pub decided : (tokens : List Token) (path : Text) → IsTrue (matches tokens path) ↔ Matches tokens path
 decided tokens path = let is = all_behind tokens in (is.to path, is.from path)
 
--- the first place of a row
-pub answered : (tokens : List Token) (path : Text) (row : List Bool) → IsRow tokens path row
-    → IsTrue (get_or row 0 false) ↔ Matches tokens path
-answered tokens path row is = rw (is.each 0 (omega arith)) (decided tokens path)
+-- an answer that is that of the test
+pub as_decided : (answer : Bool) (tokens : List Token) (path : Text) → answer ≡ matches tokens path
+    → IsTrue answer ↔ Matches tokens path
+as_decided answer tokens path is = rw is (decided tokens path)
 
+-- the first place of a row
 pub first_place : (tokens : List Token) (path : Text) (row : List Bool) → IsRow tokens path row
     → get_or row 0 false ≡ matches tokens path
 first_place tokens path row is = is.each 0 (omega arith)

@@ -1,6 +1,8 @@
 pub mod Matching
+pub mod Ends
 pub mod Errors
 pub mod Lines
+pub mod FileNames
 pub mod Classes
 pub mod Tokens
 pub mod Patterns

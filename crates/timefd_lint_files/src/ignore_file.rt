@@ -4,7 +4,8 @@ ghost use Rattle.std.specs.Prelude.{◌≡◌, ◌≤◌, ◌++◌, length, IfOk
 ghost use Rattle.timefd_lint_files.specs.IgnoreFiles as spec;
 ghost use Rattle.timefd_lint_files.specs.IgnoreFiles.{AreRead, IsReadAs};
 
-use crate::pattern::{Pattern, pattern_of};
+use crate::pattern::Pattern;
+use crate::reading::pattern_of;
 use std::alloc::{AllocError, Global};
 
 /// A `.gitignore` file.

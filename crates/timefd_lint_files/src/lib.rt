@@ -1,15 +1,19 @@
 //! The sources below folders, but those that `.gitignore` files ignore, or that are excluded.
 #![tactic(auto)]
 
+mod applying;
 mod class;
+mod ends;
 mod entry;
 mod ignore_file;
+mod last_name;
 mod line;
 mod matching;
 mod names;
 mod own;
 mod pattern;
 mod ranges;
+mod reading;
 mod rules;
 mod system;
 mod token;
@@ -22,7 +26,8 @@ pub use entry::{Entry, Kind, Role};
 pub use ignore_file::IgnoreFile;
 pub use matching::matches;
 pub use names::{Sought, expanded};
-pub use pattern::{Pattern, pattern_of};
+pub use pattern::Pattern;
+pub use reading::pattern_of;
 pub use rules::{Verdict, is_ignored, is_passed_over};
 pub use system::{FileSystem, ReadError};
 pub use token::Token;

@@ -4,6 +4,7 @@ ghost use Rattle.std.specs.Prelude.{◌≡◌, ◌<◌, ◌↔◌, [], length, I
 ghost use Rattle.timefd_lint_files.specs.Matching as spec;
 ghost use Rattle.timefd_lint_files.specs.Matching.{IsRow, IsRowBehind, Matches};
 
+use crate::ends::{Left, without_end, without_front};
 use crate::token::Token;
 use std::alloc::AllocError;
 
@@ -43,16 +44,11 @@ fn add_all(tokens: &[Token], path: &[u8], row: &mut [bool])
     }
 }
 
-/// Whether the tokens match the path, whose names have a `/` between them. It takes a step for each
-/// token, or range of a class, and byte. The row is room to work in.
-///
-/// # Errors
-///
-/// That memory ran out.
-#[tactic(auto, using(crate::proofs::RowLemmas::none_first, crate::proofs::MatchingLemmas::answered, crate::proofs::MatchingLemmas::first_place))]
-pub fn matches(tokens: &[Token], path: &[u8], row: &mut Vec<bool>) -> Result<bool, AllocError>
-    ensures exact { IfOk result (λ matches. IsTrue matches ↔ Matches tokens.now path.now) }
-    ensures test { IfOk result (λ matches. matches ≡ spec.matches tokens.now path.now) }
+/// Whether the tokens match the path, by a row for each. It takes a step for each token, or range of a class,
+/// and byte.
+#[tactic(auto, using(crate::proofs::RowLemmas::none_first, crate::proofs::MatchingLemmas::first_place))]
+fn matches_by_rows(tokens: &[Token], path: &[u8], row: &mut Vec<bool>) -> Result<bool, AllocError>
+    ensures { IfOk result (λ matches. matches ≡ spec.matches tokens.now path.now) }
 {
     row.clear();
     row.resize(path.len(), false)?;
@@ -60,4 +56,35 @@ pub fn matches(tokens: &[Token], path: &[u8], row: &mut Vec<bool>) -> Result<boo
     let answers = row.as_mut_slice();
     add_all(tokens, path, answers);
     Ok(answers[0])
+}
+
+/// Whether what is left of the tokens matches what is left of the path.
+fn matches_left(left: Left<'_>, row: &mut Vec<bool>) -> Result<bool, AllocError>
+    ensures { IfOk result (λ matches. matches ≡ spec.matches left.entry.tokens.now left.entry.path.now) }
+{
+    if left.tokens.is_empty() {
+        return Ok(left.path.is_empty());
+    }
+    matches_by_rows(left.tokens, left.path, row)
+}
+
+/// Whether the tokens match the path, whose names have a `/` between them. Most don't, which the bytes at
+/// their ends say: only what is left between two stars, or has one, takes a step for each token, or range of
+/// a class, and byte. The row is room to work in.
+///
+/// # Errors
+///
+/// That memory ran out.
+#[tactic(auto, using(crate::proofs::MatchingLemmas::as_decided))]
+pub fn matches(tokens: &[Token], path: &[u8], row: &mut Vec<bool>) -> Result<bool, AllocError>
+    ensures exact { IfOk result (λ matches. IsTrue matches ↔ Matches tokens.now path.now) }
+    ensures test { IfOk result (λ matches. matches ≡ spec.matches tokens.now path.now) }
+{
+    let Some(front) = without_end(tokens, path) else {
+        return Ok(false);
+    };
+    let Some(left) = without_front(front.tokens, front.path) else {
+        return Ok(false);
+    };
+    matches_left(left, row)
 }

@@ -1,9 +1,11 @@
 //! What `.gitignore` files say of a path.
 
 ghost use Rattle.std.specs.Prelude.{◌≡◌, IfOk};
+ghost use Rattle.timefd_lint_files.specs.FileNames.{file_name};
 ghost use Rattle.timefd_lint_files.specs.Rules as spec;
 
 use crate::ignore_file::IgnoreFile;
+use crate::last_name::file_name;
 use crate::pattern::Pattern;
 use std::alloc::AllocError;
 
@@ -40,24 +42,26 @@ impl IgnoreFile {
         ensures { IfOk result (λ verdict. verdict ≡ spec.verdict_in self.now path.now is_folder) }
     {
         let below = path.get(self.folder_len..).unwrap_or(&[]);
-        last_verdict(&self.patterns, below, is_folder, row)
+        last_verdict(&self.patterns, below, file_name(below), is_folder, row)
     }
 }
 
-/// What the last pattern that matches a path says; nothing if none does.
+/// What the last pattern that matches a path says, whose last name this is; nothing if none does.
 #[tactic(auto, using(crate::proofs::RuleLemmas::later_twice, crate::proofs::RuleLemmas::from_none))]
 fn last_verdict(
     patterns: &[Pattern],
     path: &[u8],
+    name: &[u8],
     is_folder: bool,
     row: &mut Vec<bool>,
 ) -> Result<Option<Verdict>, AllocError>
+    requires { name.now ≡ file_name path.now }
     ensures { IfOk result (λ verdict.
         verdict ≡ spec.last_verdict patterns.now path.now is_folder) }
 {
     let mut last = None;
     for pattern in patterns {
-        if pattern.applies(path, is_folder, row)? {
+        if pattern.applies_to(path, name, is_folder, row)? {
             last = Some(pattern.verdict());
         }
     }

@@ -1,4 +1,4 @@
-use Rattle.std.proofs.Common.{rules, arith, ◌≡◌, ◌<◌, [], length}
+use Rattle.std.proofs.Common.{rules, arith, ◌≡◌, ◌<◌, length}
 use Rattle.std.proofs.lemmas.Grind.{common_steps}
 use Rattle.timefd_lint_files.specs.Walks.{IsWalkBut, texts}
 use Rattle.std.proofs.lemmas.Result.{err_from_is_err_and}

@@ -1,0 +1,57 @@
+//! Whether a pattern applies to a path.
+
+ghost use Rattle.std.specs.Prelude.{◌≡◌, ◌↔◌, IfOk, IsTrue};
+ghost use Rattle.timefd_lint_files.specs.FileNames.{file_name};
+ghost use Rattle.timefd_lint_files.specs.Matching.{matches};
+ghost use Rattle.timefd_lint_files.specs.Patterns as spec;
+ghost use Rattle.timefd_lint_files.specs.Patterns.{Applies};
+
+use crate::last_name::file_name;
+use crate::matching;
+use crate::pattern::Pattern;
+use std::alloc::AllocError;
+
+impl Pattern {
+    /// Whether its tokens match a path whose last name this is.
+    #[tactic(auto, using(crate::proofs::FileNameLemmas::name_alone))]
+    fn matches(&self, path: &[u8], name: &[u8], row: &mut Vec<bool>) -> Result<bool, AllocError>
+        requires { name.now ≡ file_name path.now }
+        ensures { IfOk result (λ answer. answer ≡ matches self.now.tokens.items path.now) }
+    {
+        if self.is_of_name {
+            return matching::matches(&self.tokens[1..], name, row);
+        }
+        matching::matches(&self.tokens, path, row)
+    }
+
+    /// Whether it matches a path whose last name this is.
+    pub fn applies_to(
+        &self,
+        path: &[u8],
+        name: &[u8],
+        is_folder: bool,
+        row: &mut Vec<bool>,
+    ) -> Result<bool, AllocError>
+        requires { name.now ≡ file_name path.now }
+        ensures { IfOk result (λ applies. applies ≡ spec.applies self.now path.now is_folder) }
+    {
+        if self.is_for_folders && !is_folder {
+            return Ok(false);
+        }
+        self.matches(path, name, row)
+    }
+
+    /// Whether it matches a path: from its file's folder on, with a `/` between the names. The row is
+    /// room to work in.
+    pub fn applies(
+        &self,
+        path: &[u8],
+        is_folder: bool,
+        row: &mut Vec<bool>,
+    ) -> Result<bool, AllocError>
+        ensures exact { IfOk result (λ applies. IsTrue applies ↔ Applies self.now path.now is_folder) }
+        ensures test { IfOk result (λ applies. applies ≡ spec.applies self.now path.now is_folder) }
+    {
+        self.applies_to(path, file_name(path), is_folder, row)
+    }
+}

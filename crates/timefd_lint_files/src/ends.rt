@@ -1,0 +1,86 @@
+//! A pattern and a path without the bytes that their ends have in common.
+
+ghost use Rattle.std.specs.Prelude.{◌≡◌};
+ghost use Rattle.timefd_lint_files.specs.Matching as spec;
+ghost use Rattle.timefd_lint_files.specs.Ends.{BeginsAlikeIn, Decides, EndsAlikeIn};
+
+use crate::token::Token;
+
+/// What is left of a pattern and a path.
+#[derive(Clone, Copy)]
+pub struct Left<'a> {
+    pub tokens: &'a [Token],
+    pub path: &'a [u8],
+}
+
+/// How many tokens at the end match one byte each, those that the path ends with; none if one of them
+/// doesn't match its byte.
+#[tactic(auto, using(crate::proofs::EndLemmas::none_behind, crate::proofs::EndLemmas::one_behind, crate::proofs::EndLemmas::other_behind, crate::proofs::EndLemmas::end_of_path_behind))]
+fn end_len(tokens: &[Token], path: &[u8]) -> Option<usize>
+    ensures { EndsAlikeIn tokens.now path.now result }
+{
+    let mut count = 0;
+    'bytes: while count < tokens.len() {
+        let token = &tokens[tokens.len() - count - 1];
+        if token.takes_none() {
+            return Some(count);
+        }
+        if count == path.len() {
+            return None;
+        }
+        if !token.takes(path[path.len() - count - 1], true, false) {
+            return None;
+        }
+        count += 1;
+    }
+    Some(count)
+}
+
+/// How many tokens in front match one byte each, those that the path begins with; none if one of them
+/// doesn't match its byte.
+#[tactic(auto, using(crate::proofs::EndLemmas::none_before, crate::proofs::EndLemmas::one_before, crate::proofs::EndLemmas::other_before, crate::proofs::EndLemmas::end_of_path_before))]
+fn front_len(tokens: &[Token], path: &[u8]) -> Option<usize>
+    ensures { BeginsAlikeIn tokens.now path.now result }
+{
+    let mut count = 0;
+    'bytes: while count < tokens.len() {
+        let token = &tokens[count];
+        if token.takes_none() {
+            return Some(count);
+        }
+        if count == path.len() {
+            return None;
+        }
+        if !token.takes(path[count], true, false) {
+            return None;
+        }
+        count += 1;
+    }
+    Some(count)
+}
+
+/// What stands in front of the end that both have in common; none if their ends differ.
+pub fn without_end<'a>(tokens: &'a [Token], path: &'a [u8]) -> Option<Left<'a>>
+    ensures { Decides (spec.matches tokens.now path.now) result }
+{
+    let Some(count) = end_len(tokens, path) else {
+        return None;
+    };
+    Some(Left {
+        tokens: &tokens[..tokens.len() - count],
+        path: &path[..path.len() - count],
+    })
+}
+
+/// What stands behind the front that both have in common; none if their fronts differ.
+pub fn without_front<'a>(tokens: &'a [Token], path: &'a [u8]) -> Option<Left<'a>>
+    ensures { Decides (spec.matches tokens.now path.now) result }
+{
+    let Some(count) = front_len(tokens, path) else {
+        return None;
+    };
+    Some(Left {
+        tokens: &tokens[count..],
+        path: &path[count..],
+    })
+}

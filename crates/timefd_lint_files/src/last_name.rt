@@ -1,0 +1,70 @@
+//! The last name of a path.
+
+ghost use Rattle.std.specs.Prelude.{◌≡◌};
+ghost use Rattle.timefd_lint_files.specs.FileNames as spec;
+
+use crate::token::Token;
+
+/// What stands behind the last `/`, or the whole path if it has none.
+#[tactic(auto, using(crate::proofs::FileNameLemmas::behind_slash, crate::proofs::FileNameLemmas::one_byte, crate::proofs::FileNameLemmas::no_slash, crate::proofs::FileNameLemmas::none_yet))]
+pub fn file_name(path: &[u8]) -> &[u8]
+    ensures { result.now ≡ spec.file_name path.now }
+{
+    let mut from = path.len();
+    'bytes: while from > 0 {
+        if path[from - 1] == b'/' {
+            return &path[from..];
+        }
+        from -= 1;
+    }
+    path
+}
+
+impl Token {
+    /// Whether it matches within a name: no `/`.
+    fn is_within_name(&self) -> bool
+        ensures { result ≡ spec.is_within_name self.now }
+    {
+        match self {
+            Token::Byte(byte) => *byte != b'/',
+            Token::Any | Token::OneOf(_) | Token::Star | Token::Nothing => true,
+            Token::Folders | Token::Rest => false,
+        }
+    }
+
+    fn is_folders(&self) -> bool
+        ensures { result ≡ spec.is_folders self.now }
+    {
+        match self {
+            Token::Folders => true,
+            Token::Byte(_)
+            | Token::Any
+            | Token::OneOf(_)
+            | Token::Star
+            | Token::Rest
+            | Token::Nothing => false,
+        }
+    }
+}
+
+/// Whether each of these matches within a name.
+fn are_within_name(tokens: &[Token]) -> bool
+    ensures { result ≡ spec.are_within_name tokens.now }
+{
+    for token in tokens {
+        if !token.is_within_name() {
+            return false;
+        }
+    }
+    true
+}
+
+/// Whether tokens match a name in any folder: `**/`, and behind it what stays within the name.
+pub fn are_of_name(tokens: &[Token]) -> bool
+    ensures { result ≡ spec.are_of_name tokens.now }
+{
+    match tokens {
+        [] => false,
+        [first, behind @ ..] => first.is_folders() && are_within_name(behind),
+    }
+}
