@@ -25,11 +25,31 @@ class Node:
         ran = subprocess.run(["node", *words, room / "tests/node.mjs", room / "rows"], capture_output=True, text=True, timeout=SECONDS)
         if ran.returncode:
             return [{"name": "node", "differs": ran.stderr}]
-        return json.loads(ran.stdout)
+        return json.loads(ran.stdout) + [self.example(words, it) for it in sorted((room / "examples").glob("*.mjs"))]
+
+    def example(self, words, script):
+        """Runs an example over the text that lies beside it, and compares what it writes."""
+        given, wanted = (script.with_suffix(it) for it in (".in", ".out"))
+        text = given.read_text() if given.exists() else ""
+        ran = subprocess.run(["node", *words, script], input=text, capture_output=True, text=True, timeout=SECONDS)
+        return {"name": script.name, "differs": None if ran.stdout == wanted.read_text() else ran.stdout + ran.stderr}
 
     def takes(self, words, module):
         script = "process.exit(WebAssembly.validate(require('node:fs').readFileSync(process.argv[1])) ? 0 : 1)"
         return subprocess.run(["node", *words, "-e", script, module], stderr=subprocess.DEVNULL).returncode == 0
+
+
+class TypeScript:
+    name = "TypeScript"
+
+    def checks(self, room):
+        """What the compiler says of a program that takes all types of the package."""
+        if not shutil.which("tsc"):
+            raise Skipped("there is no tsc (Debian's package node-typescript)")
+        words = ["--noEmit", "--strict", "--target", "es2022", "--lib", "es2022,dom", "--module", "nodenext", "--moduleResolution", "nodenext"]
+        (room / "package.json").write_text('{ "type": "module" }')
+        ran = subprocess.run(["tsc", *words, room / "tests/types.ts"], capture_output=True, text=True, timeout=SECONDS)
+        return [{"name": "types.ts", "differs": ran.stdout + ran.stderr if ran.returncode else None}]
 
 
 class Handler(http.server.SimpleHTTPRequestHandler):
