@@ -56,7 +56,7 @@ export interface TimeOfDay {
 export interface MomentParts {
     readonly date?: CalendarDate | null;
     readonly time?: TimeOfDay | null;
-    /** How far the clock is ahead of UTC; negative where it is after UTC. */
+    /** How many seconds the clock is ahead of UTC; negative where UTC is ahead. */
     readonly offsetSeconds?: number | null;
 }
 
