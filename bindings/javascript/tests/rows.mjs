@@ -42,6 +42,7 @@ export const READ = [
     [2, "[hour repr:12]:[minute] [period]\\[", "12:00 AM[", "00:00:00"],
     [3, "[hour]:[minute]:[second].[subsecond]", "23:59:59.000000001", "23:59:59.000000001"],
     [3, "[year range:extended]-[month]-[day]", "-012026-01-02", "-12026-01-02"],
+    [3, "[year range:extended]-[month]-[day]", "+012026-01-02", "+12026-01-02"],
     [3, "[offset_hour sign:mandatory]:[offset_minute]:[offset_second]", "-00:30:05", "-00:30:05"],
     ["strftime", "%d %B %Y", "29 February 2024", "2024-02-29"],
     [3, "x", "x", ""],
