@@ -22,7 +22,7 @@ STORED(whole, u64)
 STORED(single, float)
 STORED(twice, double)
 
-/* Far behind an address. */
+/* Far after an address. */
 u64 far(u64 at, u64 value) {
     room[at + 4000] = (u8)value;
     return room[at + 4000];

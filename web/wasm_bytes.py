@@ -104,7 +104,7 @@ class Reader:
         return number - (1 << bits) if number >> (bits - 1) else number
 
     def block(self):
-        """The bytes behind their count."""
+        """The bytes after their count."""
         return self.take(self.number())
 
     def since(self, begin):
@@ -177,5 +177,5 @@ def immediate(code, kind):
 def place_in_memory(code):
     alignment, offset = code.number(), code.number()
     if alignment & ~0x3F or offset >> 32:
-        raise Unknown("an instruction takes another memory, or lies 4 GiB behind its address")
+        raise Unknown("an instruction takes another memory, or lies 4 GiB after its address")
     return number(alignment) + number(offset)

@@ -3,7 +3,7 @@
 import functools, http.server, json, os, pathlib, shutil, subprocess, tempfile, threading
 
 SECONDS = 300
-# What Node wants to be told, from the version that knows memories of 64 bits by default to those that know them on request.
+# The words that Node wants for memories of 64 bits: later versions have them by themselves, and Node 20 on request.
 NODE_WORDS = ([], ["--experimental-wasm-memory64"])
 
 
