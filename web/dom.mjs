@@ -1,15 +1,8 @@
-// Elements of the page, and cuts of its texts.
+// Elements of the page.
 
 export const by = (id) => document.getElementById(id);
 export const made = (tag, text, name) => Object.assign(document.createElement(tag), text === undefined ? {} : { textContent: text }, name ? { className: name } : {});
 export const button = (text, run, name) => Object.assign(made("button", text, name), { type: "button", onclick: run });
-
-// The readers count bytes of UTF-8, and the page code units of UTF-16: cuts a text at byte indices.
-export function cutter(text) {
-    const bytes = new TextEncoder().encode(text);
-    const decoder = new TextDecoder();
-    return { length: bytes.length, cut: (start, end) => decoder.decode(bytes.subarray(start, end)) };
-}
 
 // A text of nothing but spaces, so that it is seen.
 export const seen = (text) => (/^\s+$/.test(text) ? text.replace(/ /g, "\u2423").replace(/\n/g, "\u23ce").replace(/\t/g, "\u21e5") : text);

@@ -1,7 +1,7 @@
 // What mends a text with a fault.
 
-import { cutter } from "./dom.mjs";
 import { ANY } from "./moment.mjs";
+import { cutter } from "./places.mjs";
 
 // Texts that may mend the fault, with what is done.
 function changes(kind, text, fault) {

@@ -1,9 +1,10 @@
 import { load } from "./timefd.mjs";
-import { by, button, copied, copyText, cutter, made, seen } from "./dom.mjs";
+import { by, button, copied, copyText, made, seen } from "./dom.mjs";
 import { EXAMPLES, LANGUAGES, LETTERS, PARTS } from "./examples.mjs";
 import { codeLines } from "./lines.mjs";
 import { mends } from "./mend.mjs";
 import { ANY, moment, setMoment } from "./moment.mjs";
+import { cutter } from "./places.mjs";
 import { colours, segments, writer } from "./tree.mjs";
 
 // The most parts that are shown, and how long a text may be to be read at each key. It is read a little later else.
@@ -261,5 +262,5 @@ try {
     asked();
     document.documentElement.dataset.ready = "yes";
 } catch (error) {
-    verdict("failed", "Failed", error instanceof WebAssembly.CompileError ? "This browser has no WebAssembly memories of 64 bits. Chromium has them from 133 on, Firefox from 134." : String(error));
+    verdict("failed", "Failed", error instanceof WebAssembly.CompileError ? "This browser is too old for the page's WebAssembly: take Chromium 91, Firefox 89, Safari 16.4, or a later one." : String(error));
 }

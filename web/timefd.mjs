@@ -9,7 +9,15 @@ const ROOM = 16384;
 
 // Gives the two calls of a module, from its bytes. It wants nothing of its host.
 export async function load(bytes) {
-    const { instance } = await WebAssembly.instantiate(bytes, {});
+    return callsOf((await WebAssembly.instantiate(bytes, {})).instance);
+}
+
+// The same, at once. In a browser a script that draws a page may not do this.
+export function loadNow(bytes) {
+    return callsOf(new WebAssembly.Instance(new WebAssembly.Module(bytes)));
+}
+
+function callsOf(instance) {
     const calls = instance.exports;
     const bytesAt = (at, len) => new Uint8Array(calls.memory.buffer, Number(at), len);
     const numbersAt = (at, len) => new DataView(calls.memory.buffer, Number(at), len);

@@ -1,6 +1,6 @@
 // The parts of an accepted text.
 
-import { cutter } from "./dom.mjs";
+import { cutter } from "./places.mjs";
 
 // The colour of each node: one for each component in turn.
 export function colours(nodes) {

@@ -5,7 +5,7 @@ releases=$here/out/release
 elsewhere=$room/elsewhere
 mkdir -p "$elsewhere/bindings" "$elsewhere/examples" "$elsewhere/crates"
 cp -R "$here" "$elsewhere/packages"
-cp -R "$top/bindings/python" "$elsewhere/bindings"
+cp -R "$top/bindings/python" "$top/bindings/javascript" "$elsewhere/bindings"
 mkdir "$elsewhere/bindings/rust"
 (cd "$top/bindings/rust" && tar -c --exclude=./target .) | tar -x -C "$elsewhere/bindings/rust"
 cp "$top/examples/timefd.h" "$elsewhere/examples"
@@ -14,10 +14,11 @@ for file in timefd/out/timefd.o timefd_lint/out/timefd_lint.o timefd_write/out/t
     mkdir -p "$elsewhere/crates/${file%/*}"
     cp "$top/crates/$file" "$elsewhere/crates/$file"
 done
-if [ -e "$top/web/out/playground.html" ]; then
-    mkdir -p "$elsewhere/web/out"
-    cp "$top/web/out/playground.html" "$elsewhere/web/out"
-fi
+mkdir -p "$elsewhere/web/out"
+cp "$top/web/timefd.mjs" "$top/web/places.mjs" "$elsewhere/web"
+for file in playground.html timefd.wasm; do
+    [ ! -e "$top/web/out/$file" ] || cp "$top/web/out/$file" "$elsewhere/web/out"
+done
 for processor in $processors; do
     for_processor "$processor"
     mkdir -p "$elsewhere/$readers"

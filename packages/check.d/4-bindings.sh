@@ -1,4 +1,4 @@
-# Python's wheel, and the crate for Rust in each way that it finds the library.
+# Python's wheel, the crate for Rust in each way that it finds the library, and the package for JavaScript.
 
 python3 -m venv "$room/venv"
 "$room/venv/bin/pip" install --quiet --no-index --disable-pip-version-check --find-links "$releases" timefd
@@ -51,3 +51,21 @@ case $said in
 *) fail "without a library the crate says: $said" ;;
 esac
 mv "$room/native" "$crate"
+
+# The package for JavaScript, installed into a project without a network.
+tarball=$releases/timefd-$version.tgz
+if [ -e "$tarball" ]; then
+    same 'the version of the package for JavaScript' "$(sed -n 's/^ *"version": "\(.*\)",$/\1/p' "$top/bindings/javascript/package.json")" "$version"
+    mkdir "$room/javascript"
+    printf '{ "private": true }\n' > "$room/javascript/package.json"
+    cp "$top"/bindings/javascript/examples/* "$room/javascript"
+    (cd "$room/javascript" && npm_config_cache="$room/npm" npm install --silent --offline --no-audit --no-fund --ignore-scripts "$tarball") ||
+        fail 'npm does not install the package for JavaScript'
+    for file in LICENSE-MIT LICENSE-APACHE TERMS.md BUILT README.md timefd.d.ts licenses/strsim-LICENSE; do
+        [ -s "$room/javascript/node_modules/timefd/$file" ] || fail "the package for JavaScript has no $file"
+    done
+    same 'a project in JavaScript' "$(cd "$room/javascript" && node first.mjs)" "$(cat "$room/javascript/first.out")"
+    same 'a column rewritten in JavaScript' "$(cd "$room/javascript" && node column.mjs < column.in 2> "$room/complaint")" "$(cat "$room/javascript/column.out")"
+elif has npm 'the package for JavaScript'; then
+    echo "packages/check: SKIPPED: the package for JavaScript, as web/build has made no web/out/timefd.wasm" >> "$room/skipped"
+fi

@@ -1,8 +1,10 @@
 """What `./build` makes, each by itself: programs, and the library."""
 import os
 import pathlib
+import re
 import shutil
 import subprocess
+import sys
 import tempfile
 import typing
 
@@ -11,16 +13,26 @@ import exports
 import kit_try
 import module
 
+# What makes the page's module of WebAssembly.
+PAGE = crates.TOP / "web"
+sys.path.insert(0, str(PAGE))
+
+import wasm_bytes
+import wasm_module
+
 HERE = pathlib.Path(__file__).resolve().parent
 HEADER = crates.TOP / "examples/timefd.h"
 # The programs that users call otherwise than their crates.
 CALLED = {"timefd_write": "timefd_format"}
 USED = ("timefd", "timefd_lint", "timefd_write")
 LIBRARY = "timefd_c"
-# The page's library, which a test calls on this machine.
+# The page's library, which tests call on this machine and as WebAssembly.
 WEB = "timefd_web"
+WEB_FILES = (f"parts/lib{WEB}.a", f"parts/{wasm_module.MODULE}", f"parts/{wasm_module.WIDE}")
 # The parts are what the one archive is made of: a test that takes the place of calls for memory sees these in them alone.
 LIBRARY_FILES = ("libtimefd.a", "libtimefd.so", "timefd.h", "parts/libtimefd_c.a", "parts/liblibc_c.a")
+# The program that reaches what a library exports.
+REACHES = "reaches_each_export"
 
 
 class Product(typing.NamedTuple):
@@ -33,6 +45,8 @@ class Product(typing.NamedTuple):
         """The sum of all that it is made of."""
         own = [*sorted(HERE.glob("*.py")), HERE / "main.c", pathlib.Path(kit_try.__file__)]
         own += [HEADER, crates.TOP / "packages/library", crates.TOP / "packages/names"]
+        if self.crate == WEB:
+            own += [*wasm_module.PARTS, *(PAGE / f"{it}.py" for it in ("wasm_module", "wasm_bytes", "narrow"))]
         texts = [it.read_text(encoding="utf-8") for it in own]
         return crates.sum_of([self.crate, *crates.below(self.crate)], kit_try.identity(), *texts)
 
@@ -47,7 +61,7 @@ def chosen(with_tests):
     programs = [Product(it, (CALLED.get(it, it),)) for it in USED]
     if with_tests:
         programs += [Product(it, (f"tests/{it}",)) for it in crates.programs() if it not in USED]
-        programs.append(Product(WEB, (f"parts/lib{WEB}.a",)))
+        programs.append(Product(WEB, WEB_FILES))
     # The linter takes the longest: it begins first.
     return sorted([*programs, Product(LIBRARY, LIBRARY_FILES)], key=lambda it: len(crates.below(it.crate)), reverse=True)
 
@@ -77,14 +91,17 @@ def make_program(product, out, room):
     os.replace(f"{to}.new", to)
 
 
-def make_archive(crate, shim, room):
+def text_of_exports(crate, room):
+    """The text of the module of a library's exports."""
+    (room / "main.rt").write_text(exports.reaching(crate), encoding="utf-8")
+    libraries = [crates.as_library(crate), *module.libraries_below(crate)]
+    return exports.renamed(module.text_of(REACHES, room / "main.rt", libraries, room), crate)
+
+
+def make_archive(crate, text, shim, room):
     """Makes the archive of a library: its exports, and the file of C by which C calls them."""
     (room / "shim.c").write_text(shim, encoding="utf-8")
-    (room / "main.rt").write_text(exports.reaching(crate), encoding="utf-8")
-    name = "reaches_each_export"
-    libraries = [crates.as_library(crate), *module.libraries_below(crate)]
-    text = module.text_of(name, room / "main.rt", libraries, room)
-    made = module.compile_text(exports.renamed(text, crate), room, name)
+    made = module.compile_text(text, room, REACHES)
     run("cc", "-std=c11", "-O2", "-fPIC", "-c", "-o", room / "shim.o", room / "shim.c")
     archive = room / f"lib{crate}.a"
     run("ar", "rcD", archive, made, room / "shim.o")
@@ -95,7 +112,8 @@ def make_library(product, out, room):
     """Makes the library as the packages have it, static and shared, with its header and its parts."""
     header = HEADER.read_text(encoding="utf-8")
     (room / "timefd.h").write_text(exports.signed(header), encoding="utf-8")
-    archive = make_archive(product.crate, exports.shim(header, product.crate), room)
+    text = text_of_exports(product.crate, room)
+    archive = make_archive(product.crate, text, exports.shim(header, product.crate), room)
     run(crates.TOP / "packages/library", out, TIMEFD_ARCHIVE=str(archive))
     for it in (archive, kit_try.folder() / "c/liblibc_c.a", out / "UNPROVED"):
         shutil.copy(it, out / "parts")
@@ -103,8 +121,18 @@ def make_library(product, out, room):
 
 
 def make_web(product, out, room):
-    """Makes the archive of the page's library for this machine."""
-    shutil.copy(make_archive(product.crate, exports.shim_without_header(product.crate), room), out / "parts")
+    """Makes the page's library: the archive for this machine, and the modules of WebAssembly."""
+    text, shim = text_of_exports(product.crate, room), exports.shim_without_header(product.crate)
+    shutil.copy(make_archive(product.crate, text, shim, room), out / "parts")
+    # The kit's clang has no headers for WebAssembly, and a compiler's words give their types.
+    bare = room / "bare.c"
+    bare.write_text(re.sub(r"(?m)^#include .*\n", "", shim), encoding="utf-8")
+    clang = kit_try.folder() / "toolchain/bin/clang"
+    try:
+        objects = [wasm_module.compile_code(clang, text, room), *wasm_module.compile_parts(clang, [bare, *wasm_module.PARTS], room)]
+        wasm_module.make(clang, objects, exports.exported(product.crate), out / "parts")
+    except (wasm_module.Refused, wasm_bytes.Unknown) as reason:
+        raise kit_try.Lacking(str(reason)) from None
 
 
 MAKERS = {LIBRARY: make_library, WEB: make_web}

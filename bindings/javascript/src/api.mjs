@@ -1,0 +1,5 @@
+// What the package exports.
+
+export { FormatError, ReadError, WriteError } from "./errors.mjs";
+export { Format } from "./format.mjs";
+export { Moment } from "./moment.mjs";

@@ -1,0 +1,11 @@
+// What browsers import: the module of WebAssembly is fetched from where this package's scripts lie.
+
+import { start } from "./library.mjs";
+import { load } from "./timefd.mjs";
+
+const address = new URL("../timefd.wasm", import.meta.url);
+const answer = await fetch(address);
+if (!answer.ok) throw new Error(`timefd: ${address} answers ${answer.status}: put timefd.wasm there`);
+start(await load(await answer.arrayBuffer()));
+
+export * from "./api.mjs";
