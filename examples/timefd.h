@@ -440,8 +440,10 @@ timefd_date_answer timefd_read_date(uint32_t kind, const uint8_t *text, size_t l
 /* Where each field stands, as the library and this compiler have to agree on it. */
 #ifdef __cplusplus
 #define TIMEFD_IS(what) static_assert(what, #what)
-#else
+#elif __STDC_VERSION__ >= 201112L
 #define TIMEFD_IS(what) _Static_assert(what, #what)
+#else
+#define TIMEFD_IS(what) extern char timefd_private_is[(what) ? 1 : -1]
 #endif
 #define TIMEFD_FIELD(type, field, start, bytes) \
     TIMEFD_IS(offsetof(type, field) == (start) && sizeof(((type *)0)->field) == (bytes))
