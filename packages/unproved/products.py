@@ -13,6 +13,8 @@ import module
 
 HERE = pathlib.Path(__file__).resolve().parent
 HEADER = crates.TOP / "examples/timefd.h"
+# Those over it, which call nothing but what it declares.
+MORE_HEADERS = tuple(crates.TOP / f"examples/timefd_{it}.h" for it in ("names", "text", "time"))
 # The programs that users call otherwise than their crates.
 CALLED = {"timefd_write": "timefd_format"}
 USED = ("timefd", "timefd_lint", "timefd_write")
@@ -20,7 +22,8 @@ LIBRARY = "timefd_c"
 # The page's library, which a test calls on this machine.
 WEB = "timefd_web"
 # The parts are what the one archive is made of: a test that takes the place of calls for memory sees these in them alone.
-LIBRARY_FILES = ("libtimefd.a", "libtimefd.so", "timefd.h", "parts/libtimefd_c.a", "parts/liblibc_c.a")
+HEADERS = (HEADER.name, *(it.name for it in MORE_HEADERS))
+LIBRARY_FILES = ("libtimefd.a", "libtimefd.so", *HEADERS, "parts/libtimefd_c.a", "parts/liblibc_c.a")
 
 
 class Product(typing.NamedTuple):
@@ -32,7 +35,7 @@ class Product(typing.NamedTuple):
     def sum(self):
         """The sum of all that it is made of."""
         own = [*sorted(HERE.glob("*.py")), HERE / "main.c", pathlib.Path(kit_try.__file__)]
-        own += [HEADER, crates.TOP / "packages/library", crates.TOP / "packages/names"]
+        own += [HEADER, *MORE_HEADERS, crates.TOP / "packages/library", crates.TOP / "packages/names"]
         texts = [it.read_text(encoding="utf-8") for it in own]
         return crates.sum_of([self.crate, *crates.below(self.crate)], kit_try.identity(), *texts)
 
@@ -99,7 +102,8 @@ def make_library(product, out, room):
     run(crates.TOP / "packages/library", out, TIMEFD_ARCHIVE=str(archive))
     for it in (archive, kit_try.folder() / "c/liblibc_c.a", out / "UNPROVED"):
         shutil.copy(it, out / "parts")
-    shutil.copy(room / "timefd.h", out)
+    for it in (room / "timefd.h", *MORE_HEADERS):
+        shutil.copy(it, out)
 
 
 def make_web(product, out, room):
