@@ -54,7 +54,8 @@ static inline uint8_t timefd_private_number(int number) {
     return number < 0 || number > 255 ? (uint8_t)255 : (uint8_t)number;
 }
 
-/* The date and the time of day that a clock shows so many seconds after 1970-01-01 00:00:00 UTC, as far from UTC as the offset says. */
+/* The date and the time of day that a clock shows so many seconds after 1970-01-01 00:00:00 UTC, as far from UTC as the offset
+   says. */
 static inline timefd_moment timefd_private_moment(int64_t seconds, uint32_t nanosecond, int32_t offset_seconds) {
     int64_t days = timefd_private_quotient(seconds, 86400);
     int64_t second_of_day = seconds - days * 86400 + offset_seconds;
@@ -150,8 +151,8 @@ static inline bool timefd_private_seconds(const timefd_moment *moment, time_t *s
     return true;
 }
 
-/* Sets `seconds` to the time that the moment is. False, and nothing is set, where it is none exactly: a date, a time of day and an
-   offset have to be known, in their ranges, and a whole second.
+/* Sets `seconds` to the time that the moment is. False, and nothing is set, where it is none exactly: a date, a time of day and
+   an offset have to be known, in their ranges, and a whole second.
 
        time_t seconds;
        if (timefd_time_of_moment(&answer.moment, &seconds)) { .. } */
