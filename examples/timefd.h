@@ -314,8 +314,7 @@ timefd_read_answer timefd_read(uint32_t kind, const uint8_t *text, size_t len, t
 timefd_read_answer timefd_read_within(uint32_t kind, uint32_t limit, const uint8_t *text, size_t len, timefd_node *nodes,
                                       size_t node_room, uint8_t *literals, size_t literal_room);
 
-/* A text of strftime of all composite letters, %c%D%F%r%R%T%z, and how many nodes and bytes of literals timefd_read writes of it.
-   */
+/* A text of strftime of all composite letters, %c%D%F%r%R%T%z, and how many nodes and bytes of literals timefd_read writes of it. */
 #define TIMEFD_COMPOSITES "%c%D%F%r%R%T%z"
 #define TIMEFD_COMPOSITE_NODES 47u
 #define TIMEFD_COMPOSITE_LITERALS 16u

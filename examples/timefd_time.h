@@ -27,6 +27,12 @@ static inline int64_t timefd_private_quotient(int64_t number, int64_t divisor) {
     return number / divisor - (number % divisor < 0);
 }
 
+/* What that quotient leaves: 0 or more. */
+static inline int64_t timefd_private_rest(int64_t number, int64_t divisor) {
+    int64_t rest = number % divisor;
+    return rest < 0 ? rest + divisor : rest;
+}
+
 static inline bool timefd_private_is_leap(int64_t year) {
     return year % 4 == 0 && (year % 100 != 0 || year % 400 == 0);
 }
@@ -57,10 +63,10 @@ static inline uint8_t timefd_private_number(int number) {
 /* The date and the time of day that a clock shows so many seconds after 1970-01-01 00:00:00 UTC, as far from UTC as the offset
    says. */
 static inline timefd_moment timefd_private_moment(int64_t seconds, uint32_t nanosecond, int32_t offset_seconds) {
-    int64_t days = timefd_private_quotient(seconds, 86400);
-    int64_t second_of_day = seconds - days * 86400 + offset_seconds;
-    days += TIMEFD_PRIVATE_EPOCH + timefd_private_quotient(second_of_day, 86400);
-    second_of_day -= timefd_private_quotient(second_of_day, 86400) * 86400;
+    int64_t clock = timefd_private_rest(seconds, 86400) + offset_seconds;
+    int64_t second_of_day = timefd_private_rest(clock, 86400);
+    int64_t days =
+        TIMEFD_PRIVATE_EPOCH + timefd_private_quotient(seconds, 86400) + timefd_private_quotient(clock, 86400);
 
     /* 400 years have 146097 days, so this is the year or one beside it. */
     int64_t year = timefd_private_quotient(days * 400, 146097);
@@ -167,8 +173,6 @@ static inline bool timefd_tm_of_moment(const timefd_moment *moment, struct tm *t
     if (moment->nanosecond != 0 || !timefd_private_is_known(moment, TIMEFD_HAS_DATE | TIMEFD_HAS_TIME)) {
         return false;
     }
-    /* 0000-01-01 was a Saturday. */
-    int64_t weekday = (timefd_private_days(moment) + 6) % 7;
     memset(tm, 0, sizeof *tm);
     tm->tm_year = moment->year - 1900;
     tm->tm_mon = moment->month - 1;
@@ -176,7 +180,7 @@ static inline bool timefd_tm_of_moment(const timefd_moment *moment, struct tm *t
     tm->tm_hour = moment->hour;
     tm->tm_min = moment->minute;
     tm->tm_sec = moment->second;
-    tm->tm_wday = (int)(weekday < 0 ? weekday + 7 : weekday);
+    tm->tm_wday = (int)timefd_private_rest(timefd_private_days(moment) + 6, 7); /* 0000-01-01 was a Saturday */
     tm->tm_yday = (int)(timefd_private_days_before_month(moment->year, moment->month) + moment->day - 1);
     tm->tm_isdst = -1;
     return true;
