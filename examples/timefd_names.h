@@ -9,7 +9,7 @@
 #ifndef TIMEFD_NAMES_H
 #define TIMEFD_NAMES_H
 
-#include "timefd.h"
+#include "timefd_text.h"
 
 #include <stdio.h>
 
@@ -167,13 +167,25 @@ static inline const char *timefd_part_name(uint32_t part) {
     return "";
 }
 
-/* Writes why timefd_format or timefd_format_nodes wrote nothing, with a 0 at the end, and answers how many bytes the sentence has
-   without it. Where it has no fewer than `room` it is cut, as by snprintf; 128 are enough for each.
+/* Writes the sentence of a refused text's fault, and answers its length. */
+static inline size_t timefd_private_fault_sentence(uint32_t kind, const char *text, char *sentence, size_t room) {
+    timefd_answer answer;
+    timefd_check_text(kind, text, sentence, room, &answer);
+    return answer.sentence_len;
+}
+
+/* Writes why timefd_format_text or timefd_format_nodes_text wrote nothing, with a 0 at the end, and answers how many bytes the whole
+   sentence has without it; where there is too little room, it is cut. `kind` and `text` are those that the call had; of nodes the text
+   may be null.
 
        char sentence[128];
-       timefd_format_sentence(&answer, sentence, sizeof sentence);
+       timefd_format_sentence(TIMEFD_VERSION_3, "[hour]", &answer, sentence, sizeof sentence);
        puts(sentence);    the component `hour` shows nothing: the value has no time of day */
-static inline size_t timefd_format_sentence(const timefd_format_answer *answer, char *sentence, size_t room) {
+static inline size_t timefd_format_sentence(uint32_t kind, const char *text, const timefd_format_answer *answer, char *sentence,
+                                            size_t room) {
+    if (answer->status == TIMEFD_REFUSED) {
+        return timefd_private_fault_sentence(kind, text, sentence, room);
+    }
     if (answer->status == TIMEFD_UNSHOWN) {
         return (size_t)snprintf(sentence, room, "the component `%s` shows nothing: %s", timefd_component_name(answer->component),
                                 timefd_unshown_sentence(answer->reason));
@@ -187,10 +199,11 @@ static inline size_t timefd_format_sentence(const timefd_format_answer *answer, 
     return (size_t)snprintf(sentence, room, "%s", timefd_status_sentence(answer->status));
 }
 
-/* Writes why timefd_read_date read no moment, as timefd_format_sentence does.
+/* Writes why timefd_read_date_text read no moment, as timefd_format_sentence does.
 
        puts(sentence);    the component `month` reads nothing at byte index 3 */
-static inline size_t timefd_read_date_sentence(const timefd_date_answer *answer, char *sentence, size_t room) {
+static inline size_t timefd_read_date_sentence(uint32_t kind, const char *text, const timefd_date_answer *answer, char *sentence,
+                                               size_t room) {
     const char *component = timefd_component_name(answer->component);
     const char *part = timefd_part_name(answer->part);
     switch (answer->reason) {
@@ -203,6 +216,9 @@ static inline size_t timefd_read_date_sentence(const timefd_date_answer *answer,
         return (size_t)snprintf(sentence, room, "the description has another text at byte index %zu", answer->value);
     case TIMEFD_TEXT_FOLLOWS:
         return (size_t)snprintf(sentence, room, "the description ends at byte index %zu", answer->value);
+    }
+    if (answer->status == TIMEFD_REFUSED) {
+        return timefd_private_fault_sentence(kind, text, sentence, room);
     }
     if (answer->status == TIMEFD_MISSING) {
         return (size_t)snprintf(sentence, room, "the %s was not read", part);

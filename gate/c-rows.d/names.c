@@ -47,43 +47,43 @@ const char *part_name(const struct field *fields) {
     return NULL;
 }
 
-typedef size_t writer_of_sentence(const void *answer, char *sentence, size_t room);
+typedef size_t writer_of_sentence(const struct field *fields, const void *answer, char *sentence, size_t room);
 
 /* Prints the sentence of an answer, which is cut where the room ends, or says what is wrong with it. */
-static const char *print_sentence(writer_of_sentence *write, const void *answer) {
+static const char *print_sentence(writer_of_sentence *write, const struct field *fields, const void *answer) {
     char whole[ROOM], cut[ROOM];
-    size_t len = write(answer, whole, ROOM);
+    size_t len = write(fields, answer, whole, ROOM);
     if (len >= ROOM || strlen(whole) != len) {
         return "the sentence has another length than is answered";
     }
     for (size_t room = 1; room < ROOM; room++) {
         size_t cut_len = len < room ? len : room - 1;
-        if (write(answer, cut, room) != len || strlen(cut) != cut_len || memcmp(cut, whole, cut_len) != 0) {
+        if (write(fields, answer, cut, room) != len || strlen(cut) != cut_len || memcmp(cut, whole, cut_len) != 0) {
             return "the sentence isn't cut where the room ends";
         }
     }
     fputs(whole, stdout);
-    return write(answer, NULL, 0) == len ? NULL : "the sentence has another length without room";
+    return write(fields, answer, NULL, 0) == len ? NULL : "the sentence has another length without room";
 }
 
-static size_t write_format_sentence(const void *answer, char *sentence, size_t room) {
-    return timefd_format_sentence(answer, sentence, room);
+static size_t write_format_sentence(const struct field *fields, const void *answer, char *sentence, size_t room) {
+    return timefd_format_sentence(kind_of(fields), text_of(&fields[1]), answer, sentence, room);
 }
 
 /* format_sentence KIND TEXT MOMENT: why nothing is written into a buffer without room. */
 const char *format_sentence(const struct field *fields) {
     timefd_moment moment = moment_of(fields + 2);
     timefd_format_answer answer = timefd_format(kind_of(fields), fields[1].bytes, fields[1].len, &moment, NULL, 0);
-    return print_sentence(write_format_sentence, &answer);
+    return print_sentence(write_format_sentence, fields, &answer);
 }
 
-static size_t write_read_date_sentence(const void *answer, char *sentence, size_t room) {
-    return timefd_read_date_sentence(answer, sentence, room);
+static size_t write_read_date_sentence(const struct field *fields, const void *answer, char *sentence, size_t room) {
+    return timefd_read_date_sentence(kind_of(fields), text_of(&fields[1]), answer, sentence, room);
 }
 
 /* read_date_sentence KIND TEXT DATE */
 const char *read_date_sentence(const struct field *fields) {
     const struct field *text = &fields[1], *date = &fields[2];
     timefd_date_answer answer = timefd_read_date(kind_of(fields), text->bytes, text->len, date->bytes, date->len);
-    return print_sentence(write_read_date_sentence, &answer);
+    return print_sentence(write_read_date_sentence, fields, &answer);
 }

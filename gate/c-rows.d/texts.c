@@ -57,7 +57,7 @@ const char *check_text(const struct field *fields) {
     return NULL;
 }
 
-/* diagnose_text KIND TEXT: the sentence, the bytes at fault and the nearest word. */
+/* diagnose_text KIND TEXT: the sentence, the bytes at fault and the nearest word, which isn't written where a byte is wanting. */
 const char *diagnose_text(const struct field *fields) {
     char sentence[ROOM + 1], word[ROOM + 1];
     memset(sentence, '.', sizeof sentence);
@@ -67,6 +67,12 @@ const char *diagnose_text(const struct field *fields) {
     if (is_accepted != (it.answer.status == TIMEFD_ACCEPTED) || strlen(sentence) != it.answer.sentence_len ||
         strlen(word) != it.fault.nearest_len || !has_text(word, 17, (const uint8_t *)word, it.fault.nearest_len)) {
         return "a buffer holds something else";
+    }
+    char little[ROOM + 1];
+    memset(little, '.', sizeof little);
+    timefd_diagnose_text(kind_of(fields), text_of(&fields[1]), sentence, ROOM, little, it.fault.nearest_len, NULL);
+    if (!has_text(little, it.fault.nearest_len, (const uint8_t *)word, it.fault.nearest_len)) {
+        return "a buffer without room for the word holds something";
     }
     print_text((const uint8_t *)sentence, strlen(sentence));
     printf(" %zu %zu ", it.fault.start, it.fault.end);
