@@ -3,6 +3,7 @@
 #include "headers.h"
 
 #include <stdio.h>
+#include <string.h>
 
 /* Prints the moment, and which of its numbers timefd_format refuses. */
 static const char *print_asked(timefd_moment moment) {
@@ -104,6 +105,14 @@ static bool is_same_moment(timefd_moment one, timefd_moment other) {
            one.nanosecond == other.nanosecond && one.offset_seconds == other.offset_seconds;
 }
 
+/* Whether the library shows the time of the moment, too. */
+static bool is_shown(timefd_moment moment, time_t seconds) {
+    char shown[24], wanted[24];
+    snprintf(wanted, sizeof wanted, "%lld", (long long)seconds);
+    return timefd_format_text(TIMEFD_VERSION_3, "[unix_timestamp]", &moment, shown, sizeof shown, NULL) &&
+           strcmp(shown, wanted) == 0;
+}
+
 /* Whether the moment of a time is what the C library says of it, and is that time again, in UTC and elsewhere. */
 static bool is_as_gmtime(time_t seconds, int32_t offset_seconds) {
     time_t clock = seconds + offset_seconds, again;
@@ -116,7 +125,7 @@ static bool is_as_gmtime(time_t seconds, int32_t offset_seconds) {
     struct timespec instant;
     return timefd_tm_of_moment(&moment, &tm) && is_same_tm(&tm, &wanted) && is_same_moment(moment, of_tm) &&
            timefd_time_of_moment(&moment, &again) && again == seconds && timefd_timespec_of_moment(&moment, &instant) &&
-           instant.tv_sec == seconds && instant.tv_nsec == 0 && timegm(&tm) == clock;
+           instant.tv_sec == seconds && instant.tv_nsec == 0 && timegm(&tm) == clock && is_shown(moment, seconds);
 }
 
 const char *as_gmtime(const struct field *fields) {
