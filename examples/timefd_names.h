@@ -2,7 +2,7 @@
 
        printf("%s\n", timefd_fault_name(TIMEFD_FAULT_UNKNOWN_NAME));    unknown-name
 
-   They are those that the programs and the other languages have. A number that isn't in the header has the empty text.
+   They are those that the linter and timefd_format write. A number that isn't in the header has the empty text.
 
    The functions are compiled into the program that calls them; the library has none of them. */
 
