@@ -1,5 +1,27 @@
-/* The functions of the static library libtimefd_c.a: they parse format descriptions, give their nodes, convert them, and write and
-   read dates by them. */
+/* The calls of libtimefd.a and libtimefd.so: they check format descriptions, give their nodes, convert them, and write and read
+   dates by them.
+
+       const char *text = "[year]-[month]-[day]";
+       timefd_answer answer = timefd_judge(TIMEFD_VERSION_3, (const uint8_t *)text, strlen(text));
+       if (answer.status == TIMEFD_ACCEPTED) { .. }
+
+   Three more headers are over this one: timefd_text.h for texts that end with a 0, timefd_time.h for the times of <time.h>, and
+   timefd_names.h for the names and sentences of the numbers here.
+
+   What every call needs, beside what it says itself:
+
+   - A pointer may be null where its length is 0, and nowhere else. A length is at most PTRDIFF_MAX, and of nodes at most
+     PTRDIFF_MAX / sizeof(timefd_node).
+   - A text needs no 0 at its end. Nobody writes to it while the call runs.
+   - The bytes or nodes of a buffer have been set to something before. While the call runs nobody else reads or writes them. A buffer
+     overlaps no other buffer, and nothing that the call reads.
+   - The call doesn't come from a signal handler, nor from the forked child of a process with threads.
+   - It has 112 KiB of stack: a text that is nested 127 deep takes some 53 of them. timefd_convert and timefd_read_date want more.
+
+   What every call keeps to:
+
+   - It frees all memory that it takes by malloc and realloc. It keeps no pointer. Calls on several threads share the allocator alone.
+   - Of a buffer it changes only the front that it writes to. No 0 follows a text. */
 
 #ifndef TIMEFD_H
 #define TIMEFD_H
@@ -24,23 +46,23 @@ uint32_t timefd_version(void);
 #define TIMEFD_VERSION_3 3u
 #define TIMEFD_STRFTIME 4u
 
-/* The text is a description. The value is the number of its items; in version 3 it is the number of bytes that the
-   description reserves, the length of the longest text that it can be shown as. From timefd_v1_to_v2, timefd_v2_to_v3 and
-   timefd_convert it is the length of the text that is written, in bytes. */
+/* The text is a description. The value is the number of its items; in version 3 the number of bytes that it reserves, which the
+   longest text has that is written by it. From timefd_v1_to_v2, timefd_v2_to_v3 and timefd_convert it is the length of the
+   result, in bytes. */
 #define TIMEFD_ACCEPTED 0u
 
-/* The text is no description. The value is the index of the fault: how many bytes of the text stand before it, at most as many as
-   it has, and whole characters. */
+/* The text is no description. The value is the index of the fault: how many bytes of the text are before it. It is at most the
+   text's length, and between two characters. */
 #define TIMEFD_REFUSED 1u
 
 /* The bytes are no UTF-8. The value is 0. */
 #define TIMEFD_NOT_UTF8 2u
 
-/* malloc or realloc gave no memory. The value is 0. It comes only of a text without a fault: each call finds a fault without
-   memory, and its sentence is written without it. timefd_judge and timefd_check answer it of texts of version 3 alone. */
+/* malloc or realloc gave no memory. The value is 0. A text with a fault is refused for it all the same: its fault and its
+   sentence take no memory. timefd_judge and timefd_check answer this of texts of version 3 alone. */
 #define TIMEFD_NO_MEMORY 3u
 
-/* The kind is none of the four numbers above, whatever the bytes are. The value is 0. */
+/* The language is none of the four above, whatever the bytes are. The value is 0. */
 #define TIMEFD_UNKNOWN_KIND 4u
 
 /* From timefd_format and timefd_format_nodes alone: a component of the description shows nothing of the moment. The value is 0. */
@@ -56,8 +78,8 @@ uint32_t timefd_version(void);
    one: a number of it means nothing, its bytes aren't all among the literals, or it takes more members than stand before it. */
 #define TIMEFD_NO_DESCRIPTION 8u
 
-/* From timefd_read_date alone: a part of the date doesn't read by the description. The value is the index of the first such part: how
-   many bytes of the date stand before it. */
+/* From timefd_read_date alone: a part of the date doesn't read by the description. The value is the index of the first such part:
+   how many bytes of the date stand before it. */
 #define TIMEFD_UNREAD 9u
 
 /* From timefd_read_date alone: the whole date was read, and no moment has all that was read. The value is 0. */
@@ -70,37 +92,31 @@ uint32_t timefd_version(void);
    is 0. */
 #define TIMEFD_DATE_NOT_UTF8 12u
 
-/* What is said of a text. No other status comes than the first five above, and from timefd_convert the last one. */
+/* The answer on a text. Its status is one of the first five, from timefd_convert also TIMEFD_NO_CONVERSION. */
 typedef struct timefd_answer {
     uint32_t status;
     size_t value;
 
-    /* From timefd_check where the status is TIMEFD_REFUSED, and 0 everywhere else: how many bytes the whole sentence of
-       the fault has. */
+    /* From timefd_check, where the status is TIMEFD_REFUSED, how many bytes the whole sentence of the fault has; else 0. */
     size_t sentence_len;
 
-    /* How many bytes were written to the buffer. If they are fewer than the sentence has, or than the rewritten text,
-       the buffer was short. */
+    /* How many bytes were written to the buffer. They are fewer than the sentence or the result has where the room is too little. */
     size_t written;
 } timefd_answer;
 
-/* Says what the `len` bytes at `text` are in the language `kind`.
+/* Checks the `len` bytes at `text` in the language `kind`.
 
-   Here and below a pointer may be null where its length is 0, and nowhere else; a length is at most PTRDIFF_MAX; nobody
-   writes to the text while the call runs. The text is not kept, and needs no 0 at its end. All memory that a call takes by
-   malloc is freed when it returns. A call may not come from a signal handler, nor from the forked child of a process with
-   threads. It has 112 KiB of stack at least: a text that is nested 127 deep takes some 53 of them. */
+       "[year]-[month]-[day]" in version 3    TIMEFD_ACCEPTED, value 11
+       "[mnth]" in version 3                  TIMEFD_REFUSED, value 1 */
 timefd_answer timefd_judge(uint32_t kind, const uint8_t *text, size_t len);
 
-/* Says the same, and writes the sentence of a refused text's fault, in UTF-8, to the front of the `room` bytes at `sentence`: all
-   of it, or as many characters as there is room for. No 0 follows it. The rest of the buffer stays as it was, and so does all of
-   it unless the status is TIMEFD_REFUSED.
+/* Checks a text as timefd_judge does, and writes the sentence of a refused one's fault, in UTF-8, to the `room` bytes at
+   `sentence`: all of it, or as many characters as there is room for. Of any other text it writes nothing.
 
-   The buffer's bytes have been set to something before, and while the call runs nobody else reads or writes them. It
-   doesn't overlap the text. */
+       "[mnth]" in version 3    invalid component name `mnth` at byte index 1 */
 timefd_answer timefd_check(uint32_t kind, const uint8_t *text, size_t len, uint8_t *sentence, size_t room);
 
-/* Which fault a text has. The names are those that the linter tells, in small letters and with `-`. */
+/* Which fault a text has. timefd_names.h has the names that the linter gives them. */
 #define TIMEFD_FAULT_UNCLOSED_BRACKET 1u     /* a bracket has no end */
 #define TIMEFD_FAULT_UNKNOWN_NAME 2u         /* a bracket has the name of no component, or strftime has no such letter */
 #define TIMEFD_FAULT_INVALID_MODIFIER 3u     /* a word is no modifier of its component, or no key and value */
@@ -121,56 +137,59 @@ timefd_answer timefd_check(uint32_t kind, const uint8_t *text, size_t len, uint8
 #define TIMEFD_FAULT_DUPLICATE_MODIFIER 18u  /* a bracket has a key twice, where version 3 takes it once */
 #define TIMEFD_FAULT_REFUSED_MODIFIER 19u    /* a key stands with a value of another that refuses it */
 
-/* What is told of a fault, beside its sentence. Of a text that is not refused all of it is 0. */
+/* A fault, beside its sentence. Of a text that is not refused all of it is 0. */
 typedef struct timefd_fault {
     uint32_t code;          /* one of the faults above */
-    bool out_of_memory;     /* whether memory ran out while the nearest word was sought: then none is told, and all else is */
+    bool out_of_memory;     /* whether memory ran out for the nearest word: then there is none, and all else is as ever */
     size_t start;           /* the bytes at fault, from the index of the fault on, */
     size_t end;             /* up to the end of the name, the key or the value there, or else of the one character there */
     size_t nearest_len;     /* how many bytes the nearest word has that is allowed there; 0 where none is near */
     size_t nearest_written; /* how many of them were written: all of them, or none */
 } timefd_fault;
 
-/* What is said of a text, with its fault whole. */
+/* The answer on a text, with its whole fault. */
 typedef struct timefd_diagnosis {
     timefd_answer answer; /* what timefd_check answers */
     timefd_fault fault;
 } timefd_diagnosis;
 
-/* Says and writes what timefd_check does, and tells of a refused text which fault it is, which bytes are at fault, and the nearest
-   of the names, keys or values that are allowed there, whatever the case of the word at fault; of strftime no word is told. The
-   nearest word is written over the front of the `word_room` bytes at `word`, with no 0 behind it, if they have room for all of
-   it; 16 bytes are. Else, and where there is none, they are as they were.
+/* Checks a text and writes its sentence as timefd_check does, and answers which fault a refused text has, which bytes are at
+   fault, and how long the nearest of the names, keys or values is that are allowed there, whatever the case of the word at fault;
+   of strftime there is none. It writes that word to the `word_room` bytes at `word` if they have room for all of it: 16 bytes
+   have.
 
-   Each buffer is as that of timefd_check, and the two don't overlap. */
+       "[mnth]" in version 3    TIMEFD_FAULT_UNKNOWN_NAME, the bytes from 1 to 5, and the word `month` */
 timefd_diagnosis timefd_diagnose(uint32_t kind, const uint8_t *text, size_t len, uint8_t *sentence, size_t room, uint8_t *word,
                                  size_t word_room);
 
-/* Converts the `len` bytes at `text` from version 1 to version 2, with the same items, and writes the result to the front of the
-   `room` bytes at `buffer`. The value is the result's length, written or not: a buffer without room for all of it stays as it
-   was, and 2 * len bytes always suffice. A text that timefd_judge refuses as version 1 is refused for the same fault, and then
-   the buffer stays as it was too. TIMEFD_UNKNOWN_KIND never comes. No 0 follows the text, and the rest of the buffer stays as it
-   was.
+/* Converts the `len` bytes at `text` from version 1 to version 2, with the same items, and writes the result to the `room` bytes
+   at `buffer` if they have room for all of it: 2 * len bytes have. The value is the length of the result, written or not. A text
+   that timefd_judge refuses as version 1 is refused for the same fault, and nothing is written. TIMEFD_UNKNOWN_KIND never comes.
 
-   The buffer is as that of timefd_check. */
+       a]b    a\]b */
 timefd_answer timefd_v1_to_v2(const uint8_t *text, size_t len, uint8_t *buffer, size_t room);
 
-/* Converts the `len` bytes at `text` from version 2 to version 3, with the same items. The result has small letters, its modifiers
-   in one order, only those that differ from version 3's default and the range of each year that has one, and `[`, `]` and `\` of
-   literals behind a `\`. Versions 2 and 3 parse it alike, and a second conversion changes nothing. It answers and writes as
-   timefd_v1_to_v2 does, with the faults of version 2; but no room always suffices: a buffer that is too short stays as it was,
-   and the value is the length that it wants. */
+/* Converts the `len` bytes at `text` from version 2 to version 3, with the same items, as timefd_v1_to_v2 does, with the faults
+   of version 2. But no room always suffices: where it is too little, the value is how much the result wants.
+
+       [YEAR]    [year range:extended]
+
+   The result has small letters, its modifiers in one order, only those that differ from version 3's default and the range of each
+   year that has one, and `[`, `]` and `\` of literals after a `\`. Versions 2 and 3 parse it alike, and a second conversion
+   changes nothing. */
 timefd_answer timefd_v2_to_v3(const uint8_t *text, size_t len, uint8_t *buffer, size_t room);
 
-/* Converts the `len` bytes at `text` from the language `from` to the language `to`, with the same items: from version 1 to versions
-   2 and 3, from version 2 and from strftime to version 3, and from version 3 to its normal form, which is the same for all
-   descriptions that mean the same. No other pair has a conversion: the status is TIMEFD_NO_CONVERSION then, and
-   TIMEFD_UNKNOWN_KIND where `from` or `to` is no language.
+/* Converts the `len` bytes at `text` from the language `from` to the language `to`, with the same items, as timefd_v1_to_v2 does,
+   with the faults of the language `from`.
 
-   It answers and writes as timefd_v1_to_v2 does, with the faults of the language `from`. To version 2 it writes what
+       %d.%m. from strftime to version 3    [day].[month].
+
+   From version 1 it leads to versions 2 and 3, from version 2 and from strftime to version 3, and from version 3 to its normal
+   form, which is the same for all descriptions that mean the same. No other pair has a conversion: the status is
+   TIMEFD_NO_CONVERSION then, and TIMEFD_UNKNOWN_KIND where `from` or `to` is no language. To version 2 it writes what
    timefd_v1_to_v2 does, and 2 * len bytes always suffice; from version 2 what timefd_v2_to_v3 does; and from strftime 53 * len
-   bytes always suffice. Literals side by side become one in conversions from version 1, and in those from
-   strftime, where what a letter stands for comes in place of it, part by part.
+   bytes always suffice. Literals side by side become one in conversions from version 1, and in those from strftime, where what a
+   letter stands for comes in place of it, part by part.
 
    From version 3 it wants 192 KiB of stack: a text that is nested 127 deep takes some 150 of them. */
 timefd_answer timefd_convert(uint32_t from, uint32_t to, const uint8_t *text, size_t len, uint8_t *buffer, size_t room);
@@ -252,7 +271,7 @@ typedef struct timefd_node {
     size_t count;           /* how many bytes a literal has, and how many members any other node */
 } timefd_node;
 
-/* What is said of a text by timefd_read. */
+/* The answer of timefd_read on a text. */
 typedef struct timefd_read_answer {
     uint32_t status; /* one of the five, and the value that timefd_judge has */
     size_t value;
@@ -264,33 +283,34 @@ typedef struct timefd_read_answer {
                         accepted. For version 3 it is the value. */
 } timefd_read_answer;
 
-/* Says what timefd_judge says, and writes the nodes of a description to the front of the `node_room` nodes at `nodes`, and
-   the bytes of its literals in turn to the front of the `literal_room` bytes at `literals`, with no 0 between or behind them.
-   If either has no room for all, or the text is refused, what both hold then means nothing. The answer tells how much room is
-   needed, so a program may come again with more. These are always enough: for version 3 len + 1 nodes, for versions 1 and 2
-   len nodes, and for each len bytes of literals; for strftime 7 * len nodes and 3 * len bytes. What is behind the fronts of
-   an accepted text is as it was. Memory is taken for nested descriptions of version 3 alone.
+/* Checks a text as timefd_judge does, and writes the nodes of a description to the `node_room` nodes at `nodes`, and the bytes of
+   its literals in turn to the `literal_room` bytes at `literals`, with no 0 between them.
 
-   Each node stands behind those of its members. In version 3 the last node is the whole description: of one part that part,
-   else a compound, and that of the empty text has no members. The members of the node with the index i are found from the
-   last one back: its node is that with the index i - 1, and behind the nodes of the member before it, whose node has the
-   index start - 1 of that one (of a literal or a component, which have no nodes but their own, it is the index before).
-   Of versions 1 and 2 and of strftime the nodes are those of the items in turn; versions 1 and 2 have literals and
-   components alone, and strftime has compounds of these.
+       "due [day]" in version 3    a literal, a component, and a compound of these two; the literals are "due "
 
-   The buffers have been set to something before. They overlap neither one another nor the text, and while the call runs
-   nobody else reads or writes them. There are at most PTRDIFF_MAX / sizeof(timefd_node) nodes. It takes the stack
-   that timefd_judge takes, and calls on several threads share malloc alone. */
+   If either has no room for all, or the text is refused, what both hold then means nothing. The answer says how much room is
+   needed, so a program may come again with more. These are always enough: for version 3 len + 1 nodes, for versions 1 and 2 len
+   nodes, and for each len bytes of literals; for strftime 7 * len nodes and 3 * len bytes. Memory is taken for nested
+   descriptions of version 3 alone.
+
+   Each node stands after those of its members. In version 3 the last node is the whole description: of one part that part, else a
+   compound, and that of the empty text has no members. The members of the node with the index i are found from the last one back:
+   the last one's node has the index i - 1. Where a member's node has the index k, that of the member before it has the index
+   start - 1, with the `start` of node k, or k - 1 where node k is a literal or a component, which have no nodes but their own. Of
+   versions 1 and 2 and of strftime the nodes are those of the items in turn; versions 1 and 2 have literals and components alone,
+   and strftime has compounds of these. */
 timefd_read_answer timefd_read(uint32_t kind, const uint8_t *text, size_t len, timefd_node *nodes, size_t node_room,
                                uint8_t *literals, size_t literal_room);
 
-/* Says and writes what timefd_read does, with a limit on nesting: at most `limit` nested descriptions may stand around one
-   another, from 0, where none may be nested, to 127, the limit of all other calls. A greater number counts as 127. A text that
-   nests more is refused at the `[` of the first nested description inside of too many, unless it is refused for what stands in
-   front of that. Versions 1 and 2, which take no nested descriptions, have the limit too; strftime nests none. timefd_check and
-   timefd_diagnose don't tell of this fault where the limit 127 allows the text.
+/* Reads a text as timefd_read does, with a limit on nesting: at most `limit` nested descriptions may stand around one another,
+   from 0, where none may be nested, to 127, the limit of all other calls. A greater number counts as 127. It bounds how deep a
+   program goes that walks the nodes.
 
-   The limit bounds how deep a program goes that walks the nodes. The buffers are as those of timefd_read. */
+       "[optional [[day]]]" in version 3, with the limit 0    TIMEFD_REFUSED, value 10
+
+   A text that nests more is refused at the `[` of the first nested description inside of too many, unless it is refused for what
+   stands in front of that. Versions 1 and 2, which take no nested descriptions, have the limit too; strftime nests none.
+   timefd_check and timefd_diagnose don't report this fault where the limit 127 allows the text. */
 timefd_read_answer timefd_read_within(uint32_t kind, uint32_t limit, const uint8_t *text, size_t len, timefd_node *nodes,
                                       size_t node_room, uint8_t *literals, size_t literal_room);
 
@@ -299,11 +319,15 @@ timefd_read_answer timefd_read_within(uint32_t kind, uint32_t limit, const uint8
 #define TIMEFD_COMPOSITE_NODES 47u
 #define TIMEFD_COMPOSITE_LITERALS 16u
 
-/* Says and writes what timefd_read does of a text of strftime, but a composite letter is one node, a TIMEFD_COMPOSITE. Its `start`
-   and `count` are those of its list among the nodes of TIMEFD_COMPOSITES, which a program reads once, by timefd_read, into
-   two buffers of its own, where the literals of these lists stand too. So there are as many nodes as items: len nodes and
-   len bytes of literals are always enough. TIMEFD_UNKNOWN_KIND never comes, and no memory is taken. timefd_format_nodes takes
-   the nodes of timefd_read alone: to it such a node is no part of a description. */
+/* Reads a text of strftime as timefd_read does, but a composite letter is one node, a TIMEFD_COMPOSITE. Its `start` and `count`
+   are those of its list among the nodes of TIMEFD_COMPOSITES, which a program reads once, by timefd_read, into two buffers of its
+   own, where the literals of these lists stand too.
+
+       "%F %H"    three nodes: a composite, a literal and a component
+
+   So there are as many nodes as items: len nodes and len bytes of literals are always enough. TIMEFD_UNKNOWN_KIND never comes,
+   and no memory is taken. timefd_format_nodes takes the nodes of timefd_read alone: to it such a node is no part of a
+   description. */
 timefd_read_answer timefd_read_composites(const uint8_t *text, size_t len, timefd_node *nodes, size_t node_room,
                                           uint8_t *literals, size_t literal_room);
 
@@ -343,7 +367,7 @@ typedef struct timefd_moment {
 #define TIMEFD_RANGE_NANOSECOND 7u
 #define TIMEFD_RANGE_OFFSET 8u
 
-/* What is said of a text or of nodes that are to write a moment. */
+/* The answer on a text, or on nodes, that a moment is written by. */
 typedef struct timefd_format_answer {
     uint32_t status;
     uint32_t reason;    /* why a component shows nothing, or which number is out of its range, or else 0 */
@@ -353,22 +377,21 @@ typedef struct timefd_format_answer {
     size_t written;     /* how many bytes were written: all of the text, or none */
 } timefd_format_answer;
 
-/* Writes the moment by the description, the `len` bytes at `text` in the language `kind`, over the front of the `room` bytes at
-   `buffer`, with no 0 behind it, if they have room for all of it. Else the buffer is as it was, and the value tells how much room
-   is needed. In version 3 as many bytes as timefd_judge tells are always enough.
+/* Writes the moment by the description, the `len` bytes at `text` in the language `kind`, to the `room` bytes at `buffer` if they
+   have room for all of it. Else it writes nothing, and the value is how much room is needed. In version 3 as many bytes as
+   timefd_judge answers are always enough. What is written is UTF-8.
 
-   What is written is UTF-8. The buffer has been set to something before, and overlaps neither text nor moment. */
+       "[day].[month].[year]" in version 3, and 2026-11-23    23.11.2026 */
 timefd_format_answer timefd_format(uint32_t kind, const uint8_t *text, size_t len, const timefd_moment *moment, uint8_t *buffer,
                                    size_t room);
 
 /* Writes the moment by nodes that timefd_read wrote, or by others of that form, and the bytes of their literals, as timefd_format
-   writes it by the text that they were read of. It takes no memory, and no more stack for a deeper nesting. Of a node of members
-   `count` is looked at, and neither `start` nor `bytes`; a number that its component doesn't have is not looked at either. The
-   only statuses are TIMEFD_ACCEPTED, TIMEFD_UNSHOWN, TIMEFD_OUT_OF_RANGE and TIMEFD_NO_DESCRIPTION. Where the text would have
-   more than SIZE_MAX bytes, the value is SIZE_MAX.
+   writes it by the text that they were read of. It takes no memory, and no more stack for a deeper nesting. The only statuses are
+   TIMEFD_ACCEPTED, TIMEFD_UNSHOWN, TIMEFD_OUT_OF_RANGE and TIMEFD_NO_DESCRIPTION.
 
-   What is written is UTF-8 where the literals are. The buffer is as that of timefd_format, and overlaps neither nodes nor
-   literals. There are at most PTRDIFF_MAX / sizeof(timefd_node) nodes. */
+   Of a node of members it looks at `count`, and neither at `start` nor at `bytes`; nor at a number that the node's component
+   doesn't have. Where the text would have more than SIZE_MAX bytes, the value is SIZE_MAX. What is written is UTF-8 where the
+   literals are. */
 timefd_format_answer timefd_format_nodes(const timefd_node *nodes, size_t node_count, const uint8_t *literals,
                                          size_t literal_count, const timefd_moment *moment, uint8_t *buffer, size_t room);
 
@@ -380,8 +403,8 @@ timefd_format_answer timefd_format_nodes(const timefd_node *nodes, size_t node_c
 #define TIMEFD_ANOTHER_TEXT 3u
 #define TIMEFD_TEXT_FOLLOWS 4u
 
-/* What can be read of a moment. Several components read the same part, and of a year its century and its last two digits are parts
-   of their own. */
+/* What can be read of a moment. Several components read the same part, and of a year its century and its last two digits are
+   parts of their own. */
 #define TIMEFD_PART_DAY 1u
 #define TIMEFD_PART_MONTH 2u
 #define TIMEFD_PART_ORDINAL 3u
@@ -423,25 +446,31 @@ typedef struct timefd_date_answer {
                              known are 0. */
 } timefd_date_answer;
 
-/* Reads the `date_len` bytes at `date` by the description, the `len` bytes at `text` in the language `kind`. All of the date is read,
-   unless an `end` drops what follows. Each component takes as much as it can, so that two numbers without a width want something
-   between them; a name is read in any case where the description says so. An `optional` is skipped where its member doesn't read,
-   and of the members of a `first` the first one that reads is taken.
+/* Reads the `date_len` bytes at `date` by the description, the `len` bytes at `text` in the language `kind`. The two may overlap.
+
+       "23/11/2026" by "[day]/[month]/[year]" in version 3    TIMEFD_ACCEPTED, and the moment 2026-11-23
+       "31/02/2026" by the same                               TIMEFD_CONTRADICTION, and TIMEFD_PART_DAY
+
+   All of the date is read, unless an `end` drops what follows. Each component takes as much as it can, so that two numbers
+   without a width want something between them; a name is read in any case where the description says so. An `optional` is skipped
+   where its member doesn't read, and of the members of a `first` the first one that reads is taken.
 
    A date, a time of day or an offset is known where something of it was read; after a Unix timestamp all three are. Where what
-   was read tells a part twice, as a weekday beside a date, both agree, else the status is TIMEFD_CONTRADICTION. A description
-   with a fault is refused for it, whatever the date is that is UTF-8, and timefd_diagnose tells the fault whole. TIMEFD_NO_MEMORY
+   was read says a part twice, as a weekday beside a date, both agree, else the status is TIMEFD_CONTRADICTION. A description with
+   a fault is refused for it, whatever the date is that is UTF-8, and timefd_diagnose reports the whole fault. TIMEFD_NO_MEMORY
    may come of a description in any language.
 
    It takes 15 KiB of stack for each level that a description of version 3 is nested, so that it wants 2 MiB where one is nested
-   127 deep; one that is nested five deep keeps within the 112 KiB. Both texts are as that of timefd_judge, and may overlap. */
+   127 deep; one that is nested five deep keeps within the 112 KiB. */
 timefd_date_answer timefd_read_date(uint32_t kind, const uint8_t *text, size_t len, const uint8_t *date, size_t date_len);
 
 /* Where each field stands, as the library and this compiler have to agree on it. */
 #ifdef __cplusplus
 #define TIMEFD_IS(what) static_assert(what, #what)
-#else
+#elif __STDC_VERSION__ >= 201112L
 #define TIMEFD_IS(what) _Static_assert(what, #what)
+#else
+#define TIMEFD_IS(what) extern char timefd_private_is[(what) ? 1 : -1]
 #endif
 #define TIMEFD_FIELD(type, field, start, bytes) \
     TIMEFD_IS(offsetof(type, field) == (start) && sizeof(((type *)0)->field) == (bytes))

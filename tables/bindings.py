@@ -90,11 +90,20 @@ def of_time():
     return lines
 
 
+def names_of_c():
+    lines = []
+    for name, group in grouped(BY_NUMBER, lambda it: it.name):
+        lines += [f"    case TIMEFD_{it.capitals}:" for it in group]
+        lines[-1] += f' return "{name}";'
+    return lines
+
+
 COMPONENTS = "bindings/rust/src/component.rs"
 DECODE = "bindings/rust/src/decode.rs"
 
 TABLES = [
     each("examples/timefd.h", Between(("/* The components.",), ""), BY_NUMBER, "#define TIMEFD_{0.capitals} {0.number}u"),
+    Table("examples/timefd_names.h", Between(("static inline const char *timefd_component_name(", "switch"), "    }"), names_of_c),
     each("bindings/python/timefd/nodes.py", Between(("class Name(", ""), ""), BY_NUMBER, "    {0.capitals} = {0.number}"),
     Table(COMPONENTS, Between(("pub enum Component {",), "}"), variants),
     Table(COMPONENTS, Between(("pub fn max_bytes_needed", "match self {"), "            Self::Subsecond"), reserved),

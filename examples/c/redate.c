@@ -5,73 +5,28 @@
 
 #define _POSIX_C_SOURCE 200809L
 
-#include "timefd.h"
+#include "timefd_names.h"
+#include "timefd_text.h"
 
 #include <stdio.h>
 #include <stdlib.h>
 #include <string.h>
 
-/* The most bytes of a sentence, and of a text that is written, that this program has room for. */
+/* The most bytes that a text or a sentence has here. */
 enum { ROOM = 512 };
 
-static void print_fault(const uint8_t *text, size_t len) {
-    uint8_t sentence[ROOM] = {0};
-    timefd_answer answer = timefd_check(TIMEFD_VERSION_3, text, len, sentence, sizeof sentence);
-    printf("%.*s\n", (int)answer.written, (const char *)sentence);
-}
-
-/* Why a date is not read, and where. */
-static void print_unread(timefd_date_answer answer, const char *date) {
-    static const char *const WHY[] = {"", "a component reads nothing",
-                                      "a component reads another value",
-                                      "the description has another text", "the description ends"};
-    printf("%s before `%s`\n", WHY[answer.reason], date + answer.value);
-}
-
-/* Prints the moment as the description says. */
-static void print_moment(const char *text, const timefd_moment *moment) {
-    const uint8_t *bytes = (const uint8_t *)text;
-    size_t len = strlen(text);
-    uint8_t buffer[ROOM] = {0};
-    timefd_format_answer answer =
-        timefd_format(TIMEFD_VERSION_3, bytes, len, moment, buffer, sizeof buffer);
-    if (answer.status == TIMEFD_REFUSED) {
-        print_fault(bytes, len);
-    } else if (answer.status == TIMEFD_UNSHOWN) {
-        puts("the date does not tell all that is to be written");
-    } else if (answer.status != TIMEFD_ACCEPTED) {
-        puts("out of memory");
-    } else if (answer.written < answer.value) {
-        puts("the text is too long");
-    } else {
-        printf("%.*s\n", (int)answer.written, (const char *)buffer);
-    }
-}
-
+/* Prints the date as the second description writes it, or why it is not read, or not written. */
 static void print_date(const char *text, const char *date, const char *wanted) {
-    const uint8_t *bytes = (const uint8_t *)text;
-    timefd_date_answer answer = timefd_read_date(TIMEFD_VERSION_3, bytes, strlen(text),
-                                                 (const uint8_t *)date, strlen(date));
-    switch (answer.status) {
-    case TIMEFD_ACCEPTED:
-        print_moment(wanted, &answer.moment);
-        break;
-    case TIMEFD_REFUSED:
-        print_fault(bytes, strlen(text));
-        break;
-    case TIMEFD_UNREAD:
-        print_unread(answer, date);
-        break;
-    case TIMEFD_MISSING:
-        puts(answer.part == TIMEFD_PART_YEAR ? "the year is missing" : "a part is missing");
-        break;
-    case TIMEFD_CONTRADICTION:
-        puts(answer.part == TIMEFD_PART_WEEKDAY ? "the weekday is another one"
-                                                : "there is no such date");
-        break;
-    default:
-        puts("out of memory");
+    char line[ROOM];
+    timefd_date_answer read;
+    timefd_format_answer written;
+    if (!timefd_read_date_text(TIMEFD_VERSION_3, text, date, &read)) {
+        timefd_read_date_sentence(TIMEFD_VERSION_3, text, &read, line, sizeof line);
+    } else if (!timefd_format_text(TIMEFD_VERSION_3, wanted, &read.moment, line, sizeof line,
+                                   &written)) {
+        timefd_format_sentence(TIMEFD_VERSION_3, wanted, &written, line, sizeof line);
     }
+    puts(line);
 }
 
 static void print_line(char *line) {

@@ -40,6 +40,13 @@ compare nodes expected_nodes.txt
 compare lint expected_lint.txt formats.txt
 compare redate expected_redate.txt redates.txt
 
+# Today's date, as `date` says it. Where the day ends between the two, it is asked again.
+today() {
+    LC_ALL=C date -u '+%A, %d %B %Y' > "$out/expected_now.txt"
+    compare now "$out/expected_now.txt"
+}
+(today) || today
+
 # The script that computed what is expected has no limit; the library writes no timestamp of an instant in the year 1,000,000 of UTC.
 sed 's/^"31494784874398 .*/the instant is in no year that is shown/' expected_format.txt > "$out/expected_format.txt"
 compare format "$out/expected_format.txt" dates.txt

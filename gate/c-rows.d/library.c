@@ -6,14 +6,6 @@
 #include <stdio.h>
 #include <string.h>
 
-void print_numbers(const struct number *numbers) {
-    for (; numbers->name; numbers++) {
-        if (numbers->is != 0) {
-            printf(" %s %lld", numbers->name, numbers->is);
-        }
-    }
-}
-
 uint32_t kind_of(const struct field *fields) {
     return (uint32_t)fields[0].number;
 }
@@ -98,21 +90,6 @@ static const char *v1_to_v2(const struct field *fields) {
 /* v2_to_v3 TEXT: the text of version 3. */
 static const char *v2_to_v3(const struct field *fields) {
     return write_whole(modernize, fields, print_text);
-}
-
-/* The moment in nine fields, in the order of timefd_moment. */
-static timefd_moment moment_of(const struct field *fields) {
-    return (timefd_moment){
-        .known = (uint32_t)fields[0].number,
-        .year = (int32_t)fields[1].number,
-        .nanosecond = (uint32_t)fields[2].number,
-        .offset_seconds = (int32_t)fields[3].number,
-        .month = (uint8_t)fields[4].number,
-        .day = (uint8_t)fields[5].number,
-        .hour = (uint8_t)fields[6].number,
-        .minute = (uint8_t)fields[7].number,
-        .second = (uint8_t)fields[8].number,
-    };
 }
 
 static timefd_format_answer format_answer(const struct field *fields, uint8_t *buffer, size_t room) {

@@ -6,20 +6,10 @@
 
 #include "../../examples/timefd.h"
 #include "buffers.h"
+#include "numbers.h"
 
 /* How many bytes a buffer has. No row needs as many. */
 enum { ROOM = 96 };
-
-/* A number of an answer, by its name. */
-struct number {
-    const char *name;
-    long long is;
-};
-
-#define NUMBER(of, name) {#name, (long long)(of).name}
-
-/* Prints those that aren't 0, up to one without a name. */
-void print_numbers(const struct number *numbers);
 
 /* The kind, which stands first in most rows. */
 uint32_t kind_of(const struct field *fields);

@@ -80,6 +80,7 @@ static const char *take_text(const char *rest, struct field *field) {
         repeat(field, count);
         rest = end;
     }
+    field->bytes[field->len] = 0;
     return rest;
 }
 

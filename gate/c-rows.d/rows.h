@@ -10,7 +10,7 @@
 #include <stddef.h>
 #include <stdint.h>
 
-/* A field: the bytes of a text, or a number. */
+/* A field: the bytes of a text, with a 0 after them, or a number. */
 struct field {
     uint8_t *bytes;
     size_t len;

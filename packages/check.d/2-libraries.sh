@@ -22,12 +22,14 @@ check_libraries() {
     same "the soname for $processor" "$soname" "libtimefd.so.$interface"
 }
 check_libraries "$prefix/lib"
-for page in $declared; do
+for page in $declared $(inline_functions "$prefix"/include/timefd_*.h); do
     gzip -dc "$prefix/share/man/man3/$page.3.gz" | grep -q "$page *(" || fail "man/timefd.3 says nothing of $page"
 done
 
 expected=$(cat "$top/examples/expected_first.txt")
-sed 's|"timefd.h"|<timefd.h>|' "$top/examples/c/first.c" > "$room/first.c"
+for name in first now; do
+    sed 's|"\(timefd[a-z_]*.h\)"|<\1>|' "$top/examples/c/$name.c" > "$room/$name.c"
+done
 strict='-Wall -Wextra -Werror'
 if has pkg-config 'programs built by pkg-config'; then
     export PKG_CONFIG_PATH="$prefix/lib/pkgconfig"
@@ -41,6 +43,9 @@ if has pkg-config 'programs built by pkg-config'; then
         # shellcheck disable=SC2046,SC2086
         g++ $strict -x c++ "$room/first.c" -x none $(pkg-config --cflags --libs timefd) -Wl,-rpath,"$prefix/lib" -o "$room/first"
         same 'C++' "$("$room/first")" "$expected"
+        # shellcheck disable=SC2046,SC2086
+        g++ $strict -x c++ "$room/now.c" -x none $(pkg-config --cflags --libs timefd) -Wl,-rpath,"$prefix/lib" -o "$room/now"
+        same 'the headers over it, in C++' "$("$room/now" | wc -w)" 4
     fi
     if has musl-gcc 'C over musl'; then
         # shellcheck disable=SC2046,SC2086

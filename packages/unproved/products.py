@@ -22,6 +22,8 @@ import wasm_module
 
 HERE = pathlib.Path(__file__).resolve().parent
 HEADER = crates.TOP / "examples/timefd.h"
+# Those over it, which call nothing but what it declares.
+MORE_HEADERS = tuple(crates.TOP / f"examples/timefd_{it}.h" for it in ("names", "text", "time"))
 # The programs that users call otherwise than their crates.
 CALLED = {"timefd_write": "timefd_format"}
 USED = ("timefd", "timefd_lint", "timefd_write")
@@ -30,7 +32,8 @@ LIBRARY = "timefd_c"
 WEB = "timefd_web"
 WEB_FILES = (f"parts/lib{WEB}.a", f"parts/{wasm_module.MODULE}", f"parts/{wasm_module.WIDE}")
 # The parts are what the one archive is made of: a test that takes the place of calls for memory sees these in them alone.
-LIBRARY_FILES = ("libtimefd.a", "libtimefd.so", "timefd.h", "parts/libtimefd_c.a", "parts/liblibc_c.a")
+HEADERS = (HEADER.name, *(it.name for it in MORE_HEADERS))
+LIBRARY_FILES = ("libtimefd.a", "libtimefd.so", *HEADERS, "parts/libtimefd_c.a", "parts/liblibc_c.a")
 # The program that reaches what a library exports.
 REACHES = "reaches_each_export"
 
@@ -44,7 +47,7 @@ class Product(typing.NamedTuple):
     def sum(self):
         """The sum of all that it is made of."""
         own = [*sorted(HERE.glob("*.py")), HERE / "main.c", pathlib.Path(kit_try.__file__)]
-        own += [HEADER, crates.TOP / "packages/library", crates.TOP / "packages/names"]
+        own += [HEADER, *MORE_HEADERS, crates.TOP / "packages/library", crates.TOP / "packages/names"]
         if self.crate == WEB:
             own += [*wasm_module.PARTS, *(PAGE / f"{it}.py" for it in ("wasm_module", "wasm_bytes", "narrow"))]
         texts = [it.read_text(encoding="utf-8") for it in own]
@@ -117,7 +120,8 @@ def make_library(product, out, room):
     run(crates.TOP / "packages/library", out, TIMEFD_ARCHIVE=str(archive))
     for it in (archive, kit_try.folder() / "c/liblibc_c.a", out / "UNPROVED"):
         shutil.copy(it, out / "parts")
-    shutil.copy(room / "timefd.h", out)
+    for it in (room / "timefd.h", *MORE_HEADERS):
+        shutil.copy(it, out)
 
 
 def make_web(product, out, room):

@@ -1,0 +1,236 @@
+/* The names and the sentences of the numbers in timefd.h:
+
+       printf("%s\n", timefd_fault_name(TIMEFD_FAULT_UNKNOWN_NAME));    unknown-name
+
+   They are those that the linter and timefd_format write. A number that isn't in the header has the empty text.
+
+   The functions are compiled into the program that calls them; the library has none of them. */
+
+#ifndef TIMEFD_NAMES_H
+#define TIMEFD_NAMES_H
+
+#include "timefd_text.h"
+
+#include <stdio.h>
+
+#ifdef __cplusplus
+extern "C" {
+#endif
+
+/* Answers what a status says: "memory ran out". Of a refused text timefd_check writes what is wrong. */
+static inline const char *timefd_status_sentence(uint32_t status) {
+    switch (status) {
+    case TIMEFD_ACCEPTED: return "the text is accepted";
+    case TIMEFD_REFUSED: return "the text is no format description";
+    case TIMEFD_NOT_UTF8: return "the bytes are no UTF-8";
+    case TIMEFD_NO_MEMORY: return "memory ran out";
+    case TIMEFD_UNKNOWN_KIND: return "there is no language with this number";
+    case TIMEFD_UNSHOWN: return "a component shows nothing of the moment";
+    case TIMEFD_OUT_OF_RANGE: return "a number of the moment is out of its range";
+    case TIMEFD_NO_CONVERSION: return "a conversion leads to version 3, and from version 1 to version 2";
+    case TIMEFD_NO_DESCRIPTION: return "the nodes are no format description";
+    case TIMEFD_UNREAD: return "a part of the date doesn't read by the format description";
+    case TIMEFD_CONTRADICTION: return "no moment has all that was read";
+    case TIMEFD_MISSING: return "too little was read for a moment";
+    case TIMEFD_DATE_NOT_UTF8: return "the bytes of the date are no UTF-8";
+    }
+    return "";
+}
+
+/* Answers the name of a fault as the linter writes it: "unclosed-bracket". */
+static inline const char *timefd_fault_name(uint32_t code) {
+    switch (code) {
+    case TIMEFD_FAULT_UNCLOSED_BRACKET: return "unclosed-bracket";
+    case TIMEFD_FAULT_UNKNOWN_NAME: return "unknown-name";
+    case TIMEFD_FAULT_INVALID_MODIFIER: return "invalid-modifier";
+    case TIMEFD_FAULT_MISSING_NAME: return "missing-name";
+    case TIMEFD_FAULT_MISSING_MODIFIER: return "missing-modifier";
+    case TIMEFD_FAULT_INVALID_ESCAPE: return "invalid-escape";
+    case TIMEFD_FAULT_UNESCAPED_BRACKET: return "unescaped-bracket";
+    case TIMEFD_FAULT_MISSING_SPACE: return "missing-space";
+    case TIMEFD_FAULT_MISSING_DESCRIPTION: return "missing-description";
+    case TIMEFD_FAULT_MISSING_ALTERNATIVE: return "missing-alternative";
+    case TIMEFD_FAULT_NESTED_TOO_DEEP: return "nested-too-deep";
+    case TIMEFD_FAULT_SEVERAL_DESCRIPTIONS: return "several-descriptions";
+    case TIMEFD_FAULT_OPTIONAL_ITEM: return "optional-item";
+    case TIMEFD_FAULT_FIRST_ITEM: return "first-item";
+    case TIMEFD_FAULT_UNSUPPORTED_FLAG: return "unsupported-flag";
+    case TIMEFD_FAULT_UNSUPPORTED_LETTER: return "unsupported-letter";
+    case TIMEFD_FAULT_NESTED_IN_COMPONENT: return "nested-in-component";
+    case TIMEFD_FAULT_DUPLICATE_MODIFIER: return "duplicate-modifier";
+    case TIMEFD_FAULT_REFUSED_MODIFIER: return "refused-modifier";
+    }
+    return "";
+}
+
+/* Answers the name that the brackets of a component begin with: "month" of each of the three. */
+static inline const char *timefd_component_name(uint32_t component) {
+    switch (component) {
+    case TIMEFD_DAY: return "day";
+    case TIMEFD_MONTH_SHORT:
+    case TIMEFD_MONTH_LONG:
+    case TIMEFD_MONTH_NUMERICAL: return "month";
+    case TIMEFD_ORDINAL: return "ordinal";
+    case TIMEFD_WEEKDAY_SHORT:
+    case TIMEFD_WEEKDAY_LONG:
+    case TIMEFD_WEEKDAY_SUNDAY:
+    case TIMEFD_WEEKDAY_MONDAY: return "weekday";
+    case TIMEFD_WEEK_NUMBER_ISO:
+    case TIMEFD_WEEK_NUMBER_SUNDAY:
+    case TIMEFD_WEEK_NUMBER_MONDAY: return "week_number";
+    case TIMEFD_CALENDAR_YEAR_FULL_EXTENDED_RANGE:
+    case TIMEFD_CALENDAR_YEAR_FULL_STANDARD_RANGE:
+    case TIMEFD_CALENDAR_YEAR_CENTURY_EXTENDED_RANGE:
+    case TIMEFD_CALENDAR_YEAR_CENTURY_STANDARD_RANGE:
+    case TIMEFD_ISO_YEAR_FULL_EXTENDED_RANGE:
+    case TIMEFD_ISO_YEAR_FULL_STANDARD_RANGE:
+    case TIMEFD_ISO_YEAR_CENTURY_EXTENDED_RANGE:
+    case TIMEFD_ISO_YEAR_CENTURY_STANDARD_RANGE:
+    case TIMEFD_CALENDAR_YEAR_LAST_TWO:
+    case TIMEFD_ISO_YEAR_LAST_TWO: return "year";
+    case TIMEFD_HOUR_12:
+    case TIMEFD_HOUR_24: return "hour";
+    case TIMEFD_MINUTE: return "minute";
+    case TIMEFD_PERIOD: return "period";
+    case TIMEFD_SECOND: return "second";
+    case TIMEFD_SUBSECOND: return "subsecond";
+    case TIMEFD_OFFSET_HOUR: return "offset_hour";
+    case TIMEFD_OFFSET_MINUTE: return "offset_minute";
+    case TIMEFD_OFFSET_SECOND: return "offset_second";
+    case TIMEFD_IGNORE: return "ignore";
+    case TIMEFD_UNIX_TIMESTAMP_SECOND:
+    case TIMEFD_UNIX_TIMESTAMP_MILLISECOND:
+    case TIMEFD_UNIX_TIMESTAMP_MICROSECOND:
+    case TIMEFD_UNIX_TIMESTAMP_NANOSECOND: return "unix_timestamp";
+    case TIMEFD_END: return "end";
+    }
+    return "";
+}
+
+/* Answers why a component shows nothing: "the value has no date". */
+static inline const char *timefd_unshown_sentence(uint32_t reason) {
+    switch (reason) {
+    case TIMEFD_NO_DATE: return "the value has no date";
+    case TIMEFD_NO_TIME: return "the value has no time of day";
+    case TIMEFD_NO_OFFSET: return "the value has no offset from UTC";
+    case TIMEFD_YEAR_TOO_LONG: return "the year has too many digits";
+    case TIMEFD_INSTANT_OUT_OF_RANGE: return "the instant is in no year from -999999 to 999999 of UTC";
+    }
+    return "";
+}
+
+/* Answers the range of a number of a moment: "month must be in the range 1..=12". */
+static inline const char *timefd_range_sentence(uint32_t reason) {
+    switch (reason) {
+    case TIMEFD_RANGE_YEAR: return "year must be in the range -999999..=999999";
+    case TIMEFD_RANGE_MONTH: return "month must be in the range 1..=12";
+    case TIMEFD_RANGE_DAY: return "the month has no such day";
+    case TIMEFD_RANGE_HOUR: return "hour must be in the range 0..=23";
+    case TIMEFD_RANGE_MINUTE: return "minute must be in the range 0..=59";
+    case TIMEFD_RANGE_SECOND: return "second must be in the range 0..=59";
+    case TIMEFD_RANGE_NANOSECOND: return "nanosecond must be in the range 0..=999999999";
+    case TIMEFD_RANGE_OFFSET: return "offset must be less than 26 hours from UTC";
+    }
+    return "";
+}
+
+/* Answers the name of a part of a moment: "day of the year". */
+static inline const char *timefd_part_name(uint32_t part) {
+    switch (part) {
+    case TIMEFD_PART_DAY: return "day";
+    case TIMEFD_PART_MONTH: return "month";
+    case TIMEFD_PART_ORDINAL: return "day of the year";
+    case TIMEFD_PART_WEEKDAY: return "weekday";
+    case TIMEFD_PART_ISO_WEEK: return "ISO week";
+    case TIMEFD_PART_SUNDAY_WEEK: return "week from Sunday";
+    case TIMEFD_PART_MONDAY_WEEK: return "week from Monday";
+    case TIMEFD_PART_YEAR_LAST_TWO: return "last two digits of the year";
+    case TIMEFD_PART_CENTURY: return "century";
+    case TIMEFD_PART_YEAR: return "year";
+    case TIMEFD_PART_ISO_YEAR_LAST_TWO: return "last two digits of the ISO year";
+    case TIMEFD_PART_ISO_CENTURY: return "century of the ISO year";
+    case TIMEFD_PART_ISO_YEAR: return "ISO year";
+    case TIMEFD_PART_HOUR: return "hour";
+    case TIMEFD_PART_HOUR_12: return "hour of twelve";
+    case TIMEFD_PART_PERIOD: return "period";
+    case TIMEFD_PART_MINUTE: return "minute";
+    case TIMEFD_PART_SECOND: return "second";
+    case TIMEFD_PART_SUBSECOND: return "fraction of a second";
+    case TIMEFD_PART_OFFSET_HOUR: return "hour of the offset";
+    case TIMEFD_PART_OFFSET_MINUTE: return "minute of the offset";
+    case TIMEFD_PART_OFFSET_SECOND: return "second of the offset";
+    case TIMEFD_PART_UNIX_SECOND: return "Unix timestamp in seconds";
+    case TIMEFD_PART_UNIX_MILLISECOND: return "Unix timestamp in milliseconds";
+    case TIMEFD_PART_UNIX_MICROSECOND: return "Unix timestamp in microseconds";
+    case TIMEFD_PART_UNIX_NANOSECOND: return "Unix timestamp in nanoseconds";
+    }
+    return "";
+}
+
+/* Writes the sentence of a refused text's fault, and answers its length. */
+static inline size_t timefd_private_fault_sentence(uint32_t kind, const char *text, char *sentence, size_t room) {
+    timefd_answer answer;
+    timefd_check_text(kind, text, sentence, room, &answer);
+    return answer.sentence_len;
+}
+
+/* Writes why timefd_format_text or timefd_format_nodes_text wrote nothing, with a 0 at the end, and answers how many bytes the whole
+   sentence has without it; where there is too little room, it is cut. `kind` and `text` are those that the call had; of nodes the text
+   may be null.
+
+       char sentence[128];
+       timefd_format_sentence(TIMEFD_VERSION_3, "[hour]", &answer, sentence, sizeof sentence);
+       puts(sentence);    the component `hour` shows nothing: the value has no time of day */
+static inline size_t timefd_format_sentence(uint32_t kind, const char *text, const timefd_format_answer *answer, char *sentence,
+                                            size_t room) {
+    if (answer->status == TIMEFD_REFUSED) {
+        return timefd_private_fault_sentence(kind, text, sentence, room);
+    }
+    if (answer->status == TIMEFD_UNSHOWN) {
+        return (size_t)snprintf(sentence, room, "the component `%s` shows nothing: %s", timefd_component_name(answer->component),
+                                timefd_unshown_sentence(answer->reason));
+    }
+    if (answer->status == TIMEFD_OUT_OF_RANGE) {
+        return (size_t)snprintf(sentence, room, "%s", timefd_range_sentence(answer->reason));
+    }
+    if (answer->status == TIMEFD_ACCEPTED && answer->written < answer->value) {
+        return (size_t)snprintf(sentence, room, "the buffer has no room for the text");
+    }
+    return (size_t)snprintf(sentence, room, "%s", timefd_status_sentence(answer->status));
+}
+
+/* Writes why timefd_read_date_text read no moment, as timefd_format_sentence does.
+
+       puts(sentence);    the component `month` reads nothing at byte index 3 */
+static inline size_t timefd_read_date_sentence(uint32_t kind, const char *text, const timefd_date_answer *answer, char *sentence,
+                                               size_t room) {
+    const char *component = timefd_component_name(answer->component);
+    const char *part = timefd_part_name(answer->part);
+    switch (answer->reason) {
+    case TIMEFD_READS_NOTHING:
+        return (size_t)snprintf(sentence, room, "the component `%s` reads nothing at byte index %zu", component, answer->value);
+    case TIMEFD_READS_ANOTHER_VALUE:
+        return (size_t)snprintf(sentence, room, "the component `%s` reads another value at byte index %zu", component,
+                                answer->value);
+    case TIMEFD_ANOTHER_TEXT:
+        return (size_t)snprintf(sentence, room, "the description has another text at byte index %zu", answer->value);
+    case TIMEFD_TEXT_FOLLOWS:
+        return (size_t)snprintf(sentence, room, "the description ends at byte index %zu", answer->value);
+    }
+    if (answer->status == TIMEFD_REFUSED) {
+        return timefd_private_fault_sentence(kind, text, sentence, room);
+    }
+    if (answer->status == TIMEFD_MISSING) {
+        return (size_t)snprintf(sentence, room, "the %s was not read", part);
+    }
+    if (answer->status == TIMEFD_CONTRADICTION) {
+        return (size_t)snprintf(sentence, room, "the %s disagrees with what else was read", part);
+    }
+    return (size_t)snprintf(sentence, room, "%s", timefd_status_sentence(answer->status));
+}
+
+#ifdef __cplusplus
+}
+#endif
+
+#endif
