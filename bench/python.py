@@ -16,18 +16,20 @@ import timefd
 DATE = datetime.date(2026, 11, 23)
 MOMENT = datetime.datetime(2026, 11, 23, 5, 36, 7, 123456, datetime.timezone.utc)
 DAY = timefd.Format("[day]/[month]/[year]")
+TEXT = "2026-11-23T05:36:07.123456+00:00"
+STRFTIME = "%Y-%m-%dT%H:%M:%S.%f%z"
 ISO = timefd.Format("[year]-[month]-[day]T[hour]:[minute]:[second].[subsecond digits:6][offset_hour sign:mandatory]:[offset_minute]")
 
 CALLS = {
     "`date.strftime`": lambda: DATE.strftime("%d/%m/%Y"),
     "`Format.format` of a date": lambda: DAY.format(DATE),
     "`timefd.format` of a date": lambda: timefd.format("[day]/[month]/[year]", DATE),
-    "`datetime.strftime`, with `%f` and `%z`": lambda: MOMENT.strftime("%Y-%m-%dT%H:%M:%S.%f%z"),
+    "`datetime.strftime`, with `%f` and `%z`": lambda: MOMENT.strftime(STRFTIME),
     "`Format.format` of a datetime, with offset": lambda: ISO.format(MOMENT),
     "`datetime.strptime` of a date": lambda: datetime.datetime.strptime("23/11/2026", "%d/%m/%Y"),
     "`Format.read_date`": lambda: DAY.read_date("23/11/2026"),
-    "`datetime.strptime`, with `%f` and `%z`": lambda: datetime.datetime.strptime("2026-11-23T05:36:07.123456+00:00", "%Y-%m-%dT%H:%M:%S.%f%z"),
-    "`Format.read_datetime`, with offset": lambda: ISO.read_datetime("2026-11-23T05:36:07.123456+00:00"),
+    "`datetime.strptime`, with `%f` and `%z`": lambda: datetime.datetime.strptime(TEXT, STRFTIME),
+    "`Format.read_datetime`, with offset": lambda: ISO.read_datetime(TEXT),
     "`timefd.check`": lambda: timefd.check("[day]/[month]/[year]"),
     "`Format(..)`": lambda: timefd.Format("[day]/[month]/[year]"),
 }

@@ -16,7 +16,7 @@ check_extension() {
     same "the extension for $processor wants no later glibc than its tag says" \
         "$(printf '%s\nGLIBC_2.17\n' "$(newest_glibc "$1")" | sort -V | tail -n 1)" GLIBC_2.17
 }
-check_extension "$("$room/venv/bin/python" -c 'import sys; sys.dont_write_bytecode = True; import timefd; print(timefd._timefd.__file__)')"
+check_extension "$("$room/venv/bin/python" -B -c 'from timefd import calls; print(calls._timefd.__file__)')"
 
 mkdir "$room/archive"
 tar -C "$room/archive" --strip-components=1 -xzf "$releases/timefd-$version.tar.gz"

@@ -47,7 +47,7 @@ typedef struct {
     size_t len;
 } utf8_text;
 
-/* Converters of PyArg_ParseTuple: a str, and the number of a language, which is 0 where no language has it. */
+/* Converters of PyArg_ParseTuple: a str, and a number for a language. */
 int text_of(PyObject *value, void *text);
 int language_of(PyObject *value, void *language);
 

@@ -58,14 +58,15 @@ static PyObject *written(writer write, const void *description, const timefd_mom
     return text;
 }
 
-/* Raises what an answer says of the moment, where the status does. */
-static PyObject *raise_unwritten(const timefd_format_answer *answer)
+/* Raises what an answer says of the moment. Returns whether it says something. */
+static bool raise_unwritten(const timefd_format_answer *answer)
 {
-    if (answer->status == TIMEFD_UNSHOWN)
-        return raise_made("nothing_shown", "(II)", answer->component, answer->reason);
-    if (answer->status == TIMEFD_OUT_OF_RANGE)
-        return raise_made("number_out_of_range", "(I)", answer->reason);
-    return NULL;
+    bool is_shown = answer->status != TIMEFD_UNSHOWN, is_in_range = answer->status != TIMEFD_OUT_OF_RANGE;
+    if (!is_shown)
+        raise_made("nothing_shown", "(II)", answer->component, answer->reason);
+    if (!is_in_range)
+        raise_made("number_out_of_range", "(I)", answer->reason);
+    return !is_shown || !is_in_range;
 }
 
 PyObject *format(PyObject *module, PyObject *arguments)
@@ -79,7 +80,7 @@ PyObject *format(PyObject *module, PyObject *arguments)
     if (moment_of(module, value, &moment))
         return NULL;
     PyObject *text = written(write_by_text, &it, &moment, &answer);
-    if (text || PyErr_Occurred() || raise_unwritten(&answer) || PyErr_Occurred())
+    if (text || PyErr_Occurred() || raise_unwritten(&answer))
         return text;
     return raise_status(answer.status, it.language, &it.text);
 }
@@ -95,7 +96,7 @@ PyObject *format_prepared(PyObject *module, PyObject *arguments)
     if (!it || moment_of(module, value, &moment))
         return NULL;
     PyObject *text = written(write_by_nodes, it, &moment, &answer);
-    if (text || PyErr_Occurred() || raise_unwritten(&answer) || PyErr_Occurred())
+    if (text || PyErr_Occurred() || raise_unwritten(&answer))
         return text;
     return PyErr_Format(PyExc_SystemError, "libtimefd answered the status %u", answer.status);
 }

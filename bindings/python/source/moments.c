@@ -89,7 +89,9 @@ int moment_of(PyObject *module, PyObject *value, timefd_moment *moment)
     }
     if (has_date && add_date(module, value, moment))
         return -1;
-    return has_time ? add_time(module, value, moment) || add_offset_of(module, value, moment) ? -1 : 0 : 0;
+    if (has_time && (add_time(module, value, moment) || add_offset_of(module, value, moment)))
+        return -1;
+    return 0;
 }
 
 static PyObject *zone_of(PyObject *module, const timefd_moment *moment)

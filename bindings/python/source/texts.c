@@ -32,7 +32,11 @@ int language_of(PyObject *value, void *to)
     long number = PyLong_AsLong(value);
     if (number == -1 && PyErr_Occurred())
         return 0;
-    *(uint32_t *)to = number >= 0 && number <= UINT32_MAX ? (uint32_t)number : 0;
+    if (number < 0 || number > UINT32_MAX) {
+        raise_made("unknown_language", "(O)", value);
+        return 0;
+    }
+    *(uint32_t *)to = (uint32_t)number;
     return 1;
 }
 

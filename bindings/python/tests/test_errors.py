@@ -39,10 +39,11 @@ class WrongTypes(unittest.TestCase):
     def test_what_is_no_language(self):
         for language in (None, "strftime", 3.0):
             self.assertRaises(TypeError, timefd.check, "x", language)
-        for language in (0, 5, -1, 2**32 + 3):
+        for language in (0, 5, -1, 2**32 + 3, 2**64):
             for call in (timefd.check, timefd.parse, Format):
                 self.assertRaises((ValueError, OverflowError), call, "x", language)
-        self.assertEqual(str(raised(timefd.check, "x", 5)), "5 is no language: take one of timefd.Language")
+        for language in (0, 5, -1, 2**32 + 3):
+            self.assertEqual(str(raised(timefd.check, "x", language)), f"{language} is no language: take one of timefd.Language")
         self.assertEqual(str(raised(timefd.convert, "x", 1, 7)), "7 is no language: take one of timefd.Language")
 
     def test_half_a_character(self):

@@ -30,7 +30,8 @@ class Writes(unittest.TestCase):
             self.assertEqual(Format(text, language).format(DAY), wanted, text)
 
     def test_the_longest_text_is_known(self):
-        rows = [("[weekday]", Language.VERSION_3, 9), ("%A", Language.STRFTIME, 9), ("é", Language.VERSION_3, 2), ("", Language.VERSION_1, 0)]
+        rows = [("[weekday]", Language.VERSION_3, 9), ("%A", Language.STRFTIME, 9), ("é", Language.VERSION_3, 2)]
+        rows += [("", Language.VERSION_1, 0), ("[optional [[day]]]", Language.VERSION_3, 2)]
         for text, language, wanted in rows:
             self.assertEqual(Format(text, language).max_bytes, wanted, text)
 

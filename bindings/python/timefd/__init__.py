@@ -16,8 +16,15 @@
     >>> timefd.convert("%d.%m.%y", Language.STRFTIME, Language.VERSION_3)
     '[day].[month].[year repr:last_two]'
 
-A `Format` keeps what it has parsed; `check`, `parse`, `convert`, `format` and `read` take a text each time. All errors are an
-`Error`, which is a `ValueError`; a wrong type is a `TypeError`. The calls may come from any thread.
+    Format(text, language)            keeps a description: format, read_date, read_time, read_datetime, read, nodes, max_bytes
+    check(text, language)             whether a text is a description, or what is wrong with it
+    parse(text, language)             its items: Literal, Component, Compound, Optional, First
+    convert(text, source, target)     the same description in a later language
+    format(text, moment, language)    what Format writes, of a text that is parsed each time
+    read(text, moment, language)      what Format reads
+
+A language is one of `Language`, and VERSION_3 where none is given. All errors are an `Error`, which is a `ValueError`:
+`InvalidDescription`, `NothingShown`, `NotRead`, `NoMoment`. A wrong type is a `TypeError`. The calls may come from any thread.
 
 The reading is done by a library whose every function is proved; this module is only tested.
 """

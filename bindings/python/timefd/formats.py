@@ -111,4 +111,4 @@ class Format:
         return hash((self._text, self._language))
 
     def __reduce__(self) -> tuple[type[Format], tuple[str, Language]]:
-        return Format, (self._text, self._language)
+        return type(self), (self._text, self._language)

@@ -33,7 +33,8 @@ def _found() -> pathlib.Path:
         if (folder / FILE).exists():
             return folder / FILE
     tried = " or ".join(map(str, folders))
-    raise ImportError(f"there is no {FILE} in {tried}: `./build timefd_c` of the repository leaves one in out/", name=NAME)
+    why = f"there is no {FILE} in {tried}: `./build timefd_c` of the repository leaves one in out/, where Python's headers are"
+    raise ImportError(why, name=NAME)
 
 
 def _load() -> types.ModuleType:

@@ -108,7 +108,7 @@ class Component:
 class Compound:
     """Nodes in turn."""
 
-    members: "tuple[Node, ...]"
+    members: tuple[Node, ...]
     max_bytes: int
 
 
@@ -116,7 +116,7 @@ class Compound:
 class Optional:
     """A node that a parser may skip; `format` says whether a formatter writes it."""
 
-    member: "Node"
+    member: Node
     format: bool
     max_bytes: int
 
@@ -125,7 +125,7 @@ class Optional:
 class First:
     """Alternatives: a parser takes the first that fits, a formatter the first of all."""
 
-    members: "tuple[Node, ...]"
+    members: tuple[Node, ...]
     max_bytes: int
 
 
