@@ -62,23 +62,18 @@ class Names(unittest.TestCase):
 
 
 class Types(unittest.TestCase):
-    def checked(self, text):
-        """What mypy says of a caller."""
+    def test_good_callers_are_well_typed_and_bad_ones_are_not(self):
         mypy = shutil.which("mypy")
         if not mypy:
             self.skipTest("SKIPPED: the types, as there is no mypy (Debian's package mypy)")
-        package = pathlib.Path(timefd.__file__).parent
         with tempfile.TemporaryDirectory() as room:
+            package = pathlib.Path(timefd.__file__).parent
             shutil.copytree(package, f"{room}/timefd", ignore=shutil.ignore_patterns("__pycache__", "*.so"))
-            pathlib.Path(room, "caller.py").write_text(text)
-            words = [mypy, "--strict", "--no-incremental", "--cache-dir=/dev/null", "caller.py", "timefd"]
-            return subprocess.run(words, cwd=room, capture_output=True, text=True).stdout
-
-    def test_a_caller_and_the_package_are_well_typed(self):
-        self.assertRegex(self.checked(CALLER), "^Success: ")
-
-    def test_wrong_callers_are_told(self):
-        self.assertEqual(re.findall(r"^caller.py:(\d+): error", self.checked(WRONG), re.M), ["4", "5", "6"])
+            for name, text in (("caller.py", CALLER), ("wrong.py", WRONG)):
+                pathlib.Path(room, name).write_text(text)
+            words = [mypy, "--strict", "--cache-dir=/dev/null", "timefd", "caller.py", "wrong.py"]
+            said = subprocess.run(words, cwd=room, capture_output=True, text=True).stdout
+        self.assertEqual(re.findall(r"^(\S+:\d+): error", said, re.M), ["wrong.py:4", "wrong.py:5", "wrong.py:6"], said)
 
 
 if __name__ == "__main__":
