@@ -40,8 +40,8 @@ def moment():
 
 def papers():
     """The terms, and in a source archive also what it was made of."""
-    names = ("LICENSE-MIT", "LICENSE-APACHE", "TERMS.md", "BUILT")
-    return [folder / it for folder in (PYTHON, TOP) for it in names if (folder / it).exists()]
+    folder = PYTHON if (PYTHON / "LICENSE-MIT").exists() else TOP
+    return [folder / it for it in ("LICENSE-MIT", "LICENSE-APACHE", "TERMS.md", "BUILT") if (folder / it).exists()]
 
 
 def build_wheel(wheel_directory, config_settings=None, metadata_directory=None):
