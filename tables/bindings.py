@@ -104,7 +104,8 @@ DECODE = "bindings/rust/src/decode.rs"
 TABLES = [
     each("examples/timefd.h", Between(("/* The components.",), ""), BY_NUMBER, "#define TIMEFD_{0.capitals} {0.number}u"),
     Table("examples/timefd_names.h", Between(("static inline const char *timefd_component_name(", "switch"), "    }"), names_of_c),
-    each("bindings/python/timefd/nodes.py", Between(("class Name(", ""), ""), BY_NUMBER, "    {0.capitals} = {0.number}"),
+    each("bindings/python/timefd/nodes.py", Between(("class Name(", "return name", ""), ""), BY_NUMBER,
+         '    {0.capitals} = {0.number}, "{0.name}"'),
     Table(COMPONENTS, Between(("pub enum Component {",), "}"), variants),
     Table(COMPONENTS, Between(("pub fn max_bytes_needed", "match self {"), "            Self::Subsecond"), reserved),
     Table("bindings/rust/src/encode.rs", Between(("pub(crate) fn component(", "match component {"), "    }"), encoded),

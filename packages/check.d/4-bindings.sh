@@ -1,8 +1,29 @@
-# Python's wheel, the crate for Rust in each way that it finds the library, and the package for JavaScript.
+# Python's wheel and its source archive, the crate for Rust in each way that it finds the library, and the package for JavaScript.
 
+same 'the version of the module' "$(sed -n 's/^__version__ = "\(.*\)"/\1/p' "$top/bindings/python/timefd/__init__.py")" "$version"
+# python_tests ENVIRONMENT TESTS: the tests over what is installed in an environment
+python_tests() {
+    (cd "$room" && clean timeout 300 "$room/$1/bin/python" -B -m unittest discover -q -s "$2") || fail "the module for Python in $1"
+}
 python3 -m venv "$room/venv"
-"$room/venv/bin/pip" install --quiet --no-index --disable-pip-version-check --find-links "$releases" timefd
-(cd "$room" && clean timeout 120 "$room/venv/bin/python" -B -m unittest discover -q -s "$top/bindings/python/tests") || fail 'the module for Python'
+"$room/venv/bin/pip" install --quiet --no-index --disable-pip-version-check --find-links "$releases" --only-binary=:all: timefd
+python_tests venv "$top/bindings/python/tests"
+has mypy 'the types of the module for Python' || true
+
+# What the extension of a wheel shows and wants:   check_extension FILE
+check_extension() {
+    same "the extension for $processor shows" "$("${tools}nm" -D --defined-only "$1" | sed -n 's/.* T //p')" PyInit__timefd
+    same "the extension for $processor wants no later glibc than its tag says" \
+        "$(printf '%s\nGLIBC_2.17\n' "$(newest_glibc "$1")" | sort -V | tail -n 1)" GLIBC_2.17
+}
+check_extension "$("$room/venv/bin/python" -B -c 'from timefd import calls; print(calls._timefd.__file__)')"
+
+mkdir "$room/archive"
+tar -C "$room/archive" --strip-components=1 -xzf "$releases/timefd-$version.tar.gz"
+python3 -m venv "$room/sources"
+clean "$room/sources/bin/pip" install --quiet --no-index --disable-pip-version-check "$releases/timefd-$version.tar.gz" ||
+    fail 'the source archive for Python'
+python_tests sources "$room/archive/tests"
 
 # The crate's own tests over the library that is handed out; but for those of memory, which take the place of calls that can't
 # be seen in it: examples/run.sh has them.

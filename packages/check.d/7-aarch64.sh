@@ -14,7 +14,8 @@ if has aarch64-linux-gnu-g++ 'the packages for aarch64'; then
 
     "$room/venv/bin/pip" install --quiet --no-index --no-deps --disable-pip-version-check --find-links "$releases" --only-binary=:all: \
         --platform "manylinux_2_17_$processor" --target "$room/wheel" timefd
-    cmp "$room/wheel/timefd/libtimefd.so" "$prefix/lib/libtimefd.so" || fail "the wheel for aarch64 has another library"
+    check_extension "$room/wheel/timefd/_timefd.abi3.so"
+    cmp "$room/archive/native/$cargo_target/libtimefd.a" "$prefix/lib/libtimefd.a" || fail "the source archive has another library"
     cmp "$crate/native/$cargo_target/libtimefd.a" "$prefix/lib/libtimefd.a" || fail "the crate has another library for aarch64"
     # The build of the crate for a target that no Rust is installed for: what it tells Cargo to link.
     rustc --edition 2024 -o "$room/build_script" "$crate/build.rs"

@@ -1,15 +1,19 @@
 """Tests of what no doctest shows, over the installed module:   python -m unittest discover -s bindings/python/tests"""
 
+import dataclasses
 import datetime
 import doctest
 import pathlib
 import re
 import unittest
 
-import timefd
-from timefd import Component, Compound, First, Language, Literal, Name, Optional, Padding, TrailingInput, calls, library, moments
+from found import timefd
+from timefd import Component, Compound, First, Language, Literal, Name, Optional, Padding, TrailingInput
+from timefd import calls, formats, library, moments, nodes
 
-HEADER = pathlib.Path(__file__).resolve().parents[3] / "examples/timefd.h"
+HERE = pathlib.Path(__file__).resolve()
+# A source archive has the header among the sources.
+HEADER = next(it for it in (HERE.parents[1] / "source/timefd.h", HERE.parents[3] / "examples/timefd.h") if it.exists())
 
 
 def defined(text):
@@ -18,7 +22,7 @@ def defined(text):
 
 
 def load_tests(loader, tests, pattern):
-    for module in (timefd, calls, moments):
+    for module in (timefd, calls, formats, moments):
         tests.addTests(doctest.DocTestSuite(module, extraglobs={"Language": Language, "datetime": datetime}))
     return tests
 
@@ -27,14 +31,8 @@ class Numbers(unittest.TestCase):
     def test_the_numbers_are_those_of_the_header(self):
         numbers = defined(HEADER.read_text())
         ours = {"VERSION": library.VERSION, "FALSE": 1, "TRUE": 2, "ONE_OR_MORE": 10}
-        for name in ("ACCEPTED", "REFUSED", "NOT_UTF8", "NO_MEMORY", "UNKNOWN_KIND", "UNSHOWN", "OUT_OF_RANGE"):
-            ours[name] = getattr(library, name)
-        for name in ("NO_CONVERSION", "UNREAD", "CONTRADICTION", "MISSING"):
-            ours[name] = getattr(library, name)
-        for name in ("HAS_DATE", "HAS_TIME", "HAS_OFFSET", "LITERAL", "COMPONENT", "COMPOUND", "OPTIONAL", "FIRST"):
-            ours[name] = getattr(library, name)
         ours |= {f"PADDING_{it.name}": it for it in Padding}
-        ours |= {it.name: it for kind in (Language, TrailingInput) for it in kind}
+        ours |= {it.name: it for kind in (Language, TrailingInput, nodes._Kind) for it in kind}
         self.assertLessEqual(ours.items(), numbers.items())
 
     def test_the_components_are_all_of_the_header(self):
@@ -53,22 +51,9 @@ class Numbers(unittest.TestCase):
         ours = {it.name: it.value for it in timefd.Unread} | {f"PART_{it.name}": it.value for it in timefd.Part}
         self.assertEqual(ours, numbers)
 
-    def test_the_fields_stand_where_the_header_has_them(self):
-        rows = re.findall(r"^TIMEFD_FIELD\((\w+), (\w+), (\d+), (\d+)\);", HEADER.read_text(), re.M)
-        self.assertGreater(len(rows), 15)
-        structs = {
-            "timefd_answer": library.Answer,
-            "timefd_fault": library.Fault,
-            "timefd_diagnosis": library.Diagnosis,
-            "timefd_node": library.RawNode,
-            "timefd_read_answer": library.ReadAnswer,
-            "timefd_moment": library.RawMoment,
-            "timefd_format_answer": library.FormatAnswer,
-            "timefd_date_answer": library.DateAnswer,
-        }
-        for struct, field, start, size in rows:
-            placed = getattr(structs[struct], field)
-            self.assertEqual((placed.offset, placed.size), (int(start), int(size)), f"{struct}.{field}")
+    def test_the_rows_have_the_fields_of_the_header(self):
+        fields = re.findall(r"^TIMEFD_FIELD\(timefd_node, (\w+),", HEADER.read_text(), re.M)
+        self.assertEqual([it.name for it in dataclasses.fields(nodes._Row)], fields)
 
 
 class Formats(unittest.TestCase):
@@ -82,7 +67,7 @@ class Formats(unittest.TestCase):
         with self.assertRaises(timefd.NothingShown) as caught:
             timefd.format("[month] [hour]", datetime.date(2026, 11, 23))
         self.assertEqual(caught.exception.component, Name.HOUR_24)
-        self.assertEqual(str(caught.exception), "hour_24 shows nothing: there is no time of day")
+        self.assertEqual(str(caught.exception), "hour shows nothing: there is no time of day")
 
     def test_a_text_that_is_refused(self):
         with self.assertRaises(timefd.InvalidDescription):

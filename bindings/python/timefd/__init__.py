@@ -1,36 +1,56 @@
-"""Format descriptions of dates: those of Rust's crate `time`, versions 1, 2 and 3, and of strftime.
+"""Formats of dates, as `[year]-[month]-[day]` of Rust's crate `time`, versions 1, 2 and 3, or `%Y-%m-%d` of strftime.
 
     >>> import datetime
     >>> import timefd
-    >>> timefd.check("[year]-[month]-[day]")
-    11
+    >>> day = timefd.Format("[day].[month].[year]")
+    >>> day.format(datetime.date(2026, 11, 23))
+    '23.11.2026'
+    >>> day.read_date("23.11.2026")
+    datetime.date(2026, 11, 23)
     >>> timefd.check("[year]-[mnth]")
     Traceback (most recent call last):
     ...
     timefd.errors.InvalidDescription: invalid component name `mnth` at byte index 8
     >>> timefd.parse("due [day]")[0]
     Literal(text='due ', max_bytes=4)
-    >>> timefd.convert("[[a]", Language.VERSION_1, Language.VERSION_2)
-    '\\\\[a\\\\]'
-    >>> timefd.format("[day].[month].[year]", datetime.date(2026, 11, 23))
-    '23.11.2026'
-    >>> timefd.read("[day].[month].[year]", "23.11.2026")
-    datetime.date(2026, 11, 23)
+    >>> timefd.convert("%d.%m.%y", Language.STRFTIME, Language.VERSION_3)
+    '[day].[month].[year repr:last_two]'
 
-The reading is done by a library whose every function is proved; this module is only tested. Its calls may come from any thread.
+    Format(text, language)            keeps a description: format, read_date, read_time, read_datetime, read, nodes, max_bytes
+    check(text, language)             whether a text is a description, or what is wrong with it
+    parse(text, language)             its items: Literal, Component, Compound, Optional, First
+    convert(text, source, target)     the same description in a later language
+    format(text, moment, language)    what Format writes, of a text that is parsed each time
+    read(text, moment, language)      what Format reads
+
+A language is one of `Language`, and VERSION_3 where none is given. All errors are an `Error`, which is a `ValueError`:
+`InvalidDescription`, `NothingShown`, `NotRead`, `NoMoment`. A wrong type is a `TypeError`. The calls may come from any thread.
+
+The reading is done by a library whose every function is proved; this module is only tested.
 """
 
-from timefd.calls import check, convert, parse
-from timefd.errors import FaultKind, InvalidDescription, NoMoment, NotRead, NothingShown, Part, Unread
-from timefd.language import Language
-from timefd.moments import format, read
-from timefd.nodes import Component, Compound, First, Literal, Name, Node, Optional, Padding, TrailingInput
+# This finds the extension, which the others import.
+from timefd import library as library
 
+from timefd.calls import check, convert, parse
+from timefd.errors import Error, FaultKind, InvalidDescription, NoMoment, NothingShown, NotRead, Part, Unread
+from timefd.formats import Format
+from timefd.language import Language
+from timefd.moments import format as format
+from timefd.moments import read
+from timefd.nodes import Component, Compound, First, Literal, Name, Node, Padding, TrailingInput
+from timefd.nodes import Optional as Optional
+
+__version__ = "0.2.0"
+
+# `from timefd import *` gives all but `format` and `Optional`, which would take the place of the builtin and of `typing.Optional`.
 __all__ = [
     "Component",
     "Compound",
+    "Error",
     "FaultKind",
     "First",
+    "Format",
     "InvalidDescription",
     "Language",
     "Literal",
@@ -39,14 +59,12 @@ __all__ = [
     "Node",
     "NotRead",
     "NothingShown",
-    "Optional",
     "Padding",
     "Part",
     "TrailingInput",
     "Unread",
     "check",
     "convert",
-    "format",
     "parse",
     "read",
 ]

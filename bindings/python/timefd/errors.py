@@ -1,11 +1,13 @@
 """What is wrong with a text, with a moment that it is to write, or with a date that it is to read."""
 
+from __future__ import annotations
+
 import enum
 import typing
 
 from timefd.nodes import Name
 
-__all__ = ["FaultKind", "InvalidDescription", "NoMoment", "NotRead", "NothingShown", "Part", "Unread"]
+__all__ = ["Error", "FaultKind", "InvalidDescription", "NoMoment", "NotRead", "NothingShown", "Part", "Unread"]
 
 
 class FaultKind(enum.IntEnum):
@@ -36,27 +38,48 @@ class FaultKind(enum.IntEnum):
         return self.name.lower().replace("_", "-")
 
 
-class InvalidDescription(ValueError):
-    """A text is no description: `str` is the sentence of its fault, and `kind` which one it is.
+class Error(ValueError):
+    """What all errors of this package are: that a text is no description, or a value can't be written or read by one."""
 
-    The bytes at fault are those of `span`, by their indices in UTF-8, of which `index` is the first; `nearest` is the nearest of
-    the words that are allowed there, or None where none is near.
+
+def _characters(text: str, index: int) -> int:
+    """How many characters of a text stand before a byte of its UTF-8."""
+    return len(text.encode()[:index].decode())
+
+
+class InvalidDescription(Error):
+    """A text is no description: `str` is the sentence of its fault, `kind` which one it is, and `text` the text.
+
+    `span` are the bytes at fault, by their indices in UTF-8, and `index` is the first of them. `character_span` and
+    `character_index` are the same in characters: `text[slice(*error.character_span)]` is what is at fault. `nearest` is the
+    nearest of the words that are allowed there, or None where none is near.
     """
 
     def __init__(
-        self, sentence: str, kind: FaultKind, span: "tuple[int, int]", nearest: "typing.Optional[str]"
+        self, sentence: str, kind: FaultKind, span: tuple[int, int], nearest: typing.Optional[str], text: str
     ) -> None:
-        super().__init__(sentence, kind, span, nearest)
+        super().__init__(sentence, kind, span, nearest, text)
         self.kind = kind
         self.index = span[0]
         self.span = span
         self.nearest = nearest
+        self.text = text
+
+    @property
+    def character_index(self) -> int:
+        """How many characters stand before what is at fault."""
+        return _characters(self.text, self.index)
+
+    @property
+    def character_span(self) -> tuple[int, int]:
+        """The characters at fault: the index of the first, and that after the last."""
+        return self.character_index, _characters(self.text, self.span[1])
 
     def __str__(self) -> str:
         return str(self.args[0])
 
 
-class NothingShown(ValueError):
+class NothingShown(Error):
     """A component shows nothing of the moment: `component` is the first such one, and `str` says why."""
 
     def __init__(self, component: Name, reason: str) -> None:
@@ -64,7 +87,7 @@ class NothingShown(ValueError):
         self.component = component
 
     def __str__(self) -> str:
-        return f"{self.component.name.lower()} shows nothing: {self.args[1]}"
+        return f"{self.component.in_brackets} shows nothing: {self.args[1]}"
 
 
 class Unread(enum.IntEnum):
@@ -107,21 +130,27 @@ class Part(enum.IntEnum):
     UNIX_NANOSECOND = 26
 
 
-class NotRead(ValueError):
-    """A part of a date doesn't read: `why` says in which way, and `str` as a sentence.
+class NotRead(Error):
+    """A part of a date doesn't read: `why` says in which way, `str` as a sentence, and `moment` is what was to be read.
 
-    `index` is where the first such part begins, in bytes of UTF-8, and `component` the one that doesn't read, or None where it is
-    a literal or the end.
+    `index` is where the first such part begins, in bytes of UTF-8, and `character_index` in characters. `component` is the one
+    that doesn't read, or None where it is a literal or the end.
     """
 
-    def __init__(self, why: Unread, component: "typing.Optional[Name]", index: int) -> None:
-        super().__init__(why, component, index)
+    def __init__(self, why: Unread, component: typing.Optional[Name], index: int, moment: str) -> None:
+        super().__init__(why, component, index, moment)
         self.why = why
         self.component = component
         self.index = index
+        self.moment = moment
+
+    @property
+    def character_index(self) -> int:
+        """How many characters of the moment stand before the part."""
+        return _characters(self.moment, self.index)
 
     def __str__(self) -> str:
-        what = "the description" if self.component is None else self.component.name.lower()
+        what = "the description" if self.component is None else self.component.in_brackets
         told = {
             Unread.READS_NOTHING: "reads nothing",
             Unread.READS_ANOTHER_VALUE: "reads another value",
@@ -131,7 +160,7 @@ class NotRead(ValueError):
         return f"{what} {told[self.why]} at byte index {self.index}"
 
 
-class NoMoment(ValueError):
+class NoMoment(Error):
     """What was read is no moment: `part` is missing, where `is_missing` says so, and else disagrees with others."""
 
     def __init__(self, part: Part, is_missing: bool) -> None:
