@@ -7,51 +7,38 @@ use crate::description::FormatDescription;
 use crate::error::ParseError;
 use crate::moment::Moment;
 use crate::sys::{self, DateAnswer};
-use crate::version::{Language, Version};
+use crate::version::Language;
 
-/// Reads a text by a description of a version. All of it is read, and each component takes as much
+/// Reads a text by a description of a language. All of it is read, and each component takes as much
 /// as it can. What is known of the moment is what was read; with a Unix timestamp all three parts
 /// are. It takes 15 KiB of stack for each level that the description is nested.
 ///
 /// # Errors
 ///
-/// What the version refuses the description for; the first part of the text that doesn't read; why
+/// What the language refuses the description for; the first part of the text that doesn't read; why
 /// what was read is no moment; or that memory ran out.
 ///
 /// ```
-/// use timefd::{Date, ReadError, Version};
+/// use timefd::{Date, Language, MomentPart, ReadError, Version};
 ///
 /// let day = timefd::read(Version::Three, "[day]/[month]/[year]", "23/11/2026")?;
-/// assert_eq!(day.date, Some(Date { year: 2026, month: 11, day: 23 }));
+/// assert_eq!(day.date, Some(Date::new(2026, 11, 23)?));
 /// assert_eq!(timefd::format(Version::Three, "[weekday]", &day)?, "Monday");
 ///
 /// let error = timefd::read(Version::Three, "[day]/[month]/[year]", "23/1x/2026").unwrap_err();
 /// assert!(matches!(error, ReadError::Unread { index: 3, .. }));
 /// assert_eq!(error.to_string(), "the component `month` reads nothing at byte index 3");
+///
+/// let error = timefd::read(Language::Strftime, "%A, %F", "Tuesday, 2026-11-23").unwrap_err();
+/// assert_eq!(error, ReadError::Contradiction(MomentPart::Weekday));
 /// # Ok::<(), Box<dyn std::error::Error>>(())
 /// ```
-pub fn read(version: Version, description: &str, text: &str) -> Result<Moment, ReadError> {
-    read_in(Language::Version(version), description, text)
-}
-
-/// Reads a text by a description of strftime.
-///
-/// # Errors
-///
-/// As those of [`read`].
-///
-/// ```
-/// use timefd::{MomentPart, ReadError, Time};
-///
-/// let moment = timefd::read_strftime("%H:%M", "05:06")?;
-/// assert_eq!(moment.time, Some(Time { hour: 5, minute: 6, ..Time::default() }));
-///
-/// let error = timefd::read_strftime("%A, %F", "Tuesday, 2026-11-23").unwrap_err();
-/// assert_eq!(error, ReadError::Contradiction(MomentPart::Weekday));
-/// # Ok::<(), ReadError>(())
-/// ```
-pub fn read_strftime(description: &str, text: &str) -> Result<Moment, ReadError> {
-    read_in(Language::Strftime, description, text)
+pub fn read(
+    language: impl Into<Language>,
+    description: &str,
+    text: &str,
+) -> Result<Moment, ReadError> {
+    read_in(language.into(), description, text)
 }
 
 impl FormatDescription<'_> {

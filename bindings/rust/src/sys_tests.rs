@@ -14,8 +14,9 @@ use super::{CONTRADICTION, MISSING, UNREAD};
 use super::{NO_CONVERSION, OUT_OF_RANGE, RawMoment, RawNode, UNSHOWN, VERSION};
 use crate::decode;
 use crate::fault::FaultKind;
-use crate::format::{Lack, Number};
+use crate::lack::Lack;
 use crate::modifier::{Padding, SubsecondDigits, TrailingInput, boolean};
+use crate::range::Number;
 use crate::read::{MomentPart, Unread};
 use crate::version::{Language, Version};
 

@@ -44,7 +44,7 @@ impl<'de> Visitor<'de> for BorrowedVisitor {
     }
 
     fn visit_borrowed_str<E: Error>(self, text: &'de str) -> Result<Self::Value, E> {
-        FormatDescription::parse_in(self.language, text).map_err(E::custom)
+        FormatDescription::parse(self.language, text).map_err(E::custom)
     }
 
     fn visit_str<E: Error>(self, _: &str) -> Result<Self::Value, E> {

@@ -59,7 +59,7 @@ impl OwnedFormat {
     ///
     /// Memory ran out. A fault it can't have.
     pub fn description(&self) -> Result<FormatDescription<'_>, ParseError> {
-        FormatDescription::parse_in(self.language, &self.text)
+        FormatDescription::parse(self.language, &self.text)
     }
 
     /// The text, without a copy.

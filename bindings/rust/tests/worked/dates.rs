@@ -3,7 +3,7 @@
 use std::fmt;
 use std::io;
 
-use crate::rows::{Language, ONE, STRFTIME, THREE};
+use crate::rows::{Language, ONE, Parse, STRFTIME, THREE};
 use timefd::{
     Date, FormatError, Lack, Moment, MomentPart, Number, ReadError, Time, Unread, WriteError,
 };

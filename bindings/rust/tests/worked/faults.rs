@@ -2,7 +2,7 @@
 
 use std::error::Error;
 
-use crate::rows::{Language, ONE, STRFTIME, THREE, TWO};
+use crate::rows::{Language, ONE, Parse, STRFTIME, THREE, TWO};
 use timefd::FaultKind::{self, *};
 
 /// A text of a language, and its fault with the bytes and the nearest word.

@@ -5,6 +5,7 @@ mod components;
 mod conversions;
 mod dates;
 mod faults;
+mod moments;
 mod refused;
 mod rows;
 mod values;

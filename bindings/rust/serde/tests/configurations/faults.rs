@@ -42,7 +42,7 @@ const ROWS: &[Row] = &[
 #[test]
 fn each_field() {
     for (language, text, kind, span, nearest, message) in ROWS {
-        let error = FormatDescription::parse_in(*language, text).expect_err(text);
+        let error = FormatDescription::parse(*language, text).expect_err(text);
         let fields = FaultFields(error.fault().expect("there is memory"));
         let expected = json!({
             "kind": kind,
@@ -59,7 +59,7 @@ fn each_field() {
 #[test]
 fn in_their_order() {
     let error =
-        FormatDescription::parse_in(THREE, "[foo]").expect_err("no component has that name");
+        FormatDescription::parse(THREE, "[foo]").expect_err("no component has that name");
     let line = concat!(
         r#"{"kind":"unknown-name","index":1,"span":{"start":1,"end":4},"nearest":null,"#,
         r#""message":"invalid component name `foo` at byte index 1"}"#
