@@ -124,14 +124,8 @@ impl fmt::Display for ConvertError {
     }
 }
 
-impl Error for ConvertError {
-    fn source(&self) -> Option<&(dyn Error + 'static)> {
-        match self {
-            Self::Parse(error) => Some(error),
-            Self::NoConversion => None,
-        }
-    }
-}
+/// It has no source: the sentence of [`ConvertError::Parse`] is that of what it holds.
+impl Error for ConvertError {}
 
 /// Room on the stack for what most texts become.
 const SHORT: usize = 256;

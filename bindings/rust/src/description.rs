@@ -110,11 +110,13 @@ impl<'a> FormatDescription<'a> {
     }
 
     /// The text that was read.
+    #[must_use]
     pub fn text(&self) -> &str {
         &self.tree.text
     }
 
     /// The language that it was read in.
+    #[must_use]
     pub fn language(&self) -> Language {
         self.language
     }
@@ -129,6 +131,7 @@ impl<'a> FormatDescription<'a> {
     /// assert_eq!(FormatDescription::parse(Language::Strftime, "%d")?.version(), None);
     /// # Ok::<(), timefd::ParseError>(())
     /// ```
+    #[must_use]
     pub fn version(&self) -> Option<Version> {
         match self.language {
             Language::Version(version) => Some(version),
@@ -149,6 +152,7 @@ impl<'a> FormatDescription<'a> {
     /// assert_eq!(date.max_bytes_needed(), 13);
     /// # Ok::<(), timefd::ParseError>(())
     /// ```
+    #[must_use]
     pub fn max_bytes_needed(&self) -> usize {
         self.max_bytes
     }

@@ -6,6 +6,7 @@ use core::fmt;
 use core::str::from_utf8;
 
 use crate::buffer;
+use crate::component_kind::ComponentKind;
 use crate::error::ParseError;
 use crate::lack::Lack;
 use crate::moment::Moment;
@@ -48,8 +49,8 @@ pub enum FormatError {
     Parse(ParseError),
     /// A component shows nothing of the moment.
     Unshown {
-        /// The number that `timefd.h` gives the component. It is the first such one.
-        component: u32,
+        /// Which component it is: the first such one.
+        component: ComponentKind,
         /// Why it shows nothing.
         lack: Lack,
     },
@@ -67,20 +68,16 @@ impl fmt::Display for FormatError {
     fn fmt(&self, f: &mut fmt::Formatter<'_>) -> fmt::Result {
         match self {
             Self::Parse(error) => error.fmt(f),
-            Self::Unshown { lack, .. } => write!(f, "a component shows nothing: {}", lack.words()),
+            Self::Unshown { component, lack } => {
+                write!(f, "the component `{component}` shows nothing: {}", lack.words())
+            }
             Self::OutOfRange(number) => f.write_str(number.words()),
         }
     }
 }
 
-impl Error for FormatError {
-    fn source(&self) -> Option<&(dyn Error + 'static)> {
-        match self {
-            Self::Parse(error) => Some(error),
-            Self::Unshown { .. } | Self::OutOfRange(_) => None,
-        }
-    }
-}
+/// It has no source: the sentence of [`FormatError::Parse`] is that of what it holds.
+impl Error for FormatError {}
 
 /// Room on the stack for what most descriptions write.
 const SHORT: usize = 128;
@@ -145,8 +142,11 @@ impl Pattern<'_> {
         match answer.status {
             sys::ACCEPTED => Ok(answer.value),
             sys::UNSHOWN => {
-                let lack = Lack::from_number(answer.reason).expect("a reason of the header");
-                Err(FormatError::Unshown { component: answer.component, lack })
+                let component = ComponentKind::from_number(answer.component);
+                Err(FormatError::Unshown {
+                    component: component.expect("a component of the header"),
+                    lack: Lack::from_number(answer.reason).expect("a reason of the header"),
+                })
             }
             sys::OUT_OF_RANGE => {
                 let number = Number::from_number(answer.reason).expect("a number of the header");

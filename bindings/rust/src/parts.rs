@@ -9,6 +9,7 @@ use crate::tree::Tree;
 
 /// A part of what a formatter writes.
 #[derive(Debug, Clone, Copy, PartialEq, Eq)]
+#[non_exhaustive]
 pub enum Part<'a> {
     /// Text that stands for itself.
     Literal(&'a str),
@@ -18,6 +19,7 @@ pub enum Part<'a> {
 
 /// What a formatter writes, in turn.
 #[derive(Debug, Clone)]
+#[must_use = "iterators do nothing unless they are gone through"]
 pub struct Parts<'a> {
     tree: &'a Tree<'a>,
     /// The places of those that are left, among all that are written.

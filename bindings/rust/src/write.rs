@@ -53,7 +53,7 @@ impl FormatDescription<'_> {
     pub fn write_to(
         &self,
         moment: &Moment,
-        output: &mut impl fmt::Write,
+        output: &mut (impl fmt::Write + ?Sized),
     ) -> Result<(), WriteError<fmt::Error>> {
         self.with_pattern(|pattern| pattern.format_to(moment, |text| output.write_str(text)))
     }
@@ -78,7 +78,7 @@ impl FormatDescription<'_> {
     pub fn write_to_io(
         &self,
         moment: &Moment,
-        output: &mut impl std::io::Write,
+        output: &mut (impl std::io::Write + ?Sized),
     ) -> Result<(), WriteError<std::io::Error>> {
         let write = |text: &str| output.write_all(text.as_bytes());
         self.with_pattern(|pattern| pattern.format_to(moment, write))
@@ -95,6 +95,7 @@ impl FormatDescription<'_> {
     /// assert_eq!(format!("until {}", description.show(day)), "until 23.11.");
     /// # Ok::<(), Box<dyn std::error::Error>>(())
     /// ```
+    #[must_use = "it writes nothing until it is shown"]
     pub fn show(&self, moment: Moment) -> Shown<'_> {
         Shown { description: self, moment }
     }
@@ -158,6 +159,7 @@ impl fmt::Display for Shown<'_> {
 
 /// Why a moment is not written to an output.
 #[derive(Debug, Clone, PartialEq, Eq)]
+#[non_exhaustive]
 pub enum WriteError<E> {
     /// The description doesn't write it, and nothing reached the output.
     Format(FormatError),
@@ -180,11 +182,12 @@ impl<E: fmt::Display> fmt::Display for WriteError<E> {
     }
 }
 
-impl<E: Error + 'static> Error for WriteError<E> {
+/// Its source is that of what it holds, whose sentence is its own.
+impl<E: Error> Error for WriteError<E> {
     fn source(&self) -> Option<&(dyn Error + 'static)> {
         match self {
-            Self::Format(error) => Some(error),
-            Self::Output(error) => Some(error),
+            Self::Format(error) => error.source(),
+            Self::Output(error) => error.source(),
         }
     }
 }
