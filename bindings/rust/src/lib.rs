@@ -70,6 +70,8 @@ mod moment;
 mod moment_part;
 mod node;
 mod parts;
+#[cfg(feature = "std")]
+pub mod presets;
 mod range;
 mod read;
 mod sys;

@@ -6,6 +6,7 @@ mod conversions;
 mod dates;
 mod faults;
 mod moments;
+mod presets;
 mod refused;
 mod rows;
 mod values;
