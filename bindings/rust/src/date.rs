@@ -44,6 +44,11 @@ impl Date {
         Err(RangeError::new(number))
     }
 
+    /// The same, if it is a day.
+    pub(crate) fn checked(self) -> Result<Self, RangeError> {
+        Self::new(self.year, self.month, self.day)
+    }
+
     /// How many days it is after 1970-01-01, before it as a negative number.
     pub(crate) fn unix_days(self) -> i64 {
         // Years begin on 1 March here, so that a leap day is the last one.

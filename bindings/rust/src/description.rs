@@ -115,6 +115,12 @@ impl<'a> FormatDescription<'a> {
         &self.tree.text
     }
 
+    /// The text, copied where it is borrowed.
+    #[cfg(feature = "serde")]
+    pub(crate) fn into_text(self) -> alloc::string::String {
+        self.tree.text.into_owned()
+    }
+
     /// The language that it was read in.
     #[must_use]
     pub fn language(&self) -> Language {

@@ -8,7 +8,7 @@ use crate::date::Date;
 use crate::format::{FormatError, format};
 use crate::moment::Moment;
 use crate::read::{ReadError, read};
-use crate::time::Time;
+use crate::time_of_day::Time;
 use crate::version::Version;
 
 /// The parts of a description of version 3.

@@ -49,6 +49,8 @@ extern crate alloc;
 extern crate std;
 
 mod buffer;
+#[cfg(feature = "chrono")]
+pub mod chrono;
 mod component;
 mod component_kind;
 mod content;
@@ -62,6 +64,8 @@ mod error;
 mod fault;
 mod format;
 mod iso;
+#[cfg(feature = "jiff")]
+mod jiff;
 mod lack;
 mod links;
 mod literal;
@@ -74,11 +78,17 @@ mod parts;
 pub mod presets;
 mod range;
 mod read;
+#[cfg(feature = "serde")]
+pub mod serde;
 mod sys;
 #[cfg(feature = "std")]
 mod system_time;
-mod time;
+#[cfg(feature = "time")]
+pub mod time;
+mod time_of_day;
 mod tree;
+#[cfg(any(feature = "time", feature = "chrono"))]
+mod unsupported;
 mod value_error;
 mod version;
 mod write;
@@ -100,7 +110,7 @@ pub use node::{Item, Members, Node, Nodes};
 pub use parts::{Part, Parts};
 pub use range::{Number, RangeError};
 pub use read::{ReadError, Unread, read};
-pub use time::Time;
+pub use time_of_day::Time;
 pub use value_error::ValueError;
 pub use version::{Language, UnknownLanguage, UnknownVersion, Version};
 pub use write::{Shown, WriteError};

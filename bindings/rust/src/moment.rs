@@ -3,10 +3,11 @@
 use core::cmp::Ordering;
 
 use crate::date::Date;
-#[cfg(feature = "std")]
 use crate::range::{Number, RangeError};
 use crate::sys::RawMoment;
-use crate::time::Time;
+use crate::time_of_day::Time;
+#[cfg(any(feature = "std", feature = "time", feature = "chrono", feature = "jiff"))]
+use crate::{lack::Lack, value_error::ValueError};
 
 /// A date, a time of day, an offset from UTC, or some of these.
 ///
@@ -83,19 +84,42 @@ impl Moment {
     /// # Errors
     ///
     /// The first number that is out of its range.
-    #[cfg(feature = "std")]
-    pub(crate) fn expect_in_range(&self) -> Result<(), RangeError> {
-        if let Some(Date { year, month, day }) = self.date {
-            Date::new(year, month, day)?;
-        }
-        if let Some(Time { hour, minute, second, nanosecond }) = self.time {
-            Time::new(hour, minute, second, nanosecond)?;
-        }
+    ///
+    /// ```
+    /// use timefd::{Date, Moment, Number};
+    ///
+    /// let moment = Moment::from(Date { year: 2026, month: 11, day: 31 });
+    /// assert_eq!(moment.check().unwrap_err().number(), Number::Day);
+    /// ```
+    pub fn check(&self) -> Result<(), RangeError> {
+        self.date.map_or(Ok(()), |date| date.checked().map(drop))?;
+        self.time.map_or(Ok(()), |time| time.checked().map(drop))?;
         let is_far = |seconds: &i32| seconds.unsigned_abs() >= 26 * 3_600;
         if self.offset_seconds.as_ref().is_some_and(is_far) {
             return Err(RangeError::new(Number::Offset));
         }
         Ok(())
+    }
+
+    /// Its date, its time of day and its offset.
+    #[cfg(any(feature = "std", feature = "time", feature = "chrono", feature = "jiff"))]
+    pub(crate) fn all_parts(&self) -> Result<(Date, Time, i32), ValueError> {
+        self.check()?;
+        let date = self.date.ok_or(Lack::NoDate)?;
+        let time = self.time.ok_or(Lack::NoTime)?;
+        Ok((date, time, self.offset_seconds.ok_or(Lack::NoOffset)?))
+    }
+
+    /// Its date and its time of day, where it has no offset that would be lost.
+    #[cfg(any(feature = "time", feature = "chrono", feature = "jiff"))]
+    pub(crate) fn local_parts(&self) -> Result<(Date, Time), ValueError> {
+        self.check()?;
+        let date = self.date.ok_or(Lack::NoDate)?;
+        let time = self.time.ok_or(Lack::NoTime)?;
+        match self.offset_seconds {
+            None => Ok((date, time)),
+            Some(_) => Err(ValueError::OffsetLost),
+        }
     }
 
     /// How many whole seconds it is after 1970-01-01T00:00:00Z, where that is known.

@@ -3,10 +3,9 @@
 use std::time::{Duration, SystemTime, UNIX_EPOCH};
 
 use crate::date::Date;
-use crate::lack::Lack;
 use crate::moment::Moment;
 use crate::range::{Number, RangeError};
-use crate::time::Time;
+use crate::time_of_day::Time;
 use crate::value_error::ValueError;
 
 impl Moment {
@@ -83,10 +82,8 @@ impl TryFrom<Moment> for SystemTime {
     /// The moment lacks its date, time or offset, one of its numbers is out of its range, or the
     /// system has no such time.
     fn try_from(moment: Moment) -> Result<Self, ValueError> {
-        moment.expect_in_range()?;
-        moment.date.ok_or(Lack::NoDate)?;
-        let time = moment.time.ok_or(Lack::NoTime)?;
-        let seconds = moment.unix_seconds().ok_or(Lack::NoOffset)?;
+        let (_, time, _) = moment.all_parts()?;
+        let seconds = moment.unix_seconds().ok_or(ValueError::Unrepresentable)?;
         let whole = Duration::from_secs(seconds.unsigned_abs());
         let at_second = match seconds < 0 {
             true => UNIX_EPOCH.checked_sub(whole),

@@ -14,8 +14,16 @@ pub enum ValueError {
     Missing(Lack),
     /// A number of the moment is out of its range.
     OutOfRange(Number),
+    /// The moment has an offset from UTC, which the other type would lose.
+    OffsetLost,
     /// The other type has no such value.
     Unrepresentable,
+}
+
+/// The error of a value that another library refuses, for whatever reason.
+#[cfg(any(feature = "time", feature = "jiff"))]
+pub(crate) fn unrepresentable<E>(_: E) -> ValueError {
+    ValueError::Unrepresentable
 }
 
 impl From<Lack> for ValueError {
@@ -35,6 +43,7 @@ impl fmt::Display for ValueError {
         f.write_str(match self {
             Self::Missing(lack) => lack.words(),
             Self::OutOfRange(number) => number.words(),
+            Self::OffsetLost => "the other type has no offset, and the moment has one",
             Self::Unrepresentable => "the other type has no such date, time or offset",
         })
     }
