@@ -68,23 +68,46 @@ check_package() {
     ) || fail "the package $1 has a fault"
 }
 
+# Formats, lints and tests the crate, as a dependency of a package: where it is built itself, Cargo looks for its optional dependencies,
+# which want a registry.
+check_crate() {
+    (cd ../bindings/rust && cargo fmt --check) &&
+        (cd dates && cargo clippy --offline --locked --quiet -p timefd --all-targets -- -D warnings) &&
+        (cd dates && cargo test --offline --locked --quiet -p timefd) ||
+        fail "the crate has a fault"
+    (cd ../bindings/rust/features/none && cargo clippy --offline --quiet -p timefd -- -D warnings) || fail "the crate wants std"
+}
+
+# Lints and tests a feature of the crate with the crates that Debian's packages have, where they are installed: check_feature FEATURE
+# PACKAGE CRATE..
+registry=/usr/share/cargo/registry
+check_feature() {
+    feature=$1 package=$2
+    shift 2
+    for crate; do
+        ls -d "$registry/$crate-"[0-9]* > /dev/null 2>&1 || {
+            echo "run.sh: there is no $crate in $registry ($package), so the feature $feature of the crate is not tested"
+            return 0
+        }
+    done
+    (
+        cd "../bindings/rust/features/$feature" &&
+            cargo fmt --check &&
+            cargo clippy --offline --quiet -p timefd -p "timefd_with_$feature" --all-targets -- -D warnings &&
+            cargo test --offline --quiet &&
+            { [ "$feature" = serde ] || cargo test --offline --quiet -p timefd --doc "$feature"; }
+    ) || fail "the feature $feature of the crate has a fault"
+}
+
 # Its tests of memory take the place of calls that can't be seen in libtimefd.a, but in the archives that this is made of.
 [ ! -d "$folder/parts" ] || export TIMEFD_LIB_DIR="$folder/parts"
-check_package ../bindings/rust
-(cd ../bindings/rust && cargo clippy --offline --locked --quiet --no-default-features -- -D warnings) || fail "the crate wants std"
+check_crate
 [ ! -d "$folder/parts" ] || export TIMEFD_LIB_DIR="$folder"
 check_package dates
-if [ -d /usr/share/cargo/registry/time-0.3.9 ]; then
-    check_package ../bindings/rust/time
-else
-    echo "run.sh: time 0.3.9 (librust-time-dev) is not installed, so bindings/rust/time is not tested"
-fi
-if [ -d /usr/share/cargo/registry/serde_derive-1.0.152 ] && [ -d /usr/share/cargo/registry/serde_json-1.0.87 ]; then
-    check_package ../bindings/rust/serde
-else
-    echo "run.sh: serde 1.0.152 (librust-serde-derive-dev) or serde_json 1.0.87 (librust-serde-json-dev) is not installed, so" \
-        "bindings/rust/serde is not tested"
-fi
+check_feature serde 'librust-serde-derive-dev, librust-serde-json-dev' serde serde_derive serde_json
+check_feature time librust-time-dev time
+check_feature chrono librust-chrono-dev chrono
+check_feature jiff 'librust-jiff-dev, of Debian 13' jiff
 cp dates/target/debug/format out/format_rust
 cp dates/target/debug/read out/read_rust
 compare format_rust out/expected_format.txt dates.txt

@@ -98,7 +98,23 @@ def names_of_c():
     return lines
 
 
+def kind_names():
+    return [
+        line for name, group in grouped(BY_NUMBER, lambda it: it.name)
+        for line in arm_of_many(12, [f"Self::{it.variant}" for it in group], f'"{name}"', is_rust=True)
+    ]
+
+
+def kind_variants():
+    return [line for it in BY_NUMBER for line in (f"    /// {it.about}", f"    {it.variant},")]
+
+
+def kinds():
+    return [line for it in MODERN for line in arm_of_rust(12, f"Self::{it.variant} {{ .. }}", f"ComponentKind::{it.variant}")]
+
+
 COMPONENTS = "bindings/rust/src/component.rs"
+KINDS = "bindings/rust/src/component_kind.rs"
 DECODE = "bindings/rust/src/decode.rs"
 
 TABLES = [
@@ -108,6 +124,10 @@ TABLES = [
          '    {0.capitals} = {0.number}, "{0.name}"'),
     Table(COMPONENTS, Between(("pub enum Component {",), "}"), variants),
     Table(COMPONENTS, Between(("pub fn max_bytes_needed", "match self {"), "            Self::Subsecond"), reserved),
+    Table(KINDS, Between(("pub enum ComponentKind {",), "}"), kind_variants),
+    Table(KINDS, Between(("pub fn name(", "match self {"), "        }"), kind_names),
+    each(KINDS, Between(("pub(crate) fn from_number(", "Some(match"), "            _ =>"), BY_NUMBER, "            {0.number} => Self::{0.variant},"),
+    Table(KINDS, Between(("pub fn kind(", "match self {"), "        }"), kinds),
     Table("bindings/rust/src/encode.rs", Between(("pub(crate) fn component(", "match component {"), "    }"), encoded),
     Table(DECODE, Between(("fn of_date(", "Some(match"), "        _ =>"), of_date),
     Table(DECODE, Between(("fn year(", "Some(match"), "        _ =>"), year),

@@ -12,7 +12,7 @@ pub enum Call {
     Read,
     /// `parse_borrowed` in Rattle: items, or a description of version 3, which are dropped.
     ParseBorrowed,
-    /// `FormatDescription::parse_in` in Rust: the tree, which is dropped.
+    /// `FormatDescription::parse` in Rust: the tree, which is dropped.
     ParseInRust,
     /// `timefd_judge`: what the text holds is counted, and nothing is built.
     Judge,
@@ -148,7 +148,7 @@ fn parse_borrowed(kind: Kind, text: &str) -> bool {
 
 #[inline(always)]
 fn parse_in_rust(kind: Kind, text: &str) -> bool {
-    black_box(FormatDescription::parse_in(language(kind), text)).is_ok()
+    black_box(FormatDescription::parse(language(kind), text)).is_ok()
 }
 
 fn language(kind: Kind) -> Language {

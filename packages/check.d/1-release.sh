@@ -7,7 +7,7 @@ mkdir -p "$elsewhere/bindings" "$elsewhere/examples" "$elsewhere/crates"
 cp -R "$here" "$elsewhere/packages"
 cp -R "$top/bindings/python" "$top/bindings/javascript" "$elsewhere/bindings"
 mkdir "$elsewhere/bindings/rust"
-(cd "$top/bindings/rust" && tar -c --exclude=./target .) | tar -x -C "$elsewhere/bindings/rust"
+(cd "$top/bindings/rust" && tar -c --exclude=./target --exclude=./features .) | tar -x -C "$elsewhere/bindings/rust"
 cp "$top"/examples/timefd*.h "$elsewhere/examples"
 cp "$top/LICENSE-MIT" "$top/LICENSE-APACHE" "$top/CHANGELOG.md" "$elsewhere"
 for file in timefd/out/timefd.o timefd_lint/out/timefd_lint.o timefd_write/out/timefd_write.o; do

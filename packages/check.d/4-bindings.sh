@@ -26,19 +26,20 @@ clean "$room/sources/bin/pip" install --quiet --no-index --disable-pip-version-c
 python_tests sources "$room/archive/tests"
 
 # The crate's own tests over the library that is handed out; but for those of memory, which take the place of calls that can't
-# be seen in it: examples/run.sh has them.
+# be seen in it: examples/run.sh has them. A package that depends on the crate asks for them: Cargo looks for no optional
+# dependencies then.
 (
-    cd "$top/bindings/rust"
+    cd "$top/examples/dates"
     for tests in '--lib --test worked' --doc; do
         # shellcheck disable=SC2086
-        clean TIMEFD_LIB_DIR="$prefix/lib" cargo test --quiet --offline --locked --target-dir "$room/tests" $tests
+        clean TIMEFD_LIB_DIR="$prefix/lib" cargo test --quiet --offline --locked --target-dir "$room/tests" -p timefd $tests
     done > "$room/said" 2>&1 || { cat "$room/said"; false; }
 ) || fail 'the tests of the crate'
 
 same 'the version of the crate' "$(sed -n 's/^version = "\(.*\)"/\1/p' "$top/bindings/rust/Cargo.toml")" "$version"
 tar -C "$room" -xzf "$releases/timefd-$version.crate"
 crate=$room/timefd-$version
-for file in LICENSE-MIT LICENSE-APACHE native/README native/TERMS.md "native/$cargo_target/libtimefd.a"; do
+for file in CHANGELOG.md LICENSE-MIT LICENSE-APACHE native/README native/TERMS.md "native/$cargo_target/libtimefd.a"; do
     [ -s "$crate/$file" ] || fail "the crate has no $file"
 done
 mkdir -p "$room/project/src"

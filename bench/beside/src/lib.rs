@@ -50,5 +50,5 @@ pub unsafe extern "C" fn parse_in_rust(kind: u32, bytes: *const u8, len: usize) 
         _ => Language::Strftime,
     };
     // SAFETY: that is what the caller promises.
-    black_box(FormatDescription::parse_in(language, unsafe { text(bytes, len) })).is_ok()
+    black_box(FormatDescription::parse(language, unsafe { text(bytes, len) })).is_ok()
 }

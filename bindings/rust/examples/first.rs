@@ -11,8 +11,7 @@ fn main() -> Result<(), Box<dyn Error>> {
     }
     println!("at most {} bytes", description.max_bytes_needed());
 
-    let date = Some(Date { year: 2026, month: 11, day: 23 });
-    let day = Moment { date, ..Moment::default() };
+    let day = Moment::from(Date::new(2026, 11, 23)?);
     println!("{}", timefd::format(Version::Three, "[day].[month].[year]", &day)?); // 23.11.2026
 
     let day = timefd::read(Version::Three, "[day]/[month]/[year]", "23/11/2026")?;

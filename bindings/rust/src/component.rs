@@ -7,6 +7,7 @@ use crate::modifier::{Padding, SubsecondDigits, TrailingInput};
 /// A component of a date or time, with its modifiers: those of `Component` of `time` that are not
 /// deprecated.
 #[derive(Debug, Clone, Copy, PartialEq, Eq, Hash)]
+#[non_exhaustive]
 pub enum Component {
     /// Day of the month.
     Day {
@@ -223,6 +224,7 @@ impl Component {
     ///
     /// assert_eq!(Component::Day { padding: Padding::Zero }.max_bytes_needed(), 2);
     /// ```
+    #[must_use]
     pub fn max_bytes_needed(self) -> usize {
         match self {
             Self::Ignore { .. } | Self::End { .. } => 0,

@@ -81,11 +81,12 @@ pub fn v2_to_v3(text: &str) -> Result<String, ParseError> {
 /// version 3. Where memory runs out that is [`fmt::Error`].
 ///
 /// ```
-/// use timefd::{FormatDescription, Version};
+/// use timefd::{FormatDescription, Language, Version};
 ///
 /// let description = FormatDescription::parse(Version::Three, "[ day padding:zero ]/[month]")?;
 /// assert_eq!(description.to_string(), "[day]/[month]");
-/// assert_eq!(FormatDescription::parse_strftime("%R")?.to_string(), "[hour]:[minute]");
+/// let description = FormatDescription::parse(Language::Strftime, "%R")?;
+/// assert_eq!(description.to_string(), "[hour]:[minute]");
 /// # Ok::<(), timefd::ParseError>(())
 /// ```
 impl fmt::Display for FormatDescription<'_> {
@@ -123,14 +124,8 @@ impl fmt::Display for ConvertError {
     }
 }
 
-impl Error for ConvertError {
-    fn source(&self) -> Option<&(dyn Error + 'static)> {
-        match self {
-            Self::Parse(error) => Some(error),
-            Self::NoConversion => None,
-        }
-    }
-}
+/// It has no source: the sentence of [`ConvertError::Parse`] is that of what it holds.
+impl Error for ConvertError {}
 
 /// Room on the stack for what most texts become.
 const SHORT: usize = 256;

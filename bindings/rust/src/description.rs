@@ -27,8 +27,8 @@ use crate::version::{Language, Version};
 /// # Ok::<(), timefd::ParseError>(())
 /// ```
 ///
-/// It borrows its text. Two are equal where they have the same nodes, whatever texts and languages
-/// they were read from.
+/// It borrows its text; [`into_owned`](Self::into_owned) makes one that is kept for longer. Two are
+/// equal where they have the same nodes, whatever texts and languages they were read from.
 #[derive(Clone)]
 pub struct FormatDescription<'a> {
     language: Language,
@@ -37,14 +37,15 @@ pub struct FormatDescription<'a> {
 }
 
 impl<'a> FormatDescription<'a> {
-    /// Reads a text of a version.
+    /// Parses a text of a language. `%F` and other letters of strftime that stand for several
+    /// components are a compound.
     ///
     /// # Errors
     ///
-    /// The fault that the rules of the version assign to the text, or that memory ran out.
+    /// The fault that the rules of the language assign to the text, or that memory ran out.
     ///
     /// ```
-    /// use timefd::{FormatDescription, Version};
+    /// use timefd::{FormatDescription, Language, Version};
     ///
     /// let text = "[year]-[month]-[day]";
     /// let description = FormatDescription::parse(Version::Three, text)?;
@@ -52,37 +53,17 @@ impl<'a> FormatDescription<'a> {
     ///
     /// let error = FormatDescription::parse(Version::Three, "[day").unwrap_err();
     /// assert_eq!(error.to_string(), "unclosed opening bracket at byte index 0");
+    ///
+    /// let description = FormatDescription::parse(Language::Strftime, "%d.%m.%y")?;
+    /// assert_eq!(description.items().count(), 5);
     /// # Ok::<(), timefd::ParseError>(())
     /// ```
-    pub fn parse(version: Version, text: &'a str) -> Result<Self, ParseError> {
-        Self::parse_in(Language::Version(version), text)
+    pub fn parse(language: impl Into<Language>, text: &'a str) -> Result<Self, ParseError> {
+        Self::parse_in(language.into(), text)
     }
 
-    /// Reads conversion specifications of strftime. `%F` and others that stand for several are a
-    /// compound.
-    ///
-    /// # Errors
-    ///
-    /// The fault that the rules of strftime assign to the text, or that memory ran out.
-    ///
-    /// ```
-    /// use timefd::FormatDescription;
-    ///
-    /// assert_eq!(FormatDescription::parse_strftime("%d.%m.%y")?.items().count(), 5);
-    /// assert_eq!(FormatDescription::parse_strftime("100%").unwrap_err().index(), Some(3));
-    /// # Ok::<(), timefd::ParseError>(())
-    /// ```
-    pub fn parse_strftime(text: &'a str) -> Result<Self, ParseError> {
-        Self::parse_in(Language::Strftime, text)
-    }
-
-    /// Reads a text of a language, as [`parse`](Self::parse) and
-    /// [`parse_strftime`](Self::parse_strftime) do.
-    ///
-    /// # Errors
-    ///
-    /// The fault that the rules of the language assign to the text, or that memory ran out.
-    pub fn parse_in(language: Language, text: &'a str) -> Result<Self, ParseError> {
+    /// The same for each type that names a language.
+    fn parse_in(language: Language, text: &'a str) -> Result<Self, ParseError> {
         // Most texts have room on the stack. For a longer one there is room for all on the heap.
         let mut nodes = sys::zeroed_nodes::<SHORT_NODES>();
         let mut literals = [0; SHORT_LITERALS];
@@ -102,12 +83,46 @@ impl<'a> FormatDescription<'a> {
         }
     }
 
+    /// The same with a text of its own, which borrows nothing: so it is kept in a struct, or sent to
+    /// another thread. It copies the text where that is borrowed, and parses nothing.
+    ///
+    /// ```
+    /// use timefd::{Date, FormatDescription, Moment, ParseError, Version};
+    ///
+    /// struct Log {
+    ///     date_format: FormatDescription<'static>,
+    /// }
+    ///
+    /// fn log_of(configured: String) -> Result<Log, ParseError> {
+    ///     let description = FormatDescription::parse(Version::Three, &configured)?;
+    ///     Ok(Log { date_format: description.into_owned() })
+    /// }
+    ///
+    /// let log = log_of("[day].[month].[year]".to_owned())?;
+    /// let day = Moment::from(Date::new(2026, 11, 23)?);
+    /// assert_eq!(log.date_format.format(&day)?, "23.11.2026");
+    /// # Ok::<(), Box<dyn std::error::Error>>(())
+    /// ```
+    #[must_use]
+    pub fn into_owned(self) -> FormatDescription<'static> {
+        let Self { language, tree, max_bytes } = self;
+        FormatDescription { language, tree: tree.into_owned(), max_bytes }
+    }
+
     /// The text that was read.
-    pub fn text(&self) -> &'a str {
-        self.tree.text
+    #[must_use]
+    pub fn text(&self) -> &str {
+        &self.tree.text
+    }
+
+    /// The text, copied where it is borrowed.
+    #[cfg(feature = "serde")]
+    pub(crate) fn into_text(self) -> alloc::string::String {
+        self.tree.text.into_owned()
     }
 
     /// The language that it was read in.
+    #[must_use]
     pub fn language(&self) -> Language {
         self.language
     }
@@ -115,13 +130,14 @@ impl<'a> FormatDescription<'a> {
     /// The version that it was read in. `None` where that is strftime.
     ///
     /// ```
-    /// use timefd::{FormatDescription, Version};
+    /// use timefd::{FormatDescription, Language, Version};
     ///
     /// let description = FormatDescription::parse(Version::Two, "[DAY]")?;
     /// assert_eq!(description.version(), Some(Version::Two));
-    /// assert_eq!(FormatDescription::parse_strftime("%d")?.version(), None);
+    /// assert_eq!(FormatDescription::parse(Language::Strftime, "%d")?.version(), None);
     /// # Ok::<(), timefd::ParseError>(())
     /// ```
+    #[must_use]
     pub fn version(&self) -> Option<Version> {
         match self.language {
             Language::Version(version) => Some(version),
@@ -134,14 +150,15 @@ impl<'a> FormatDescription<'a> {
     /// its longest text, all of it is needed. Where a `usize` can't count it, it is `usize::MAX`.
     ///
     /// ```
-    /// use timefd::{FormatDescription, Version};
+    /// use timefd::{FormatDescription, Language, Version};
     ///
-    /// let date = FormatDescription::parse_strftime("%F")?;
+    /// let date = FormatDescription::parse(Language::Strftime, "%F")?;
     /// assert_eq!(date.max_bytes_needed(), 13); // the year may have a sign and six digits
     /// let date = FormatDescription::parse(Version::One, "[year]-[month]-[day]")?;
     /// assert_eq!(date.max_bytes_needed(), 13);
     /// # Ok::<(), timefd::ParseError>(())
     /// ```
+    #[must_use]
     pub fn max_bytes_needed(&self) -> usize {
         self.max_bytes
     }

@@ -27,6 +27,7 @@ pub enum ParseError {
 
 impl ParseError {
     /// The fault of the text. `None` where memory ran out.
+    #[must_use]
     pub fn fault(&self) -> Option<&Fault> {
         match self {
             Self::Invalid(fault) => Some(fault),
@@ -60,11 +61,5 @@ impl fmt::Display for ParseError {
     }
 }
 
-impl Error for ParseError {
-    fn source(&self) -> Option<&(dyn Error + 'static)> {
-        match self {
-            Self::Invalid(fault) => Some(fault),
-            Self::OutOfMemory => None,
-        }
-    }
-}
+/// It has no source: the sentence of [`ParseError::Invalid`] is that of its fault.
+impl Error for ParseError {}

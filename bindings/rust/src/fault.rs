@@ -55,6 +55,7 @@ pub enum FaultKind {
 
 impl FaultKind {
     /// Its name, as `unclosed-bracket`, which stays the same whatever the sentence says.
+    #[must_use]
     pub fn name(self) -> &'static str {
         match self {
             Self::UnclosedBracket => "unclosed-bracket",
@@ -137,34 +138,40 @@ pub struct Fault {
 
 impl Fault {
     /// Which fault it is.
+    #[must_use]
     pub fn kind(&self) -> FaultKind {
         self.kind
     }
 
     /// The name of its kind.
+    #[must_use]
     pub fn name(&self) -> &'static str {
         self.kind.name()
     }
 
     /// The index of the byte at fault: how many bytes of the text stand before it. It is at most the
     /// text's length, and stands between two characters, so that both parts of the text can be sliced.
+    #[must_use]
     pub fn index(&self) -> usize {
         self.start
     }
 
     /// The bytes at fault: from the index on, up to the end of the name, key or value there, or else
     /// of the one character there. It is empty at the end of the text.
+    #[must_use]
     pub fn span(&self) -> Range<usize> {
         self.start..self.end
     }
 
     /// The nearest of the names, keys or values that are allowed there, where one is near.
+    #[must_use]
     pub fn nearest(&self) -> Option<&str> {
         Some(&self.words[self.sentence_len..]).filter(|word| !word.is_empty())
     }
 
     /// What is wrong there. The library writes it, and it is proved to be the sentence of the fault
     /// that the rules assign to the text.
+    #[must_use]
     pub fn sentence(&self) -> &str {
         &self.words[..self.sentence_len]
     }

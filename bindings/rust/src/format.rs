@@ -6,50 +6,39 @@ use core::fmt;
 use core::str::from_utf8;
 
 use crate::buffer;
+use crate::component_kind::ComponentKind;
 use crate::error::ParseError;
+use crate::lack::Lack;
 use crate::moment::Moment;
+use crate::range::{Number, RangeError};
 use crate::sys::{self, RawMoment, RawNode};
-use crate::version::{Language, Version};
+use crate::version::Language;
 use crate::write::WriteError;
 
-/// Writes the moment by a description of a version.
+/// Writes the moment by a description of a language.
 ///
 /// # Errors
 ///
-/// A number of the moment that is out of its range; what the version refuses the text for; the first
+/// A number of the moment that is out of its range; what the language refuses the text for; the first
 /// component that shows nothing of the moment; or that memory ran out.
 ///
 /// ```
-/// use timefd::{Date, Moment, Version};
+/// use timefd::{Date, FormatError, Lack, Language, Moment, Version};
 ///
-/// let date = Some(Date { year: 2026, month: 11, day: 23 });
-/// let day = Moment { date, ..Moment::default() };
+/// let day = Moment::from(Date::new(2026, 11, 23)?);
 /// assert_eq!(timefd::format(Version::Three, "[year]-[month]-[day]", &day)?, "2026-11-23");
-/// # Ok::<(), timefd::FormatError>(())
+/// assert_eq!(timefd::format(Language::Strftime, "%d.%m.%Y", &day)?, "23.11.2026");
+///
+/// let error = timefd::format(Language::Strftime, "%H:%M", &day).unwrap_err();
+/// assert!(matches!(error, FormatError::Unshown { lack: Lack::NoTime, .. }));
+/// # Ok::<(), Box<dyn std::error::Error>>(())
 /// ```
-pub fn format(version: Version, text: &str, moment: &Moment) -> Result<String, FormatError> {
-    Pattern::Text(version.number(), text).format(moment)
-}
-
-/// Writes the moment by a text of strftime.
-///
-/// # Errors
-///
-/// As those of [`format`].
-///
-/// ```
-/// use timefd::{FormatError, Lack, Moment, Time};
-///
-/// let time = Some(Time { hour: 5, minute: 6, ..Time::default() });
-/// let moment = Moment { time, ..Moment::default() };
-/// assert_eq!(timefd::format_strftime("%H:%M", &moment)?, "05:06");
-///
-/// let error = timefd::format_strftime("%F", &moment).unwrap_err();
-/// assert!(matches!(error, FormatError::Unshown { lack: Lack::NoDate, .. }));
-/// # Ok::<(), FormatError>(())
-/// ```
-pub fn format_strftime(text: &str, moment: &Moment) -> Result<String, FormatError> {
-    Pattern::Text(Language::Strftime.number(), text).format(moment)
+pub fn format(
+    language: impl Into<Language>,
+    text: &str,
+    moment: &Moment,
+) -> Result<String, FormatError> {
+    Pattern::Text(language.into().number(), text).format(moment)
 }
 
 /// Why nothing is written.
@@ -60,8 +49,8 @@ pub enum FormatError {
     Parse(ParseError),
     /// A component shows nothing of the moment.
     Unshown {
-        /// The number that `timefd.h` gives the component. It is the first such one.
-        component: u32,
+        /// Which component it is: the first such one.
+        component: ComponentKind,
         /// Why it shows nothing.
         lack: Lack,
     },
@@ -69,95 +58,9 @@ pub enum FormatError {
     OutOfRange(Number),
 }
 
-/// Why a component shows nothing of a moment.
-#[derive(Debug, Clone, Copy, PartialEq, Eq, Hash)]
-pub enum Lack {
-    /// The moment has no date.
-    NoDate,
-    /// The moment has no time of day.
-    NoTime,
-    /// The moment has no offset from UTC.
-    NoOffset,
-    /// The component shows no year of so many digits.
-    YearTooLong,
-    /// The instant is in no year from -999,999 to 999,999 of UTC.
-    InstantOutOfRange,
-}
-
-/// A number of a moment.
-#[derive(Debug, Clone, Copy, PartialEq, Eq, Hash)]
-pub enum Number {
-    /// The year of the date.
-    Year,
-    /// Its month.
-    Month,
-    /// Its day.
-    Day,
-    /// The hour of the time.
-    Hour,
-    /// Its minute.
-    Minute,
-    /// Its second.
-    Second,
-    /// Its nanosecond.
-    Nanosecond,
-    /// The offset from UTC.
-    Offset,
-}
-
-impl Lack {
-    /// The one that the header has this number for.
-    pub(crate) fn from_number(number: u32) -> Option<Self> {
-        Some(match number {
-            1 => Self::NoDate,
-            2 => Self::NoTime,
-            3 => Self::NoOffset,
-            4 => Self::YearTooLong,
-            5 => Self::InstantOutOfRange,
-            _ => return None,
-        })
-    }
-
-    /// The reason as a part of a sentence.
-    fn words(self) -> &'static str {
-        match self {
-            Self::NoDate => "the moment has no date",
-            Self::NoTime => "the moment has no time of day",
-            Self::NoOffset => "the moment has no offset from UTC",
-            Self::YearTooLong => "it shows no year of so many digits",
-            Self::InstantOutOfRange => "the instant is in no year from -999999 to 999999 of UTC",
-        }
-    }
-}
-
-impl Number {
-    /// The one that the header has this number for.
-    pub(crate) fn from_number(number: u32) -> Option<Self> {
-        Some(match number {
-            1 => Self::Year,
-            2 => Self::Month,
-            3 => Self::Day,
-            4 => Self::Hour,
-            5 => Self::Minute,
-            6 => Self::Second,
-            7 => Self::Nanosecond,
-            8 => Self::Offset,
-            _ => return None,
-        })
-    }
-
-    /// Its range in words.
-    fn words(self) -> &'static str {
-        match self {
-            Self::Year => "year must be in the range -999999..=999999",
-            Self::Month => "month must be in the range 1..=12",
-            Self::Day => "the month has no such day",
-            Self::Hour => "hour must be in the range 0..=23",
-            Self::Minute => "minute must be in the range 0..=59",
-            Self::Second => "second must be in the range 0..=59",
-            Self::Nanosecond => "nanosecond must be in the range 0..=999999999",
-            Self::Offset => "offset must be less than 26 hours from UTC",
-        }
+impl From<RangeError> for FormatError {
+    fn from(error: RangeError) -> Self {
+        Self::OutOfRange(error.number())
     }
 }
 
@@ -165,20 +68,16 @@ impl fmt::Display for FormatError {
     fn fmt(&self, f: &mut fmt::Formatter<'_>) -> fmt::Result {
         match self {
             Self::Parse(error) => error.fmt(f),
-            Self::Unshown { lack, .. } => write!(f, "a component shows nothing: {}", lack.words()),
+            Self::Unshown { component, lack } => {
+                write!(f, "the component `{component}` shows nothing: {}", lack.words())
+            }
             Self::OutOfRange(number) => f.write_str(number.words()),
         }
     }
 }
 
-impl Error for FormatError {
-    fn source(&self) -> Option<&(dyn Error + 'static)> {
-        match self {
-            Self::Parse(error) => Some(error),
-            Self::Unshown { .. } | Self::OutOfRange(_) => None,
-        }
-    }
-}
+/// It has no source: the sentence of [`FormatError::Parse`] is that of what it holds.
+impl Error for FormatError {}
 
 /// Room on the stack for what most descriptions write.
 const SHORT: usize = 128;
@@ -243,8 +142,11 @@ impl Pattern<'_> {
         match answer.status {
             sys::ACCEPTED => Ok(answer.value),
             sys::UNSHOWN => {
-                let lack = Lack::from_number(answer.reason).expect("a reason of the header");
-                Err(FormatError::Unshown { component: answer.component, lack })
+                let component = ComponentKind::from_number(answer.component);
+                Err(FormatError::Unshown {
+                    component: component.expect("a component of the header"),
+                    lack: Lack::from_number(answer.reason).expect("a reason of the header"),
+                })
             }
             sys::OUT_OF_RANGE => {
                 let number = Number::from_number(answer.reason).expect("a number of the header");

@@ -24,19 +24,18 @@
 //! ```
 //! use timefd::{Date, Moment, Version};
 //!
-//! let date = Some(Date { year: 2026, month: 11, day: 23 });
-//! let day = Moment { date, ..Moment::default() };
+//! let day = Moment::from(Date::new(2026, 11, 23)?);
 //! assert_eq!(timefd::format(Version::Three, "[month]/[day]", &day)?, "11/23");
-//! # Ok::<(), timefd::FormatError>(())
+//! # Ok::<(), Box<dyn std::error::Error>>(())
 //! ```
 //!
 //! [`read`] reads one:
 //!
 //! ```
-//! use timefd::{Date, Version};
+//! use timefd::Version;
 //!
 //! let day = timefd::read(Version::Three, "[day]/[month]/[year]", "23/11/2026")?;
-//! assert_eq!(day.date, Some(Date { year: 2026, month: 11, day: 23 }));
+//! assert_eq!(day.to_string(), "2026-11-23");
 //! # Ok::<(), timefd::ReadError>(())
 //! ```
 //!
@@ -50,9 +49,13 @@ extern crate alloc;
 extern crate std;
 
 mod buffer;
+#[cfg(feature = "chrono")]
+pub mod chrono;
 mod component;
+mod component_kind;
 mod content;
 mod convert;
+mod date;
 mod decode;
 mod description;
 #[cfg(test)]
@@ -60,29 +63,54 @@ mod encode;
 mod error;
 mod fault;
 mod format;
+mod iso;
+#[cfg(feature = "jiff")]
+mod jiff;
+mod lack;
 mod links;
 mod literal;
 mod modifier;
 mod moment;
+mod moment_part;
 mod node;
 mod parts;
+#[cfg(feature = "std")]
+pub mod presets;
+mod range;
 mod read;
+#[cfg(feature = "serde")]
+pub mod serde;
 mod sys;
+#[cfg(feature = "std")]
+mod system_time;
+#[cfg(feature = "time")]
+pub mod time;
+mod time_of_day;
 mod tree;
+#[cfg(any(feature = "time", feature = "chrono"))]
+mod unsupported;
+mod value_error;
 mod version;
 mod write;
 mod written;
 
 pub use component::Component;
+pub use component_kind::ComponentKind;
 pub use convert::{ConvertError, convert, v1_to_v2, v2_to_v3};
+pub use date::Date;
 pub use description::FormatDescription;
 pub use error::ParseError;
 pub use fault::{Fault, FaultKind};
-pub use format::{FormatError, Lack, Number, format, format_strftime};
+pub use format::{FormatError, format};
+pub use lack::Lack;
 pub use modifier::{Padding, SubsecondDigits, TrailingInput};
-pub use moment::{Date, Moment, Time};
+pub use moment::Moment;
+pub use moment_part::MomentPart;
 pub use node::{Item, Members, Node, Nodes};
 pub use parts::{Part, Parts};
-pub use read::{MomentPart, ReadError, Unread, read, read_strftime};
-pub use version::{Language, UnknownVersion, Version};
+pub use range::{Number, RangeError};
+pub use read::{ReadError, Unread, read};
+pub use time_of_day::Time;
+pub use value_error::ValueError;
+pub use version::{Language, UnknownLanguage, UnknownVersion, Version};
 pub use write::{Shown, WriteError};

@@ -2,6 +2,7 @@
 
 /// How a number that is shorter than its field is filled on the left.
 #[derive(Debug, Clone, Copy, Default, PartialEq, Eq, Hash)]
+#[non_exhaustive]
 pub enum Padding {
     /// By spaces.
     Space,
@@ -34,6 +35,7 @@ impl Padding {
 
 /// How many digits of a fraction of a second are shown.
 #[derive(Debug, Clone, Copy, Default, PartialEq, Eq, Hash)]
+#[non_exhaustive]
 pub enum SubsecondDigits {
     /// One: tenths of a second.
     One,
@@ -111,6 +113,7 @@ impl SubsecondDigits {
 
 /// What becomes of input behind the end.
 #[derive(Debug, Clone, Copy, Default, PartialEq, Eq, Hash)]
+#[non_exhaustive]
 pub enum TrailingInput {
     /// It is refused.
     #[default]

@@ -1,19 +1,36 @@
 //! What is known of a value that is written or read.
 
+use core::cmp::Ordering;
+
+use crate::date::Date;
+use crate::range::{Number, RangeError};
 use crate::sys::RawMoment;
+use crate::time_of_day::Time;
+#[cfg(any(feature = "std", feature = "time", feature = "chrono", feature = "jiff"))]
+use crate::{lack::Lack, value_error::ValueError};
 
 /// A date, a time of day, an offset from UTC, or some of these.
 ///
 /// ```
 /// use timefd::{Date, Moment, Time};
 ///
-/// let noon = Moment {
-///     date: Some(Date { year: 2026, month: 11, day: 23 }),
-///     time: Some(Time { hour: 12, ..Time::default() }),
-///     ..Moment::default()
-/// };
-/// assert_eq!(noon.offset_seconds, None);
+/// let day = Moment::from(Date::new(2026, 11, 23)?);
+/// assert_eq!(day.to_string(), "2026-11-23");
+///
+/// let noon = Moment { time: Some(Time::new(12, 0, 0, 0)?), ..day };
+/// assert_eq!(noon.to_string(), "2026-11-23T12:00:00");
+///
+/// let noon = Moment { offset_seconds: Some(3600), ..noon };
+/// assert_eq!(noon.to_string(), "2026-11-23T12:00:00+01:00");
+/// assert_eq!("2026-11-23T12:00:00+01:00".parse::<Moment>()?, noon);
+/// # Ok::<(), Box<dyn std::error::Error>>(())
 /// ```
+///
+/// It shows itself as RFC 3339 and ISO 8601 write what it has, and is read of such a text.
+///
+/// Those of which all three parts are known are in the order of time, whatever their offsets are.
+/// Others are ordered by their parts: the date, the time, the offset; and those that lack one stand
+/// in front of those that have it.
 #[derive(Debug, Clone, Copy, Default, PartialEq, Eq, Hash)]
 pub struct Moment {
     /// The day of the calendar.
@@ -23,30 +40,6 @@ pub struct Moment {
     /// How many seconds the clock is ahead of UTC, behind it as a negative number: less than 26
     /// hours.
     pub offset_seconds: Option<i32>,
-}
-
-/// A day of the Gregorian calendar.
-#[derive(Debug, Clone, Copy, PartialEq, Eq, Hash)]
-pub struct Date {
-    /// From -999,999 to 999,999.
-    pub year: i32,
-    /// From 1.
-    pub month: u8,
-    /// From 1.
-    pub day: u8,
-}
-
-/// What a clock shows. By default it is midnight.
-#[derive(Debug, Clone, Copy, Default, PartialEq, Eq, Hash)]
-pub struct Time {
-    /// From 0 to 23.
-    pub hour: u8,
-    /// From 0 to 59.
-    pub minute: u8,
-    /// From 0 to 59.
-    pub second: u8,
-    /// From 0 to 999,999,999.
-    pub nanosecond: u32,
 }
 
 impl Moment {
@@ -84,5 +77,90 @@ impl Moment {
             time: is_known(RawMoment::HAS_TIME).then_some(time),
             offset_seconds: is_known(RawMoment::HAS_OFFSET).then_some(raw.offset_seconds),
         }
+    }
+
+    /// Whether each of its numbers is in its range.
+    ///
+    /// # Errors
+    ///
+    /// The first number that is out of its range.
+    ///
+    /// ```
+    /// use timefd::{Date, Moment, Number};
+    ///
+    /// let moment = Moment::from(Date { year: 2026, month: 11, day: 31 });
+    /// assert_eq!(moment.check().unwrap_err().number(), Number::Day);
+    /// ```
+    pub fn check(&self) -> Result<(), RangeError> {
+        self.date.map_or(Ok(()), |date| date.checked().map(drop))?;
+        self.time.map_or(Ok(()), |time| time.checked().map(drop))?;
+        let is_far = |seconds: &i32| seconds.unsigned_abs() >= 26 * 3_600;
+        if self.offset_seconds.as_ref().is_some_and(is_far) {
+            return Err(RangeError::new(Number::Offset));
+        }
+        Ok(())
+    }
+
+    /// Its date, its time of day and its offset.
+    #[cfg(any(feature = "std", feature = "time", feature = "chrono", feature = "jiff"))]
+    pub(crate) fn all_parts(&self) -> Result<(Date, Time, i32), ValueError> {
+        self.check()?;
+        let date = self.date.ok_or(Lack::NoDate)?;
+        let time = self.time.ok_or(Lack::NoTime)?;
+        Ok((date, time, self.offset_seconds.ok_or(Lack::NoOffset)?))
+    }
+
+    /// Its date and its time of day, where it has no offset that would be lost.
+    #[cfg(any(feature = "time", feature = "chrono", feature = "jiff"))]
+    pub(crate) fn local_parts(&self) -> Result<(Date, Time), ValueError> {
+        self.check()?;
+        let date = self.date.ok_or(Lack::NoDate)?;
+        let time = self.time.ok_or(Lack::NoTime)?;
+        match self.offset_seconds {
+            None => Ok((date, time)),
+            Some(_) => Err(ValueError::OffsetLost),
+        }
+    }
+
+    /// How many whole seconds it is after 1970-01-01T00:00:00Z, where that is known.
+    pub(crate) fn unix_seconds(&self) -> Option<i64> {
+        let seconds = self.date?.unix_days() * 86_400 + self.time?.seconds();
+        Some(seconds - i64::from(self.offset_seconds?))
+    }
+}
+
+impl From<Date> for Moment {
+    fn from(date: Date) -> Self {
+        Self { date: Some(date), ..Self::default() }
+    }
+}
+
+impl From<Time> for Moment {
+    fn from(time: Time) -> Self {
+        Self { time: Some(time), ..Self::default() }
+    }
+}
+
+impl From<(Date, Time)> for Moment {
+    fn from((date, time): (Date, Time)) -> Self {
+        Self { date: Some(date), time: Some(time), offset_seconds: None }
+    }
+}
+
+impl Ord for Moment {
+    fn cmp(&self, other: &Self) -> Ordering {
+        let key = |moment: &Self| {
+            let known = (moment.date.is_some(), moment.time.is_some());
+            let instant = moment.unix_seconds().zip(moment.time.map(|time| time.nanosecond));
+            let parts = (moment.date, moment.time, moment.offset_seconds);
+            (known, moment.offset_seconds.is_some(), instant, parts)
+        };
+        key(self).cmp(&key(other))
+    }
+}
+
+impl PartialOrd for Moment {
+    fn partial_cmp(&self, other: &Self) -> Option<Ordering> {
+        Some(self.cmp(other))
     }
 }

@@ -9,6 +9,7 @@ use crate::tree::Tree;
 
 /// What a node of a description is.
 #[derive(Debug, Clone)]
+#[non_exhaustive]
 pub enum Node<'a> {
     /// Text that stands for itself.
     Literal(&'a str),
@@ -38,6 +39,7 @@ pub struct Item<'a> {
 
 impl<'a> Item<'a> {
     /// What the node is.
+    #[must_use]
     pub fn node(self) -> Node<'a> {
         match self.tree.content(self.index) {
             Content::Literal(text) => Node::Literal(text),
@@ -59,6 +61,7 @@ impl<'a> Item<'a> {
 
     /// The greatest length of any text that the node is shown as, in bytes; `u32::MAX` where it is
     /// longer.
+    #[must_use]
     pub fn max_bytes_needed(self) -> usize {
         self.tree.max_bytes(self.index)
     }
@@ -83,6 +86,7 @@ impl fmt::Debug for Item<'_> {
 
 /// The items of a description, or the members of a node, in their order.
 #[derive(Clone)]
+#[must_use = "iterators do nothing unless they are gone through"]
 pub struct Members<'a> {
     tree: &'a Tree<'a>,
     /// The index of the next one from the front, and from the back, where any is left.
@@ -144,6 +148,7 @@ impl fmt::Debug for Members<'_> {
 /// All nodes of a description, each before its members. It takes no memory, and no more stack in a
 /// description that is deeply nested.
 #[derive(Debug, Clone)]
+#[must_use = "iterators do nothing unless they are gone through"]
 pub struct Nodes<'a> {
     tree: &'a Tree<'a>,
     next: u32,

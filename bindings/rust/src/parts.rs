@@ -18,6 +18,7 @@ pub enum Part<'a> {
 
 /// What a formatter writes, in turn.
 #[derive(Debug, Clone)]
+#[must_use = "iterators do nothing unless they are gone through"]
 pub struct Parts<'a> {
     tree: &'a Tree<'a>,
     /// The places of those that are left, among all that are written.

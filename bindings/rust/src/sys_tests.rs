@@ -12,11 +12,14 @@ use std::vec::Vec;
 use super::{ACCEPTED, COMPONENT, COMPOUND, FIRST, LITERAL, NO_MEMORY, OPTIONAL, REFUSED};
 use super::{CONTRADICTION, MISSING, UNREAD};
 use super::{NO_CONVERSION, OUT_OF_RANGE, RawMoment, RawNode, UNSHOWN, VERSION};
+use crate::component_kind::ComponentKind;
 use crate::decode;
 use crate::fault::FaultKind;
-use crate::format::{Lack, Number};
+use crate::lack::Lack;
 use crate::modifier::{Padding, SubsecondDigits, TrailingInput, boolean};
-use crate::read::{MomentPart, Unread};
+use crate::moment_part::MomentPart;
+use crate::range::Number;
+use crate::read::Unread;
 use crate::version::{Language, Version};
 
 const HEADER: &str = concat!(env!("CARGO_MANIFEST_DIR"), "/../../examples/timefd.h");
@@ -133,6 +136,14 @@ fn taken() -> BTreeMap<String, u32> {
     let faults = (0..=255).filter_map(|number| Some((fault_name(number)?, number)));
     let numbers = named.into_iter().chain(faults).chain(components);
     numbers.chain(modifiers).chain(reasons).chain(dates).collect()
+}
+
+#[test]
+fn each_component_is_of_the_kind_of_its_number() {
+    for number in 0..=u8::MAX {
+        let kind = ComponentKind::from_number(number.into());
+        assert_eq!(kind.map(header_name), component_name(number));
+    }
 }
 
 #[test]

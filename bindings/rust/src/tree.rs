@@ -1,6 +1,7 @@
 //! How a description keeps its nodes: as the library wrote them, in its order, with the links that
 //! walks go by and the places of literals. A node is decoded when it is looked at.
 
+use alloc::borrow::Cow;
 use alloc::boxed::Box;
 use core::hash::{Hash, Hasher};
 
@@ -23,7 +24,7 @@ pub(crate) enum BuildError {
 #[derive(Debug, Clone)]
 pub(crate) struct Tree<'a> {
     /// What lends the literals.
-    pub(crate) text: &'a str,
+    pub(crate) text: Cow<'a, str>,
     /// The nodes as the library wrote them, but that `start` of a literal is the place by which it is
     /// lent, and that they are linked where some have members.
     nodes: Box<[RawNode]>,
@@ -59,7 +60,7 @@ impl<'a> Tree<'a> {
         let shape =
             if is_flat { Shape::Flat { is_ascii: literals.are_ascii() } } else { link(nodes)? };
         let nodes = sys::boxed(nodes).ok_or(BuildError::OutOfMemory)?;
-        Ok(Self { text: literals.text, nodes, shape })
+        Ok(Self { text: Cow::Borrowed(literals.text), nodes, shape })
     }
 }
 
@@ -94,6 +95,12 @@ fn link(nodes: &mut [RawNode]) -> Result<Shape, BuildError> {
 }
 
 impl Tree<'_> {
+    /// The same, lent its literals by a text of its own.
+    pub(crate) fn into_owned(self) -> Tree<'static> {
+        let Self { text, nodes, shape } = self;
+        Tree { text: Cow::Owned(text.into_owned()), nodes, shape }
+    }
+
     /// How many nodes there are.
     pub(crate) fn len(&self) -> u32 {
         self.nodes.len() as u32 // It fits, as was tested.
@@ -110,7 +117,7 @@ impl Tree<'_> {
     /// What a node is.
     #[inline]
     pub(crate) fn content(&self, index: u32) -> Content<'_> {
-        Content::of(&self.nodes[index as usize], self.text)
+        Content::of(&self.nodes[index as usize], &self.text)
     }
 
     /// The greatest length of what a node is shown as, in bytes, at most `u32::MAX`.

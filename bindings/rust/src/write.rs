@@ -23,9 +23,8 @@ impl FormatDescription<'_> {
     /// use timefd::{Date, FormatDescription, Moment, Version};
     ///
     /// let description = FormatDescription::parse(Version::Three, "[day].[month].[year]")?;
-    /// let date = Some(Date { year: 2026, month: 11, day: 23 });
-    /// let moment = Moment { date, ..Moment::default() };
-    /// assert_eq!(description.format(&moment)?, "23.11.2026");
+    /// let day = Moment::from(Date::new(2026, 11, 23)?);
+    /// assert_eq!(description.format(&day)?, "23.11.2026");
     /// # Ok::<(), Box<dyn std::error::Error>>(())
     /// ```
     pub fn format(&self, moment: &Moment) -> Result<String, FormatError> {
@@ -43,9 +42,8 @@ impl FormatDescription<'_> {
     /// use timefd::{FormatDescription, Moment, Time, Version};
     ///
     /// let description = FormatDescription::parse(Version::Three, "[hour]:[minute]")?;
-    /// let time = Some(Time { hour: 5, minute: 6, ..Time::default() });
     /// let mut text = String::from("at ");
-    /// description.write_to(&Moment { time, ..Moment::default() }, &mut text)?;
+    /// description.write_to(&Moment::from(Time::new(5, 6, 0, 0)?), &mut text)?;
     /// assert_eq!(text, "at 05:06");
     ///
     /// assert!(description.write_to(&Moment::default(), &mut text).is_err());
@@ -55,7 +53,7 @@ impl FormatDescription<'_> {
     pub fn write_to(
         &self,
         moment: &Moment,
-        output: &mut impl fmt::Write,
+        output: &mut (impl fmt::Write + ?Sized),
     ) -> Result<(), WriteError<fmt::Error>> {
         self.with_pattern(|pattern| pattern.format_to(moment, |text| output.write_str(text)))
     }
@@ -68,12 +66,11 @@ impl FormatDescription<'_> {
     /// As those of [`format`](Self::format), or that of the output.
     ///
     /// ```
-    /// use timefd::{Date, FormatDescription, Moment};
+    /// use timefd::{Date, FormatDescription, Language, Moment};
     ///
-    /// let date = Some(Date { year: 2026, month: 11, day: 23 });
+    /// let day = Moment::from(Date::new(2026, 11, 23)?);
     /// let mut file = Vec::new();
-    /// let moment = Moment { date, ..Moment::default() };
-    /// FormatDescription::parse_strftime("%F")?.write_to_io(&moment, &mut file)?;
+    /// FormatDescription::parse(Language::Strftime, "%F")?.write_to_io(&day, &mut file)?;
     /// assert_eq!(file, b"2026-11-23");
     /// # Ok::<(), Box<dyn std::error::Error>>(())
     /// ```
@@ -81,7 +78,7 @@ impl FormatDescription<'_> {
     pub fn write_to_io(
         &self,
         moment: &Moment,
-        output: &mut impl std::io::Write,
+        output: &mut (impl std::io::Write + ?Sized),
     ) -> Result<(), WriteError<std::io::Error>> {
         let write = |text: &str| output.write_all(text.as_bytes());
         self.with_pattern(|pattern| pattern.format_to(moment, write))
@@ -94,11 +91,11 @@ impl FormatDescription<'_> {
     /// use timefd::{Date, FormatDescription, Moment, Version};
     ///
     /// let description = FormatDescription::parse(Version::Three, "[day].[month].")?;
-    /// let date = Some(Date { year: 2026, month: 11, day: 23 });
-    /// let moment = Moment { date, ..Moment::default() };
-    /// assert_eq!(format!("until {}", description.show(moment)), "until 23.11.");
-    /// # Ok::<(), timefd::ParseError>(())
+    /// let day = Moment::from(Date::new(2026, 11, 23)?);
+    /// assert_eq!(format!("until {}", description.show(day)), "until 23.11.");
+    /// # Ok::<(), Box<dyn std::error::Error>>(())
     /// ```
+    #[must_use = "it writes nothing until it is shown"]
     pub fn show(&self, moment: Moment) -> Shown<'_> {
         Shown { description: self, moment }
     }
@@ -162,6 +159,7 @@ impl fmt::Display for Shown<'_> {
 
 /// Why a moment is not written to an output.
 #[derive(Debug, Clone, PartialEq, Eq)]
+#[non_exhaustive]
 pub enum WriteError<E> {
     /// The description doesn't write it, and nothing reached the output.
     Format(FormatError),
@@ -184,11 +182,12 @@ impl<E: fmt::Display> fmt::Display for WriteError<E> {
     }
 }
 
-impl<E: Error + 'static> Error for WriteError<E> {
+/// Its source is that of what it holds, whose sentence is its own.
+impl<E: Error> Error for WriteError<E> {
     fn source(&self) -> Option<&(dyn Error + 'static)> {
         match self {
-            Self::Format(error) => Some(error),
-            Self::Output(error) => Some(error),
+            Self::Format(error) => error.source(),
+            Self::Output(error) => error.source(),
         }
     }
 }

@@ -6,7 +6,7 @@ use std::cell::Cell;
 use std::ffi::c_void;
 use std::ptr;
 
-use timefd::{FormatDescription, ParseError, Version, v1_to_v2, v2_to_v3};
+use timefd::{FormatDescription, Language, ParseError, Version, v1_to_v2, v2_to_v3};
 
 /// What is counted of the thread that is looked at.
 #[derive(Clone, Copy)]
@@ -207,11 +207,15 @@ fn each_allocation_refused() {
         for version in [Version::One, Version::Two, Version::Three] {
             refused += refuse_each(text, |text| FormatDescription::parse(version, text));
         }
-        refused += refuse_each(text, FormatDescription::parse_strftime);
+        refused += refuse_each(text, parse_strftime);
         refused += refuse_each(text, v1_to_v2);
         refused += refuse_each(text, v2_to_v3);
     }
     assert!(refused > 100, "only {refused} allocations were refused");
+}
+
+fn parse_strftime(text: &str) -> Result<FormatDescription<'_>, ParseError> {
+    FormatDescription::parse(Language::Strftime, text)
 }
 
 /// A description is one block of its nodes, and another one where it has nodes that nest others.
@@ -268,14 +272,14 @@ fn long_texts_have_ample_memory() {
         expect_ample(text, BYTES, v2_to_v3);
     }
     for text in ["%d-".repeat(35_000), "%d-".repeat(100_000)] {
-        expect_ample(&text, BYTES, FormatDescription::parse_strftime);
+        expect_ample(&text, BYTES, parse_strftime);
     }
     for count in [300, 100_000] {
         let text = "[optional [a]]".repeat(count);
         expect_ample(&text, BYTES, |text| FormatDescription::parse(Version::Three, text));
     }
     let text = "x".repeat(20_000_000);
-    expect_ample(&text, 3, FormatDescription::parse_strftime);
+    expect_ample(&text, 3, parse_strftime);
     expect_ample(&text, 3, v1_to_v2);
     expect_ample(&text, 3, v2_to_v3);
 }

@@ -81,6 +81,7 @@ impl<'a> Input<'a> {
                 self.at += spaces;
                 self.digits(width - spaces, width - spaces)
             }
+            _ => Err(ReadError::NotRead),
         }
     }
 

@@ -179,6 +179,7 @@ fn nanosecond(input: &mut Input<'_>, digits: SubsecondDigits) -> Result<u32, Rea
         SubsecondDigits::Eight => (8, 8),
         SubsecondDigits::Nine => (9, 9),
         SubsecondDigits::OneOrMore => (1, 9),
+        _ => return Err(ReadError::NotRead),
     };
     let before = input.rest().len();
     let number = input.digits(least, most)?;

@@ -3,7 +3,7 @@
 use std::num::NonZeroU16;
 
 use crate::rows::Tree::{self, Compound, First, Literal, Optional};
-use crate::rows::{Language, ONE, STRFTIME, THREE, TWO, VERSIONS, expect_items};
+use crate::rows::{Language, ONE, Parse, STRFTIME, THREE, TWO, VERSIONS, expect_items};
 use timefd::{Component as C, FormatDescription, Node, Padding, Version};
 
 const DAY: Tree = Tree::Component(C::Day { padding: Padding::Zero });
@@ -139,7 +139,8 @@ fn deep_and_long_texts() {
     assert!(optional && matches!(nodes[127], Node::Literal("x")));
 
     let long = "%%".repeat(10_000);
-    let description = FormatDescription::parse_strftime(&long).expect("each is a literal");
+    let description =
+        FormatDescription::parse(timefd::Language::Strftime, &long).expect("each is a literal");
     assert_eq!(description.items().count(), 10_000);
     assert!(description.items().all(|item| matches!(item.node(), Node::Literal("%"))));
     assert_eq!(description.max_bytes_needed(), 10_000);

@@ -2,7 +2,7 @@
 
 use std::num::NonZeroU16;
 
-use crate::rows::{Tree, VERSIONS, expect_items};
+use crate::rows::{Parse, Tree, VERSIONS, expect_items};
 use timefd::{Component as C, Padding, SubsecondDigits, TrailingInput};
 
 /// The text between the brackets, at most how many bytes, and the component.

@@ -1,6 +1,6 @@
 //! Texts of one language as ones of another.
 
-use crate::rows::{ONE, STRFTIME, THREE};
+use crate::rows::{ONE, Parse, STRFTIME, THREE};
 use timefd::{ConvertError, Language, Version, convert};
 
 /// From which language to which version, which text, and what it becomes.

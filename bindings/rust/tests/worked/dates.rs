@@ -3,9 +3,10 @@
 use std::fmt;
 use std::io;
 
-use crate::rows::{Language, ONE, STRFTIME, THREE};
+use crate::rows::{Language, ONE, Parse, STRFTIME, THREE};
 use timefd::{
-    Date, FormatError, Lack, Moment, MomentPart, Number, ReadError, Time, Unread, WriteError,
+    ComponentKind, Date, FormatError, Lack, Moment, MomentPart, Number, ReadError, Time, Unread,
+    WriteError,
 };
 
 const MOMENT: Moment = Moment {
@@ -71,8 +72,10 @@ fn each_way_writes_the_same() {
         assert_eq!(description.format(&MOMENT).as_deref(), Ok(expected));
         assert_eq!(description.show(MOMENT).to_string(), expected);
         let (mut texts, mut bytes) = (Writes::default(), Writes::default());
-        assert_eq!(description.write_to(&MOMENT, &mut texts), Ok(()));
-        description.write_to_io(&MOMENT, &mut bytes).expect("it takes all");
+        let output: &mut dyn fmt::Write = &mut texts;
+        assert_eq!(description.write_to(&MOMENT, output), Ok(()));
+        let output: &mut dyn io::Write = &mut bytes;
+        description.write_to_io(&MOMENT, output).expect("it takes all");
         assert_eq!((texts.text.as_str(), texts.count), (expected, 1), "{text:?}");
         let writes = usize::from(!expected.is_empty());
         assert_eq!((bytes.text.as_str(), bytes.count), (expected, writes), "{text:?}");
@@ -137,7 +140,7 @@ fn dates_are_not_read() {
         assert_eq!(error.to_string(), sentence, "{text:?}");
     }
     let text = THREE.parse("[day]:[month]").expect("a description");
-    let why = Unread::ReadsNothing { component: 4 };
+    let why = Unread::ReadsNothing { component: ComponentKind::MonthNumerical };
     assert_eq!(text.read("01:x"), Err(ReadError::Unread { index: 3, why }));
     assert_eq!(text.read("01:02"), Err(ReadError::Missing(MomentPart::Year)));
     let error = timefd::read(timefd::Version::Three, "[mnth]", "11").expect_err("no description");

@@ -1,9 +1,11 @@
 //! Faults told whole: which one, the bytes at fault, and the nearest word.
 
 use std::error::Error;
+use std::iter::successors;
 
-use crate::rows::{Language, ONE, STRFTIME, THREE, TWO};
+use crate::rows::{Language, ONE, Parse, STRFTIME, THREE, TWO};
 use timefd::FaultKind::{self, *};
+use timefd::Moment;
 
 /// A text of a language, and its fault with the bytes and the nearest word.
 type Row = (Language, &'static str, FaultKind, &'static str, Option<&'static str>);
@@ -46,7 +48,7 @@ fn each_fault_is_told_whole() {
         assert_eq!(fault.span().start, fault.index(), "{row}");
         assert_eq!(fault.nearest(), *nearest, "{row}");
         assert_eq!(fault.to_string(), error.to_string(), "{row}");
-        assert_eq!(error.source().map(ToString::to_string), Some(fault.to_string()), "{row}");
+        assert_eq!(chain(&error), fault.to_string(), "{row}");
     }
 }
 
@@ -62,4 +64,34 @@ fn nested_too_deep() {
 fn at_the_end() {
     let error = STRFTIME.parse("%_").expect_err("a letter has to follow");
     assert_eq!(error.fault().map(|fault| fault.span()), Some(2..2));
+}
+
+/// Each error of a text, and how often a chain of causes, as `anyhow` prints it, has its sentence.
+#[test]
+fn no_error_repeats_its_cause() {
+    let text = "[year]-[mnth]";
+    let sentence = "invalid component name `mnth` at byte index 8";
+    let parsed = THREE.parse(text).expect_err(text);
+    let errors: [Box<dyn Error>; 5] = [
+        Box::new(parsed.fault().expect("it is a fault").clone()),
+        Box::new(parsed.clone()),
+        Box::new(timefd::format(THREE, text, &Moment::default()).expect_err(text)),
+        Box::new(timefd::read(THREE, text, "").expect_err(text)),
+        Box::new(timefd::convert(THREE, THREE, text).expect_err(text)),
+    ];
+    for error in &errors {
+        assert_eq!(chain(error.as_ref()), sentence, "{error:?}");
+    }
+    let day = THREE.parse("[day]").expect("a description");
+    let unwritten = day.write_to(&Moment::default(), &mut String::new()).expect_err("no date");
+    assert_eq!(chain(&unwritten), "the component `day` shows nothing: the moment has no date");
+    let far = Moment { offset_seconds: Some(93_600), ..Moment::default() };
+    let unwritten = day.write_to_io(&far, &mut Vec::new()).expect_err("the offset is too far");
+    assert_eq!(chain(&unwritten), "offset must be less than 26 hours from UTC");
+}
+
+/// The sentences of an error and of its causes.
+fn chain(error: &dyn Error) -> String {
+    let causes = successors(Some(error), |&error| error.source());
+    causes.map(ToString::to_string).collect::<Vec<String>>().join(": ")
 }

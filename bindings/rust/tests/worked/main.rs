@@ -5,6 +5,8 @@ mod components;
 mod conversions;
 mod dates;
 mod faults;
+mod moments;
+mod presets;
 mod refused;
 mod rows;
 mod values;

@@ -1,6 +1,6 @@
 //! Texts that are refused, with the index of the fault and its sentence.
 
-use crate::rows::{Language, ONE, STRFTIME, THREE, TWO, VERSIONS};
+use crate::rows::{Language, ONE, Parse, STRFTIME, THREE, TWO, VERSIONS};
 use timefd::{ParseError, v1_to_v2};
 
 /// In which languages, which text, and the index and the sentence of its fault.

@@ -1,13 +1,7 @@
 //! Rows of texts, and what they have to be.
 
+pub use timefd::Language;
 use timefd::{Component, FormatDescription, Item, Members, Node, ParseError, Version};
-
-/// A language.
-#[derive(Debug, Clone, Copy)]
-pub enum Language {
-    Version(Version),
-    Strftime,
-}
 
 pub const ONE: Language = Language::Version(Version::One);
 pub const TWO: Language = Language::Version(Version::Two);
@@ -16,12 +10,14 @@ pub const STRFTIME: Language = Language::Strftime;
 
 pub const VERSIONS: &[Language] = &[ONE, TWO, THREE];
 
-impl Language {
-    pub fn parse(self, text: &str) -> Result<FormatDescription<'_>, ParseError> {
-        match self {
-            Self::Version(version) => FormatDescription::parse(version, text),
-            Self::Strftime => FormatDescription::parse_strftime(text),
-        }
+/// Languages parse texts in the rows.
+pub trait Parse {
+    fn parse(self, text: &str) -> Result<FormatDescription<'_>, ParseError>;
+}
+
+impl Parse for Language {
+    fn parse(self, text: &str) -> Result<FormatDescription<'_>, ParseError> {
+        FormatDescription::parse(self, text)
     }
 }
 

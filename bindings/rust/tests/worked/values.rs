@@ -2,8 +2,8 @@
 
 use std::collections::HashSet;
 
-use crate::rows::{ONE, STRFTIME, THREE, TWO};
-use timefd::{FormatDescription, Language, Node, Part, UnknownVersion, Version};
+use crate::rows::{ONE, Parse, STRFTIME, THREE, TWO};
+use timefd::{FormatDescription, Language, Node, Part, UnknownLanguage, UnknownVersion, Version};
 
 #[test]
 fn equal_where_the_nodes_are() {
@@ -60,4 +60,37 @@ fn versions_by_number_and_by_text() {
     }
     assert_eq!(Version::try_from(0), Err(UnknownVersion));
     assert_eq!("03".parse::<Version>(), Err(UnknownVersion));
+}
+
+#[test]
+fn languages_by_text() {
+    for (text, language) in [("1", ONE), ("2", TWO), ("3", THREE), ("strftime", STRFTIME)] {
+        assert_eq!((text.parse(), language.to_string().as_str()), (Ok(language), text));
+    }
+    for text in ["", "0", "4", "03", "Strftime", "strftime "] {
+        assert_eq!(text.parse::<Language>(), Err(UnknownLanguage), "{text:?}");
+    }
+    assert!(ONE < TWO && TWO < THREE && THREE < STRFTIME);
+}
+
+/// What is made of a text that is gone is as what borrows it.
+#[test]
+fn owned_descriptions_are_kept() {
+    let rows = [
+        (ONE, "[day]d[[a[month]ay[["),
+        (THREE, r"[optional [ [day]]] [first [a [month]b] [x]]é\[é"),
+        (STRFTIME, "%n ab%n\n%t:%R:%%d%d%%"),
+        (STRFTIME, ""),
+    ];
+    for (language, text) in rows {
+        let borrowed = language.parse(text).expect(text);
+        let copy = text.to_owned();
+        let owned: FormatDescription<'static> = language.parse(&copy).expect(text).into_owned();
+        drop(copy);
+        assert_eq!((&owned, owned.language(), owned.text()), (&borrowed, language, text));
+        assert_eq!(owned.max_bytes_needed(), borrowed.max_bytes_needed());
+        assert!(owned.parts().eq(borrowed.parts()), "{text:?}");
+        assert_eq!(format!("{owned:?} {owned}"), format!("{borrowed:?} {borrowed}"));
+        assert_eq!(owned.clone().into_owned(), borrowed);
+    }
 }

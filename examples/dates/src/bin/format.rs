@@ -9,18 +9,12 @@ use std::error::Error;
 use std::{env, fs};
 
 use dates::Civil;
-use timefd::{FormatError, Lack, Moment, Version};
+use timefd::{FormatError, Lack, Language, Moment};
 
 /// The moment by the description in the language.
 fn formatted(language: &str, text: &str, moment: &Moment) -> Result<String, Box<dyn Error>> {
-    let shown = match language {
-        "1" => timefd::format(Version::One, text, moment),
-        "2" => timefd::format(Version::Two, text, moment),
-        "3" => timefd::format(Version::Three, text, moment),
-        "strftime" => timefd::format_strftime(text, moment),
-        _ => return Err("there is no such language".into()),
-    };
-    Ok(shown.map_err(reason)?)
+    let language: Language = language.parse()?;
+    Ok(timefd::format(language, text, moment).map_err(reason)?)
 }
 
 /// Why nothing is written, in few words.

@@ -1,0 +1,1 @@
+//! Tests of the feature `chrono` stand in `tests`.

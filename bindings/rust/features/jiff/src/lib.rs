@@ -1,0 +1,1 @@
+//! Tests of the feature `jiff` stand in `tests`.

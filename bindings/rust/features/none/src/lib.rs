@@ -1,0 +1,1 @@
+//! Nothing: `timefd` is built for it with no feature.

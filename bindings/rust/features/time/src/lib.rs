@@ -1,0 +1,1 @@
+//! Tests of the feature `time` stand in `tests`.

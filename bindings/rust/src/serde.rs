@@ -1,0 +1,16 @@
+#![doc = include_str!("serde.md")]
+
+mod borrowed;
+mod fault;
+mod languages;
+mod optional;
+mod owned;
+mod text;
+mod traits;
+mod values;
+pub mod version;
+
+pub use fault::FaultFields;
+pub use languages::{strftime, version_1, version_2, version_3};
+pub use owned::OwnedFormat;
+pub use traits::{DeserializeIn, SerializeIn};
