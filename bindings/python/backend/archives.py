@@ -17,7 +17,7 @@ SOURCES = ("pyproject.toml", "README.md", "backend/*.py", "source/*.[ch]", "time
 
 
 def version():
-    """The version, as the package itself tells it."""
+    """The version, as the package itself has it."""
     text = (PYTHON / "timefd/__init__.py").read_text(encoding="utf-8")
     return re.search(r'^__version__ = "(.*)"$', text, re.M)[1]
 

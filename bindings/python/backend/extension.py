@@ -34,8 +34,10 @@ def compile_to(to, library, header, compiler="cc", more=()):
     if not has_headers():
         raise Lacking(NO_HEADERS)
     sources = sorted((PYTHON / "source").glob("*.c"))
+    to, library, header = (pathlib.Path(it).resolve() for it in (to, library, header))
     # The names of the sources alone, so that the bytes are the same from each folder.
-    words = [compiler, *WORDS, *more, f"-I{HEADERS}", f"-I{header}", *(it.name for it in sources), str(library), *LINKING, "-o", str(to)]
+    given = [*more, f"-I{HEADERS}", f"-I{header}", *(it.name for it in sources), str(library)]
+    words = [compiler, *WORDS, *given, *LINKING, "-o", str(to)]
     ran = subprocess.run(words, cwd=PYTHON / "source", capture_output=True, text=True, errors="replace")
     if ran.returncode:
         raise Lacking(f"`{compiler}` ended with status {ran.returncode}:\n{ran.stdout}{ran.stderr}".rstrip())

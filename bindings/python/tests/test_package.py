@@ -61,6 +61,22 @@ class Names(unittest.TestCase):
             self.assertTrue(getattr(timefd.Format, name).__doc__, name)
 
 
+class Page(unittest.TestCase):
+    def test_the_examples_of_the_page(self):
+        page = (pathlib.Path(__file__).resolve().parents[1] / "README.md").read_text()
+        names = {}
+        for line in page.split("```python\n")[1].split("```")[0].splitlines():
+            code, _, said = line.partition("  # ")
+            if not said:
+                exec(code, names)
+                continue
+            try:
+                got = repr(eval(code, names)).replace("'", '"')
+            except timefd.Error as error:
+                got = f"{type(error).__name__}: {error}"
+            self.assertTrue(said.startswith(got), f"{code} is {got}")
+
+
 class Types(unittest.TestCase):
     def test_good_callers_are_well_typed_and_bad_ones_are_not(self):
         mypy = shutil.which("mypy")

@@ -151,13 +151,13 @@ class NotRead(Error):
 
     def __str__(self) -> str:
         what = "the description" if self.component is None else self.component.in_brackets
-        told = {
+        words = {
             Unread.READS_NOTHING: "reads nothing",
             Unread.READS_ANOTHER_VALUE: "reads another value",
             Unread.ANOTHER_TEXT: "has another text",
             Unread.TEXT_FOLLOWS: "ends",
         }
-        return f"{what} {told[self.why]} at byte index {self.index}"
+        return f"{what} {words[self.why]} at byte index {self.index}"
 
 
 class NoMoment(Error):
@@ -169,5 +169,5 @@ class NoMoment(Error):
         self.is_missing = is_missing
 
     def __str__(self) -> str:
-        told = "was not read" if self.is_missing else "disagrees with what else was read"
-        return f"{self.part.name.lower()} {told}"
+        words = "was not read" if self.is_missing else "disagrees with what else was read"
+        return f"{self.part.name.lower()} {words}"
