@@ -39,11 +39,10 @@ pub fn run<I: BufRead, W: Write, E: Write>(
         (W.contents output.new)) }
 {
     let tables = StrftimeTables::new();
-    let is_colored = manner.is_colored;
     match source_of(
         alloc,
         now,
-        is_colored,
+        manner.is_colored,
         languages.read,
         &tables,
         read,
@@ -83,8 +82,14 @@ fn run_from<I: BufRead, W: Write, E: Write>(
     let tables = StrftimeTables::new();
     match read(alloc, languages.written, &tables, description)? {
         Reading::Refused(diagnostic) => {
-            let is_colored = manner.is_colored;
-            tell_fault(alloc, is_colored, WRITTEN, description, &diagnostic, errors)?;
+            tell_fault(
+                alloc,
+                manner.is_colored,
+                WRITTEN,
+                description,
+                &diagnostic,
+                errors,
+            )?;
             Ok(RunEnd::Refused)
         }
         Reading::Description(description) => {
