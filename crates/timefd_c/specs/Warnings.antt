@@ -1,5 +1,5 @@
 -- What is answered to C of the warnings of a description.
-use Rattle.std.specs.Prelude.{ℕ, ◌≡◌, ◌≢◌, ◌⊎◌, ◌++◌, List, [], ◌∷◌, Option, Some, None, IsSome, IsUtf8, drop, filter, flat_map, length, map, min, take}
+use Rattle.std.specs.Prelude.{ℕ, ◌≡◌, ◌≢◌, ◌≤◌, ◌⊎◌, ◌++◌, List, [], ◌∷◌, Option, Some, None, IsSome, IsUtf8, drop, filter, flat_map, length, map, min, take}
 use Rattle.timefd_c.specs.declared.answer.TheConstants.{ACCEPTED, REFUSED, NOT_UTF8, NO_MEMORY, UNKNOWN_KIND}
 use Rattle.timefd_c.specs.declared.warning_fields.WarningFields.{WarningFields}
 use Rattle.timefd_c.specs.declared.warning_fields.WarningsAnswer.{WarningsAnswer}
@@ -90,3 +90,5 @@ pub record Warns (language : Option Language) (bytes : Text) (before after : Lis
   pub spelled : (list : List Tree) → Describes language bytes list
       → IsToldIn language bytes list before after answer
   pub kept : answer.status ≢ ACCEPTED → after ≡ before
+  -- So much room is always enough.
+  pub few : answer.count ≤ 14

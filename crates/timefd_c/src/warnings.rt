@@ -7,7 +7,6 @@ ghost use Rattle.timefd_parse.specs.Language.{SpellsIn, amount};
 ghost use Rattle.timefd_c.specs.Languages.{language_of};
 ghost use Rattle.timefd_c.specs.Warnings as spec;
 ghost use Rattle.timefd_c.specs.Warnings.{IsTold, Warns};
-ghost use Rattle.timefd_warnings.specs.Codes.{all};
 
 use crate::answer::{ACCEPTED, NO_MEMORY, NOT_UTF8, REFUSED, UNKNOWN_KIND};
 use crate::numbers::from_number;
@@ -32,6 +31,7 @@ pub extern "C" fn timefd_warnings(
     warn_of(alloc, from_number(kind), text, warnings)
 }
 
+#[tactic(auto, using(crate::proofs::WarningLemmas::refusing, crate::proofs::WarningLemmas::unread))]
 fn warn_of(
     alloc: Global,
     language: Option<Language>,
@@ -54,6 +54,7 @@ fn warn_of(
 }
 
 // What is answered of a text that is accepted with this value.
+#[tactic(auto, using(crate::proofs::WarningLemmas::is_told))]
 fn accepted(
     alloc: Global,
     language: Language,
@@ -86,15 +87,20 @@ fn warnings_in(
         → IfOk result (λ told. told.items ≡ spec.warnings_of language text.now list) }
 {
     let found = found_in(alloc, language, text, Levels::all_at(Level::Warned))?;
-    told_of(alloc, found, text.len())
+    told_of(alloc, found, text.len(), Warning::all())
 }
 
-// Those that aren't allowed.
-fn told_of(alloc: Global, found: Levels, len: usize) -> Result<Vec<WarningFields>, AllocError>
-    ensures { IfOk result (λ told. told.items ≡ spec.told_of found len all) }
+// Those of some warnings that aren't allowed.
+fn told_of(
+    alloc: Global,
+    found: Levels,
+    len: usize,
+    warnings: &[Warning],
+) -> Result<Vec<WarningFields>, AllocError>
+    ensures { IfOk result (λ told. told.items ≡ spec.told_of found len warnings.now) }
 {
     let mut told = Vec::new(alloc);
-    for warning in Warning::all() {
+    for warning in warnings {
         push_warning(&mut told, found.level_of(*warning), *warning, len)?;
     }
     Ok(told)
