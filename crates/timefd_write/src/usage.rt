@@ -4,6 +4,7 @@ ghost use Rattle.std.specs.Prelude.{◌≡◌, IfOk, string_bytes};
 ghost use Rattle.timefd_write.specs.Messages as spec;
 
 use crate::asked::OptionError;
+use crate::word::LanguageOption;
 use std::alloc::{AllocError, Global};
 use timefd_drawing::shown::safe;
 
@@ -50,16 +51,28 @@ pub fn sentence(alloc: Global, error: OptionError<'_>) -> Result<String, AllocEr
             String::from_str(alloc, "`--read` wants a value: a description to read by")
         }
         OptionError::ReadTwice => String::from_str(alloc, "`--read` stands twice"),
-        OptionError::NoLanguage(option, word) => {
-            let (word, name) = (safe(alloc, word)?, option.name());
-            format!(in alloc; "`{word}` is no value of `{name}`: one of 1, 2, 3, strftime")
-        }
+        OptionError::NoLanguage(option, word) => no_language(alloc, option, word),
         OptionError::NothingRead => String::from_str(
             alloc,
             "`--to-language` goes with `--read`; without it `--language` names the language",
         ),
         OptionError::NoDescription => {
             String::from_str(alloc, "there is no description; --help shows the usage")
+        }
+    }
+}
+
+// A word that is no value of the option.
+fn no_language(alloc: Global, option: LanguageOption, word: &str) -> Result<String, AllocError>
+    ensures { IfOk result (λ text. string_bytes text ≡ spec.no_language option word.now) }
+{
+    let word = safe(alloc, word)?;
+    match option {
+        LanguageOption::Both => {
+            format!(in alloc; "`{word}` is no value of `--language`: one of 1, 2, 3, strftime")
+        }
+        LanguageOption::Written => {
+            format!(in alloc; "`{word}` is no value of `--to-language`: one of 1, 2, 3, strftime")
         }
     }
 }

@@ -46,8 +46,8 @@ pub fn tell_warned<E: Write>(
     let told = warned_text(
         alloc,
         manner.is_colored,
-        origin(READ),
-        origin(WRITTEN),
+        named(READ),
+        named(WRITTEN),
         warned,
     )?;
     tell(errors, &told);
@@ -55,11 +55,12 @@ pub fn tell_warned<E: Write>(
 }
 
 // A description by its name.
-fn origin(file: &str) -> Origin<'_> {
+fn named(file: &str) -> Origin<'_> {
     Origin { file, line: 1 }
 }
 
 // What is told of both, in turn.
+#[tactic(auto, using(crate::proofs::WarnedLemmas::joined))]
 fn warned_text(
     alloc: Global,
     is_colored: bool,
