@@ -1,6 +1,6 @@
 //! The readers for C, and for Rust outside of this workspace: two functions that say of the bytes
 //! of a text what they are in a language, which a number names, one that tells the fault of a text
-//! whole, three that rewrite a text as one of a later version, three that write the nodes of a
+//! whole, and one its warnings, three that rewrite a text as one of a later version, three that write the nodes of a
 //! description, one of them within a limit on nesting, one with single nodes for composite letters, two
 //! that write a date and time, by a description or by such nodes, and one that reads them.
 //! `examples/timefd.h` declares them.
