@@ -78,6 +78,8 @@ static void call_each(text given, uint32_t in_three) {
         expect("check", kind, expected, timefd_check(kind, bytes, given.len, buffer, BUFFER));
         timefd_diagnosis diagnosis = timefd_diagnose(kind, bytes, given.len, buffer, BUFFER / 2, buffer + BUFFER / 2, BUFFER / 2);
         expect("diagnose", kind, expected, diagnosis.answer);
+        timefd_warnings_answer warnings = timefd_warnings(kind, bytes, given.len, NULL, 0);
+        expect("warnings", kind, expected, (timefd_answer){.status = warnings.status});
         timefd_read_answer read = timefd_read(kind, bytes, given.len, NULL, 0, NULL, 0);
         expect("read", kind, expected, (timefd_answer){.status = read.status});
         read = timefd_read_within(kind, UINT32_MAX, bytes, given.len, NULL, 0, NULL, 0);

@@ -43,8 +43,8 @@ _timefd_format() {
     local word value=
     for word in "${COMP_WORDS[@]:1:COMP_CWORD-1}"; do
         case $value$word in
-        --language | --read) value=$word ;;
-        --language* | --read*) value= ;;
+        --language | --to-language | --read) value=$word ;;
+        --language* | --to-language* | --read*) value= ;;
         -*) [ "$word" != -- ] || return ;;
         *)
             mapfile -t COMPREPLY < <(compgen -W now -- "$2")
@@ -53,9 +53,9 @@ _timefd_format() {
         esac
     done
     case $value in
-    --language) mapfile -t COMPREPLY < <(compgen -W '1 2 3 strftime' -- "$2") ;;
+    --language | --to-language) mapfile -t COMPREPLY < <(compgen -W '1 2 3 strftime' -- "$2") ;;
     --read) COMPREPLY=() ;;
-    *) mapfile -t COMPREPLY < <(compgen -W '--language --read --help --version --' -- "$2") ;;
+    *) mapfile -t COMPREPLY < <(compgen -W '--language --read --to-language --quiet --help --version --' -- "$2") ;;
     esac
 }
 

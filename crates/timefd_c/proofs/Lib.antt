@@ -6,3 +6,4 @@ pub mod LongestLemmas
 pub mod ReadingLemmas
 pub mod CompositeLemmas
 pub mod MomentLemmas
+pub mod WarningLemmas

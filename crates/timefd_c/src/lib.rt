@@ -1,6 +1,6 @@
 //! The readers for C, and for Rust outside of this workspace: two functions that say of the bytes
 //! of a text what they are in a language, which a number names, one that tells the fault of a text
-//! whole, three that rewrite a text as one of a later version, three that write the nodes of a
+//! whole, and one its warnings, three that rewrite a text as one of a later version, three that write the nodes of a
 //! description, one of them within a limit on nesting, one with single nodes for composite letters, two
 //! that write a date and time, by a description or by such nodes, and one that reads them.
 //! `examples/timefd.h` declares them.
@@ -22,6 +22,8 @@ mod nodes;
 mod numbers;
 mod read_date;
 mod verdict;
+mod warning_fields;
+mod warnings;
 mod whole;
 
 pub use answer::{
@@ -39,3 +41,5 @@ pub use moment::MomentFields;
 pub use nodes::{VERSION, timefd_read, timefd_read_within, timefd_version};
 pub use read_date::timefd_read_date;
 pub use timefd_c_nodes::Node;
+pub use warning_fields::{WarningFields, WarningsAnswer};
+pub use warnings::timefd_warnings;

@@ -1,3 +1,4 @@
 pub mod AskedLemmas
 pub mod LineLemmas
 pub mod RunLemmas
+pub mod WarnedLemmas

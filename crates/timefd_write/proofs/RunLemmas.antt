@@ -5,7 +5,6 @@ use Rattle.std.specs.Io.KnownBytes.{IsAtEnd}
 use denote.Ref.{Bor}
 use Rattle.timefd_component.specs.Tree.{Text}
 use Rattle.timefd_diagnosis.specs.Words.{texts}
-use Rattle.timefd_parse.specs.declared.language.Language.{Language}
 use Rattle.timefd_parse.specs.declared.parsing.BorrowedOutput.{BorrowedOutput}
 use Rattle.timefd_rewrite.specs.Lines.{AreLinesOf, IsNextLine, without_newline}
 use Rattle.timefd_write.specs.declared.outcome.Outcome.{Outcome}
@@ -15,10 +14,13 @@ use Rattle.timefd_write.specs.Tallies.{at_end, tally_of, both}
 use Rattle.timefd_write.specs.declared.description.Reading.{Reading}
 use Rattle.timefd_write.specs.declared.description.Reading.TheVariants as readings
 use Rattle.timefd_write.specs.declared.end.RunEnd.TheVariants as ends
+use Rattle.timefd_write.specs.declared.language.Languages.{Languages}
+use Rattle.timefd_write.specs.declared.warned.Warned.{Warned}
 use Rattle.timefd_write.specs.declared.lines.LineRead.{LineRead}
 use Rattle.timefd_write.specs.declared.lines.LineRead.TheVariants.{Line, End}
 use Rattle.timefd_write.specs.Descriptions.{IsReading}
 use Rattle.timefd_write.specs.Runs.{IsRunFrom, IsRunOf}
+use Rattle.timefd_write.specs.Warned.{warned_by}
 use Rattle.timefd_write.specs.Written.{IsOne, IsRead, Runs, RunsOn, RunsOver}
 
 or_false : (b : Bool) → (b || false) ≡ b
@@ -177,10 +179,11 @@ lines_fail source o bytes left before behind tally failing sum so_far is is_sum 
 )
 
 -- A run by the description that is read.
-pub ran : (source : Source) (language : Language) (text : Text) (words : List Text)
-    (input before behind : Option Text) (r : Reading) (o : BorrowedOutput) (tally : Tally)
-    → r ≡ readings.Description o → IsReading language text r
+pub ran : (source : Source) (quiet : Bool) (languages : Languages) (text : Text)
+    (words : List Text) (input before behind : Option Text) (r : Reading) (o : BorrowedOutput)
+    (warned : Warned) (tally : Tally) → r ≡ readings.Description o
+    → IsReading languages.written text r → warned ≡ warned_by quiet languages source o
     → IsRunOf source o words input before behind tally
-    → IsRunFrom source language text words input before behind (ends.Done tally)
-ran source language text words input before behind r o tally is reading run =
-    (o, subst (λ x. IsReading language text x) is reading, run)
+    → IsRunFrom source quiet languages text words input before behind (ends.Done warned tally)
+ran source quiet languages text words input before behind r o warned tally is reading told run =
+    (o, subst (λ x. IsReading languages.written text x) is reading, told, run)

@@ -7,4 +7,5 @@ pub mod Sources
 pub mod Tallies
 pub mod Messages
 pub mod Written
+pub mod Warned
 pub mod Runs

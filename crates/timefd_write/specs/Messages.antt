@@ -11,6 +11,9 @@ use Rattle.timefd_write.specs.declared.asked.OptionError.{OptionError}
 use Rattle.timefd_write.specs.declared.asked.OptionError.TheVariants as errors
 use Rattle.timefd_write.specs.declared.moment.MomentError.{MomentError}
 use Rattle.timefd_write.specs.declared.moment.MomentError.TheVariants as fails
+use Rattle.timefd_write.specs.declared.word.LanguageOption.{LanguageOption}
+use Rattle.timefd_write.specs.declared.word.LanguageOption.TheVariants as options
+use Rattle.timefd_write.specs.Words.{option_name}
 
 -- of a moment that a component shows nothing of
 abbrev pub unshown_message : Text → Unshown → Text
@@ -35,16 +38,23 @@ IsUnreadMessage line word (fails.Unread u) message =
     message ≡ not_read line word (unread_sentence u)
 IsUnreadMessage line word (fails.Value v) message = message ≡ not_read line word (sentence v)
 
+-- of a word that is no value of the option
+abbrev pub no_language : LanguageOption → Text → Text
+no_language options.Both word =
+    codes "`" ++ (safe word ++ codes "` is no value of `--language`: one of 1, 2, 3, strftime")
+no_language options.Written word =
+    codes "`" ++ (safe word ++ codes "` is no value of `--to-language`: one of 1, 2, 3, strftime")
+
 -- of arguments
 abbrev pub option_sentence : OptionError → Text
 option_sentence (errors.Unknown word) =
     codes "there is no option `" ++ (safe word.now
     ++ codes "`; --help lists them, and behind `--` it is a description")
-option_sentence errors.MissingLanguage =
-    codes "`--language` wants a value: one of 1, 2, 3, strftime"
+option_sentence (errors.MissingLanguage option) =
+    codes "`" ++ (option_name option ++ codes "` wants a value: one of 1, 2, 3, strftime")
 option_sentence errors.MissingRead = codes "`--read` wants a value: a description to read by"
 option_sentence errors.ReadTwice = codes "`--read` stands twice"
-option_sentence (errors.NoLanguage word) =
-    codes "`" ++ (safe word.now
-    ++ codes "` is no value of `--language`: one of 1, 2, 3, strftime")
+option_sentence (errors.NoLanguage option word) = no_language option word.now
+option_sentence errors.NothingRead =
+    codes "`--to-language` goes with `--read`; without it `--language` names the language"
 option_sentence errors.NoDescription = codes "there is no description; --help shows the usage"

@@ -41,4 +41,4 @@ tally_status t =
 
 abbrev pub status : RunEnd → ℕ
 status ends.Refused = 1
-status (ends.Done t) = tally_status t
+status (ends.Done w t) = tally_status t

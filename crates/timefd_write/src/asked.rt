@@ -3,21 +3,23 @@
 ghost use Rattle.std.specs.Prelude.{◌≡◌};
 ghost use Rattle.timefd_write.specs.Asked as spec;
 
-use crate::language::{default_language, language_named};
-use crate::word::{Word, word_of};
+use crate::language::{Languages, default_language, language_named};
+use crate::word::{LanguageOption, Word, word_of};
 use timefd_parse::Language;
 
 /// A description, and the moments that are written by it.
 #[derive(Clone, Copy)]
 pub struct Request<'a> {
-    /// The language of the descriptions.
-    pub language: Language,
+    /// The languages of both descriptions.
+    pub languages: Languages,
     /// The text of the description that moments are read by; none, where they are named.
     pub read: Option<&'a str>,
     /// The text of the description that they are written by.
     pub description: &'a str,
     /// How many of the last words are moments: none, where the standard input is read.
     pub moment_count: usize,
+    /// Whether warnings are left out.
+    pub is_quiet: bool,
 }
 
 /// What the words ask for.
@@ -36,14 +38,16 @@ pub enum Asked<'a> {
 pub enum OptionError<'a> {
     /// The word looks like an option, and is none.
     Unknown(&'a str),
-    /// No word stands behind `--language`.
-    MissingLanguage,
+    /// No word stands after the option.
+    MissingLanguage(LanguageOption),
     /// No word stands behind `--read`.
     MissingRead,
     /// `--read` stands twice.
     ReadTwice,
-    /// The word names no language.
-    NoLanguage(&'a str),
+    /// The word names no language, and is the value of the option.
+    NoLanguage(LanguageOption, &'a str),
+    /// `--to-language` stands without `--read`.
+    NothingRead,
     /// There is no description.
     NoDescription,
 }
@@ -52,7 +56,7 @@ pub enum OptionError<'a> {
 #[derive(Clone, Copy)]
 enum Wanted {
     Nothing,
-    Language,
+    Language(LanguageOption),
     Read,
 }
 
@@ -60,7 +64,9 @@ enum Wanted {
 #[derive(Clone, Copy)]
 struct State<'a> {
     language: Language,
+    to_language: Option<Language>,
     read: Option<&'a str>,
+    is_quiet: bool,
     wanted: Wanted,
 }
 
@@ -78,7 +84,9 @@ pub fn asked_of<'a>(words: &'a [&'a str]) -> Result<Asked<'a>, OptionError<'a>>
 {
     let mut state = State {
         language: default_language(),
+        to_language: None,
         read: None,
+        is_quiet: false,
         wanted: Wanted::Nothing,
     };
     let mut rest = words;
@@ -98,7 +106,7 @@ fn at_end(wanted: Wanted) -> OptionError<'static>
 {
     match wanted {
         Wanted::Nothing => OptionError::NoDescription,
-        Wanted::Language => OptionError::MissingLanguage,
+        Wanted::Language(option) => OptionError::MissingLanguage(option),
         Wanted::Read => OptionError::MissingRead,
     }
 }
@@ -109,26 +117,40 @@ fn one_more<'a>(state: State<'a>, word: &'a str, behind: &'a [&'a str]) -> Step<
 {
     match state.wanted {
         Wanted::Nothing => first(state, word, behind),
-        Wanted::Language => with_language(state, word),
+        Wanted::Language(option) => with_language(state, option, word),
         Wanted::Read => Step::Next(State {
-            language: state.language,
             read: Some(word),
             wanted: Wanted::Nothing,
+            ..state
         }),
     }
 }
 
-// A word that is to name the language.
-fn with_language<'a>(state: State<'a>, word: &'a str) -> Step<'a>
-    ensures { result ≡ spec.with_language state.entry word.entry }
+// A word that is to name the language of an option.
+fn with_language<'a>(state: State<'a>, option: LanguageOption, word: &'a str) -> Step<'a>
+    ensures { result ≡ spec.with_language state.entry option word.entry }
 {
     match language_named(word) {
-        Some(language) => Step::Next(State {
+        Some(language) => Step::Next(with_option(state, option, language)),
+        None => Step::Done(Err(OptionError::NoLanguage(option, word))),
+    }
+}
+
+// What is known where an option has this language.
+fn with_option<'a>(state: State<'a>, option: LanguageOption, language: Language) -> State<'a>
+    ensures { result ≡ spec.with_option state.entry option language }
+{
+    match option {
+        LanguageOption::Both => State {
             language,
-            read: state.read,
             wanted: Wanted::Nothing,
-        }),
-        None => Step::Done(Err(OptionError::NoLanguage(word))),
+            ..state
+        },
+        LanguageOption::Written => State {
+            to_language: Some(language),
+            wanted: Wanted::Nothing,
+            ..state
+        },
     }
 }
 
@@ -137,17 +159,20 @@ fn first<'a>(state: State<'a>, word: &'a str, behind: &'a [&'a str]) -> Step<'a>
     ensures { result ≡ spec.first state.entry word.entry behind.now }
 {
     match word_of(word) {
-        Word::Language => Step::Next(State {
-            language: state.language,
-            read: state.read,
-            wanted: Wanted::Language,
+        Word::Language(option) => Step::Next(State {
+            wanted: Wanted::Language(option),
+            ..state
         }),
         Word::Read => before_read(state),
+        Word::Quiet => Step::Next(State {
+            is_quiet: true,
+            ..state
+        }),
         Word::Help => Step::Done(Ok(Asked::Help)),
         Word::Version => Step::Done(Ok(Asked::Version)),
         Word::Unknown => Step::Done(Err(OptionError::Unknown(word))),
         Word::End => Step::Done(behind_end(state, behind)),
-        Word::Description => Step::Done(Ok(requested(state, word, behind))),
+        Word::Description => Step::Done(requested(state, word, behind)),
     }
 }
 
@@ -158,9 +183,8 @@ fn before_read<'a>(state: State<'a>) -> Step<'a>
     match state.read {
         Some(_) => Step::Done(Err(OptionError::ReadTwice)),
         None => Step::Next(State {
-            language: state.language,
-            read: None,
             wanted: Wanted::Read,
+            ..state
         }),
     }
 }
@@ -171,17 +195,42 @@ fn behind_end<'a>(state: State<'a>, words: &'a [&'a str]) -> Result<Asked<'a>, O
 {
     match words {
         [] => Err(OptionError::NoDescription),
-        [description, moments @ ..] => Ok(requested(state, description, moments)),
+        [description, moments @ ..] => requested(state, description, moments),
     }
 }
 
-fn requested<'a>(state: State<'a>, description: &'a str, moments: &[&str]) -> Asked<'a>
+fn requested<'a>(
+    state: State<'a>,
+    description: &'a str,
+    moments: &[&str],
+) -> Result<Asked<'a>, OptionError<'a>>
     ensures { result ≡ spec.requested state.entry description.entry moments.now }
 {
-    Asked::Run(Request {
-        language: state.language,
-        read: state.read,
-        description,
-        moment_count: moments.len(),
-    })
+    match languages_of(state) {
+        Some(languages) => Ok(Asked::Run(Request {
+            languages,
+            read: state.read,
+            description,
+            moment_count: moments.len(),
+            is_quiet: state.is_quiet,
+        })),
+        None => Err(OptionError::NothingRead),
+    }
+}
+
+// The languages of both descriptions. `None` where one to write in is named, and none is to be read by.
+fn languages_of(state: State<'_>) -> Option<Languages>
+    ensures { result ≡ spec.languages_of state.entry }
+{
+    match (state.to_language, state.read) {
+        (None, _) => Some(Languages {
+            read: state.language,
+            written: state.language,
+        }),
+        (Some(written), Some(_)) => Some(Languages {
+            read: state.language,
+            written,
+        }),
+        (Some(_), None) => None,
+    }
 }

@@ -4,14 +4,15 @@ ghost use Rattle.std.specs.Prelude.{◌≡◌};
 ghost use Rattle.timefd_write.specs.Tallies as spec;
 
 use crate::outcome::Tally;
+use crate::warned::Warned;
 
 /// How a run ends that came to its end.
 #[derive(Clone, Copy)]
 pub enum RunEnd {
     /// The description is refused, and nothing is written.
     Refused,
-    /// Each word was looked at.
-    Done(Tally),
+    /// Each word was looked at, and these warnings are told of the descriptions.
+    Done(Warned, Tally),
 }
 
 impl RunEnd {
@@ -21,7 +22,7 @@ impl RunEnd {
     {
         match self {
             RunEnd::Refused => 1,
-            RunEnd::Done(tally) => {
+            RunEnd::Done(_, tally) => {
                 if tally.has_failed {
                     4
                 } else if tally.not_text {

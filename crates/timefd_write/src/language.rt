@@ -1,9 +1,18 @@
-//! The languages that `--language` names.
+//! The languages that `--language` and `--to-language` name.
 
 ghost use Rattle.std.specs.Prelude.{◌≡◌};
 ghost use Rattle.timefd_write.specs.Words as spec;
 
 use timefd_parse::{DescriptionVersion, Language};
+
+/// The languages of both descriptions.
+#[derive(Clone, Copy)]
+pub struct Languages {
+    /// That of the description which moments are read by.
+    pub read: Language,
+    /// That of the description which they are written by.
+    pub written: Language,
+}
 
 /// The language of a description where none is named.
 pub fn default_language() -> Language

@@ -17,12 +17,14 @@ mod read_back;
 mod run;
 mod source;
 mod usage;
+mod warned;
 mod word;
 mod words;
 
 use asked::{Asked, OptionError, Request, asked_of};
 use clock::moment_now;
 use end::RunEnd;
+use message::Manner;
 use outcome::RunError;
 use run::run;
 use std::alloc::AllocError;
@@ -111,8 +113,11 @@ fn run_to<W: Write>(
     run(
         rt.alloc(),
         moment_now(rt),
-        is_colored(rt),
-        request.language,
+        Manner {
+            is_colored: is_colored(rt),
+            is_quiet: request.is_quiet,
+        },
+        request.languages,
         request.read,
         request.description,
         moments,

@@ -12,6 +12,15 @@ use timefd_drawing::{Format, Origin, Style, drawn};
 use timefd_format::Unshown;
 use timefd_read_text::unread_sentence;
 
+/// How a run tells what is wrong with descriptions.
+#[derive(Clone, Copy)]
+pub struct Manner {
+    /// Whether that has colours.
+    pub is_colored: bool,
+    /// Whether warnings are left out.
+    pub is_quiet: bool,
+}
+
 /// What is told of a line that is no text.
 pub const NOT_TEXT: &str = "timefd_format: a line is no UTF-8\n";
 

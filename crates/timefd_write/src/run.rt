@@ -6,27 +6,27 @@ ghost use Rattle.timefd_write.specs.Runs.{IsRun, IsRunFrom, IsRunOf};
 
 use crate::description::{Reading, read};
 use crate::end::RunEnd;
+use crate::language::Languages;
 use crate::lines::write_lines;
-use crate::message::tell_fault;
+use crate::message::{Manner, tell_fault};
 use crate::outcome::{RunError, Tally};
 use crate::source::{Source, source_of};
+use crate::warned::{WRITTEN, tell_warned};
 use crate::words::write_words;
 use std::alloc::Global;
 use std::io::{BufRead, Write};
 use timefd_moment::Moment;
-use timefd_parse::{BorrowedOutput, Language, StrftimeTables};
-
-/// What the description is called where a fault in it is drawn.
-const NAME: &str = "<description>";
+use timefd_parse::{BorrowedOutput, StrftimeTables};
 
 /// Writes the moments that the words name by the description, a line each; those of the lines of
 /// the input, where there is no word. With a description to read by, the words are texts of it.
-/// Where a description is refused, its fault is drawn for the errors, and nothing is written.
+/// Where a description is refused, its fault is drawn for the errors, and nothing is written. Else the
+/// errors have the warnings of the descriptions first.
 pub fn run<I: BufRead, W: Write, E: Write>(
     alloc: Global,
     now: Option<Moment>,
-    is_colored: bool,
-    language: Language,
+    manner: Manner,
+    languages: Languages,
     read: Option<&str>,
     description: &str,
     words: &[&str],
@@ -34,16 +34,25 @@ pub fn run<I: BufRead, W: Write, E: Write>(
     output: &mut W,
     errors: &mut E,
 ) -> Result<RunEnd, RunError>
-    ensures { IfOk result (IsRun now language read.entry description.now (texts words.now)
-        (I.remaining input.old) (W.contents output.old) (W.contents output.new)) }
+    ensures { IfOk result (IsRun now manner.is_quiet languages read.entry description.now
+        (texts words.now) (I.remaining input.old) (W.contents output.old)
+        (W.contents output.new)) }
 {
     let tables = StrftimeTables::new();
-    match source_of(alloc, now, is_colored, language, &tables, read, errors)? {
+    match source_of(
+        alloc,
+        now,
+        manner.is_colored,
+        languages.read,
+        &tables,
+        read,
+        errors,
+    )? {
         Some(source) => run_from(
             alloc,
             &source,
-            is_colored,
-            language,
+            manner,
+            languages,
             description,
             words,
             input,
@@ -54,30 +63,39 @@ pub fn run<I: BufRead, W: Write, E: Write>(
     }
 }
 
-// Writes the moments that the words name or show.
+// Tells the warnings of the descriptions, and writes the moments that the words name or show.
 fn run_from<I: BufRead, W: Write, E: Write>(
     alloc: Global,
     source: &Source<'_>,
-    is_colored: bool,
-    language: Language,
+    manner: Manner,
+    languages: Languages,
     description: &str,
     words: &[&str],
     input: &mut I,
     output: &mut W,
     errors: &mut E,
 ) -> Result<RunEnd, RunError>
-    ensures { IfOk result (IsRunFrom source.now language description.now (texts words.now)
-        (I.remaining input.old) (W.contents output.old) (W.contents output.new)) }
+    ensures { IfOk result (IsRunFrom source.now manner.is_quiet languages description.now
+        (texts words.now) (I.remaining input.old) (W.contents output.old)
+        (W.contents output.new)) }
 {
     let tables = StrftimeTables::new();
-    match read(alloc, language, &tables, description)? {
+    match read(alloc, languages.written, &tables, description)? {
         Reading::Refused(diagnostic) => {
-            tell_fault(alloc, is_colored, NAME, description, &diagnostic, errors)?;
+            tell_fault(
+                alloc,
+                manner.is_colored,
+                WRITTEN,
+                description,
+                &diagnostic,
+                errors,
+            )?;
             Ok(RunEnd::Refused)
         }
         Reading::Description(description) => {
+            let warned = tell_warned(alloc, manner, languages, source, &description, errors)?;
             let tally = write_all(alloc, source, &description, words, input, output, errors)?;
-            Ok(RunEnd::Done(tally))
+            Ok(RunEnd::Done(warned, tally))
         }
     }
 }

@@ -8,14 +8,12 @@ use crate::message::tell_fault;
 use crate::moment::{MomentError, moment_named};
 use crate::outcome::RunError;
 use crate::read_back::{leaves_of, moment_read};
+use crate::warned::READ;
 use std::alloc::{AllocError, Global};
 use std::io::Write;
 use timefd_moment::Moment;
 use timefd_node_list::Leaf;
 use timefd_parse::{BorrowedOutput, Language, StrftimeTables};
-
-/// What the description of `--read` is called where a fault in it is drawn.
-const NAME: &str = "<read>";
 
 /// What words are.
 #[derive(Drop)]
@@ -46,7 +44,7 @@ pub fn source_of<'a, E: Write>(
     };
     match read(alloc, language, tables, text)? {
         Reading::Refused(diagnostic) => {
-            tell_fault(alloc, is_colored, NAME, text, &diagnostic, errors)?;
+            tell_fault(alloc, is_colored, READ, text, &diagnostic, errors)?;
             Ok(None)
         }
         Reading::Description(description) => Ok(Some(Source::Texts(description))),

@@ -4,6 +4,7 @@ ghost use Rattle.std.specs.Prelude.{◌≡◌, IfOk, string_bytes};
 ghost use Rattle.timefd_write.specs.Messages as spec;
 
 use crate::asked::OptionError;
+use crate::word::LanguageOption;
 use std::alloc::{AllocError, Global};
 use timefd_drawing::shown::safe;
 
@@ -17,11 +18,14 @@ Writes each moment by the format description, a line each. Without a moment it r
 standard input, one a line. A moment is a date, with a time of day and an offset where they are
 known, as 2026-11-23T05:36:07.25+01:00; the word now is that of the program's start, in UTC.
 
-  --language 1|2|3|strftime    the language of the descriptions; version 3 if it isn't given
-  --read DESCRIPTION           moments are texts of this description, of the same language
-  --help, -h                   writes this
-  --version, -V                writes the program's version
-  --                           ends the options
+  --language 1|2|3|strftime      the language of the descriptions; version 3 if it isn't given
+  --read DESCRIPTION             moments are texts of this description
+  --to-language 1|2|3|strftime   with --read, the language of DESCRIPTION alone
+  --quiet, -q                    leaves out warnings: no component in a description, or text that
+                                 another language reads as one
+  --help, -h                     writes this
+  --version, -V                  writes the program's version
+  --                             ends the options
 
 The status is 0 where all moments are written, 1 where a description or a moment is refused, 2 at
 wrong arguments, 3 where memory ran out, 4 where a read or a write failed, 5 where a line is no
@@ -39,20 +43,36 @@ pub fn sentence(alloc: Global, error: OptionError<'_>) -> Result<String, AllocEr
                 "there is no option `{word}`; --help lists them, and behind `--` it is a description"
             )
         }
-        OptionError::MissingLanguage => String::from_str(
-            alloc,
-            "`--language` wants a value: one of 1, 2, 3, strftime",
-        ),
+        OptionError::MissingLanguage(option) => {
+            let name = option.name();
+            format!(in alloc; "`{name}` wants a value: one of 1, 2, 3, strftime")
+        }
         OptionError::MissingRead => {
             String::from_str(alloc, "`--read` wants a value: a description to read by")
         }
         OptionError::ReadTwice => String::from_str(alloc, "`--read` stands twice"),
-        OptionError::NoLanguage(word) => {
-            let word = safe(alloc, word)?;
-            format!(in alloc; "`{word}` is no value of `--language`: one of 1, 2, 3, strftime")
-        }
+        OptionError::NoLanguage(option, word) => no_language(alloc, option, word),
+        OptionError::NothingRead => String::from_str(
+            alloc,
+            "`--to-language` goes with `--read`; without it `--language` names the language",
+        ),
         OptionError::NoDescription => {
             String::from_str(alloc, "there is no description; --help shows the usage")
+        }
+    }
+}
+
+// A word that is no value of the option.
+fn no_language(alloc: Global, option: LanguageOption, word: &str) -> Result<String, AllocError>
+    ensures { IfOk result (λ text. string_bytes text ≡ spec.no_language option word.now) }
+{
+    let word = safe(alloc, word)?;
+    match option {
+        LanguageOption::Both => {
+            format!(in alloc; "`{word}` is no value of `--language`: one of 1, 2, 3, strftime")
+        }
+        LanguageOption::Written => {
+            format!(in alloc; "`{word}` is no value of `--to-language`: one of 1, 2, 3, strftime")
         }
     }
 }

@@ -3,13 +3,36 @@
 ghost use Rattle.std.specs.Prelude.{◌≡◌};
 ghost use Rattle.timefd_write.specs.Words as spec;
 
+/// An option whose value is a language.
+#[derive(Clone, Copy)]
+pub enum LanguageOption {
+    /// `--language`: that of both descriptions.
+    Both,
+    /// `--to-language`: that of the description which moments are written by.
+    Written,
+}
+
+impl LanguageOption {
+    /// The word that it is.
+    pub fn name(self) -> &'static str
+        ensures { result.now ≡ spec.option_name self }
+    {
+        match self {
+            LanguageOption::Both => "--language",
+            LanguageOption::Written => "--to-language",
+        }
+    }
+}
+
 /// What a word is where an option may stand.
 #[derive(Clone, Copy)]
 pub enum Word {
-    /// `--language`, whose value is the word behind it.
-    Language,
+    /// `--language` or `--to-language`, whose value is the word after it.
+    Language(LanguageOption),
     /// `--read`, whose value is the word behind it.
     Read,
+    /// `--quiet` or `-q`.
+    Quiet,
     /// `--help` or `-h`.
     Help,
     /// `--version` or `-V`.
@@ -27,8 +50,10 @@ pub fn word_of(word: &str) -> Word
     ensures { result ≡ spec.word_of word.now }
 {
     match word {
-        "--language" => Word::Language,
+        "--language" => Word::Language(LanguageOption::Both),
+        "--to-language" => Word::Language(LanguageOption::Written),
         "--read" => Word::Read,
+        "--quiet" | "-q" => Word::Quiet,
         "--help" | "-h" => Word::Help,
         "--version" | "-V" => Word::Version,
         "--" => Word::End,

@@ -1,0 +1,58 @@
+-- The warnings that are told of descriptions.
+use Rattle.std.specs.Prelude.{Bool, true, false, List, ◌++◌}
+use Rattle.timefd_component.specs.Tree.{Text, Tree}
+use Rattle.timefd_drawing.specs.declared.draw.Format.{Format}
+use Rattle.timefd_drawing.specs.declared.position.Origin.{Origin}
+use Rattle.timefd_lint_warnings.specs.Found.{output_parts, style_of}
+use Rattle.timefd_lint_warnings.specs.Messages.{messages}
+use Rattle.timefd_parse.specs.declared.language.Language.{Language}
+use Rattle.timefd_parse.specs.declared.parsing.BorrowedOutput.{BorrowedOutput}
+use Rattle.timefd_warnings.specs.declared.levels.Level.{Level}
+use Rattle.timefd_warnings.specs.declared.levels.Level.TheVariants.{Allowed, Warned}
+use Rattle.timefd_warnings.specs.declared.levels.Levels.{Levels}
+use Rattle.timefd_warnings.specs.declared.warned.Style.{Style}
+use Rattle.timefd_warnings.specs.declared.warning.Warning.TheVariants.{NoComponent, OtherLanguage}
+use Rattle.timefd_warnings.specs.Levels.{all_at, with_level}
+use Rattle.timefd_warnings.specs.Warns.{warns}
+use Rattle.timefd_write.specs.declared.language.Languages.{Languages}
+use Rattle.timefd_write.specs.declared.source.Source.{Source}
+use Rattle.timefd_write.specs.declared.source.Source.TheVariants.{Names, Texts}
+use Rattle.timefd_write.specs.declared.warned.Warned as told
+
+-- how components are written in the language
+abbrev pub spelling_of : Language → Style
+spelling_of language = style_of language
+
+abbrev pub level_if : Bool → Level
+level_if true = Warned
+level_if false = Allowed
+
+-- Two warnings, each where parts have it: there is no component, and another language reads one in a text. All others
+-- are allowed.
+abbrev pub warned_in : Style → List Tree → Levels
+warned_in style ts =
+    with_level (with_level (all_at Allowed) NoComponent (level_if (warns style NoComponent ts))) OtherLanguage
+    (level_if (warns style OtherLanguage ts))
+
+-- those of a description of the language
+abbrev pub warned_of : Language → BorrowedOutput → Levels
+warned_of language o = warned_in (style_of language) (output_parts o)
+
+-- none of a description that there is not
+abbrev pub warned_of_source : Language → Source → Levels
+warned_of_source language (Names now) = all_at Allowed
+warned_of_source language (Texts o) = warned_of language o
+
+-- Each description has those of its own language and parts, unless warnings are left out.
+abbrev pub warned_by : Bool → Languages → Source → BorrowedOutput → told.Warned
+warned_by true languages source o = record { read = all_at Allowed; written = all_at Allowed }
+warned_by false languages source o = record {
+  read = warned_of_source languages.read source;
+  written = warned_of languages.written o;
+}
+
+-- The messages of the linter on both, in turn.
+abbrev pub warned_text : Bool → Origin → Origin → told.Warned → Text
+warned_text colored read written w =
+    messages (record { format = Format.Human; is_colored = colored }) read w.read
+    ++ messages (record { format = Format.Human; is_colored = colored }) written w.written
