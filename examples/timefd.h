@@ -146,6 +146,49 @@ typedef struct timefd_diagnosis {
 timefd_diagnosis timefd_diagnose(uint32_t kind, const uint8_t *text, size_t len, uint8_t *sentence, size_t room, uint8_t *word,
                                  size_t word_room);
 
+/* What is suspect in a description that is accepted. The names are those that the linter has, in small letters and with `-`. */
+#define TIMEFD_WARNING_NO_COMPONENT 1u             /* it has no component, so that each moment is written alike */
+#define TIMEFD_WARNING_OTHER_LANGUAGE 2u           /* another language reads a component where it has text */
+#define TIMEFD_WARNING_MONTH_FOR_MINUTE 3u         /* a month stands after an hour, and there is no minute */
+#define TIMEFD_WARNING_MINUTE_FOR_MONTH 4u         /* a minute stands after a year, and there is no month */
+#define TIMEFD_WARNING_HOUR_WITHOUT_PERIOD 5u      /* it has an hour of twelve, and neither a period nor an hour of 24 */
+#define TIMEFD_WARNING_PERIOD_WITH_24_HOURS 6u     /* it has a period, and an hour of 24 but none of twelve */
+#define TIMEFD_WARNING_SUBSECOND_WITHOUT_SECOND 7u /* it has a fraction of a second, and no second */
+#define TIMEFD_WARNING_WEEK_WITH_CALENDAR_YEAR 8u  /* it has an ISO week and a calendar year, and no ISO year */
+#define TIMEFD_WARNING_DATE_WITH_ISO_YEAR 9u       /* it has a month or a day and an ISO year, and no calendar year */
+#define TIMEFD_WARNING_SHOWN_TWICE 10u             /* it shows something twice */
+#define TIMEFD_WARNING_UNDETERMINED_DATE 11u       /* it has parts of a date that determine none */
+#define TIMEFD_WARNING_UNSETTLED_WIDTH 12u         /* a number of varying width touches a digit */
+#define TIMEFD_WARNING_UNSETTLED_YEAR 13u          /* a year that may have more than four digits touches a digit */
+#define TIMEFD_WARNING_DEPRECATED_COMPONENT 14u    /* a component stands for another; no text is read as such a one */
+
+/* No description has more warnings than there are. */
+#define TIMEFD_MOST_WARNINGS 14u
+
+/* A warning of a description, and the bytes that it speaks of. Each of these is about the text as a whole, so that they are all of it. */
+typedef struct timefd_warning {
+    uint32_t code; /* one of the warnings above */
+    size_t start;  /* the index of the first of the bytes, */
+    size_t end;    /* and the index after the last one */
+} timefd_warning;
+
+/* What is said of a text whose warnings are asked for. */
+typedef struct timefd_warnings_answer {
+    uint32_t status; /* one of the five, and the value that timefd_judge has */
+    size_t value;
+    size_t count;   /* how many warnings an accepted text has, or else 0 */
+    size_t written; /* how many of them were written, the first ones */
+} timefd_warnings_answer;
+
+/* Says what timefd_judge says, and writes the warnings of an accepted text to the front of the `room` warnings at `warnings`: all of
+   them, in the order of their numbers, or as many as there is room for. TIMEFD_MOST_WARNINGS are always enough. So
+   `%Y-%m-%d` in version 3 has TIMEFD_WARNING_NO_COMPONENT and TIMEFD_WARNING_OTHER_LANGUAGE, and each moment is written by it
+   as `%Y-%m-%d`. The rest of the buffer stays as it was, and so does all of it unless the status is TIMEFD_ACCEPTED.
+
+   TIMEFD_NO_MEMORY may come of a description in any language. The buffer is as that of timefd_check. There are at most
+   PTRDIFF_MAX / sizeof(timefd_warning) warnings. */
+timefd_warnings_answer timefd_warnings(uint32_t kind, const uint8_t *text, size_t len, timefd_warning *warnings, size_t room);
+
 /* Converts the `len` bytes at `text` from version 1 to version 2, with the same items, and writes the result to the front of the
    `room` bytes at `buffer`. The value is the result's length, written or not: a buffer without room for all of it stays as it
    was, and 2 * len bytes always suffice. A text that timefd_judge refuses as version 1 is refused for the same fault, and then
@@ -463,6 +506,17 @@ TIMEFD_IS(sizeof(timefd_fault) == 40);
 TIMEFD_FIELD(timefd_diagnosis, answer, 0, 32);
 TIMEFD_FIELD(timefd_diagnosis, fault, 32, 40);
 TIMEFD_IS(sizeof(timefd_diagnosis) == 72);
+
+TIMEFD_FIELD(timefd_warning, code, 0, 4);
+TIMEFD_FIELD(timefd_warning, start, 8, 8);
+TIMEFD_FIELD(timefd_warning, end, 16, 8);
+TIMEFD_IS(sizeof(timefd_warning) == 24);
+
+TIMEFD_FIELD(timefd_warnings_answer, status, 0, 4);
+TIMEFD_FIELD(timefd_warnings_answer, value, 8, 8);
+TIMEFD_FIELD(timefd_warnings_answer, count, 16, 8);
+TIMEFD_FIELD(timefd_warnings_answer, written, 24, 8);
+TIMEFD_IS(sizeof(timefd_warnings_answer) == 32);
 
 TIMEFD_FIELD(timefd_node, what, 0, 1);
 TIMEFD_FIELD(timefd_node, component, 1, 1);

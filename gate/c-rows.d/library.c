@@ -152,6 +152,45 @@ static const char *read_date(const struct field *fields) {
     return NULL;
 }
 
+/* Whether nothing stands from one of so many warnings on. */
+static bool is_blank(const timefd_warning *warnings, size_t from, size_t to) {
+    for (size_t i = from; i < to; i++) {
+        if (warnings[i].code != 0 || warnings[i].start != 0 || warnings[i].end != 0) {
+            return false;
+        }
+    }
+    return true;
+}
+
+/* warnings KIND TEXT ROOM: how many a text has, and the numbers and bytes of those for which there is room. */
+static const char *warnings_in(const struct field *fields) {
+    timefd_warning warnings[TIMEFD_MOST_WARNINGS + 1] = {0};
+    size_t most = TIMEFD_MOST_WARNINGS + 1, room = (size_t)fields[2].number;
+    if (room > most) {
+        return "no buffer has so much room";
+    }
+    timefd_warnings_answer answer = timefd_warnings(kind_of(fields), fields[1].bytes, fields[1].len, warnings, room);
+    timefd_answer judged = timefd_judge(kind_of(fields), fields[1].bytes, fields[1].len);
+    if (answer.status != judged.status || answer.value != judged.value) {
+        return "timefd_judge answers otherwise";
+    }
+    if (answer.written != (answer.count < room ? answer.count : room) || !is_blank(warnings, answer.written, most)) {
+        return "another number of warnings is written";
+    }
+    print_answer(answer.status, answer.value);
+    printf(" count %zu", answer.count);
+    for (size_t i = 0; i < answer.written; i++) {
+        printf(" %u %zu..%zu", warnings[i].code, warnings[i].start, warnings[i].end);
+    }
+    return NULL;
+}
+
+/* warnings KIND TEXT: all of them. */
+static const char *warnings(const struct field *fields) {
+    const struct field with_room[] = {fields[0], fields[1], {.number = TIMEFD_MOST_WARNINGS}};
+    return warnings_in(with_room);
+}
+
 int main(void) {
     static const struct call calls[] = {
         {"statuses", "", statuses},
@@ -168,6 +207,8 @@ int main(void) {
         {"within", "nnt", within},
         {"format", "ntnnnnnnnnn", format},
         {"read_date", "ntt", read_date},
+        {"warnings", "nt", warnings},
+        {"warnings", "ntn", warnings_in},
         {0},
     };
     return answer_rows(calls);

@@ -10,3 +10,4 @@ pub mod Formats
 pub mod NodeFormats
 pub mod Diagnoses
 pub mod Dates
+pub mod Warnings

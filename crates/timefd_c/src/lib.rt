@@ -22,6 +22,8 @@ mod nodes;
 mod numbers;
 mod read_date;
 mod verdict;
+mod warning_fields;
+mod warnings;
 mod whole;
 
 pub use answer::{
@@ -39,3 +41,5 @@ pub use moment::MomentFields;
 pub use nodes::{VERSION, timefd_read, timefd_read_within, timefd_version};
 pub use read_date::timefd_read_date;
 pub use timefd_c_nodes::Node;
+pub use warning_fields::{WarningFields, WarningsAnswer};
+pub use warnings::timefd_warnings;

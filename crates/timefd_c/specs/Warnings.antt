@@ -1,0 +1,92 @@
+-- What is answered to C of the warnings of a description.
+use Rattle.std.specs.Prelude.{ℕ, ◌≡◌, ◌≢◌, ◌⊎◌, ◌++◌, List, [], ◌∷◌, Option, Some, None, IsSome, IsUtf8, drop, filter, flat_map, length, map, min, take}
+use Rattle.timefd_c.specs.declared.answer.TheConstants.{ACCEPTED, REFUSED, NOT_UTF8, NO_MEMORY, UNKNOWN_KIND}
+use Rattle.timefd_c.specs.declared.warning_fields.WarningFields.{WarningFields}
+use Rattle.timefd_c.specs.declared.warning_fields.WarningsAnswer.{WarningsAnswer}
+use Rattle.timefd_c.specs.Answers.{Describes, HasFault}
+use Rattle.timefd_component.specs.Tree.{Text, Tree}
+use Rattle.timefd_fault.specs.Faults.{Fault}
+use Rattle.timefd_lint_warnings.specs.Found.{style_of}
+use Rattle.timefd_node_list.specs.Leaves.{leaves_in}
+use Rattle.timefd_parse.specs.declared.language.Language.{Language}
+use Rattle.timefd_parse.specs.Language.{amount}
+use Rattle.timefd_warnings.specs.declared.levels.Level.{Level}
+use Rattle.timefd_warnings.specs.declared.levels.Level.TheVariants.{Allowed, Warned, Denied}
+use Rattle.timefd_warnings.specs.declared.levels.Levels.{Levels}
+use Rattle.timefd_warnings.specs.declared.warning.Warning.{Warning}
+use Rattle.timefd_warnings.specs.declared.warning.Warning.TheVariants.{NoComponent, OtherLanguage, MonthForMinute, MinuteForMonth, HourWithoutPeriod, PeriodWithHour24, SubsecondWithoutSecond, WeekWithCalendarYear, DateWithIsoYear, ShownTwice, UndeterminedDate, UnsettledWidth, UnsettledYear, DeprecatedComponent}
+use Rattle.timefd_warnings.specs.Codes.{all}
+use Rattle.timefd_warnings.specs.Levels.{level_of}
+use Rattle.timefd_warnings.specs.Warns.{warns}
+
+-- the numbers of the warnings
+abbrev pub warning_number : Warning → ℕ
+warning_number NoComponent = 1
+warning_number OtherLanguage = 2
+warning_number MonthForMinute = 3
+warning_number MinuteForMonth = 4
+warning_number HourWithoutPeriod = 5
+warning_number PeriodWithHour24 = 6
+warning_number SubsecondWithoutSecond = 7
+warning_number WeekWithCalendarYear = 8
+warning_number DateWithIsoYear = 9
+warning_number ShownTwice = 10
+warning_number UndeterminedDate = 11
+warning_number UnsettledWidth = 12
+warning_number UnsettledYear = 13
+warning_number DeprecatedComponent = 14
+
+-- A warning is one of the text as a whole, which has so many bytes.
+abbrev pub fields_of : ℕ → Warning → WarningFields
+fields_of len w = record { code = warning_number w; start = 0; end = len }
+
+-- the warnings that a text has which spells the list, in the order in which the linter tells them
+abbrev pub warnings_of : Language → Text → List Tree → List WarningFields
+warnings_of language text list =
+    map (fields_of (length text)) (filter (λ w. warns (style_of language) w (leaves_in list)) all)
+
+-- nothing of one that is allowed
+abbrev pub told_at : Level → ℕ → Warning → List WarningFields
+told_at Allowed len w = []
+told_at Warned len w = fields_of len w ∷ []
+told_at Denied len w = fields_of len w ∷ []
+
+-- those of some warnings that aren't allowed
+abbrev pub told_of : Levels → ℕ → List Warning → List WarningFields
+told_of found len ws = flat_map (λ w. told_at (level_of found w) len w) ws
+
+-- the answer with this status and value, where there are no warnings
+abbrev pub silent : ℕ → ℕ → WarningsAnswer
+silent status value = record { status = status; value = value; count = 0; written = 0 }
+
+-- The buffer has the first of these, as far as there is room, and what is behind them is as it was.
+pub record AreWritten (told before after : List WarningFields) (answer : WarningsAnswer) : Type 0 where
+  pub count : answer.count ≡ length told
+  pub written : answer.written ≡ min (length told) (length before)
+  pub front : after ≡ take answer.written told ++ drop answer.written before
+
+-- Of a text that spells the list: all warnings that it has are told, and no others; or memory ran out, and nothing
+-- is written.
+abbrev pub IsTold : Language → Text → List Tree → List WarningFields → List WarningFields
+    → WarningsAnswer → Type 0
+IsTold language text list before after answer =
+    ((answer.status ≡ ACCEPTED) × (answer.value ≡ amount language list)
+    × AreWritten (warnings_of language text list) before after answer)
+    ⊎ ((answer ≡ silent NO_MEMORY 0) × (after ≡ before))
+
+-- The same of a text in a language, where there is one.
+abbrev pub IsToldIn : Option Language → Text → List Tree → List WarningFields → List WarningFields
+    → WarningsAnswer → Type 0
+IsToldIn (Some language) text list before after answer = IsTold language text list before after answer
+IsToldIn None text list before after answer = ⊥
+
+-- The answer says what the bytes are in the language, where there is one, and the buffer has the warnings of a
+-- description.
+pub record Warns (language : Option Language) (bytes : Text) (before after : List WarningFields)
+    (answer : WarningsAnswer) : Type 0 where
+  pub unknown_kind : language ≡ None → answer ≡ silent UNKNOWN_KIND 0
+  pub not_utf8 : IsSome language → ¬ (IsUtf8 bytes) → answer ≡ silent NOT_UTF8 0
+  pub faulty : (f : Fault) → HasFault language bytes f → answer ≡ silent REFUSED f.index
+  pub spelled : (list : List Tree) → Describes language bytes list
+      → IsToldIn language bytes list before after answer
+  pub kept : answer.status ≢ ACCEPTED → after ≡ before

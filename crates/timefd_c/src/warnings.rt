@@ -1,0 +1,111 @@
+//! The function that C calls for the warnings of a description.
+
+ghost use Rattle.std.specs.Prelude.{◌≡◌, ◌++◌, List, IfOk, drop, length, min, take};
+ghost use Rattle.timefd_component.specs.Tree.{Tree};
+ghost use Rattle.timefd_language.specs.Grammar.{nesting_limit};
+ghost use Rattle.timefd_parse.specs.Language.{SpellsIn, amount};
+ghost use Rattle.timefd_c.specs.Languages.{language_of};
+ghost use Rattle.timefd_c.specs.Warnings as spec;
+ghost use Rattle.timefd_c.specs.Warnings.{IsTold, Warns};
+ghost use Rattle.timefd_warnings.specs.Codes.{all};
+
+use crate::answer::{ACCEPTED, NO_MEMORY, NOT_UTF8, REFUSED, UNKNOWN_KIND};
+use crate::numbers::from_number;
+use crate::warning_fields::{WarningFields, WarningsAnswer, push_warning};
+use std::alloc::{AllocError, Global};
+use timefd_c_read::text_of;
+use timefd_lint_warnings::found_in;
+use timefd_parse::{BorrowedParseError, Language, NESTING_LIMIT, amount_all_borrowed};
+use timefd_warnings::{Level, Levels, Warning};
+
+/// Says what `timefd_judge` says, and writes the warnings that an accepted text has over the front of
+/// the buffer, as far as there is room, in the order of the linter.
+#[unsafe(no_mangle)]
+pub extern "C" fn timefd_warnings(
+    alloc: Global,
+    kind: u32,
+    text: &[u8],
+    warnings: &mut [WarningFields],
+) -> WarningsAnswer
+    ensures warns { Warns (language_of kind) text.now warnings.old warnings.new result }
+{
+    warn_of(alloc, from_number(kind), text, warnings)
+}
+
+fn warn_of(
+    alloc: Global,
+    language: Option<Language>,
+    bytes: &[u8],
+    warnings: &mut [WarningFields],
+) -> WarningsAnswer
+    ensures warns { Warns language bytes.now warnings.old warnings.new result }
+{
+    let Some(language) = language else {
+        return WarningsAnswer::silent(UNKNOWN_KIND, 0);
+    };
+    let Ok(text) = text_of(bytes) else {
+        return WarningsAnswer::silent(NOT_UTF8, 0);
+    };
+    match amount_all_borrowed(alloc, language, NESTING_LIMIT, text) {
+        Ok(value) => accepted(alloc, language, text, value, warnings),
+        Err(BorrowedParseError::Invalid(fault)) => WarningsAnswer::silent(REFUSED, fault.index),
+        Err(BorrowedParseError::Memory(_)) => WarningsAnswer::silent(NO_MEMORY, 0),
+    }
+}
+
+// What is answered of a text that is accepted with this value.
+fn accepted(
+    alloc: Global,
+    language: Language,
+    text: &str,
+    value: usize,
+    warnings: &mut [WarningFields],
+) -> WarningsAnswer
+    ensures { (list : List Tree) → SpellsIn language nesting_limit text.now list
+        → value ≡ amount language list
+        → IsTold language text.now list warnings.old warnings.new result }
+{
+    match warnings_in(alloc, language, text) {
+        Ok(told) => WarningsAnswer {
+            status: ACCEPTED,
+            value,
+            count: told.len(),
+            written: write_front(&told, warnings),
+        },
+        Err(AllocError) => WarningsAnswer::silent(NO_MEMORY, 0),
+    }
+}
+
+// The warnings of a text that is accepted.
+fn warnings_in(
+    alloc: Global,
+    language: Language,
+    text: &str,
+) -> Result<Vec<WarningFields>, AllocError>
+    ensures { (list : List Tree) → SpellsIn language nesting_limit text.now list
+        → IfOk result (λ told. told.items ≡ spec.warnings_of language text.now list) }
+{
+    let found = found_in(alloc, language, text, Levels::all_at(Level::Warned))?;
+    told_of(alloc, found, text.len())
+}
+
+// Those that aren't allowed.
+fn told_of(alloc: Global, found: Levels, len: usize) -> Result<Vec<WarningFields>, AllocError>
+    ensures { IfOk result (λ told. told.items ≡ spec.told_of found len all) }
+{
+    let mut told = Vec::new(alloc);
+    for warning in Warning::all() {
+        push_warning(&mut told, found.level_of(*warning), *warning, len)?;
+    }
+    Ok(told)
+}
+
+// Writes the first warnings over the front of the buffer, as far as there is room, and counts these.
+fn write_front(told: &[WarningFields], buffer: &mut [WarningFields]) -> usize
+    ensures count { result ≡ min (length told.now) (length buffer.old) }
+    ensures front { buffer.new ≡ take result told.now ++ drop result buffer.old }
+{
+    let count = told.len().min(buffer.len());
+    buffer[..count].copy_from_slice(&told[..count]);
+    count
+}
