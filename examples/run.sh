@@ -71,10 +71,11 @@ check_package() {
 # Formats, lints and tests the crate, as a dependency of a package: where it is built itself, Cargo looks for its optional dependencies,
 # which want a registry.
 check_crate() {
-    (cd ../bindings/rust && cargo fmt --check) &&
-        (cd dates && cargo clippy --offline --locked --quiet -p timefd --all-targets -- -D warnings) &&
-        (cd dates && cargo test --offline --locked --quiet -p timefd) ||
-        fail "the crate has a fault"
+    (
+        (cd ../bindings/rust && cargo fmt --check) && cd dates &&
+            cargo clippy --offline --locked --quiet -p timefd --all-targets -- -D warnings &&
+            cargo test --offline --locked --quiet -p timefd
+    ) || fail "the crate has a fault"
     (cd ../bindings/rust/features/none && cargo clippy --offline --quiet -p timefd -- -D warnings) || fail "the crate wants std"
 }
 
