@@ -91,6 +91,7 @@ mod tree;
 mod unsupported;
 mod value_error;
 mod version;
+mod warning;
 mod write;
 mod written;
 
@@ -113,4 +114,5 @@ pub use read::{ReadError, Unread, read};
 pub use time_of_day::Time;
 pub use value_error::ValueError;
 pub use version::{Language, UnknownLanguage, UnknownVersion, Version};
+pub use warning::Warning;
 pub use write::{Shown, WriteError};

@@ -5,7 +5,7 @@
 //!
 //! - A slice's pointer is never null, and its length is at most `isize::MAX`, which is what the
 //!   header asks of both.
-//! - A `&[u8]` is written by nobody while it is borrowed, and a `&mut [u8]` or `&mut [RawNode]` is
+//! - A `&[u8]` is written by nobody while it is borrowed, and a `&mut` slice of bytes or structs is
 //!   set to something, is used by nobody else and overlaps nothing else, as the header asks of
 //!   texts and buffers.
 //! - No call keeps a pointer, takes a lock or keeps anything for the next one, so that they may
@@ -111,6 +111,27 @@ pub(crate) struct Diagnosis {
     pub(crate) fault: RawFault,
 }
 
+/// `timefd_warning` of the header. The bytes that it speaks of are all of the text.
+#[repr(C)]
+#[derive(Debug, Clone, Copy, Default)]
+pub(crate) struct RawWarning {
+    pub(crate) code: u32,
+    start: usize,
+    end: usize,
+}
+
+/// No description has more warnings.
+pub(crate) const MOST_WARNINGS: usize = 14;
+
+/// `timefd_warnings_answer` of the header.
+#[repr(C)]
+pub(crate) struct WarningsAnswer {
+    pub(crate) status: u32,
+    pub(crate) value: usize,
+    pub(crate) count: usize,
+    pub(crate) written: usize,
+}
+
 /// `timefd_read_answer` of the header.
 #[repr(C)]
 pub(crate) struct ReadAnswer {
@@ -174,6 +195,11 @@ const _: () = {
     assert!(offset_of!(RawFault, nearest_len) == 24);
     assert!(offset_of!(RawFault, nearest_written) == 32);
     assert!(offset_of!(Diagnosis, answer) == 0 && offset_of!(Diagnosis, fault) == 32);
+    assert!(size_of::<RawWarning>() == 24 && offset_of!(RawWarning, code) == 0);
+    assert!(offset_of!(RawWarning, start) == 8 && offset_of!(RawWarning, end) == 16);
+    assert!(size_of::<WarningsAnswer>() == 32 && offset_of!(WarningsAnswer, status) == 0);
+    assert!(offset_of!(WarningsAnswer, value) == 8 && offset_of!(WarningsAnswer, count) == 16);
+    assert!(offset_of!(WarningsAnswer, written) == 24);
     assert!(size_of::<ReadAnswer>() == 48 && offset_of!(ReadAnswer, written) == 32);
     assert!(offset_of!(ReadAnswer, bytes) == 40);
     assert!(offset_of!(Answer, status) == 0 && offset_of!(ReadAnswer, status) == 0);
@@ -228,6 +254,13 @@ unsafe extern "C" {
         word: *mut u8,
         word_room: usize,
     ) -> Diagnosis;
+    fn timefd_warnings(
+        kind: u32,
+        text: *const u8,
+        len: usize,
+        warnings: *mut RawWarning,
+        room: usize,
+    ) -> WarningsAnswer;
     fn timefd_convert(
         from: u32,
         to: u32,
@@ -316,6 +349,15 @@ pub(crate) fn diagnose(kind: u32, text: &str, sentence: &mut [u8], word: &mut [u
             word.as_mut_ptr(),
             word.len(),
         )
+    }
+}
+
+/// What is suspect in a text of a language, as far as the buffer has room.
+pub(crate) fn warnings(kind: u32, text: &str, warnings: &mut [RawWarning]) -> WarningsAnswer {
+    expect_version();
+    // SAFETY: as in `check`.
+    unsafe {
+        timefd_warnings(kind, text.as_ptr(), text.len(), warnings.as_mut_ptr(), warnings.len())
     }
 }
 

@@ -10,7 +10,7 @@ use std::string::String;
 use std::vec::Vec;
 
 use super::{ACCEPTED, COMPONENT, COMPOUND, FIRST, LITERAL, NO_MEMORY, OPTIONAL, REFUSED};
-use super::{CONTRADICTION, MISSING, UNREAD};
+use super::{CONTRADICTION, MISSING, MOST_WARNINGS, UNREAD};
 use super::{NO_CONVERSION, OUT_OF_RANGE, RawMoment, RawNode, UNSHOWN, VERSION};
 use crate::component_kind::ComponentKind;
 use crate::decode;
@@ -21,6 +21,7 @@ use crate::moment_part::MomentPart;
 use crate::range::Number;
 use crate::read::Unread;
 use crate::version::{Language, Version};
+use crate::warning::Warning;
 
 const HEADER: &str = concat!(env!("CARGO_MANIFEST_DIR"), "/../../examples/timefd.h");
 
@@ -97,6 +98,11 @@ fn fault_name(number: u32) -> Option<String> {
     FaultKind::from_number(number).map(|it| format!("FAULT_{}", header_name(it)))
 }
 
+/// The warning that a number of the header is taken for.
+fn warning_name(number: u32) -> Option<String> {
+    Warning::from_number(number).map(|it| format!("WARNING_{}", header_name(it)))
+}
+
 /// What this crate takes the numbers for, by the header's names.
 fn taken() -> BTreeMap<String, u32> {
     let named = [
@@ -122,6 +128,7 @@ fn taken() -> BTreeMap<String, u32> {
         ("COMPOUND", COMPOUND.into()),
         ("OPTIONAL", OPTIONAL.into()),
         ("FIRST", FIRST.into()),
+        ("MOST_WARNINGS", MOST_WARNINGS as u32),
     ];
     let named = named.map(|(name, number)| (name.to_owned(), number));
     let components =
@@ -134,7 +141,8 @@ fn taken() -> BTreeMap<String, u32> {
     let dates =
         (0..=255).flat_map(|number| date_names(number).into_iter().map(move |name| (name, number)));
     let faults = (0..=255).filter_map(|number| Some((fault_name(number)?, number)));
-    let numbers = named.into_iter().chain(faults).chain(components);
+    let warnings = (0..=255).filter_map(|number| Some((warning_name(number)?, number)));
+    let numbers = named.into_iter().chain(faults).chain(warnings).chain(components);
     numbers.chain(modifiers).chain(reasons).chain(dates).collect()
 }
 
@@ -172,4 +180,19 @@ fn each_fault_has_the_name_of_the_linter() {
     let named: BTreeMap<String, String> =
         named.map(|kind| (format!("{kind:?}"), kind.name().to_owned())).collect();
     assert_eq!(named, rows);
+}
+
+/// The table of the linter's names of warnings.
+const WARNINGS: &str =
+    concat!(env!("CARGO_MANIFEST_DIR"), "/../../crates/timefd_warnings/src/warning.rt");
+
+#[test]
+fn each_warning_has_the_name_of_the_linter() {
+    let table = fs::read_to_string(WARNINGS).expect("the table stands in the repository");
+    let rows = table.lines().filter_map(|line| {
+        let (_, name) = line.trim().strip_prefix("Warning::")?.split_once(" => \"")?;
+        name.strip_suffix("\",")
+    });
+    let named: Vec<&str> = (1..).map_while(Warning::from_number).map(Warning::name).collect();
+    assert_eq!(named, rows.take(MOST_WARNINGS).collect::<Vec<&str>>());
 }
