@@ -44,6 +44,9 @@ def compile_to(to, library, header, compiler="cc", more=()):
 
 
 def main():
+    if not has_headers():
+        print(f"extension.py: SKIPPED: the module for Python, as {NO_HEADERS}")
+        return
     folder = pathlib.Path(sys.argv[1]).resolve()
     made = folder / f"{FILE}.new"
     try:
