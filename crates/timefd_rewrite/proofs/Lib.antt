@@ -3,3 +3,4 @@ pub mod CureLemmas
 pub mod LineLemmas
 pub mod LayoutLemmas
 pub mod RewriteLemmas
+pub mod MendedLemmas

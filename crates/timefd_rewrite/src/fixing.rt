@@ -61,6 +61,7 @@ fn owned(alloc: Global, text: &str) -> Result<String, ParseError>
 
 // A text with the cure of its fault: `None` where it has none. The error is a fault against which
 // nothing may be written.
+#[tactic(auto, using(crate::proofs::MendedLemmas::mended, crate::proofs::MendedLemmas::unmended))]
 fn one_more(
     alloc: Global,
     language: Language,
