@@ -3,7 +3,7 @@ use Rattle.std.proofs.Common.{ℕ, ◌≡◌, ◌≢◌, List, [], Option, Some,
 use Rattle.timefd_fault.specs.Faults.{Fault}
 use Rattle.timefd_borrowed_fault.specs.BorrowedFaults.{HasShortWords, lent_fault}
 use Rattle.timefd_borrowed_fault.specs.declared.borrowed_fault.BorrowedFault.{BorrowedFault}
-use Rattle.timefd_language.specs.FaultMeaning.{kind_of}
+use Rattle.timefd_language.specs.FaultMeaning.{rule_kind}
 use Rattle.timefd_language.specs.Grammar.{nesting_limit}
 use Rattle.timefd_parse.proofs.AmountLemmas.{short_in}
 use Rattle.timefd_component.specs.Tree.{Text, Tree}
@@ -80,9 +80,9 @@ refused_same f g same = cc
 
 -- A fault that was found has short words, so that its sentence can be written.
 pub refused_short : (language : Option Language) (bytes : Text) (v : Verdict) (f : BorrowedFault)
-    → v ≡ Refused f → Says language bytes v → HasShortWords (kind_of f.kind)
+    → v ≡ Refused f → Says language bytes v → HasShortWords (rule_kind f.rule)
 refused_short (Some language) bytes (Refused g) f same says =
-    subst (λ (b : BorrowedFault). HasShortWords (kind_of b.kind)) (refused_same g f same)
+    subst (λ (b : BorrowedFault). HasShortWords (rule_kind b.rule)) (refused_same g f same)
     (short_in language nesting_limit bytes (lent_fault g) says.1)
 refused_short None bytes (Refused g) f same says = absurd says.1
 refused_short language bytes (Accepted n) f same says = absurd cc

@@ -1,3 +1,4 @@
 mod ToldLemmas
 mod ReportLemmas
 pub mod FinderLemmas
+pub mod PlacedLemmas

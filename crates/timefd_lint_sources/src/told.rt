@@ -201,19 +201,10 @@ fn all_placed_in(
 fn placed_in(description: &Description, diagnostic: Diagnostic) -> Diagnostic
     ensures { result ≡ spec.placed_in description.now diagnostic }
 {
-    let Diagnostic {
-        fault,
-        code,
-        span,
-        help,
-    } = diagnostic;
-    Diagnostic {
-        fault,
-        code,
-        span: Span {
-            start: place_of(description, span.start),
-            end: place_of(description, span.end),
-        },
-        help,
-    }
+    let mut placed = diagnostic;
+    placed.span = Span {
+        start: place_of(description, placed.span.start),
+        end: place_of(description, placed.span.end),
+    };
+    placed
 }

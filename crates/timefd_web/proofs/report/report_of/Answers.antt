@@ -1,0 +1,21 @@
+use Rattle.std.proofs.Common.{◌≡◌, IfOk, rules}
+use Rattle.timefd_borrowed_fault.specs.Placed.{IsPlaced}
+use Rattle.timefd_diagnosis.specs.Diagnoses.{IsDiagnosis}
+use Rattle.timefd_fault.specs.Faults.{fault_of}
+use Rattle.timefd_language.specs.Grammar.{nesting_limit}
+use Rattle.timefd_parse.specs.Language.{FaultIn}
+use Rattle.timefd_web.specs.Objects.{refused_object}
+use Rattle.timefd_web.proofs.ReportLemmas.{refused_report}
+use Rattle.timefd_web.proofs.report.report_of.Goals as goal
+
+-- src/report.rt:15:1
+pub returns-in-Some : goal.returns-in-Some
+returns-in-Some c =
+    let d = c.in-Some.diagnostic in
+    let fault : FaultIn c.args.language nesting_limit c.args.text.now (fault_of d.fault) = search rules in
+    let place : IsPlaced c.args.text.now (fault_of d.fault) = search rules in
+    let diagnosis : IsDiagnosis c.args.language c.args.text.now d = search rules in
+    let said : IfOk c.refused.result (λ object. object.items ≡ refused_object d) = search rules in
+    record {
+      reports = refused_report c.args.language c.args.moment c.args.text.now c.refused.result d fault place diagnosis said;
+    }
