@@ -105,11 +105,17 @@ check_feature() {
 check_crate
 [ ! -d "$folder/parts" ] || export TIMEFD_LIB_DIR="$folder"
 check_package dates
+check_feature macros ''
+(
+    cd ../bindings/rust/macros && cargo fmt --check && cd ../features/macros &&
+        cargo clippy --offline --quiet -p timefd_macros -- -D warnings
+) || fail "the macro of the crate has a fault"
 check_feature serde 'librust-serde-derive-dev, librust-serde-json-dev' serde serde_derive serde_json
 check_feature time librust-time-dev time
 check_feature chrono librust-chrono-dev chrono
 check_feature jiff 'librust-jiff-dev, of Debian 13' jiff
 cp dates/target/debug/format out/format_rust
 cp dates/target/debug/read out/read_rust
+tasks/compare dates/target/debug/tasks
 compare format_rust out/expected_format.txt dates.txt
 compare read_rust expected_read.txt reads.txt

@@ -16,7 +16,8 @@
    - The bytes or nodes of a buffer have been set to something before. While the call runs nobody else reads or writes them. A buffer
      overlaps no other buffer, and nothing that the call reads.
    - The call doesn't come from a signal handler, nor from the forked child of a process with threads.
-   - It has 112 KiB of stack: a text that is nested 127 deep takes some 53 of them. timefd_convert and timefd_read_date want more.
+   - It has 112 KiB of stack: a text that is nested 127 deep takes some 53 of them. timefd_convert, timefd_read_date and
+     timefd_read_nodes want more.
 
    What every call keeps to:
 
@@ -47,12 +48,12 @@ uint32_t timefd_version(void);
 #define TIMEFD_STRFTIME 4u
 
 /* The text is a description. The value is the number of its items; in version 3 the number of bytes that it reserves, which the
-   longest text has that is written by it. From timefd_v1_to_v2, timefd_v2_to_v3 and timefd_convert it is the length of the
-   result, in bytes. */
+   longest text has that is written by it. From timefd_v1_to_v2, timefd_v2_to_v3, timefd_convert and
+   timefd_convert_format it is the length of the result, in bytes. */
 #define TIMEFD_ACCEPTED 0u
 
 /* The text is no description. The value is the index of the fault: how many bytes of the text are before it. It is at most the
-   text's length, and between two characters. */
+   text's length, and between two characters. From timefd_convert_format: a part of the format has no text of version 3. */
 #define TIMEFD_REFUSED 1u
 
 /* The bytes are no UTF-8. The value is 0. */
@@ -74,7 +75,7 @@ uint32_t timefd_version(void);
 /* From timefd_convert alone: there is no conversion from this language to this one, whatever the bytes are. The value is 0. */
 #define TIMEFD_NO_CONVERSION 7u
 
-/* From timefd_format_nodes alone: the nodes are no description. The value is the index of the first node that is no part of
+/* From timefd_format_nodes and timefd_read_nodes alone: the nodes are no description. The value is the index of the first node that is no part of
    one: a number of it means nothing, its bytes aren't all among the literals, or it takes more members than stand before it. */
 #define TIMEFD_NO_DESCRIPTION 8u
 
@@ -236,6 +237,78 @@ timefd_answer timefd_v2_to_v3(const uint8_t *text, size_t len, uint8_t *buffer, 
 
    From version 3 it wants 192 KiB of stack: a text that is nested 127 deep takes some 150 of them. */
 timefd_answer timefd_convert(uint32_t from, uint32_t to, const uint8_t *text, size_t len, uint8_t *buffer, size_t room);
+
+/* The dialects: languages and libraries whose formats are converted to version 3. None has the number of a language. */
+#define TIMEFD_PYTHON 101u /* strftime of Python's datetime */
+#define TIMEFD_C 102u      /* strftime of C, as glibc has it */
+#define TIMEFD_GNU 103u    /* date of GNU coreutils */
+#define TIMEFD_CHRONO 104u /* format of chrono, for Rust */
+#define TIMEFD_JIFF 105u   /* strftime of jiff, for Rust */
+#define TIMEFD_RUBY 106u   /* strftime of Ruby's Time */
+#define TIMEFD_JAVA 107u   /* patterns of Java's DateTimeFormatter */
+#define TIMEFD_GO 108u     /* layouts of Go's time */
+#define TIMEFD_MOMENT 109u /* tokens of moment.js, for JavaScript */
+
+/* Why a part of a format has no text of version 3. timefd_names.h has a sentence on each, and what to do. */
+#define TIMEFD_REASON_BACKSLASH 1u          /* a `\` takes the meaning of the next token away */
+#define TIMEFD_REASON_CAPITALS 2u           /* it writes a name in capitals, or changes their case */
+#define TIMEFD_REASON_DATETIME_ONLY 3u      /* Ruby's `DateTime` alone has it */
+#define TIMEFD_REASON_DAY_PERIOD 4u         /* it writes a period of the day, like `in the morning` */
+#define TIMEFD_REASON_ERA 5u                /* it writes an era, and version 3 has none */
+#define TIMEFD_REASON_FLAG 6u               /* no such flag, and none with a width, may stand in front of this directive */
+#define TIMEFD_REASON_FRACTION_WIDTH 7u     /* it writes a fraction of a second of more than nine digits */
+#define TIMEFD_REASON_GMT_OFFSET 8u         /* it writes an offset as `GMT+1` */
+#define TIMEFD_REASON_HOUR_FROM_0_OR_24 9u  /* it counts hours from 0 to 11 or from 1 to 24 */
+#define TIMEFD_REASON_JULIAN_DAY 10u        /* it counts days from a day long ago */
+#define TIMEFD_REASON_LOCAL_TIME 11u        /* it depends on the time zone of the process */
+#define TIMEFD_REASON_LOCAL_WEEK 12u        /* it counts weeks or weekdays as a locale does, or writes the year of such weeks */
+#define TIMEFD_REASON_LOCALE 13u            /* what it writes depends on the locale */
+#define TIMEFD_REASON_NARROW_NAME 14u       /* it writes the first letter of a name */
+#define TIMEFD_REASON_OPTIONAL_PART 15u     /* a part in `[` and `]` is optional */
+#define TIMEFD_REASON_ORDINAL_SUFFIX 16u    /* it writes a number like `1st` */
+#define TIMEFD_REASON_PAD_LETTER 17u        /* it pads the next letter to a width */
+#define TIMEFD_REASON_PLATFORM 18u          /* platforms differ in what it writes */
+#define TIMEFD_REASON_QUARTER 19u           /* it writes a quarter, and version 3 has none */
+#define TIMEFD_REASON_READING_ONLY 20u      /* it can be read, and not be written */
+#define TIMEFD_REASON_RESERVED 21u          /* the character is reserved */
+#define TIMEFD_REASON_TOO_MANY_LETTERS 22u  /* no pattern has so many of this letter */
+#define TIMEFD_REASON_TWO_LETTER_NAME 23u   /* it writes a weekday in two letters */
+#define TIMEFD_REASON_UNCLOSED_QUOTE 24u    /* no quote closes this one */
+#define TIMEFD_REASON_UNIT_OF_DAY 25u       /* it counts milliseconds or nanoseconds from midnight on */
+#define TIMEFD_REASON_UNKNOWN_DIRECTIVE 26u /* the dialect has no such directive */
+#define TIMEFD_REASON_UNKNOWN_LETTER 27u    /* the letter has no meaning, and stands outside quotes */
+#define TIMEFD_REASON_UNSUPPORTED 28u       /* libraries differ in what it means, or have it not */
+#define TIMEFD_REASON_VARIABLE_FRACTION 29u /* it writes as many digits of a fraction as it has, or none */
+#define TIMEFD_REASON_VARIABLE_OFFSET 30u   /* it writes as much of an offset as there is */
+#define TIMEFD_REASON_VARIABLE_WIDTH 31u    /* its width depends on the value */
+#define TIMEFD_REASON_WEEK_OF_MONTH 32u     /* it counts weeks or weekdays within the month */
+#define TIMEFD_REASON_WIDTH 33u             /* a width stands in front of the directive */
+#define TIMEFD_REASON_Z_FOR_UTC 34u         /* it writes `Z` for an offset of zero */
+#define TIMEFD_REASON_ZONE_NAME 35u         /* it writes the name of a time zone */
+
+/* The answer on a format of a dialect. */
+typedef struct timefd_convert_answer {
+    uint32_t status; /* one of the five; TIMEFD_UNKNOWN_KIND where the number is that of no dialect */
+    uint32_t reason; /* where the format is refused, one of the reasons above; else 0 */
+
+    /* The length of the text of version 3 in bytes; of a format that is refused, how many of its bytes stand before the first part that
+       has no text; else 0. */
+    size_t value;
+
+    size_t written;      /* how many bytes were written: all of the text, or none */
+    uint32_t first_year; /* the text writes the same as the format from this year on, up to the year 9999; 0 where it is not accepted */
+    bool whole_minutes;  /* whether it does so only where the offset has no seconds */
+} timefd_convert_answer;
+
+/* Converts the `len` bytes at `format`, a format of the dialect with this number, to a text of version 3 that writes the same, and
+   writes that to the `room` bytes at `buffer` if they have room for all of it. Else the buffer stays as it was, and the value says
+   how much room the text wants.
+
+       %d.%m.%Y of TIMEFD_PYTHON    [day].[month].[year], from the year 1000 on
+       QQ yyyy of TIMEFD_JAVA       TIMEFD_REFUSED, TIMEFD_REASON_QUARTER, value 0
+
+   The first part, from the left, that has no text is refused, and nothing is written. TIMEFD_NO_MEMORY may come of any format. */
+timefd_convert_answer timefd_convert_format(uint32_t dialect, const uint8_t *format, size_t len, uint8_t *buffer, size_t room);
 
 /* What a node is. */
 #define TIMEFD_LITERAL 1u   /* bytes of the buffer of literals, as they stand */
@@ -507,6 +580,55 @@ typedef struct timefd_date_answer {
    127 deep; one that is nested five deep keeps within the 112 KiB. */
 timefd_date_answer timefd_read_date(uint32_t kind, const uint8_t *text, size_t len, const uint8_t *date, size_t date_len);
 
+/* Reads the `date_len` bytes at `date` by nodes that timefd_read wrote, or by others of that form, and the bytes of their literals, as
+   timefd_read_date reads them by the text that the nodes were read of: so a program parses a description once. The statuses are
+   TIMEFD_ACCEPTED, TIMEFD_NO_MEMORY, TIMEFD_NO_DESCRIPTION, TIMEFD_UNREAD, TIMEFD_CONTRADICTION, TIMEFD_MISSING,
+   TIMEFD_DATE_NOT_UTF8, and TIMEFD_NOT_UTF8 where a literal isn't UTF-8 by itself.
+
+   Of a node of members it looks at `count`, and neither at `start` nor at `bytes`; nor at a number that the node's component
+   doesn't have. It takes memory for a list of them, and 15 KiB of stack for each level that the nodes are nested. */
+timefd_date_answer timefd_read_nodes(const timefd_node *nodes, size_t node_count, const uint8_t *literals, size_t literal_count,
+                                     const uint8_t *date, size_t date_len);
+
+/* The same calls with their answers by pointer, for a program that goes on with later versions of the shared library. `size` is that
+   of the answer in the program's own header:
+
+       timefd_answer answer;
+       timefd_judge_into(TIMEFD_VERSION_3, text, len, &answer, sizeof answer);
+
+   Later versions put new fields behind those that an answer or timefd_fault has here, and change neither timefd_node, timefd_warning
+   nor timefd_moment. A program that is older than its library gets the fields that it knows, and one that is newer gets 0 in those
+   that the library lacks: so a field more breaks nothing. The bytes at `answer` need not have been set before, and overlap nothing
+   else. These hand on what the calls above answer; they are written in C, and only tested. */
+void timefd_judge_into(uint32_t kind, const uint8_t *text, size_t len, timefd_answer *answer, size_t size);
+void timefd_check_into(uint32_t kind, const uint8_t *text, size_t len, uint8_t *sentence, size_t room, timefd_answer *answer,
+                       size_t size);
+void timefd_diagnose_into(uint32_t kind, const uint8_t *text, size_t len, uint8_t *sentence, size_t room, uint8_t *word,
+                          size_t word_room, timefd_answer *answer, size_t size, timefd_fault *fault, size_t fault_size);
+void timefd_warnings_into(uint32_t kind, const uint8_t *text, size_t len, timefd_warning *warnings, size_t room,
+                          timefd_warnings_answer *answer, size_t size);
+void timefd_v1_to_v2_into(const uint8_t *text, size_t len, uint8_t *buffer, size_t room, timefd_answer *answer, size_t size);
+void timefd_v2_to_v3_into(const uint8_t *text, size_t len, uint8_t *buffer, size_t room, timefd_answer *answer, size_t size);
+void timefd_convert_into(uint32_t from, uint32_t to, const uint8_t *text, size_t len, uint8_t *buffer, size_t room,
+                         timefd_answer *answer, size_t size);
+void timefd_convert_format_into(uint32_t dialect, const uint8_t *format, size_t len, uint8_t *buffer, size_t room,
+                                timefd_convert_answer *answer, size_t size);
+void timefd_read_into(uint32_t kind, const uint8_t *text, size_t len, timefd_node *nodes, size_t node_room, uint8_t *literals,
+                      size_t literal_room, timefd_read_answer *answer, size_t size);
+void timefd_read_within_into(uint32_t kind, uint32_t limit, const uint8_t *text, size_t len, timefd_node *nodes, size_t node_room,
+                             uint8_t *literals, size_t literal_room, timefd_read_answer *answer, size_t size);
+void timefd_read_composites_into(const uint8_t *text, size_t len, timefd_node *nodes, size_t node_room, uint8_t *literals,
+                                 size_t literal_room, timefd_read_answer *answer, size_t size);
+void timefd_format_into(uint32_t kind, const uint8_t *text, size_t len, const timefd_moment *moment, uint8_t *buffer, size_t room,
+                        timefd_format_answer *answer, size_t size);
+void timefd_format_nodes_into(const timefd_node *nodes, size_t node_count, const uint8_t *literals, size_t literal_count,
+                              const timefd_moment *moment, uint8_t *buffer, size_t room, timefd_format_answer *answer,
+                              size_t size);
+void timefd_read_date_into(uint32_t kind, const uint8_t *text, size_t len, const uint8_t *date, size_t date_len,
+                           timefd_date_answer *answer, size_t size);
+void timefd_read_nodes_into(const timefd_node *nodes, size_t node_count, const uint8_t *literals, size_t literal_count,
+                            const uint8_t *date, size_t date_len, timefd_date_answer *answer, size_t size);
+
 /* Where each field stands, as the library and this compiler have to agree on it. */
 #ifdef __cplusplus
 #define TIMEFD_IS(what) static_assert(what, #what)
@@ -546,6 +668,14 @@ TIMEFD_FIELD(timefd_warnings_answer, value, 8, 8);
 TIMEFD_FIELD(timefd_warnings_answer, count, 16, 8);
 TIMEFD_FIELD(timefd_warnings_answer, written, 24, 8);
 TIMEFD_IS(sizeof(timefd_warnings_answer) == 32);
+
+TIMEFD_FIELD(timefd_convert_answer, status, 0, 4);
+TIMEFD_FIELD(timefd_convert_answer, reason, 4, 4);
+TIMEFD_FIELD(timefd_convert_answer, value, 8, 8);
+TIMEFD_FIELD(timefd_convert_answer, written, 16, 8);
+TIMEFD_FIELD(timefd_convert_answer, first_year, 24, 4);
+TIMEFD_FIELD(timefd_convert_answer, whole_minutes, 28, 1);
+TIMEFD_IS(sizeof(timefd_convert_answer) == 32);
 
 TIMEFD_FIELD(timefd_node, what, 0, 1);
 TIMEFD_FIELD(timefd_node, component, 1, 1);

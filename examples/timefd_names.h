@@ -107,6 +107,132 @@ static inline const char *timefd_component_name(uint32_t component) {
     return "";
 }
 
+/* Answers the name of a reason why a part of a format has no text of version 3: "zone-name". */
+static inline const char *timefd_reason_name(uint32_t reason) {
+    switch (reason) {
+    case TIMEFD_REASON_BACKSLASH: return "backslash";
+    case TIMEFD_REASON_CAPITALS: return "capitals";
+    case TIMEFD_REASON_DATETIME_ONLY: return "datetime-only";
+    case TIMEFD_REASON_DAY_PERIOD: return "day-period";
+    case TIMEFD_REASON_ERA: return "era";
+    case TIMEFD_REASON_FLAG: return "flag";
+    case TIMEFD_REASON_FRACTION_WIDTH: return "fraction-width";
+    case TIMEFD_REASON_GMT_OFFSET: return "gmt-offset";
+    case TIMEFD_REASON_HOUR_FROM_0_OR_24: return "hour-from-0-or-24";
+    case TIMEFD_REASON_JULIAN_DAY: return "julian-day";
+    case TIMEFD_REASON_LOCAL_TIME: return "local-time";
+    case TIMEFD_REASON_LOCAL_WEEK: return "local-week";
+    case TIMEFD_REASON_LOCALE: return "locale";
+    case TIMEFD_REASON_NARROW_NAME: return "narrow-name";
+    case TIMEFD_REASON_OPTIONAL_PART: return "optional-part";
+    case TIMEFD_REASON_ORDINAL_SUFFIX: return "ordinal-suffix";
+    case TIMEFD_REASON_PAD_LETTER: return "pad-letter";
+    case TIMEFD_REASON_PLATFORM: return "platform";
+    case TIMEFD_REASON_QUARTER: return "quarter";
+    case TIMEFD_REASON_READING_ONLY: return "reading-only";
+    case TIMEFD_REASON_RESERVED: return "reserved";
+    case TIMEFD_REASON_TOO_MANY_LETTERS: return "too-many-letters";
+    case TIMEFD_REASON_TWO_LETTER_NAME: return "two-letter-name";
+    case TIMEFD_REASON_UNCLOSED_QUOTE: return "unclosed-quote";
+    case TIMEFD_REASON_UNIT_OF_DAY: return "unit-of-day";
+    case TIMEFD_REASON_UNKNOWN_DIRECTIVE: return "unknown-directive";
+    case TIMEFD_REASON_UNKNOWN_LETTER: return "unknown-letter";
+    case TIMEFD_REASON_UNSUPPORTED: return "unsupported";
+    case TIMEFD_REASON_VARIABLE_FRACTION: return "variable-fraction";
+    case TIMEFD_REASON_VARIABLE_OFFSET: return "variable-offset";
+    case TIMEFD_REASON_VARIABLE_WIDTH: return "variable-width";
+    case TIMEFD_REASON_WEEK_OF_MONTH: return "week-of-month";
+    case TIMEFD_REASON_WIDTH: return "width";
+    case TIMEFD_REASON_Z_FOR_UTC: return "z-for-utc";
+    case TIMEFD_REASON_ZONE_NAME: return "zone-name";
+    }
+    return "";
+}
+
+/* Answers what a reason says: "it writes the name of a time zone". */
+static inline const char *timefd_reason_sentence(uint32_t reason) {
+    switch (reason) {
+    case TIMEFD_REASON_BACKSLASH: return "a `\\` takes the meaning of the next token away";
+    case TIMEFD_REASON_CAPITALS: return "it writes a name in capitals, or changes their case";
+    case TIMEFD_REASON_DATETIME_ONLY: return "Ruby's `DateTime` alone has it";
+    case TIMEFD_REASON_DAY_PERIOD: return "it writes a period of the day, like `in the morning`";
+    case TIMEFD_REASON_ERA: return "it writes an era, and version 3 has none";
+    case TIMEFD_REASON_FLAG: return "no such flag, and none with a width, may stand in front of this directive";
+    case TIMEFD_REASON_FRACTION_WIDTH: return "it writes a fraction of a second of more than nine digits";
+    case TIMEFD_REASON_GMT_OFFSET: return "it writes an offset as `GMT+1`";
+    case TIMEFD_REASON_HOUR_FROM_0_OR_24: return "it counts hours from 0 to 11 or from 1 to 24";
+    case TIMEFD_REASON_JULIAN_DAY: return "it counts days from a day long ago";
+    case TIMEFD_REASON_LOCAL_TIME: return "it depends on the time zone of the process";
+    case TIMEFD_REASON_LOCAL_WEEK: return "it counts weeks or weekdays as a locale does, or writes the year of such weeks";
+    case TIMEFD_REASON_LOCALE: return "what it writes depends on the locale";
+    case TIMEFD_REASON_NARROW_NAME: return "it writes the first letter of a name";
+    case TIMEFD_REASON_OPTIONAL_PART: return "a part in `[` and `]` is optional";
+    case TIMEFD_REASON_ORDINAL_SUFFIX: return "it writes a number like `1st`";
+    case TIMEFD_REASON_PAD_LETTER: return "it pads the next letter to a width";
+    case TIMEFD_REASON_PLATFORM: return "platforms differ in what it writes";
+    case TIMEFD_REASON_QUARTER: return "it writes a quarter, and version 3 has none";
+    case TIMEFD_REASON_READING_ONLY: return "it can be read, and not be written";
+    case TIMEFD_REASON_RESERVED: return "the character is reserved";
+    case TIMEFD_REASON_TOO_MANY_LETTERS: return "no pattern has so many of this letter";
+    case TIMEFD_REASON_TWO_LETTER_NAME: return "it writes a weekday in two letters";
+    case TIMEFD_REASON_UNCLOSED_QUOTE: return "no quote closes this one";
+    case TIMEFD_REASON_UNIT_OF_DAY: return "it counts milliseconds or nanoseconds from midnight on";
+    case TIMEFD_REASON_UNKNOWN_DIRECTIVE: return "the dialect has no such directive";
+    case TIMEFD_REASON_UNKNOWN_LETTER: return "the letter has no meaning, and stands outside quotes";
+    case TIMEFD_REASON_UNSUPPORTED: return "libraries differ in what it means, or have it not";
+    case TIMEFD_REASON_VARIABLE_FRACTION: return "it writes as many digits of a fraction as it has, or none";
+    case TIMEFD_REASON_VARIABLE_OFFSET: return "it writes as much of an offset as there is";
+    case TIMEFD_REASON_VARIABLE_WIDTH: return "its width depends on the value";
+    case TIMEFD_REASON_WEEK_OF_MONTH: return "it counts weeks or weekdays within the month";
+    case TIMEFD_REASON_WIDTH: return "a width stands in front of the directive";
+    case TIMEFD_REASON_Z_FOR_UTC: return "it writes `Z` for an offset of zero";
+    case TIMEFD_REASON_ZONE_NAME: return "it writes the name of a time zone";
+    }
+    return "";
+}
+
+/* Answers what to do about a reason: "Write the offset, or the name as a literal." */
+static inline const char *timefd_reason_cure(uint32_t reason) {
+    switch (reason) {
+    case TIMEFD_REASON_BACKSLASH: return "Write the text between `[` and `]`.";
+    case TIMEFD_REASON_CAPITALS: return "Write the name without the flag, and change its case afterwards.";
+    case TIMEFD_REASON_DATETIME_ONLY: return "Write a directive that `Time` has too.";
+    case TIMEFD_REASON_DAY_PERIOD: return "Write `a`, for AM and PM.";
+    case TIMEFD_REASON_ERA: return "Write the year alone, or the era as a literal.";
+    case TIMEFD_REASON_FLAG: return "Leave the flag and the width out, or choose another directive.";
+    case TIMEFD_REASON_FRACTION_WIDTH: return "Write at most nine digits.";
+    case TIMEFD_REASON_GMT_OFFSET: return "Write the offset in digits.";
+    case TIMEFD_REASON_HOUR_FROM_0_OR_24: return "Write the hour of 24 from 0 on, or of 12 from 1 on.";
+    case TIMEFD_REASON_JULIAN_DAY: return "Count the days in a program.";
+    case TIMEFD_REASON_LOCAL_TIME: return "Write a directive that depends on the moment alone.";
+    case TIMEFD_REASON_LOCAL_WEEK: return "Write the week of ISO 8601, or the year of the calendar.";
+    case TIMEFD_REASON_LOCALE: return "Write each part by a directive of its own.";
+    case TIMEFD_REASON_NARROW_NAME: return "Write the short name.";
+    case TIMEFD_REASON_OPTIONAL_PART: return "Convert the part alone, and put its text into `[optional [..]]`.";
+    case TIMEFD_REASON_ORDINAL_SUFFIX: return "Write the number alone.";
+    case TIMEFD_REASON_PAD_LETTER: return "Write the next letter as often as it has digits.";
+    case TIMEFD_REASON_PLATFORM: return "Write a directive that all platforms have.";
+    case TIMEFD_REASON_QUARTER: return "Write the month, or count the quarter in a program.";
+    case TIMEFD_REASON_READING_ONLY: return "Write a directive for writing.";
+    case TIMEFD_REASON_RESERVED: return "Quote it, if it is to stand for itself, or leave it out.";
+    case TIMEFD_REASON_TOO_MANY_LETTERS: return "Write fewer of them.";
+    case TIMEFD_REASON_TWO_LETTER_NAME: return "Write the short name, of three letters.";
+    case TIMEFD_REASON_UNCLOSED_QUOTE: return "Close it; a quote that stands for itself is written twice.";
+    case TIMEFD_REASON_UNIT_OF_DAY: return "Write hour, minute, second and fraction.";
+    case TIMEFD_REASON_UNKNOWN_DIRECTIVE: return "Write one that it has; a `%` that stands for itself is written twice.";
+    case TIMEFD_REASON_UNKNOWN_LETTER: return "Quote it, if it is to stand for itself.";
+    case TIMEFD_REASON_UNSUPPORTED: return "Write a directive that has one meaning.";
+    case TIMEFD_REASON_VARIABLE_FRACTION: return "Write a fixed number of digits.";
+    case TIMEFD_REASON_VARIABLE_OFFSET: return "Write the offset with its minutes.";
+    case TIMEFD_REASON_VARIABLE_WIDTH: return "Write the value with a fixed width.";
+    case TIMEFD_REASON_WEEK_OF_MONTH: return "Write the day of the month.";
+    case TIMEFD_REASON_WIDTH: return "Leave the width out, and write what it fills as a literal, like `0[day]` for `%3d`.";
+    case TIMEFD_REASON_Z_FOR_UTC: return "Write the offset in digits, or `Z` as a literal where each moment is one of UTC.";
+    case TIMEFD_REASON_ZONE_NAME: return "Write the offset, or the name as a literal.";
+    }
+    return "";
+}
+
 /* Answers why a component shows nothing: "the value has no date". */
 static inline const char *timefd_unshown_sentence(uint32_t reason) {
     switch (reason) {

@@ -95,6 +95,22 @@ static inline bool timefd_convert_text(uint32_t from, uint32_t to, const char *t
     return found.status == TIMEFD_ACCEPTED && found.value < room;
 }
 
+/* Whether `buffer` holds the text of version 3 that writes what the dialect writes by the format, as timefd_convert_format writes it.
+
+       char buffer[64];
+       timefd_convert_format_text(TIMEFD_JAVA, "dd.MM.", buffer, sizeof buffer, NULL);
+       puts(buffer);    [day].[month]. */
+static inline bool timefd_convert_format_text(uint32_t dialect, const char *format, char *buffer, size_t room,
+                                              timefd_convert_answer *answer) {
+    const size_t free_room = timefd_private_clear(buffer, room);
+    const timefd_convert_answer found =
+        timefd_convert_format(dialect, (const uint8_t *)format, strlen(format), (uint8_t *)buffer, free_room);
+    if (answer) {
+        *answer = found;
+    }
+    return found.status == TIMEFD_ACCEPTED && found.value < room;
+}
+
 /* Whether both buffers hold the description, as timefd_read writes its nodes and literals. They have been set to something before, and
    no 0 is behind the literals. */
 static inline bool timefd_read_text(uint32_t kind, const char *text, timefd_node *nodes, size_t node_room, uint8_t *literals,

@@ -163,6 +163,18 @@ timefd_date_answer read_date(uint32_t kind, const struct text *text, const struc
     return answer;
 }
 
+timefd_date_answer read_date_by_nodes(uint32_t kind, const struct text *text,
+                                      const struct node_buffers *buffers, timefd_read_answer read,
+                                      const struct text *date) {
+    uint8_t *date_bytes = lend(kind, date);
+    timefd_date_answer answer =
+        timefd_read_nodes(buffers->nodes + 1, read.nodes, buffers->literals + GUARD, read.literals,
+                          date_bytes, date->len);
+    take_back(kind, date, date_bytes);
+    remember(kind, text);
+    return answer;
+}
+
 timefd_read_answer read_within(uint32_t kind, uint32_t limit, const struct text *text) {
     uint8_t *bytes = lend(kind, text);
     timefd_read_answer answer = timefd_read_within(kind, limit, bytes, text->len, NULL, 0, NULL, 0);

@@ -53,9 +53,24 @@ static void check_moment(uint32_t kind, const struct text *text, timefd_moment m
            "a moment that was read to be one");
 }
 
+/* The nodes of the text read the same. */
+static void check_by_nodes(uint32_t kind, const struct text *text, const struct text *date, timefd_date_answer by_text) {
+    static struct node_buffers nodes;
+    timefd_read_answer read = read_nodes(kind, text, &nodes, NODES_A_BYTE * (text->len + 1), LITERALS_A_BYTE * (text->len + 1));
+    timefd_date_answer answer = read_date_by_nodes(kind, text, &nodes, read, date);
+    const timefd_moment *one = &answer.moment, *other = &by_text.moment;
+    expect(answer.status == by_text.status && answer.reason == by_text.reason && answer.component == by_text.component &&
+               answer.part == by_text.part && answer.value == by_text.value && one->known == other->known &&
+               one->year == other->year && one->nanosecond == other->nanosecond &&
+               one->offset_seconds == other->offset_seconds && one->month == other->month && one->day == other->day &&
+               one->hour == other->hour && one->minute == other->minute && one->second == other->second,
+           kind, text, "the same to be read by nodes");
+}
+
 static void check_read(uint32_t kind, const struct text *text, const struct text *date) {
     timefd_date_answer answer = read_date(kind, text, date);
     expect(is_in_form(answer, date), kind, text, "a date to be read, or why it is not");
+    check_by_nodes(kind, text, date, answer);
     if (answer.status == TIMEFD_ACCEPTED) {
         check_moment(kind, text, answer.moment);
     }

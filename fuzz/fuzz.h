@@ -91,6 +91,9 @@ timefd_format_answer format_nodes(uint32_t kind, const struct text *text,
                                   const struct node_buffers *buffers, timefd_read_answer read,
                                   const timefd_moment *moment, struct buffer *buffer, size_t room);
 timefd_date_answer read_date(uint32_t kind, const struct text *text, const struct text *date);
+timefd_date_answer read_date_by_nodes(uint32_t kind, const struct text *text,
+                                      const struct node_buffers *buffers, timefd_read_answer read,
+                                      const struct text *date);
 timefd_read_answer read_within(uint32_t kind, uint32_t limit, const struct text *text); /* without room */
 timefd_read_answer read_nodes(uint32_t kind, const struct text *text, struct node_buffers *buffers,
                               size_t node_room, size_t literal_room);

@@ -247,6 +247,31 @@ static void try_convert(const struct text *text) {
     __real_free(buffer);
 }
 
+/* A long format of another language in version 3. */
+static void try_convert_format(uint32_t dialect, const char *name, const char *piece, size_t count, size_t wanted) {
+    char *format = repeated("", piece, count, "");
+    uint8_t *buffer = __real_malloc(wanted);
+    begin();
+    timefd_convert_answer answer = timefd_convert_format(dialect, (const uint8_t *)format, strlen(format), buffer, wanted);
+    struct taken written = doubled(FIRST_BYTES, wanted);
+    uint32_t status = answer.written == wanted ? answer.status : TIMEFD_NO_MEMORY;
+    expect("timefd_convert_format", name, status, written.blocks, greater(written.most, written.room));
+    __real_free(buffer);
+    __real_free(format);
+}
+
+/* Long formats of other languages, and none with null. */
+static void try_formats(void) {
+    try_convert_format(TIMEFD_PYTHON, "200,000 directives", "%d", 200000, 1000000);
+    try_convert_format(TIMEFD_JAVA, "200,000 letters and literals", "dd'x'", 100000, 600000);
+    try_convert_format(TIMEFD_PYTHON, "1 MB", "x", 1000000, 1000000);
+    try_convert_format(TIMEFD_MOMENT, "300,000 literals", ".", 300000, 300000);
+    for (uint32_t dialect = TIMEFD_PYTHON; dialect <= TIMEFD_MOMENT; dialect++) {
+        begin();
+        expect("timefd_convert_format", "null", timefd_convert_format(dialect, NULL, 0, NULL, 0).status, 0, 0);
+    }
+}
+
 /* Each call of a language over a text. */
 static void try_all(const struct text *text) {
     try_counts(text);
@@ -340,6 +365,7 @@ int main(int count, char **arguments) {
         try_all(&text);
         __real_free(bytes);
     }
+    try_formats();
     try_null();
     printf("gate/library: long texts and null, %zu failed\n", failed);
     return failed != 0;

@@ -26,7 +26,7 @@ MODULES = {
 }
 # What is used of the objects that they make.
 OBJECTS = {
-    "a crate": ("below", "compile", "count", "folder", "is_built", "is_program", "name", "out", "rlib", "words"),
+    "a crate": ("below", "compile", "count", "folder", "is_built", "is_program", "name", "out", "rlib", "stamp", "words"),
     "a source": ("data", "functions", "read"),
     "a function": ("block", "end", "file", "first", "in_cycle", "in_trait", "module", "name", "named", "owner"),
 }

@@ -301,6 +301,92 @@ static bool writes_alike(const struct sample *sample) {
     return asked == 0 && is_same(&by_nodes, &by_text);
 }
 
+/* Nodes read what their text reads, or say that memory ran out where an allocation is refused; and all is freed. */
+static bool reads_alike(const struct sample *sample, size_t *count) {
+    struct outcome read = outcome_of(READ, sample, 0);
+    if (!read.read.written) {
+        return read.read.status != TIMEFD_ACCEPTED;
+    }
+    timefd_date_answer by_text = outcome_of(READ_DATE, sample, 0).date;
+    for (size_t number = 0;; number++) {
+        asked = 0;
+        refused = number;
+        timefd_date_answer date = timefd_read_nodes(read.nodes, read.read.nodes, read.buffer, read.read.literals,
+                                                    (const uint8_t *)DATE, strlen(DATE));
+        bool was_refused = number != 0 && asked >= number;
+        refused = 0;
+        bool ran_out = was_refused && date.status == TIMEFD_NO_MEMORY;
+        if (held != 0 || !(ran_out || is_same_date(&date, &by_text))) {
+            return false;
+        }
+        if (number != 0 && !was_refused) {
+            return true;
+        }
+        ++*count;
+    }
+}
+
+/* Formats of other languages: some are accepted, and of others a part is refused, behind one that takes memory or at once. */
+static const struct foreign {
+    uint32_t dialect;
+    const char *format;
+} FORMATS[] = {
+    {TIMEFD_PYTHON, ""},
+    {TIMEFD_PYTHON, "%Y-%m-%dT%H:%M:%S.%f%z"},
+    {TIMEFD_PYTHON, "%d.%m.%Y %Z"},
+    {TIMEFD_PYTHON, "%Z"},
+    {TIMEFD_JAVA, "EEEE, d. MMMM uuuu 'um' HH:mm"},
+    {TIMEFD_JAVA, "dd 'open"},
+    {TIMEFD_GO, "Monday, 2 January 2006"},
+    {TIMEFD_MOMENT, "dddd [at] HH:mm"},
+};
+
+static timefd_convert_answer convert_refusing(const struct foreign *given, uint8_t *buffer, size_t number) {
+    memset(buffer, '.', ROOM);
+    asked = 0;
+    refused = number;
+    timefd_convert_answer answer =
+        timefd_convert_format(given->dialect, (const uint8_t *)given->format, strlen(given->format), buffer, ROOM);
+    refused = 0;
+    return answer;
+}
+
+static bool is_same_conversion(const timefd_convert_answer *a, const timefd_convert_answer *b) {
+    return a->status == b->status && a->reason == b->reason && a->value == b->value && a->written == b->written &&
+           a->first_year == b->first_year && a->whole_minutes == b->whole_minutes;
+}
+
+/* A format is converted as with ample memory, or memory ran out where an allocation is refused, and the buffer is kept; all is freed. */
+static bool converts_alike(const struct foreign *given, size_t *count) {
+    static const timefd_convert_answer OUT = {.status = TIMEFD_NO_MEMORY};
+    uint8_t wanted[ROOM], buffer[ROOM], blank[ROOM];
+    memset(blank, '.', ROOM);
+    timefd_convert_answer ample = convert_refusing(given, wanted, 0);
+    for (size_t number = 1; held == 0; number++) {
+        timefd_convert_answer one = convert_refusing(given, buffer, number);
+        bool was_refused = asked >= number;
+        const timefd_convert_answer *told = was_refused ? &OUT : &ample;
+        if (!is_same_conversion(&one, told) || memcmp(buffer, was_refused ? blank : wanted, ROOM) != 0) {
+            return false;
+        }
+        if (!was_refused) {
+            return held == 0;
+        }
+        ++*count;
+    }
+    return false;
+}
+
+/* A literal that ends inside of a character is no text, and a date has to be one. */
+static bool reads_texts_alone(void) {
+    static const timefd_node HALF = {.what = TIMEFD_LITERAL, .count = 1}, WHOLE = {.what = TIMEFD_LITERAL, .count = 2};
+    const uint8_t *accent = (const uint8_t *)"\303\251";
+    return timefd_read_nodes(&HALF, 1, accent, 2, accent, 2).status == TIMEFD_NOT_UTF8 &&
+           timefd_read_nodes(&WHOLE, 1, accent, 2, accent, 1).status == TIMEFD_DATE_NOT_UTF8 &&
+           timefd_read_nodes(&WHOLE, 1, accent, 2, accent, 2).status == TIMEFD_ACCEPTED &&
+           timefd_read_nodes(NULL, 0, NULL, 0, NULL, 0).status == TIMEFD_ACCEPTED;
+}
+
 /* Texts of strftime, with each composite letter and none. */
 static const char *const COMPOSED[] = {"", "%c", "%D%F", "at %r, %R or %T%z", "%x %X", "%Y-%m-%d", "100%% %n%c%t%D", "%c %Q"};
 
@@ -393,7 +479,9 @@ static bool is_no_description(const struct wrong *wrong) {
     uint8_t buffer[ROOM] = {'.'};
     timefd_format_answer answer =
         timefd_format_nodes(wrong->nodes, wrong->count, (const uint8_t *)"abc", 3, &MOMENT, buffer, ROOM);
-    return answer.status == TIMEFD_NO_DESCRIPTION && answer.value == wrong->index && answer.written == 0 && buffer[0] == '.';
+    timefd_date_answer date = timefd_read_nodes(wrong->nodes, wrong->count, (const uint8_t *)"abc", 3, (const uint8_t *)"1", 1);
+    return answer.status == TIMEFD_NO_DESCRIPTION && answer.value == wrong->index && answer.written == 0 && buffer[0] == '.' &&
+           date.status == TIMEFD_NO_DESCRIPTION && date.value == wrong->index && date.moment.known == 0;
 }
 
 /* One node of a text, as its bytes: those of each field in turn, the lowest first. */
@@ -510,10 +598,17 @@ int main(void) {
         bool is_read = SAMPLES[i].kind >= LIFT ||
                        (holds(READ, &SAMPLES[i], &count) && holds(READ_WITHIN, &SAMPLES[i], &count) &&
                         holds(FORMAT, &SAMPLES[i], &count) &&
-                        holds(DIAGNOSE, &SAMPLES[i], &count) && holds(READ_DATE, &SAMPLES[i], &count) && writes_alike(&SAMPLES[i]));
+                        holds(DIAGNOSE, &SAMPLES[i], &count) && holds(READ_DATE, &SAMPLES[i], &count) && writes_alike(&SAMPLES[i]) &&
+                        reads_alike(&SAMPLES[i], &count));
         if (!holds(CHECK_OR_CONVERT, &SAMPLES[i], &count) || !is_read || !takes_little(&SAMPLES[i])) {
             failed++;
             fprintf(stderr, "gate/library: %" PRIu32 ": %s\n", SAMPLES[i].kind, SAMPLES[i].text);
+        }
+    }
+    for (size_t i = 0; i < sizeof FORMATS / sizeof FORMATS[0]; i++) {
+        if (!converts_alike(&FORMATS[i], &count)) {
+            failed++;
+            fprintf(stderr, "gate/library: %" PRIu32 ": %s\n", FORMATS[i].dialect, FORMATS[i].format);
         }
     }
     for (size_t i = 0; i < sizeof COMPOSED / sizeof COMPOSED[0]; i++) {
@@ -527,6 +622,10 @@ int main(void) {
             failed++;
             fprintf(stderr, "gate/library: nodes %zu that are no description\n", i);
         }
+    }
+    if (!reads_texts_alone()) {
+        failed++;
+        fprintf(stderr, "gate/library: nodes whose literals are no texts\n");
     }
     for (size_t i = 0; i < sizeof LAYOUTS / sizeof LAYOUTS[0]; i++) {
         if (!is_laid_out(&LAYOUTS[i])) {

@@ -1,5 +1,5 @@
 /* Calls the library on a thread with a stack of 128 KiB, a common default, over texts nested as deep as they may be, and deeper;
-   and timefd_convert, which wants more, on one of 208 KiB, and timefd_read_date on one of 2 MiB. A stack that is too small ends the process by a signal. */
+   and timefd_convert, which wants more, on one of 208 KiB, and timefd_read_date and timefd_read_nodes on one of 2 MiB. A stack that is too small ends the process by a signal. */
 #include "../examples/timefd.h"
 
 #include <pthread.h>
@@ -94,6 +94,16 @@ static void call_each(text given, uint32_t in_three) {
     free(given.bytes);
 }
 
+/* Long formats of other languages, which nest nothing. */
+static void convert_formats(void) {
+    uint8_t format[2 * BUFFER], buffer[BUFFER] = {0};
+    memset(format, '-', sizeof format);
+    for (uint32_t dialect = TIMEFD_PYTHON; dialect <= TIMEFD_MOMENT; dialect++) {
+        timefd_convert_answer answer = timefd_convert_format(dialect, format, sizeof format, buffer, BUFFER);
+        expect("convert_format", dialect, TIMEFD_ACCEPTED, (timefd_answer){.status = answer.status});
+    }
+}
+
 static void convert_each(text given, uint32_t in_three) {
     uint8_t buffer[BUFFER] = {0};
     for (uint32_t kind = TIMEFD_VERSION_1; kind <= TIMEFD_VERSION_3; kind++) {
@@ -102,6 +112,21 @@ static void convert_each(text given, uint32_t in_three) {
                timefd_convert(kind, TIMEFD_VERSION_3, (const uint8_t *)given.bytes, given.len, buffer, BUFFER));
     }
     free(given.bytes);
+}
+
+/* The status of a date that is read by the nodes of a text. */
+static uint32_t read_by_nodes(uint32_t kind, text given, const uint8_t *date, size_t len) {
+    const uint8_t *bytes = (const uint8_t *)given.bytes;
+    timefd_read_answer read = timefd_read(kind, bytes, given.len, NULL, 0, NULL, 0);
+    timefd_node *nodes = calloc(read.nodes + 1, sizeof *nodes);
+    uint8_t *literals = calloc(read.literals + 1, 1);
+    if (!nodes || !literals)
+        exit(2);
+    timefd_read(kind, bytes, given.len, nodes, read.nodes, literals, read.literals);
+    uint32_t status = timefd_read_nodes(nodes, read.nodes, literals, read.literals, date, len).status;
+    free(nodes);
+    free(literals);
+    return status;
 }
 
 /* A date of as many letters as a description is nested deep, and a day, which alone is no date. */
@@ -113,6 +138,8 @@ static void read_each(text given, uint32_t in_three) {
         uint32_t expected = kind == TIMEFD_VERSION_3 ? in_three : TIMEFD_REFUSED;
         timefd_date_answer answer = timefd_read_date(kind, (const uint8_t *)given.bytes, given.len, date, sizeof date);
         expect("read_date", kind, expected, (timefd_answer){.status = answer.status});
+        if (expected == TIMEFD_MISSING)
+            expect("read_nodes", kind, expected, (timefd_answer){.status = read_by_nodes(kind, given, date, sizeof date)});
     }
     free(given.bytes);
 }
@@ -121,6 +148,7 @@ static void *run(void *unused) {
     call_each(nested(DEEPEST, 1), TIMEFD_ACCEPTED);
     call_each(nested(DEEPEST, 0), TIMEFD_REFUSED);
     call_each(nested(DEEPER, 1), TIMEFD_REFUSED);
+    convert_formats();
     return unused;
 }
 

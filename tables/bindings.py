@@ -1,5 +1,8 @@
 """The tables in the header for C and in the bindings of Rust and Python."""
+import json
+
 from component import BY_NUMBER, FIELDS, MODERN
+from dialects import reasons
 from layout import arm_of_many, arm_of_rust
 from place import Between, Table, each
 from rattle import grouped
@@ -113,6 +116,21 @@ def kinds():
     return [line for it in MODERN for line in arm_of_rust(12, f"Self::{it.variant} {{ .. }}", f"ComponentKind::{it.variant}")]
 
 
+def capitals(reason):
+    return reason["name"].upper().replace("-", "_")
+
+
+def reason_numbers():
+    """The reasons for which a format of another language is refused, in the header for C."""
+    names = [f"TIMEFD_REASON_{capitals(it)} {it['number']}u" for it in reasons()]
+    width = max(map(len, names))
+    return [f"#define {name:{width}} /* {it['sentence']} */" for name, it in zip(names, reasons())]
+
+
+def told_of_reasons(key):
+    return lambda: [f"    case TIMEFD_REASON_{capitals(it)}: return {json.dumps(it[key])};" for it in reasons()]
+
+
 COMPONENTS = "bindings/rust/src/component.rs"
 KINDS = "bindings/rust/src/component_kind.rs"
 DECODE = "bindings/rust/src/decode.rs"
@@ -120,6 +138,9 @@ DECODE = "bindings/rust/src/decode.rs"
 TABLES = [
     each("examples/timefd.h", Between(("/* The components.",), ""), BY_NUMBER, "#define TIMEFD_{0.capitals} {0.number}u"),
     Table("examples/timefd_names.h", Between(("static inline const char *timefd_component_name(", "switch"), "    }"), names_of_c),
+    Table("examples/timefd.h", Between(("/* Why a part of a format",), ""), reason_numbers),
+    *(Table("examples/timefd_names.h", Between((f"static inline const char *timefd_reason_{key}(", "switch"), "    }"),
+            told_of_reasons(key)) for key in ("name", "sentence", "cure")),
     each("bindings/python/timefd/nodes.py", Between(("class Name(", "return name", ""), ""), BY_NUMBER,
          '    {0.capitals} = {0.number}, "{0.name}"'),
     Table(COMPONENTS, Between(("pub enum Component {",), "}"), variants),

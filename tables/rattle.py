@@ -211,10 +211,7 @@ TABLES = [
         "crates/timefd_language/src/key.rt", Between(("fn component_keys", "match name {"), "    }"),
         lambda: keys(lambda it: tuple(it.settings()), lambda key: f"Key::{in_capitals(key)}"),
     ),
-    *(
-        each(WORDS_FILE, Between(("pub fn names", *front), "        ]"), NAMES, '            "{0.name}",')
-        for front in (('"first",',), ("} else {", "&["))
-    ),
+    each(WORDS_FILE, Between(("pub fn names", '"first",'), "    ];"), NAMES, '        "{0.name}",'),
     Table(
         WORDS_FILE, Between(("fn component_keys", "match name {"), "    }"),
         lambda: keys(lambda it: it.keys, lambda key: f'"{key}"'),

@@ -29,7 +29,8 @@ const MEMORY: &str = "liblibc_c.a";
 /// The file beside a library that nothing proved.
 const UNPROVED: &str = "UNPROVED";
 
-fn main() {
+/// Finds and links it.
+pub fn main() {
     println!("cargo::rustc-check-cfg=cfg(timefd_unproved)");
     for name in [FOLDER, DYNAMIC, "PKG_CONFIG_PATH"] {
         println!("cargo::rerun-if-env-changed={name}");
@@ -53,10 +54,7 @@ fn link() -> Result<(), String> {
     let found = if env::var_os(DYNAMIC).is_some_and(|value| value == "1") {
         link_system(true)
     } else {
-        link_folder(&own, &own)
-            .or_else(|| link_system(false))
-            .or_else(|| link_folder(&here.join("../../crates/timefd_c/out"), &toolchain_folder()?))
-            .or_else(|| link_folder(&here.join("../../out"), &here))
+        link_folder(&own, &own).or_else(|| link_system(false)).or_else(|| link_built(&here))
     };
     found.ok_or_else(|| {
         format!(
@@ -92,6 +90,15 @@ fn link_folder(folder: &Path, toolchain: &Path) -> Option<()> {
     link_static(memory, MEMORY);
     say_if_unproved(&folder);
     Some(())
+}
+
+/// Links what the repository around this package has built.
+fn link_built(here: &Path) -> Option<()> {
+    let top = here.ancestors().find(|folder| folder.join("crates/timefd_c").is_dir())?;
+    let unproved = || link_folder(&top.join("out"), here);
+    toolchain_folder()
+        .and_then(|kit| link_folder(&top.join("crates/timefd_c/out"), &kit))
+        .or_else(unproved)
 }
 
 /// Has the crate take a library that nothing proved, and Cargo say so.

@@ -39,6 +39,10 @@ compare convert expected_convert.txt
 compare nodes expected_nodes.txt
 compare lint expected_lint.txt formats.txt
 compare redate expected_redate.txt redates.txt
+"$cc" -std=c11 -Wall -Wextra -Werror -O2 "-I$header" -o "$out/tasks" c/tasks.c "$library"
+# shellcheck disable=SC2086
+tasks/compare $runner "$out/tasks" > "$out/tasks.txt"
+cat "$out/tasks.txt"
 
 # Today's date, as `date` says it. Where the day ends between the two, it is asked again.
 today() {

@@ -92,6 +92,28 @@ static const char *v2_to_v3(const struct field *fields) {
     return write_whole(modernize, fields, print_text);
 }
 
+static timefd_convert_answer convert_answer(const struct field *fields, uint8_t *buffer, size_t room) {
+    return timefd_convert_format(kind_of(fields), fields[1].bytes, fields[1].len, buffer, room);
+}
+
+static struct written convert_format_in(const struct field *fields, uint8_t *buffer, size_t room) {
+    timefd_convert_answer answer = convert_answer(fields, buffer, room);
+    return (struct written){answer.status, answer.value, answer.written};
+}
+
+/* convert_format DIALECT FORMAT: the text of version 3, and of which moments it writes the same. */
+static const char *convert_format(const struct field *fields) {
+    uint8_t none[1] = {0};
+    timefd_convert_answer answer = convert_answer(fields, none, 0);
+    const struct number numbers[] = {
+        NUMBER(answer, reason), NUMBER(answer, first_year), NUMBER(answer, whole_minutes), {0}};
+    const char *complaint = write_whole(convert_format_in, fields, print_text);
+    if (!complaint) {
+        print_numbers(numbers);
+    }
+    return complaint;
+}
+
 static timefd_format_answer format_answer(const struct field *fields, uint8_t *buffer, size_t room) {
     timefd_moment moment = moment_of(fields + 2);
     return timefd_format(kind_of(fields), fields[1].bytes, fields[1].len, &moment, buffer, room);
@@ -176,6 +198,7 @@ int main(void) {
         {"sentence", "ntn", sentence_in},
         {"v1_to_v2", "t", v1_to_v2},
         {"v2_to_v3", "t", v2_to_v3},
+        {"convert_format", "nt", convert_format},
         {"nodes", "nt", nodes_of},
         {"nodes", "ntnn", nodes_in},
         {"composites", "t", composites},

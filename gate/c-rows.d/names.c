@@ -32,6 +32,14 @@ const char *status_sentence(const struct field *fields) {
     return NULL;
 }
 
+/* reason DIALECT FORMAT: why the format is refused: the name, what that says, and what to do. */
+const char *reason(const struct field *fields) {
+    timefd_convert_answer answer = timefd_convert_format(kind_of(fields), fields[1].bytes, fields[1].len, NULL, 0);
+    printf("%s: %s. %s", timefd_reason_name(answer.reason), timefd_reason_sentence(answer.reason),
+           timefd_reason_cure(answer.reason));
+    return NULL;
+}
+
 const char *unshown_sentence(const struct field *fields) {
     fputs(timefd_unshown_sentence((uint32_t)fields[0].number), stdout);
     return NULL;

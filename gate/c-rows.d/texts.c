@@ -131,6 +131,30 @@ const char *convert_text(const struct field *fields) {
     return write_in_each_room(convert_bytes, convert_to_text, fields);
 }
 
+static timefd_format_answer as_written(timefd_convert_answer answer) {
+    return (timefd_format_answer){
+        .status = answer.status, .reason = answer.reason, .value = answer.value, .written = answer.written};
+}
+
+static timefd_format_answer convert_format_bytes(const struct field *fields, uint8_t *buffer, size_t room) {
+    return as_written(timefd_convert_format(kind_of(fields), fields[1].bytes, fields[1].len, buffer, room));
+}
+
+static bool convert_format_to_text(const struct field *fields, char *buffer, size_t room, timefd_format_answer *answer) {
+    timefd_convert_answer converted = {0};
+    bool is_written =
+        timefd_convert_format_text(kind_of(fields), text_of(&fields[1]), buffer, room, answer ? &converted : NULL);
+    if (answer) {
+        *answer = as_written(converted);
+    }
+    return is_written;
+}
+
+/* convert_format_text DIALECT FORMAT */
+const char *convert_format_text(const struct field *fields) {
+    return write_in_each_room(convert_format_bytes, convert_format_to_text, fields);
+}
+
 static timefd_format_answer format_bytes(const struct field *fields, uint8_t *buffer, size_t room) {
     timefd_moment moment = moment_of(fields + 2);
     return timefd_format(kind_of(fields), fields[1].bytes, fields[1].len, &moment, buffer, room);

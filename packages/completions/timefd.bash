@@ -43,8 +43,8 @@ _timefd_format() {
     local word value=
     for word in "${COMP_WORDS[@]:1:COMP_CWORD-1}"; do
         case $value$word in
-        --language | --to-language | --read) value=$word ;;
-        --language* | --to-language* | --read*) value= ;;
+        --language | --to-language | --read | --csv | --else) value=$word ;;
+        --language* | --to-language* | --read* | --csv* | --else*) value= ;;
         -*) [ "$word" != -- ] || return ;;
         *)
             mapfile -t COMPREPLY < <(compgen -W now -- "$2")
@@ -53,9 +53,13 @@ _timefd_format() {
         esac
     done
     case $value in
-    --language | --to-language) mapfile -t COMPREPLY < <(compgen -W '1 2 3 strftime' -- "$2") ;;
-    --read) COMPREPLY=() ;;
-    *) mapfile -t COMPREPLY < <(compgen -W '--language --read --to-language --quiet --help --version --' -- "$2") ;;
+    --language | --to-language) mapfile -t COMPREPLY < <(compgen -W '1 2 3 strftime python c gnu chrono jiff ruby java go moment' -- "$2") ;;
+    --read | --csv) COMPREPLY=() ;;
+    --else) mapfile -t COMPREPLY < <(compgen -W 'keep empty fail' -- "$2") ;;
+    *)
+        word='--language --read --to-language --csv --else --quiet --help --version --'
+        mapfile -t COMPREPLY < <(compgen -W "$word" -- "$2")
+        ;;
     esac
 }
 

@@ -11,6 +11,8 @@ import crates
 
 EXPORT = re.compile(r'#\[unsafe\(no_mangle\)\]\s*pub extern "C" fn (\w+)\(([^)]*)\)')
 DECLARATION = re.compile(r"^([a-z]\w*) (timefd_\w+)\(([^)]*)\);", re.M)
+# How the names of those end that hand on what others answer: they stand in packages/answers.c.
+HANDED_ON = "_into"
 # The one function that C itself answers, as nothing but its sign says what the library is.
 VERSION = "timefd_version"
 # The sign of what timefd_version answers where nothing proved the library: its highest bit.
@@ -74,9 +76,11 @@ def renamed(text, crate, prefix="unproved_"):
 
 
 def declared(header):
-    """What the header declares: the type of the answer and the parameters, by the function's name."""
+    """What the header declares that the crate exports: the type of the answer and the parameters, by the function's name."""
     found = {}
     for answer, name, parameters in DECLARATION.findall(header):
+        if name.endswith(HANDED_ON):
+            continue
         words = [re.fullmatch(r"(.*?[ *])(\w+)", " ".join(it.split())) for it in parameters.split(",") if it != "void"]
         found[name] = (answer, [Parameter(it[1].strip(), it[2]) for it in words])
     return found

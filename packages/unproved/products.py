@@ -47,7 +47,7 @@ class Product(typing.NamedTuple):
     def sum(self):
         """The sum of all that it is made of."""
         own = [*sorted(HERE.glob("*.py")), HERE / "main.c", pathlib.Path(kit_try.__file__)]
-        own += [HEADER, *MORE_HEADERS, crates.TOP / "packages/library", crates.TOP / "packages/names"]
+        own += [HEADER, *MORE_HEADERS, *(crates.TOP / "packages" / it for it in ("library", "answers.c", "names"))]
         if self.crate == WEB:
             own += [*wasm_module.PARTS, *(PAGE / f"{it}.py" for it in ("wasm_module", "wasm_bytes", "narrow"))]
         texts = [it.read_text(encoding="utf-8") for it in own]

@@ -64,10 +64,13 @@ PyObject *value_of(PyObject *module, const timefd_moment *moment);
 PyObject *version(PyObject *module, PyObject *none);
 PyObject *check(PyObject *module, PyObject *arguments);
 PyObject *convert(PyObject *module, PyObject *arguments);
+PyObject *convert_format(PyObject *module, PyObject *arguments);
+PyObject *warnings(PyObject *module, PyObject *arguments);
 PyObject *prepare(PyObject *module, PyObject *arguments);
 PyObject *nodes(PyObject *module, PyObject *capsule);
 PyObject *format(PyObject *module, PyObject *arguments);
 PyObject *format_prepared(PyObject *module, PyObject *arguments);
 PyObject *read_moment(PyObject *module, PyObject *arguments);
+PyObject *read_prepared(PyObject *module, PyObject *arguments);
 
 #endif

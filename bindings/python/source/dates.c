@@ -101,6 +101,22 @@ PyObject *format_prepared(PyObject *module, PyObject *arguments)
     return PyErr_Format(PyExc_SystemError, "libtimefd answered the status %u", answer.status);
 }
 
+/* The value that was read; NULL where none was, and no error where the answer says nothing of the moment. */
+static PyObject *value_read(PyObject *module, const utf8_text *moment, const timefd_date_answer *answer)
+{
+    switch (answer->status) {
+    case TIMEFD_ACCEPTED:
+        return value_of(module, &answer->moment);
+    case TIMEFD_UNREAD:
+        return raise_made("not_read", "(OIIn)", moment->object, answer->reason, answer->component, (Py_ssize_t)answer->value);
+    case TIMEFD_MISSING:
+    case TIMEFD_CONTRADICTION:
+        return raise_made("no_moment", "(IO)", answer->part, answer->status == TIMEFD_MISSING ? Py_True : Py_False);
+    default:
+        return NULL;
+    }
+}
+
 PyObject *read_moment(PyObject *module, PyObject *arguments)
 {
     utf8_text text, moment;
@@ -108,17 +124,27 @@ PyObject *read_moment(PyObject *module, PyObject *arguments)
     if (!PyArg_ParseTuple(arguments, "O&O&O&", text_of, &text, text_of, &moment, language_of, &language))
         return NULL;
     timefd_date_answer answer = timefd_read_date(language, text.bytes, text.len, moment.bytes, moment.len);
-    switch (answer.status) {
-    case TIMEFD_ACCEPTED:
-        return value_of(module, &answer.moment);
-    case TIMEFD_UNREAD:
-        return raise_made("not_read", "(OIIn)", moment.object, answer.reason, answer.component, (Py_ssize_t)answer.value);
-    case TIMEFD_MISSING:
-    case TIMEFD_CONTRADICTION:
-        return raise_made("no_moment", "(IO)", answer.part, answer.status == TIMEFD_MISSING ? Py_True : Py_False);
-    default:
-        return raise_status(answer.status, language, &text);
-    }
+    PyObject *value = value_read(module, &moment, &answer);
+    return value || PyErr_Occurred() ? value : raise_status(answer.status, language, &text);
+}
+
+PyObject *read_prepared(PyObject *module, PyObject *arguments)
+{
+    PyObject *capsule;
+    utf8_text moment;
+    if (!PyArg_ParseTuple(arguments, "OO&", &capsule, text_of, &moment))
+        return NULL;
+    prepared *it = PyCapsule_GetPointer(capsule, PREPARED);
+    if (!it)
+        return NULL;
+    timefd_date_answer answer =
+        timefd_read_nodes(it->nodes, it->node_count, literals_of(it), it->literal_count, moment.bytes, moment.len);
+    PyObject *value = value_read(module, &moment, &answer);
+    if (value || PyErr_Occurred())
+        return value;
+    if (answer.status == TIMEFD_NO_MEMORY)
+        return PyErr_NoMemory();
+    return PyErr_Format(PyExc_SystemError, "libtimefd answered the status %u", answer.status);
 }
 
 static void drop(PyObject *capsule)

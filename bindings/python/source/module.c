@@ -16,11 +16,14 @@ static PyMethodDef CALLS[] = {
     {"version", version, METH_NOARGS, "The number of the library's version."},
     {"check", check, METH_VARARGS, "See timefd.check."},
     {"convert", convert, METH_VARARGS, "See timefd.convert."},
+    {"convert_format", convert_format, METH_VARARGS, "See timefd.convert_format."},
+    {"warnings", warnings, METH_VARARGS, "The numbers of what is suspect in a text."},
     {"prepare", prepare, METH_VARARGS, "A description that is parsed, and the bytes of its longest text."},
     {"nodes", nodes, METH_O, "The nodes of a prepared description as rows of numbers, and its literals."},
     {"format", format, METH_VARARGS, "See timefd.format."},
     {"format_prepared", format_prepared, METH_VARARGS, "See timefd.Format.format."},
     {"read", read_moment, METH_VARARGS, "See timefd.read."},
+    {"read_prepared", read_prepared, METH_VARARGS, "See timefd.Format.read."},
     {NULL, NULL, 0, NULL},
 };
 

@@ -139,3 +139,56 @@ PyObject *convert(PyObject *module, PyObject *arguments)
     free(whole);
     return converted;
 }
+
+/* What was converted, from a buffer that had room for it; or why it wasn't. */
+static PyObject *converted_format(const timefd_convert_answer *answer, const uint8_t *buffer, const utf8_text *format)
+{
+    if (answer->status == TIMEFD_REFUSED)
+        return raise_made("format_refused", "(OIn)", format->object, answer->reason, (Py_ssize_t)answer->value);
+    if (answer->status != TIMEFD_ACCEPTED)
+        return raise_status(answer->status, 0, format);
+    return Py_BuildValue("(s#IO)", (const char *)buffer, (Py_ssize_t)answer->written, answer->first_year,
+                         answer->whole_minutes ? Py_True : Py_False);
+}
+
+PyObject *convert_format(PyObject *module, PyObject *arguments)
+{
+    (void)module;
+    utf8_text format;
+    uint32_t dialect;
+    if (!PyArg_ParseTuple(arguments, "O&O&", text_of, &format, language_of, &dialect))
+        return NULL;
+    uint8_t front[ROOM] = {0};
+    timefd_convert_answer answer = timefd_convert_format(dialect, format.bytes, format.len, front, ROOM);
+    if (answer.status != TIMEFD_ACCEPTED || answer.written == answer.value)
+        return converted_format(&answer, front, &format);
+    uint8_t *whole = calloc(answer.value, 1);
+    if (!whole)
+        return PyErr_NoMemory();
+    answer = timefd_convert_format(dialect, format.bytes, format.len, whole, answer.value);
+    PyObject *converted = converted_format(&answer, whole, &format);
+    free(whole);
+    return converted;
+}
+
+PyObject *warnings(PyObject *module, PyObject *arguments)
+{
+    (void)module;
+    utf8_text text;
+    uint32_t language;
+    if (!PyArg_ParseTuple(arguments, "O&O&", text_of, &text, language_of, &language))
+        return NULL;
+    timefd_warning found[TIMEFD_MOST_WARNINGS];
+    timefd_warnings_answer answer = timefd_warnings(language, text.bytes, text.len, found, TIMEFD_MOST_WARNINGS);
+    if (answer.status != TIMEFD_ACCEPTED)
+        return raise_status(answer.status, language, &text);
+    PyObject *numbers = PyTuple_New((Py_ssize_t)answer.written);
+    for (size_t at = 0; numbers && at < answer.written; at++) {
+        PyObject *number = PyLong_FromUnsignedLong(found[at].code);
+        if (!number || PyTuple_SetItem(numbers, (Py_ssize_t)at, number)) {
+            Py_DECREF(numbers);
+            return NULL;
+        }
+    }
+    return numbers;
+}

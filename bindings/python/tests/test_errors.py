@@ -95,7 +95,7 @@ class Errors(unittest.TestCase):
         yield raised(timefd.check, "é[mnth]")
         yield raised(timefd.format, "[hour]", DAY)
         yield raised(timefd.read, "[hour]", "x")
-        yield raised(timefd.read, "[hour]", "05")
+        yield raised(timefd.read, "[minute]", "05")
         yield raised(timefd.read, "", "")
         yield raised(timefd.read, "[year]-[ordinal]", "-0001-001")
         yield raised(timefd.read, "[year]-[ordinal] [offset_hour]", "2026-001 00")

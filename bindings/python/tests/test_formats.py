@@ -38,6 +38,16 @@ class Writes(unittest.TestCase):
     def test_a_long_text(self):
         self.assertEqual(Format("é" * 500 + "[day]").format(DAY), "é" * 500 + "23")
 
+    def test_what_is_suspect(self):
+        rows = [
+            ("[day].[month].[year]", Language.VERSION_3, []),
+            ("%Y-%m-%d", Language.VERSION_3, ["no-component", "other-language"]),
+            ("[year]", Language.STRFTIME, ["no-component", "other-language"]),
+            ("[hour repr:12]", Language.VERSION_2, ["hour-without-period"]),
+        ]
+        for text, language, wanted in rows:
+            self.assertEqual([str(it) for it in Format(text, language).warnings], wanted, text)
+
     def test_a_component_that_shows_nothing(self):
         with self.assertRaisesRegex(timefd.NothingShown, "^offset_hour shows nothing: there is no offset from UTC$"):
             Format("[offset_hour]").format(datetime.time(5))

@@ -9,7 +9,7 @@ import unittest
 
 from found import timefd
 from timefd import Component, Compound, First, Language, Literal, Name, Optional, Padding, TrailingInput
-from timefd import calls, formats, library, moments, nodes
+from timefd import calls, formats, library, moments, nodes, warning
 
 HERE = pathlib.Path(__file__).resolve()
 # A source archive has the header among the sources.
@@ -22,7 +22,7 @@ def defined(text):
 
 
 def load_tests(loader, tests, pattern):
-    for module in (timefd, calls, formats, moments):
+    for module in (timefd, calls, formats, moments, warning):
         tests.addTests(doctest.DocTestSuite(module, extraglobs={"Language": Language, "datetime": datetime}))
     return tests
 
@@ -44,6 +44,11 @@ class Numbers(unittest.TestCase):
         faults = {f"FAULT_{it.name}": it.value for it in timefd.FaultKind}
         numbers = defined(HEADER.read_text()).items()
         self.assertEqual(faults, {name: number for name, number in numbers if name.startswith("FAULT_")})
+
+    def test_the_warnings_are_all_of_the_header(self):
+        warnings = {f"WARNING_{it.name}": it.value for it in timefd.Warning}
+        numbers = defined(HEADER.read_text()).items()
+        self.assertEqual(warnings, {name: number for name, number in numbers if name.startswith("WARNING_")})
 
     def test_the_reasons_and_parts_are_all_of_the_header(self):
         begin, end = "/* Why a part of a date", "/* What is said of a date that is read."

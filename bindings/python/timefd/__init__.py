@@ -16,15 +16,16 @@
     >>> timefd.convert("%d.%m.%y", Language.STRFTIME, Language.VERSION_3)
     '[day].[month].[year repr:last_two]'
 
-    Format(text, language)            keeps a description: format, read_date, read_time, read_datetime, read, nodes, max_bytes
+    Format(text, language)            keeps a description: format, read_date, read_time, read_datetime, read, nodes, warnings, max_bytes
     check(text, language)             whether a text is a description, or what is wrong with it
     parse(text, language)             its items: Literal, Component, Compound, Optional, First
     convert(text, source, target)     the same description in a later language
+    convert_format(dialect, format)   a format of Python, Java, Go and others in version 3
     format(text, moment, language)    what Format writes, of a text that is parsed each time
     read(text, moment, language)      what Format reads
 
 A language is one of `Language`, and VERSION_3 where none is given. All errors are an `Error`, which is a `ValueError`:
-`InvalidDescription`, `NothingShown`, `NotRead`, `NoMoment`. A wrong type is a `TypeError`. The calls may come from any thread.
+`InvalidDescription`, `FormatRefused`, `NothingShown`, `NotRead`, `NoMoment`. A wrong type is a `TypeError`. The calls may come from any thread.
 
 The reading is done by a library whose every function is proved; this module is only tested.
 """
@@ -32,25 +33,32 @@ The reading is done by a library whose every function is proved; this module is 
 # This finds the extension, which the others import.
 from timefd import library as library
 
-from timefd.calls import check, convert, parse
-from timefd.errors import Error, FaultKind, InvalidDescription, NoMoment, NothingShown, NotRead, Part, Unread
+from timefd.calls import check, convert, convert_format, parse
+from timefd.dialect import ConvertedFormat, Dialect
+from timefd.errors import Error, FaultKind, FormatRefused, InvalidDescription, NoMoment, NothingShown, NotRead, Part, Unread
 from timefd.formats import Format
 from timefd.language import Language
 from timefd.moments import format as format
 from timefd.moments import read
 from timefd.nodes import Component, Compound, First, Literal, Name, Node, Padding, TrailingInput
 from timefd.nodes import Optional as Optional
+from timefd.reason import Reason as Reason
+from timefd.warning import Warning as Warning
 
 __version__ = "0.2.0"
 
-# `from timefd import *` gives all but `format` and `Optional`, which would take the place of the builtin and of `typing.Optional`.
+# `from timefd import *` gives all but `format`, `Warning` and `Optional`, which would take the place of builtins and of
+# `typing.Optional`.
 __all__ = [
     "Component",
     "Compound",
+    "ConvertedFormat",
+    "Dialect",
     "Error",
     "FaultKind",
     "First",
     "Format",
+    "FormatRefused",
     "InvalidDescription",
     "Language",
     "Literal",
@@ -61,10 +69,12 @@ __all__ = [
     "NothingShown",
     "Padding",
     "Part",
+    "Reason",
     "TrailingInput",
     "Unread",
     "check",
     "convert",
+    "convert_format",
     "parse",
     "read",
 ]

@@ -2,12 +2,15 @@
 
 from __future__ import annotations
 
+import typing
+
 from timefd import _timefd
+from timefd.dialect import ConvertedFormat, Dialect
 from timefd.formats import Format
 from timefd.language import Language
 from timefd.nodes import Node
 
-__all__ = ["check", "convert", "parse"]
+__all__ = ["check", "convert", "convert_format", "parse"]
 
 
 def check(text: str, language: Language = Language.VERSION_3) -> int:
@@ -45,3 +48,15 @@ def convert(text: str, source: Language, target: Language) -> str:
     leads from each language to version 3, and from version 1 to version 2.
     """
     return _timefd.convert(text, source, target)
+
+
+def convert_format(dialect: typing.Union[Dialect, str], format: str) -> ConvertedFormat:
+    """The text of version 3 that writes the same as a format of another language, and of which moments it does so.
+
+    >>> convert_format("java", "dd.MM.yyyy")
+    ConvertedFormat(text='[day].[month].[year]', first_year=1, whole_minutes=False)
+
+    Raises `FormatRefused` with the first part of the format that has no text of version 3, and `ValueError` where there is no such
+    dialect.
+    """
+    return ConvertedFormat(*_timefd.convert_format(format, Dialect(dialect).number))

@@ -6,8 +6,9 @@ import enum
 import typing
 
 from timefd.nodes import Name
+from timefd.reason import Reason
 
-__all__ = ["Error", "FaultKind", "InvalidDescription", "NoMoment", "NotRead", "NothingShown", "Part", "Unread"]
+__all__ = ["Error", "FaultKind", "FormatRefused", "InvalidDescription", "NoMoment", "NotRead", "NothingShown", "Part", "Unread"]
 
 
 class FaultKind(enum.IntEnum):
@@ -77,6 +78,27 @@ class InvalidDescription(Error):
 
     def __str__(self) -> str:
         return str(self.args[0])
+
+
+class FormatRefused(Error):
+    """A part of a format of another language has no text of version 3: `reason` says why, and `str` what to do.
+
+    `index` is where the part begins, in bytes of UTF-8, and `character_index` in characters of `format`.
+    """
+
+    def __init__(self, reason: Reason, index: int, format: str) -> None:
+        super().__init__(reason, index, format)
+        self.reason = reason
+        self.index = index
+        self.format = format
+
+    @property
+    def character_index(self) -> int:
+        """How many characters of the format stand before the part."""
+        return _characters(self.format, self.index)
+
+    def __str__(self) -> str:
+        return f"at byte {self.index} of the format: {self.reason.sentence}. {self.reason.cure}"
 
 
 class NothingShown(Error):

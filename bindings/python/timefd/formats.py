@@ -9,6 +9,7 @@ from timefd import _timefd
 from timefd.errors import Error
 from timefd.language import Language
 from timefd.nodes import Compound, Node, decoded
+from timefd.warning import Warning
 
 __all__ = ["Format"]
 
@@ -69,6 +70,15 @@ class Format:
         whole = found[0] if self._language is Language.VERSION_3 else None
         return whole.members if isinstance(whole, Compound) else found
 
+    @property
+    def warnings(self) -> tuple[Warning, ...]:
+        """What is suspect in the text, in the order of the numbers: nothing, of most.
+
+        >>> [str(it) for it in Format("%Y-%m-%d").warnings]
+        ['no-component', 'other-language']
+        """
+        return tuple(map(Warning, _timefd.warnings(self._text, self._language)))
+
     def format(self, moment: datetime.date | datetime.time) -> str:
         """What the description writes of a date, time or datetime.
 
@@ -78,7 +88,7 @@ class Format:
 
     def read(self, moment: str) -> datetime.date | datetime.time | datetime.timezone:
         """The date, time, datetime or timezone that a string shows. Raises what `timefd.read` does."""
-        return _timefd.read(self._text, moment, self._language)
+        return _timefd.read_prepared(self._prepared, moment)
 
     def read_date(self, moment: str) -> datetime.date:
         """The date that a string shows. Raises what `read` does, and `Error` where the string shows more or another thing."""

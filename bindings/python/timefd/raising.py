@@ -4,9 +4,10 @@ from __future__ import annotations
 
 import datetime
 
-from timefd.errors import Error, FaultKind, InvalidDescription, NoMoment, NothingShown, NotRead, Part, Unread
+from timefd.errors import Error, FaultKind, FormatRefused, InvalidDescription, NoMoment, NothingShown, NotRead, Part, Unread
 from timefd.language import Language
 from timefd.nodes import Name
+from timefd.reason import Reason
 
 _REASONS = {
     1: "there is no date",
@@ -30,6 +31,10 @@ def unknown_language(*numbers: int) -> ValueError:
 def no_conversion(source: int, target: int) -> Error:
     names = f"{Language(source).name} to {Language(target).name}"
     return Error(f"no conversion leads from {names}: one leads to VERSION_3, and one from VERSION_1 to VERSION_2")
+
+
+def format_refused(format: str, reason: int, index: int) -> Error:
+    return FormatRefused(Reason(reason), index, format)
 
 
 def nothing_shown(component: int, reason: int) -> Error:

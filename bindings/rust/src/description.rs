@@ -109,6 +109,12 @@ impl<'a> FormatDescription<'a> {
         FormatDescription { language, tree: tree.into_owned(), max_bytes }
     }
 
+    /// The description of a tree that was made before.
+    #[cfg(feature = "macros")]
+    pub(crate) const fn of_tree(language: Language, tree: Tree<'a>, max_bytes: usize) -> Self {
+        Self { language, tree, max_bytes }
+    }
+
     /// The text that was read.
     #[must_use]
     pub fn text(&self) -> &str {

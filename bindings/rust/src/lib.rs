@@ -48,16 +48,20 @@ extern crate alloc;
 #[cfg(any(test, feature = "std"))]
 extern crate std;
 
+mod bracket;
 mod buffer;
+mod builder;
 #[cfg(feature = "chrono")]
 pub mod chrono;
 mod component;
 mod component_kind;
 mod content;
 mod convert;
+mod convert_format;
 mod date;
 mod decode;
 mod description;
+mod dialect;
 #[cfg(test)]
 mod encode;
 mod error;
@@ -66,23 +70,31 @@ mod format;
 mod iso;
 #[cfg(feature = "jiff")]
 mod jiff;
+mod kept;
 mod lack;
 mod links;
 mod literal;
+#[cfg(feature = "macros")]
+mod macros;
 mod modifier;
 mod moment;
 mod moment_part;
 mod node;
 mod parts;
+#[cfg(feature = "macros")]
+#[doc(hidden)]
+pub mod prepared;
 #[cfg(feature = "std")]
 pub mod presets;
 mod range;
 mod read;
+mod reason;
 #[cfg(feature = "serde")]
 pub mod serde;
 mod sys;
 #[cfg(feature = "std")]
 mod system_time;
+mod taken;
 #[cfg(feature = "time")]
 pub mod time;
 mod time_of_day;
@@ -95,11 +107,14 @@ mod warning;
 mod write;
 mod written;
 
+pub use builder::DescriptionBuilder;
 pub use component::Component;
 pub use component_kind::ComponentKind;
 pub use convert::{ConvertError, convert, v1_to_v2, v2_to_v3};
+pub use convert_format::{ConvertFormatError, ConvertedFormat, Refusal, convert_format};
 pub use date::Date;
 pub use description::FormatDescription;
+pub use dialect::{Dialect, UnknownDialect};
 pub use error::ParseError;
 pub use fault::{Fault, FaultKind};
 pub use format::{FormatError, format};
@@ -111,6 +126,7 @@ pub use node::{Item, Members, Node, Nodes};
 pub use parts::{Part, Parts};
 pub use range::{Number, RangeError};
 pub use read::{ReadError, Unread, read};
+pub use reason::Reason;
 pub use time_of_day::Time;
 pub use value_error::ValueError;
 pub use version::{Language, UnknownLanguage, UnknownVersion, Version};

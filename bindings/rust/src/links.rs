@@ -35,6 +35,16 @@ pub(crate) fn count(nodes: &[RawNode], first: u32, end: u32) -> u32 {
     count
 }
 
+/// Has each node with members say again how many they are.
+pub(crate) fn restore_counts(nodes: &mut [RawNode]) {
+    for index in 0..nodes.len() {
+        if !is_leaf(&nodes[index]) {
+            let (first, end) = (begin(nodes, index as u32), index as u32); // A u32 counts them.
+            nodes[index].count = count(nodes, first, end) as usize;
+        }
+    }
+}
+
 /// Whether a node has no members.
 pub(crate) fn is_leaf(node: &RawNode) -> bool {
     matches!(node.what, LITERAL | COMPONENT)

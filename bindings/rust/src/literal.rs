@@ -1,5 +1,6 @@
 //! The literals of a description, borrowed from the text that it was read from.
 
+use alloc::string::String;
 use core::str::from_utf8;
 
 /// Each text of one ASCII character. It has those that letters of strftime stand for, which no text
@@ -25,6 +26,16 @@ pub(crate) const ASCII: &str = {
 pub(crate) fn lent(text: &str, place: usize, count: usize) -> &str {
     let lender = if count == 1 { ASCII } else { text };
     &lender[place..place + count]
+}
+
+/// Adds a literal as version 3 writes it.
+pub(crate) fn push_escaped(text: &mut String, literal: &str) {
+    for character in literal.chars() {
+        if matches!(character, '[' | ']' | '\\') {
+            text.push('\\');
+        }
+        text.push(character);
+    }
 }
 
 /// The bytes of literals as the library writes them, and the text that has them too.

@@ -8,7 +8,8 @@ use crate::description::FormatDescription;
 use crate::error::ParseError;
 use crate::moment::Moment;
 use crate::moment_part::MomentPart;
-use crate::sys::{self, DateAnswer};
+use crate::sys::{self, DateAnswer, RawNode};
+use crate::tree::Walk;
 use crate::version::Language;
 
 /// Reads a text by a description of a language. All of it is read, and each component takes as much
@@ -44,7 +45,7 @@ pub fn read(
 }
 
 impl FormatDescription<'_> {
-    /// Reads a text, as [`read`] does. The text of the description is parsed again.
+    /// Reads a text, as [`read`] does. The text of the description isn't parsed again.
     ///
     /// # Errors
     ///
@@ -60,9 +61,17 @@ impl FormatDescription<'_> {
     /// # Ok::<(), timefd::ParseError>(())
     /// ```
     pub fn read(&self, text: &str) -> Result<Moment, ReadError> {
-        read_in(self.language(), self.text(), text)
+        let read = |nodes: &[RawNode], literals: &[u8]| sys::read_nodes(nodes, literals, text);
+        let answer = self.with_nodes(Walk::All, read).ok_or(NO_MEMORY)?;
+        moment_of(&answer).unwrap_or_else(|status| match status {
+            sys::NO_MEMORY => Err(NO_MEMORY),
+            _ => unreachable!("the library wrote these nodes"),
+        })
     }
 }
+
+/// Memory ran out.
+const NO_MEMORY: ReadError = ReadError::Parse(ParseError::OutOfMemory);
 
 /// Why a text is not read.
 #[derive(Debug, Clone, PartialEq, Eq)]
@@ -152,12 +161,18 @@ impl Error for ReadError {}
 fn read_in(language: Language, description: &str, text: &str) -> Result<Moment, ReadError> {
     let kind = language.number();
     let answer = sys::read_date(kind, description, text);
+    moment_of(&answer)
+        .unwrap_or_else(|status| Err(ReadError::Parse(ParseError::of(kind, description, status))))
+}
+
+/// What was read, or why nothing was. The error is a status that says nothing of the text.
+fn moment_of(answer: &DateAnswer) -> Result<Result<Moment, ReadError>, u32> {
     match answer.status {
-        sys::ACCEPTED => Ok(Moment::of_raw(&answer.moment)),
-        sys::UNREAD => Err(unread(&answer)),
-        sys::MISSING => Err(ReadError::Missing(part(&answer))),
-        sys::CONTRADICTION => Err(ReadError::Contradiction(part(&answer))),
-        status => Err(ReadError::Parse(ParseError::of(kind, description, status))),
+        sys::ACCEPTED => Ok(Ok(Moment::of_raw(&answer.moment))),
+        sys::UNREAD => Ok(Err(unread(answer))),
+        sys::MISSING => Ok(Err(ReadError::Missing(part(answer)))),
+        sys::CONTRADICTION => Ok(Err(ReadError::Contradiction(part(answer)))),
+        status => Err(status),
     }
 }
 

@@ -1,5 +1,6 @@
 #![doc = include_str!("serde.md")]
 
+mod any;
 mod borrowed;
 mod fault;
 mod languages;
@@ -10,6 +11,7 @@ mod traits;
 mod values;
 pub mod version;
 
+pub use any::AnyFormat;
 pub use fault::FaultFields;
 pub use languages::{strftime, version_1, version_2, version_3};
 pub use owned::OwnedFormat;

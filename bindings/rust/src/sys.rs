@@ -43,7 +43,7 @@ pub(crate) const FIRST: u8 = 5;
 /// `timefd_node` of the header, which says what each field means.
 #[repr(C)]
 #[derive(Debug, Clone, Copy, Default)]
-pub(crate) struct RawNode {
+pub struct RawNode {
     pub(crate) what: u8,
     pub(crate) component: u8,
     pub(crate) padding: u8,
@@ -91,6 +91,17 @@ pub(crate) struct Answer {
     pub(crate) value: usize,
     pub(crate) sentence_len: usize,
     pub(crate) written: usize,
+}
+
+/// `timefd_convert_answer` of the header, which says what each field means.
+#[repr(C)]
+pub(crate) struct ConvertAnswer {
+    pub(crate) status: u32,
+    pub(crate) reason: u32,
+    pub(crate) value: usize,
+    pub(crate) written: usize,
+    pub(crate) first_year: u32,
+    pub(crate) whole_minutes: bool,
 }
 
 /// `timefd_fault` of the header, which says what each field means.
@@ -200,6 +211,11 @@ const _: () = {
     assert!(size_of::<WarningsAnswer>() == 32 && offset_of!(WarningsAnswer, status) == 0);
     assert!(offset_of!(WarningsAnswer, value) == 8 && offset_of!(WarningsAnswer, count) == 16);
     assert!(offset_of!(WarningsAnswer, written) == 24);
+    assert!(size_of::<ConvertAnswer>() == 32 && offset_of!(ConvertAnswer, status) == 0);
+    assert!(offset_of!(ConvertAnswer, reason) == 4 && offset_of!(ConvertAnswer, value) == 8);
+    assert!(offset_of!(ConvertAnswer, written) == 16);
+    assert!(offset_of!(ConvertAnswer, first_year) == 24);
+    assert!(offset_of!(ConvertAnswer, whole_minutes) == 28);
     assert!(size_of::<ReadAnswer>() == 48 && offset_of!(ReadAnswer, written) == 32);
     assert!(offset_of!(ReadAnswer, bytes) == 40);
     assert!(offset_of!(Answer, status) == 0 && offset_of!(ReadAnswer, status) == 0);
@@ -269,6 +285,13 @@ unsafe extern "C" {
         buffer: *mut u8,
         room: usize,
     ) -> Answer;
+    fn timefd_convert_format(
+        dialect: u32,
+        format: *const u8,
+        len: usize,
+        buffer: *mut u8,
+        room: usize,
+    ) -> ConvertAnswer;
     fn timefd_format(
         kind: u32,
         text: *const u8,
@@ -290,6 +313,14 @@ unsafe extern "C" {
         kind: u32,
         text: *const u8,
         len: usize,
+        date: *const u8,
+        date_len: usize,
+    ) -> DateAnswer;
+    fn timefd_read_nodes(
+        nodes: *const RawNode,
+        node_count: usize,
+        literals: *const u8,
+        literal_count: usize,
         date: *const u8,
         date_len: usize,
     ) -> DateAnswer;
@@ -370,6 +401,21 @@ pub(crate) fn convert(from: u32, to: u32, text: &str, buffer: &mut [u8]) -> Answ
     }
 }
 
+/// The text of version 3 for a format of the dialect, where the buffer has room for all of it.
+pub(crate) fn convert_format(dialect: u32, format: &str, buffer: &mut [u8]) -> ConvertAnswer {
+    expect_version();
+    // SAFETY: as in `check`.
+    unsafe {
+        timefd_convert_format(
+            dialect,
+            format.as_ptr(),
+            format.len(),
+            buffer.as_mut_ptr(),
+            buffer.len(),
+        )
+    }
+}
+
 /// What the text writes of the moment, where the buffer has room for all of it.
 pub(crate) fn format(kind: u32, text: &str, moment: &RawMoment, buffer: &mut [u8]) -> FormatAnswer {
     expect_version();
@@ -407,6 +453,22 @@ pub(crate) fn read_date(kind: u32, text: &str, date: &str) -> DateAnswer {
     expect_version();
     // SAFETY: the pointers and the lengths are those of two slices that are borrowed for the call.
     unsafe { timefd_read_date(kind, text.as_ptr(), text.len(), date.as_ptr(), date.len()) }
+}
+
+/// What a date shows by nodes.
+pub(crate) fn read_nodes(nodes: &[RawNode], literals: &[u8], date: &str) -> DateAnswer {
+    expect_version();
+    // SAFETY: the pointers and the lengths are those of three slices that are borrowed for the call.
+    unsafe {
+        timefd_read_nodes(
+            nodes.as_ptr(),
+            nodes.len(),
+            literals.as_ptr(),
+            literals.len(),
+            date.as_ptr(),
+            date.len(),
+        )
+    }
 }
 
 #[cfg(test)]

@@ -14,12 +14,14 @@ use super::{CONTRADICTION, MISSING, MOST_WARNINGS, UNREAD};
 use super::{NO_CONVERSION, OUT_OF_RANGE, RawMoment, RawNode, UNSHOWN, VERSION};
 use crate::component_kind::ComponentKind;
 use crate::decode;
+use crate::dialect::Dialect;
 use crate::fault::FaultKind;
 use crate::lack::Lack;
 use crate::modifier::{Padding, SubsecondDigits, TrailingInput, boolean};
 use crate::moment_part::MomentPart;
 use crate::range::Number;
 use crate::read::Unread;
+use crate::reason::Reason;
 use crate::version::{Language, Version};
 use crate::warning::Warning;
 
@@ -103,6 +105,11 @@ fn warning_name(number: u32) -> Option<String> {
     Warning::from_number(number).map(|it| format!("WARNING_{}", header_name(it)))
 }
 
+/// The reason that a number of the header is taken for.
+fn refused_name(number: u32) -> Option<String> {
+    Reason::from_number(number).map(|it| format!("REASON_{}", header_name(it)))
+}
+
 /// What this crate takes the numbers for, by the header's names.
 fn taken() -> BTreeMap<String, u32> {
     let named = [
@@ -142,7 +149,10 @@ fn taken() -> BTreeMap<String, u32> {
         (0..=255).flat_map(|number| date_names(number).into_iter().map(move |name| (name, number)));
     let faults = (0..=255).filter_map(|number| Some((fault_name(number)?, number)));
     let warnings = (0..=255).filter_map(|number| Some((warning_name(number)?, number)));
-    let numbers = named.into_iter().chain(faults).chain(warnings).chain(components);
+    let dialects = Dialect::ALL.into_iter().map(|it| (header_name(it), it.number()));
+    let refused = (0..=255).filter_map(|number| Some((refused_name(number)?, number)));
+    let named = named.into_iter().chain(dialects).chain(refused);
+    let numbers = named.chain(faults).chain(warnings).chain(components);
     numbers.chain(modifiers).chain(reasons).chain(dates).collect()
 }
 

@@ -2,10 +2,10 @@
 //! walks go by and the places of literals. A node is decoded when it is looked at.
 
 use alloc::borrow::Cow;
-use alloc::boxed::Box;
 use core::hash::{Hash, Hasher};
 
 use crate::content::{Content, Nesting};
+use crate::kept::Kept;
 use crate::links;
 use crate::literal::{ASCII, Literals};
 use crate::sys::{self, COMPONENT, LITERAL, RawNode};
@@ -27,13 +27,22 @@ pub(crate) struct Tree<'a> {
     pub(crate) text: Cow<'a, str>,
     /// The nodes as the library wrote them, but that `start` of a literal is the place by which it is
     /// lent, and that they are linked where some have members.
-    nodes: Box<[RawNode]>,
-    shape: Shape,
+    pub(crate) nodes: Kept<RawNode>,
+    pub(crate) shape: Shape,
+}
+
+/// Which nodes are gone over.
+#[derive(Debug, Clone, Copy)]
+pub(crate) enum Walk {
+    /// What a formatter writes.
+    Written,
+    /// All, as a reader wants them.
+    All,
 }
 
 /// What is known of all nodes.
 #[derive(Debug, Clone)]
-enum Shape {
+pub(crate) enum Shape {
     /// None has members: each is an item, and each is written.
     Flat {
         /// Whether each literal has one byte, so that ASCII lends all.
@@ -44,7 +53,7 @@ enum Shape {
         /// How many are items.
         items: u32,
         /// The indices of what a formatter writes, in turn.
-        written: Box<[u32]>,
+        written: Kept<u32>,
     },
 }
 
@@ -60,7 +69,7 @@ impl<'a> Tree<'a> {
         let shape =
             if is_flat { Shape::Flat { is_ascii: literals.are_ascii() } } else { link(nodes)? };
         let nodes = sys::boxed(nodes).ok_or(BuildError::OutOfMemory)?;
-        Ok(Self { text: Cow::Borrowed(literals.text), nodes, shape })
+        Ok(Self { text: Cow::Borrowed(literals.text), nodes: Kept::Own(nodes), shape })
     }
 }
 
@@ -91,7 +100,7 @@ fn link(nodes: &mut [RawNode]) -> Result<Shape, BuildError> {
     }
     let items = links::link(nodes).ok_or(BuildError::Malformed)?;
     let written = written(nodes).ok_or(BuildError::OutOfMemory)?;
-    Ok(Shape::Nested { items, written })
+    Ok(Shape::Nested { items, written: Kept::Own(written) })
 }
 
 impl Tree<'_> {
@@ -150,9 +159,14 @@ impl Tree<'_> {
 
     /// How many nodes a formatter writes.
     pub(crate) fn written_len(&self) -> usize {
-        match &self.shape {
-            Shape::Flat { .. } => self.nodes.len(),
-            Shape::Nested { written, .. } => written.len(),
+        self.walked_len(Walk::Written)
+    }
+
+    /// How many nodes a walk goes over.
+    pub(crate) fn walked_len(&self, walk: Walk) -> usize {
+        match (&self.shape, walk) {
+            (Shape::Nested { written, .. }, Walk::Written) => written.len(),
+            (Shape::Flat { .. }, _) | (_, Walk::All) => self.nodes.len(),
         }
     }
 
@@ -164,14 +178,19 @@ impl Tree<'_> {
         }
     }
 
-    /// Copies the nodes that a formatter writes, in turn, to as many.
-    pub(crate) fn copy_written(&self, nodes: &mut [RawNode]) {
-        match &self.shape {
-            Shape::Flat { .. } => nodes.copy_from_slice(&self.nodes),
-            Shape::Nested { written, .. } => {
-                for (node, index) in nodes.iter_mut().zip(written) {
+    /// Copies the nodes that a walk goes over, in turn, to as many. They say again how many members
+    /// they have.
+    pub(crate) fn copy_walked(&self, walk: Walk, nodes: &mut [RawNode]) {
+        match (&self.shape, walk) {
+            (Shape::Flat { .. }, _) => nodes.copy_from_slice(&self.nodes),
+            (Shape::Nested { written, .. }, Walk::Written) => {
+                for (node, index) in nodes.iter_mut().zip(written.iter()) {
                     *node = self.nodes[*index as usize];
                 }
+            }
+            (Shape::Nested { .. }, Walk::All) => {
+                nodes.copy_from_slice(&self.nodes);
+                links::restore_counts(nodes);
             }
         }
     }

@@ -1,6 +1,5 @@
 //! What the other library lacks.
 
-use alloc::string::String;
 use core::error::Error;
 use core::fmt;
 
@@ -29,13 +28,3 @@ impl fmt::Display for Unsupported {
 }
 
 impl Error for Unsupported {}
-
-/// Writes a literal as version 3 does.
-pub(crate) fn push_literal(text: &mut String, literal: &str) {
-    for character in literal.chars() {
-        if matches!(character, '[' | ']' | '\\') {
-            text.push('\\');
-        }
-        text.push(character);
-    }
-}

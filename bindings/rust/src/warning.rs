@@ -64,6 +64,38 @@ impl Warning {
         }
     }
 
+    /// What is suspect, as a sentence about the description.
+    ///
+    /// ```
+    /// assert_eq!(
+    ///     timefd::Warning::NoComponent.sentence(),
+    ///     "it has no component, so that each moment is written alike"
+    /// );
+    /// ```
+    #[must_use]
+    pub fn sentence(self) -> &'static str {
+        match self {
+            Self::NoComponent => "it has no component, so that each moment is written alike",
+            Self::OtherLanguage => "another language reads a component where it has text",
+            Self::MonthForMinute => "a month stands after an hour, and there is no minute",
+            Self::MinuteForMonth => "a minute stands after a year, and there is no month",
+            Self::HourWithoutPeriod => {
+                "it has an hour of twelve, and neither a period nor an hour of 24"
+            }
+            Self::PeriodWith24Hours => "it has a period, and an hour of 24 but none of twelve",
+            Self::SubsecondWithoutSecond => "it has a fraction of a second, and no second",
+            Self::WeekWithCalendarYear => "it has an ISO week and a calendar year, and no ISO year",
+            Self::DateWithIsoYear => {
+                "it has a month or a day and an ISO year, and no calendar year"
+            }
+            Self::ShownTwice => "it shows something twice",
+            Self::UndeterminedDate => "it has parts of a date that determine none",
+            Self::UnsettledWidth => "a number of varying width touches a digit",
+            Self::UnsettledYear => "a year that may have more than four digits touches a digit",
+            Self::DeprecatedComponent => "a component stands for another",
+        }
+    }
+
     /// The one that the header has this number for.
     pub(crate) fn from_number(number: u32) -> Option<Self> {
         Some(match number {

@@ -4,12 +4,10 @@ use alloc::string::String;
 use core::error::Error;
 use core::fmt;
 
-use crate::buffer;
 use crate::description::FormatDescription;
 use crate::format::{FormatError, NO_MEMORY, Pattern};
-use crate::literal::ASCII;
 use crate::moment::Moment;
-use crate::sys::{self, LITERAL, RawNode};
+use crate::tree::Walk;
 
 impl FormatDescription<'_> {
     /// Writes the moment. The text of the description isn't read again.
@@ -106,40 +104,10 @@ impl FormatDescription<'_> {
         &self,
         call: impl FnOnce(Pattern<'_>) -> Result<T, E>,
     ) -> Result<T, E> {
-        if let Some((nodes, literals)) = self.tree.as_taken() {
-            return call(Pattern::Nodes(nodes, literals.as_bytes()));
-        }
-        let (count, len) = (self.tree.written_len(), ASCII.len() + self.text().len());
-        if count <= SHORT_NODES && len <= SHORT_LITERALS {
-            let mut nodes = sys::zeroed_nodes::<SHORT_NODES>();
-            let mut literals = [0; SHORT_LITERALS];
-            call(self.pattern_in(&mut nodes[..count], &mut literals[..len]))
-        } else {
-            let mut nodes = buffer::filled(count, RawNode::default()).ok_or(NO_MEMORY)?;
-            let mut literals = buffer::filled(len, 0).ok_or(NO_MEMORY)?;
-            call(self.pattern_in(&mut nodes, &mut literals))
-        }
-    }
-
-    /// What a formatter writes of the description, in a buffer of as many nodes and one that has room
-    /// for what lends literals: ASCII, and the text behind it.
-    fn pattern_in<'b>(&self, nodes: &'b mut [RawNode], literals: &'b mut [u8]) -> Pattern<'b> {
-        let (ascii, text) = literals.split_at_mut(ASCII.len());
-        ascii.copy_from_slice(ASCII.as_bytes());
-        text.copy_from_slice(self.text().as_bytes());
-        self.tree.copy_written(nodes);
-        for node in nodes.iter_mut() {
-            if node.what == LITERAL && node.count != 1 {
-                node.start += ASCII.len();
-            }
-        }
-        Pattern::Nodes(nodes, literals)
+        self.with_nodes(Walk::Written, |nodes, literals| call(Pattern::Nodes(nodes, literals)))
+            .unwrap_or_else(|| Err(NO_MEMORY.into()))
     }
 }
-
-/// Room on the stack for what most descriptions have.
-const SHORT_NODES: usize = 24;
-const SHORT_LITERALS: usize = 320;
 
 /// A moment as a description writes it, for `Display`. [`FormatDescription::show`] makes it.
 #[derive(Debug, Clone, Copy)]

@@ -4,10 +4,13 @@ pub mod Answers
 pub mod Conversions
 pub mod Reading
 pub mod Composites
+pub mod FormatReasons
+pub mod FormatConversions
 pub mod Numbers
 pub mod Moments
 pub mod Formats
 pub mod NodeFormats
 pub mod Diagnoses
 pub mod Dates
+pub mod NodeDates
 pub mod Warnings

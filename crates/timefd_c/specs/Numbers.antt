@@ -1,11 +1,13 @@
 -- The numbers of `examples/timefd.h`, but those of nodes.
-use Rattle.std.specs.Prelude.{◌≡◌, Some}
+use Rattle.std.specs.Prelude.{◌≡◌, Some, None}
 use Rattle.timefd_language.specs.declared.description_version.DescriptionVersion.TheVariants.{One, Two, Three}
 use Rattle.timefd_parse.specs.declared.language.Language.TheVariants.{Version, Strftime}
+use Rattle.timefd_dialect.specs.declared.dialect.Dialect.TheVariants as dialects
 use Rattle.timefd_c.specs.declared.answer.TheConstants.{ACCEPTED, REFUSED, NOT_UTF8, NO_MEMORY, UNKNOWN_KIND, NO_CONVERSION}
 use Rattle.timefd_c.specs.declared.date_answer.TheConstants.{UNREAD, CONTRADICTION, MISSING, DATE_NOT_UTF8}
 use Rattle.timefd_c.specs.declared.format_answer.TheConstants.{UNSHOWN, OUT_OF_RANGE, NO_DESCRIPTION}
 use Rattle.timefd_c.specs.declared.nodes.TheConstants.{VERSION}
+use Rattle.timefd_c.specs.FormatConversions.{dialect_of}
 use Rattle.timefd_c.specs.Languages.{language_of}
 
 pub record Numbers : Type 0 where
@@ -29,3 +31,17 @@ pub record Numbers : Type 0 where
   pub version_2 : language_of 2 ≡ Some (Version Two)
   pub version_3 : language_of 3 ≡ Some (Version Three)
   pub strftime : language_of 4 ≡ Some Strftime
+  -- the dialects, of which no language has a number
+  pub python : dialect_of 101 ≡ Some dialects.Python
+  pub c : dialect_of 102 ≡ Some dialects.C
+  pub gnu : dialect_of 103 ≡ Some dialects.Gnu
+  pub chrono : dialect_of 104 ≡ Some dialects.Chrono
+  pub jiff : dialect_of 105 ≡ Some dialects.Jiff
+  pub ruby : dialect_of 106 ≡ Some dialects.Ruby
+  pub java : dialect_of 107 ≡ Some dialects.Java
+  pub go : dialect_of 108 ≡ Some dialects.Go
+  pub moment : dialect_of 109 ≡ Some dialects.Moment
+  pub not_1 : dialect_of 1 ≡ None
+  pub not_2 : dialect_of 2 ≡ None
+  pub not_3 : dialect_of 3 ≡ None
+  pub not_4 : dialect_of 4 ≡ None

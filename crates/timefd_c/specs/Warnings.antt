@@ -46,26 +46,26 @@ warnings_of language text list =
     map (fields_of (length text)) (filter (λ w. warns (style_of language) w (leaves_in list)) all)
 
 -- nothing of one that is allowed
-abbrev pub told_at : Level → ℕ → Warning → List WarningFields
-told_at Allowed len w = []
-told_at Warned len w = fields_of len w ∷ []
-told_at Denied len w = fields_of len w ∷ []
+abbrev pub reported_at : Level → ℕ → Warning → List WarningFields
+reported_at Allowed len w = []
+reported_at Warned len w = fields_of len w ∷ []
+reported_at Denied len w = fields_of len w ∷ []
 
 -- those of some warnings that aren't allowed
-abbrev pub told_of : Levels → ℕ → List Warning → List WarningFields
-told_of found len ws = flat_map (λ w. told_at (level_of found w) len w) ws
+abbrev pub reported_of : Levels → ℕ → List Warning → List WarningFields
+reported_of found len ws = flat_map (λ w. reported_at (level_of found w) len w) ws
 
 -- the answer with this status and value, where there are no warnings
 abbrev pub silent : ℕ → ℕ → WarningsAnswer
 silent status value = record { status = status; value = value; count = 0; written = 0 }
 
 -- The buffer has the first of these, as far as there is room, and what is behind them is as it was.
-pub record AreWritten (told before after : List WarningFields) (answer : WarningsAnswer) : Type 0 where
-  pub count : answer.count ≡ length told
-  pub written : answer.written ≡ min (length told) (length before)
-  pub front : after ≡ take answer.written told ++ drop answer.written before
+pub record AreWritten (reported before after : List WarningFields) (answer : WarningsAnswer) : Type 0 where
+  pub count : answer.count ≡ length reported
+  pub written : answer.written ≡ min (length reported) (length before)
+  pub front : after ≡ take answer.written reported ++ drop answer.written before
 
--- Of a text that spells the list: all warnings that it has are told, and no others; or memory ran out, and nothing
+-- Of a text that spells the list: all warnings that it has are reported, and no others; or memory ran out, and nothing
 -- is written.
 abbrev pub IsTold : Language → Text → List Tree → List WarningFields → List WarningFields
     → WarningsAnswer → Type 0

@@ -2,7 +2,7 @@
 
 ghost use Rattle.timefd_c.specs.Numbers.{Numbers};
 
-/// The version, the statuses and the languages have the numbers of `examples/timefd.h`.
+/// The version, the statuses, the languages and the dialects have the numbers of `examples/timefd.h`.
 pub fn numbers()
     ensures { Numbers }
 {}

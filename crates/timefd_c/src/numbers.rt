@@ -1,9 +1,11 @@
-//! The numbers that name the languages, and those that limit nesting.
+//! The numbers that name the languages and the dialects, and those that limit nesting.
 
 ghost use Rattle.std.specs.Prelude.{◌≡◌, min};
 ghost use Rattle.timefd_language.specs.Grammar.{nesting_limit};
+ghost use Rattle.timefd_c.specs.FormatConversions.{dialect_of};
 ghost use Rattle.timefd_c.specs.Languages.{language_of};
 
+use timefd_dialect::Dialect;
 use timefd_parse::{DescriptionVersion, Language, NESTING_LIMIT};
 
 /// The language of a number: each version has its own, strftime has 4, and no other number has one.
@@ -16,6 +18,25 @@ pub fn from_number(number: u32) -> Option<Language>
         2 => Some(Language::Version(DescriptionVersion::Two)),
         3 => Some(Language::Version(DescriptionVersion::Three)),
         4 => Some(Language::Strftime),
+        _ => None,
+    }
+}
+
+/// The dialect of a number. None has the number of a language.
+#[inline(always)]
+pub fn dialect_from(number: u32) -> Option<Dialect>
+    ensures { result ≡ dialect_of number }
+{
+    match number {
+        101 => Some(Dialect::Python),
+        102 => Some(Dialect::C),
+        103 => Some(Dialect::Gnu),
+        104 => Some(Dialect::Chrono),
+        105 => Some(Dialect::Jiff),
+        106 => Some(Dialect::Ruby),
+        107 => Some(Dialect::Java),
+        108 => Some(Dialect::Go),
+        109 => Some(Dialect::Moment),
         _ => None,
     }
 }

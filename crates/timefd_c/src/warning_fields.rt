@@ -57,17 +57,17 @@ impl WarningsAnswer {
 
 /// Adds a warning of a text of so many bytes, if it isn't allowed. An `Err` says that memory ran out.
 pub fn push_warning(
-    told: &mut Vec<WarningFields>,
+    reported: &mut Vec<WarningFields>,
     level: Level,
     warning: Warning,
     len: usize,
 ) -> Result<(), AllocError>
-    ensures { OnOk result (told.new.items ≡ told.old.items ++ spec.told_at level len warning) }
+    ensures { OnOk result (reported.new.items ≡ reported.old.items ++ spec.reported_at level len warning) }
 {
     match level {
         Level::Allowed => Ok(()),
         Level::Warned | Level::Denied => {
-            told.push(fields(warning, len))?;
+            reported.push(fields(warning, len))?;
             Ok(())
         }
     }

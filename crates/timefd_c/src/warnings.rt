@@ -54,7 +54,7 @@ fn warn_of(
 }
 
 // What is answered of a text that is accepted with this value.
-#[tactic(auto, using(crate::proofs::WarningLemmas::is_told))]
+#[tactic(auto, using(crate::proofs::WarningLemmas::is_reported))]
 fn accepted(
     alloc: Global,
     language: Language,
@@ -67,11 +67,11 @@ fn accepted(
         → IsTold language text.now list warnings.old warnings.new result }
 {
     match warnings_in(alloc, language, text) {
-        Ok(told) => WarningsAnswer {
+        Ok(reported) => WarningsAnswer {
             status: ACCEPTED,
             value,
-            count: told.len(),
-            written: write_front(&told, warnings),
+            count: reported.len(),
+            written: write_front(&reported, warnings),
         },
         Err(AllocError) => WarningsAnswer::silent(NO_MEMORY, 0),
     }
@@ -84,34 +84,34 @@ fn warnings_in(
     text: &str,
 ) -> Result<Vec<WarningFields>, AllocError>
     ensures { (list : List Tree) → SpellsIn language nesting_limit text.now list
-        → IfOk result (λ told. told.items ≡ spec.warnings_of language text.now list) }
+        → IfOk result (λ reported. reported.items ≡ spec.warnings_of language text.now list) }
 {
     let found = found_in(alloc, language, text, Levels::all_at(Level::Warned))?;
-    told_of(alloc, found, text.len(), Warning::all())
+    reported_of(alloc, found, text.len(), Warning::all())
 }
 
 // Those of some warnings that aren't allowed.
-fn told_of(
+fn reported_of(
     alloc: Global,
     found: Levels,
     len: usize,
     warnings: &[Warning],
 ) -> Result<Vec<WarningFields>, AllocError>
-    ensures { IfOk result (λ told. told.items ≡ spec.told_of found len warnings.now) }
+    ensures { IfOk result (λ reported. reported.items ≡ spec.reported_of found len warnings.now) }
 {
-    let mut told = Vec::new(alloc);
+    let mut reported = Vec::new(alloc);
     for warning in warnings {
-        push_warning(&mut told, found.level_of(*warning), *warning, len)?;
+        push_warning(&mut reported, found.level_of(*warning), *warning, len)?;
     }
-    Ok(told)
+    Ok(reported)
 }
 
 // Writes the first warnings over the front of the buffer, as far as there is room, and counts these.
-fn write_front(told: &[WarningFields], buffer: &mut [WarningFields]) -> usize
-    ensures count { result ≡ min (length told.now) (length buffer.old) }
-    ensures front { buffer.new ≡ take result told.now ++ drop result buffer.old }
+fn write_front(reported: &[WarningFields], buffer: &mut [WarningFields]) -> usize
+    ensures count { result ≡ min (length reported.now) (length buffer.old) }
+    ensures front { buffer.new ≡ take result reported.now ++ drop result buffer.old }
 {
-    let count = told.len().min(buffer.len());
-    buffer[..count].copy_from_slice(&told[..count]);
+    let count = reported.len().min(buffer.len());
+    buffer[..count].copy_from_slice(&reported[..count]);
     count
 }

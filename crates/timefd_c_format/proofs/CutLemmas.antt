@@ -14,6 +14,9 @@ use Rattle.timefd_c_format.specs.Parts.{by_kind, part_role, perhaps_role, role, 
 use Rattle.timefd_c_format.specs.declared.part.Kind.TheVariants as kind
 use Rattle.timefd_c_format.specs.declared.part.Part.{Part as NodePart}
 use Rattle.std.specs.Prelude.{IsSome}
+use Rattle.std.specs.List.{list_all}
+use Rattle.std.proofs.lemmas.List.Folds.{list_all_at}
+use Rattle.timefd_c_format.specs.Literals.{is_text, is_textual}
 
 abbrev pub as_part : Role → Part
 as_part r = record { role = r; nodes = 0; bytes = 0 }
@@ -275,3 +278,61 @@ module _ (l : Text) (ns : List Node) (d : Node) (there : 1 ≤ length ns) (sound
       last_trees l ns (get_or ns (length ns - 1) d) there (last_read ns d there) the_cut
       ∙ ap (λ r. grown (node_trees l (take (length ns - 1) ns)) (as_part r))
       (sym (same_role (role p) the_cut.role (e ∙ the_cut.is)))
+
+-- The nodes in front of an index, and the one that has it.
+
+prefix_from : (l : Text) (at count k : ℕ) (ns : List Node) → fault_from l at ns count ≡ None
+    → fault_from l at (take k ns) count ≡ None
+prefix_from l at count zero ns e = refl
+prefix_from l at count (suc k) [] e = refl
+prefix_from l at count (suc k) (x ∷ ns) e =
+    let o = opened_step at count (role_in l x) (fault_from l (at + 1) ns) e in
+    ap (λ r. fault_behind at (count_behind count r) (fault_from l (at + 1) (take k ns))) o.is
+    ∙ behind_step at count o.role (fault_from l (at + 1) (take k ns)) o.fits
+    ∙ prefix_from l (at + 1) (count - arity o.role + 1) k ns o.on
+
+all_false : (b : Bool) → b ≡ true → b ≡ false → ⊥
+all_false b t f = absurd cc
+
+module _ (l : Text) (ns : List Node) (at : ℕ) (d : Node) (there : at < length ns) (sound : node_fault l ns ≡ None) where
+  at_split : take (at + 1) ns ≡ take at ns ++ get_or ns at d ∷ []
+  at_split = take_more ns at d there
+
+  at_cut : Cut l 0 (take at ns) (get_or ns at d) []
+  at_cut =
+      cut_last l 0 (take at ns) (get_or ns at d) []
+      (ap (λ xs. fault_from l 0 xs 0) (sym at_split) ∙ prefix_from l 0 0 (at + 1) ns sound)
+
+  pub at_is_there : (o : Option NodePart) → part_role o ≡ role_in l (get_or ns at d) → IsSome o
+  at_is_there None e = absurd (none_some at_cut.role (e ∙ at_cut.is))
+    where
+      none_some : (r : Role) → ◌≡◌ {A = Option Role} None (Some r) → ⊥
+      none_some r e = absurd cc
+  at_is_there (Some p) e = refl
+
+  pub at_members : (p : NodePart) → Some (role p) ≡ role_in l (get_or ns at d)
+      → arity (role p) ≤ length (node_trees l (take at ns))
+  at_members p e =
+      subst (λ r. arity r ≤ length (node_trees l (take at ns)))
+      (sym (same_role (role p) at_cut.role (e ∙ at_cut.is))) (last_fits l (take at ns) (get_or ns at d) at_cut)
+
+  pub at_grown : (p : NodePart) → Some (role p) ≡ role_in l (get_or ns at d)
+      → node_trees l (take (at + 1) ns) ≡ grown (node_trees l (take at ns)) (as_part (role p))
+  at_grown p e =
+      let n : Node = get_or ns at d in
+      ap (λ xs. trees_of (read_nodes l xs)) at_split
+      ∙ ap trees_of (read_behind l (take at ns) (n ∷ []) (Some []))
+      ∙ ap (λ o. trees_of (grown_with l n o)) at_cut.read
+      ∙ ap trees_of (whole_role l n at_cut.fs at_cut.role at_cut.is at_cut.fits)
+      ∙ ap (λ o. grown (trees_of o) (as_part at_cut.role)) (sym at_cut.read)
+      ∙ ap (λ r. grown (node_trees l (take at ns)) (as_part r)) (sym (same_role (role p) at_cut.role (e ∙ at_cut.is)))
+
+  pub at_textual : (p : NodePart) → Some (role p) ≡ role_in l (get_or ns at d)
+      → list_all (λ n. is_text (role_in l n)) ns ≡ true → is_textual (role p) ≡ true
+  at_textual p e all = by (is_textual (role p)) refl
+    where
+      by : (b : Bool) → is_textual (role p) ≡ b → is_textual (role p) ≡ true
+      by true is = is
+      by false is =
+          absurd (all_false (list_all (λ n. is_text (role_in l n)) ns) all
+          (list_all_at (λ n. is_text (role_in l n)) ns at d there (ap is_text (sym e) ∙ is)))

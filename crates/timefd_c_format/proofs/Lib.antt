@@ -5,3 +5,5 @@ pub mod SoundLemmas
 pub mod ShortLemmas
 pub mod WalkLemmas
 pub mod ForwardLemmas
+pub mod ListLemmas
+pub mod FlatLemmas

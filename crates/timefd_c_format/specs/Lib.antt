@@ -5,3 +5,5 @@ pub mod Walk
 pub mod Texts
 pub mod Laws
 pub mod Forward
+pub mod Literals
+pub mod Flat

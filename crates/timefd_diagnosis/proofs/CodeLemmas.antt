@@ -1,10 +1,10 @@
--- No two codes have one name: each is read back from its name.
-use Rattle.std.proofs.Common.{◌≡◌, ◌∙◌, refl, sym, ap, codes}
+-- No two codes have one name: each is read back from its name. Each stands among all.
+use Rattle.std.proofs.Common.{◌≡◌, ◌∙◌, refl, sym, ap, codes, take, drop}
 use Rattle.std.specs.Prelude.{bytes_eq, if◌then◌else◌}
 use Rattle.timefd_component.specs.Tree.{Text}
 use Rattle.timefd_diagnosis.specs.declared.code.Code.{Code}
 use Rattle.timefd_diagnosis.specs.declared.code.Code.TheVariants.{UnclosedBracket, UnknownName, InvalidModifier, MissingName, MissingModifier, InvalidEscape, UnescapedBracket, MissingSpace, MissingDescription, MissingAlternative, NestedTooDeep, SeveralDescriptions, OptionalItem, FirstItem, UnsupportedFlag, UnsupportedLetter, NestedInComponent, DuplicateModifier, RefusedModifier}
-use Rattle.timefd_diagnosis.specs.Codes.{name_of, NamesDiffer}
+use Rattle.timefd_diagnosis.specs.Codes.{name_of, NamesDiffer, all, AllAreThere}
 
 abbrev code_named : Text → Code
 code_named name =
@@ -51,3 +51,24 @@ read_back RefusedModifier = refl
 
 pub names_differ : NamesDiffer
 names_differ a b same = sym (read_back a) ∙ ap code_named same ∙ read_back b
+
+pub all_are_there : AllAreThere
+all_are_there UnclosedBracket = (take 0 all, drop 1 all, refl)
+all_are_there UnknownName = (take 1 all, drop 2 all, refl)
+all_are_there InvalidModifier = (take 2 all, drop 3 all, refl)
+all_are_there MissingName = (take 3 all, drop 4 all, refl)
+all_are_there MissingModifier = (take 4 all, drop 5 all, refl)
+all_are_there InvalidEscape = (take 5 all, drop 6 all, refl)
+all_are_there UnescapedBracket = (take 6 all, drop 7 all, refl)
+all_are_there MissingSpace = (take 7 all, drop 8 all, refl)
+all_are_there MissingDescription = (take 8 all, drop 9 all, refl)
+all_are_there MissingAlternative = (take 9 all, drop 10 all, refl)
+all_are_there NestedTooDeep = (take 10 all, drop 11 all, refl)
+all_are_there SeveralDescriptions = (take 11 all, drop 12 all, refl)
+all_are_there OptionalItem = (take 12 all, drop 13 all, refl)
+all_are_there FirstItem = (take 13 all, drop 14 all, refl)
+all_are_there UnsupportedFlag = (take 14 all, drop 15 all, refl)
+all_are_there UnsupportedLetter = (take 15 all, drop 16 all, refl)
+all_are_there NestedInComponent = (take 16 all, drop 17 all, refl)
+all_are_there DuplicateModifier = (take 17 all, drop 18 all, refl)
+all_are_there RefusedModifier = (take 18 all, drop 19 all, refl)

@@ -11,3 +11,4 @@ pub mod LackingLemmas
 pub mod FewLemmas
 pub mod ModifierPlaceLemmas
 pub mod FurtherLemmas
+pub mod LetterLemmas

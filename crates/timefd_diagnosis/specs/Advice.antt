@@ -1,6 +1,10 @@
 -- What to do against a fault, in words.
-use Rattle.std.specs.Prelude.{codes}
+use Rattle.std.specs.Prelude.{◌≡◌, ◌++◌, ◌==◌, ◌||◌, true, codes, flat_map, is_some}
+use Rattle.std.specs.List.{list_all}
 use Rattle.timefd_component.specs.Tree.{Text}
+use Rattle.timefd_language.specs.Letters as table
+use Rattle.timefd_language.specs.Letters.{is_one_of, item_in, unflagged}
+use Rattle.timefd_language.specs.Strftime.{percent}
 use Rattle.timefd_language.specs.declared.description_version.DescriptionVersion.{DescriptionVersion}
 use Rattle.timefd_language.specs.declared.description_version.DescriptionVersion.TheVariants.{One, Two, Three}
 use Rattle.timefd_diagnosis.specs.declared.code.Code.{Code}
@@ -41,6 +45,16 @@ advice v NestedInComponent = codes "only `optional` and `first` take nested desc
 advice v DuplicateModifier = codes "leave out one of the two"
 advice v RefusedModifier = codes "write another word"
 
+-- the letters of strftime, in the order of the alphabet
+abbrev pub letters : Text
+letters = codes "aAbBcCdDeFgGhHIjklmMnpPrRsStTuUVwWxXyYz"
+
+-- Each letter of the table is one of these, but for the percent sign, and each of these is read.
+abbrev pub LettersAreRead : Type 0
+LettersAreRead =
+    (list_all (λ b. (b == percent) || is_one_of b letters) (flat_map (λ l. l.letters) table.letters) ≡ true)
+    × (list_all (λ b. is_some (item_in table.letters unflagged b)) letters ≡ true)
+
 abbrev pub strftime_advice : Code → Text
 strftime_advice InvalidEscape =
     codes "a letter has to follow, or write `%%` for a literal percent sign"
@@ -49,4 +63,4 @@ strftime_advice UnsupportedFlag =
 strftime_advice UnsupportedLetter =
     codes "names of time zones aren't known: `%z` writes the offset from UTC"
 strftime_advice _ =
-    codes "the letters are aAbBcCdDeFgGhHIjklmMnpPrRsStTuUVwWxXyYz, and `%%` is a percent sign"
+    codes "the letters are " ++ (letters ++ codes ", and `%%` is a percent sign")

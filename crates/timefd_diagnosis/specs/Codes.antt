@@ -1,5 +1,5 @@
 -- The stable names of faults.
-use Rattle.std.specs.Prelude.{◌≡◌, [], codes, bytes_eq, if◌then◌else◌}
+use Rattle.std.specs.Prelude.{◌≡◌, ◌++◌, List, [], ◌∷◌, codes, bytes_eq, if◌then◌else◌}
 use Rattle.timefd_component.specs.Tree.{Text}
 use Rattle.timefd_fault.specs.Faults.{Kind, unclosed_bracket, invalid_name, invalid_modifier, missing_name, missing_modifier, expected, not_supported, duplicate_modifier, invalid_combination}
 use Rattle.timefd_language.specs.Fault.{expected_escape, expected_closing_escape, expected_white, expected_nested, too_highly_nested, many_nested, optional_item, first_item}
@@ -68,3 +68,11 @@ code_of (invalid_combination key context) = RefusedModifier
 -- No two codes have one name.
 abbrev pub NamesDiffer : Type 0
 NamesDiffer = (a b : Code) → name_of a ≡ name_of b → a ≡ b
+
+-- all, in the order of the enum
+abbrev pub all : List Code
+all = UnclosedBracket ∷ UnknownName ∷ InvalidModifier ∷ MissingName ∷ MissingModifier ∷ InvalidEscape ∷ UnescapedBracket ∷ MissingSpace ∷ MissingDescription ∷ MissingAlternative ∷ NestedTooDeep ∷ SeveralDescriptions ∷ OptionalItem ∷ FirstItem ∷ UnsupportedFlag ∷ UnsupportedLetter ∷ NestedInComponent ∷ DuplicateModifier ∷ RefusedModifier ∷ []
+
+-- Each code stands among them.
+abbrev pub AllAreThere : Type 0
+AllAreThere = (code : Code) → (before after : List Code) × (all ≡ before ++ code ∷ after)

@@ -77,6 +77,33 @@ impl Code {
         }
     }
 
+    /// All of them, in the order of the enum.
+    pub fn all() -> &'static [Code]
+        ensures { result.now ≡ spec.all }
+    {
+        &[
+            Code::UnclosedBracket,
+            Code::UnknownName,
+            Code::InvalidModifier,
+            Code::MissingName,
+            Code::MissingModifier,
+            Code::InvalidEscape,
+            Code::UnescapedBracket,
+            Code::MissingSpace,
+            Code::MissingDescription,
+            Code::MissingAlternative,
+            Code::NestedTooDeep,
+            Code::SeveralDescriptions,
+            Code::OptionalItem,
+            Code::FirstItem,
+            Code::UnsupportedFlag,
+            Code::UnsupportedLetter,
+            Code::NestedInComponent,
+            Code::DuplicateModifier,
+            Code::RefusedModifier,
+        ]
+    }
+
     /// Its name, which stays the same whatever the fault's sentence says.
     pub fn name(self) -> &'static str
         ensures { result.now ≡ spec.name_of self }
@@ -108,4 +135,10 @@ impl Code {
 /// No two codes have one name.
 pub fn names_differ()
     ensures { spec.NamesDiffer }
+{}
+
+/// Each code stands among all of them.
+#[tactic(auto, using(crate::proofs::CodeLemmas::all_are_there))]
+pub fn all_are_there()
+    ensures { spec.AllAreThere }
 {}

@@ -69,6 +69,23 @@ pub fn strftime_advice(code: Code) -> &'static str
         Code::UnsupportedLetter => {
             "names of time zones aren't known: `%z` writes the offset from UTC"
         }
-        _ => "the letters are aAbBcCdDeFgGhHIjklmMnpPrRsStTuUVwWxXyYz, and `%%` is a percent sign",
+        Code::UnknownName
+        | Code::UnclosedBracket
+        | Code::InvalidModifier
+        | Code::MissingName
+        | Code::MissingModifier
+        | Code::UnescapedBracket
+        | Code::MissingSpace
+        | Code::MissingDescription
+        | Code::MissingAlternative
+        | Code::NestedTooDeep
+        | Code::SeveralDescriptions
+        | Code::OptionalItem
+        | Code::FirstItem
+        | Code::NestedInComponent
+        | Code::DuplicateModifier
+        | Code::RefusedModifier => {
+            "the letters are aAbBcCdDeFgGhHIjklmMnpPrRsStTuUVwWxXyYz, and `%%` is a percent sign"
+        }
     }
 }

@@ -15,7 +15,7 @@ pub mod place;
 mod span;
 pub mod words;
 
-pub use code::{Code, names_differ};
+pub use code::{Code, all_are_there, names_differ};
 pub use diagnosing::diagnose;
 pub use diagnostic::{Diagnostic, code_of};
 pub use further::{MOST_FURTHER, further_faults};

@@ -7,53 +7,33 @@ ghost use Rattle.timefd_diagnosis.specs.Words.{texts};
 use timefd_language::key::Key;
 use timefd_language::name::{ComponentName, Name};
 
-/// The names of brackets that version 3 accepts, or those that versions 1 and 2 accept.
+/// The names of brackets that version 3 accepts, or those that versions 1 and 2 accept: all but the
+/// first two.
 pub fn names(strict: bool) -> &'static [&'static str]
     ensures { texts result.now ≡ spec.names strict }
 {
-    if strict {
-        &[
-            "optional",
-            "first",
-            "day",
-            "end",
-            "hour",
-            "ignore",
-            "minute",
-            "month",
-            "offset_hour",
-            "offset_minute",
-            "offset_second",
-            "ordinal",
-            "period",
-            "second",
-            "subsecond",
-            "unix_timestamp",
-            "weekday",
-            "week_number",
-            "year",
-        ]
-    } else {
-        &[
-            "day",
-            "end",
-            "hour",
-            "ignore",
-            "minute",
-            "month",
-            "offset_hour",
-            "offset_minute",
-            "offset_second",
-            "ordinal",
-            "period",
-            "second",
-            "subsecond",
-            "unix_timestamp",
-            "weekday",
-            "week_number",
-            "year",
-        ]
-    }
+    let all: &'static [&'static str] = &[
+        "optional",
+        "first",
+        "day",
+        "end",
+        "hour",
+        "ignore",
+        "minute",
+        "month",
+        "offset_hour",
+        "offset_minute",
+        "offset_second",
+        "ordinal",
+        "period",
+        "second",
+        "subsecond",
+        "unix_timestamp",
+        "weekday",
+        "week_number",
+        "year",
+    ];
+    if strict { all } else { &all[2..] }
 }
 
 /// The keys that a bracket of a name takes.

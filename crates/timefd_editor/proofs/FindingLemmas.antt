@@ -17,7 +17,7 @@ use Rattle.timefd_editor.specs.Findings.{AreFaults, AreOn, IsFault}
 use Rattle.timefd_fault.specs.Faults.{fault_of}
 use Rattle.timefd_language.specs.Grammar.{nesting_limit}
 use Rattle.timefd_lint_sources.specs.declared.told.End.TheVariants.{PassedOver, Accepted, Refused, NotText}
-use Rattle.timefd_lint_sources.specs.Judged.{is_passed_over, language_in, text_of}
+use Rattle.timefd_lint_sources.specs.Judged.{is_passed_over, language_in, text_of, told_further}
 use Rattle.timefd_lint_warnings.specs.Found.{found_by}
 use Rattle.timefd_parse.specs.declared.language.Language.{Language}
 use Rattle.timefd_parse.specs.Language.{SpellsIn, FaultIn}
@@ -72,10 +72,11 @@ pub with_fault : {R E : Type 0} (levels : Option Levels) (text : Text) (d : Desc
     → is_passed_over d.dialect description ≡ false → IsUtf8 description → description ≡ text_of d
     → found ≡ Some g → IfSome found (λ x. FaultIn language nesting_limit description (fault_of x.fault))
     → IfSome found (IsDiagnosis language description)
-    → AreFurther most_further language (without language description (fault_of g.fault)) further
+    → ((more : List Diagnostic) × AreFurther most_further (language_in d) (without (language_in d) description (fault_of g.fault)) more
+    × (further ≡ told_further d.items more))
     → OnOk done (Adds (AreFaults text d g further) before after)
     → OnOk done (Adds (AreOn levels text d) before after)
-with_fault levels text d language description found g further before after (Ok x) named judges utf8 same is faulty diagnosed others (more, told, added) =
+with_fault levels text d language description found g further before after (Ok x) named judges utf8 same is faulty diagnosed (further', others, those) (more, told, added) =
     let fault : FaultIn (language_in d) nesting_limit (text_of d) (fault_of g.fault) =
     subst (λ l. FaultIn l nesting_limit (text_of d) (fault_of g.fault)) named
     (subst (λ t. FaultIn language nesting_limit t (fault_of g.fault)) same
@@ -84,9 +85,8 @@ with_fault levels text d language description found g further before after (Ok x
     subst (λ l. IsDiagnosis l (text_of d) g) named
     (subst (λ t. IsDiagnosis language t g) same
     (subst (λ o. IfSome o (IsDiagnosis language description)) is diagnosed)) in
-    let rest : AreFurther most_further (language_in d) (without (language_in d) (text_of d) (fault_of g.fault)) further =
-    subst (λ l. AreFurther most_further l (without l (text_of d) (fault_of g.fault)) further) named
-    (subst (λ t. AreFurther most_further language (without language t (fault_of g.fault)) further) same others) in (
+    let rest : AreFurther most_further (language_in d) (without (language_in d) (text_of d) (fault_of g.fault)) further' =
+    subst (λ t. AreFurther most_further (language_in d) (without (language_in d) t (fault_of g.fault)) further') same others in (
       more,
       record {
         end = Refused;
@@ -97,7 +97,11 @@ with_fault levels text d language description found g further before after (Ok x
         told = (
           g,
           further,
-          record { first = record { fault = fault; diagnosis = diagnosis }; further = rest },
+          record {
+            found = further';
+            are = record { first = record { fault = fault; diagnosis = diagnosis }; further = rest };
+            told = those;
+          },
           told,
         );
       },

@@ -3,7 +3,6 @@ use Rattle.std.specs.Prelude.{◌≡◌, Bool, true, false, List, [], ◌++◌, 
 use Rattle.timefd_component.specs.Tree.{Text}
 use Rattle.timefd_diagnosis.specs.declared.diagnostic.Diagnostic.{Diagnostic}
 use Rattle.timefd_diagnosis.specs.Codes.{code_of, name_of}
-use Rattle.timefd_diagnosis.specs.Further.{AreDiagnosed}
 use Rattle.timefd_drawing.specs.Sentence.{told_sentence}
 use Rattle.timefd_editor.specs.declared.finding.Finding.{Finding}
 use Rattle.timefd_editor.specs.declared.finding.Severity.TheVariants.{Error}
@@ -13,8 +12,8 @@ use Rattle.timefd_fault.specs.Faults.{fault_of}
 use Rattle.timefd_lint_sources.specs.declared.told.End.{End}
 use Rattle.timefd_lint_sources.specs.declared.told.End.TheVariants.{PassedOver, Accepted, Refused, NotText}
 use Rattle.timefd_lint_sources.specs.declared.told.Source.{Source}
-use Rattle.timefd_lint_sources.specs.Judged.{IsEndOf, language_in, text_of}
-use Rattle.timefd_lint_sources.specs.Told.{AllFound, AreAllOf}
+use Rattle.timefd_lint_sources.specs.Judged.{AreDiagnosedOf, IsEndOf}
+use Rattle.timefd_lint_sources.specs.Told.{AreJudgedIn}
 use Rattle.timefd_sources.specs.declared.description.Description.{Description}
 use Rattle.timefd_sources.specs.Found.{place_of}
 use Rattle.timefd_warnings.specs.declared.levels.Levels.{Levels}
@@ -35,7 +34,7 @@ abbrev pub AreBy : Text → Description → End → List Finding → Type 0
 AreBy text d PassedOver found = found ≡ []
 AreBy text d (Accepted warned) found = AreWarnings text d warned found
 AreBy text d Refused found = (g : Diagnostic) × (further : List Diagnostic)
-    × AreDiagnosed (language_in d) (text_of d) g further × AreFaults text d g further found
+    × AreDiagnosedOf d g further × AreFaults text d g further found
 AreBy text d NotText found = IsNote text d found
 
 pub record AreOn (levels : Option Levels) (text : Text) (d : Description) (found : List Finding) : Type 0 where
@@ -46,6 +45,5 @@ pub record AreOn (levels : Option Levels) (text : Text) (d : Description) (found
 -- All that is wrong with the descriptions in a source, each in turn.
 pub record AreFindingsOf (levels : Option Levels) (s : Source) (found : List Finding) : Type 0 where
   pub descriptions : List Description
-  pub all : AreAllOf s descriptions
-  pub stand : AllFound s descriptions
+  pub judged : AreJudgedIn s descriptions
   pub told : AreOf (AreOn levels s.text.now) descriptions found

@@ -12,8 +12,8 @@ use crate::finding::{Finding, Spot};
 use crate::warned::{push_note, push_warnings};
 use std::alloc::{AllocError, Global};
 use std::str;
-use timefd_diagnosis::{MOST_FURTHER, diagnose, further_faults};
-use timefd_lint_sources::{Source, descriptions_in, is_passed_over, language_of};
+use timefd_diagnosis::diagnose;
+use timefd_lint_sources::{Source, further_of, is_passed_over, judged_in, language_of};
 use timefd_lint_warnings::found_by;
 use timefd_sources::Description;
 use timefd_warnings::Levels;
@@ -28,7 +28,7 @@ pub fn findings(
 ) -> Result<Vec<Finding>, AllocError>
     ensures { IfOk result (λ found. AreFindingsOf levels source.entry found.items) }
 {
-    let descriptions = descriptions_in(alloc, source)?;
+    let descriptions = judged_in(alloc, source)?;
     let mut found = Vec::new(alloc);
     push_all(alloc, source.text, levels, &descriptions, &mut found)?;
     Ok(found)
@@ -102,7 +102,7 @@ fn push_judged(
             push_warnings(alloc, spot, warned, found)
         }
         Some(diagnostic) => {
-            let further = further_faults(alloc, language, text, &diagnostic, MOST_FURTHER)?;
+            let further = further_of(alloc, spot.description, text, &diagnostic)?;
             push_faults(alloc, spot, &diagnostic, &further, found)
         }
     }

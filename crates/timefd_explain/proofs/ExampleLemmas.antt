@@ -1,8 +1,5 @@
 -- Nodes with their examples, one after another.
-use Rattle.std.proofs.Common.{◌≡◌, ◌∙◌, List, [], ◌∷◌, ◌++◌, Result, Ok, Err, IfOk, refl, sym, subst, append-nil, string_bytes}
-use Rattle.std.specs.declared.alloc.AllocError.{AllocError}
-use Rattle.std.specs.declared.alloc.Global.{Global}
-use Rattle.std.specs.declared.string.String.{String}
+use Rattle.std.proofs.Common.{◌≡◌, ◌∙◌, List, [], ◌∷◌, ◌++◌, sym, subst, append-nil}
 use Rattle.timefd_component.specs.Modern.{modern}
 use Rattle.timefd_component.specs.Tree.{Text}
 use Rattle.timefd_component.specs.declared.component.Component.{Component}
@@ -42,13 +39,3 @@ named_alone c words e = ([], e ∙ sym (append-nil (names.words Defaults.Written
 pub named_so : (c : Component) (words front rest : Text) → words ≡ front ++ rest
     → front ≡ names.words Defaults.Written (modern c) → Names c words
 named_so c words front rest e is = (rest, subst (λ f. words ≡ f ++ rest) is e)
-
-pub no_words : (w : What) (r : Result (String Global) AllocError)
-    → ((c : Component) → w ≡ what.Component c → ⊥)
-    → IfOk r (λ words. AreWordsOf w (string_bytes words))
-no_words (what.Component c) r absent = absurd (absent c refl)
-no_words w (Err e) absent = tt
-no_words (what.Literal text) (Ok words) absent = tt
-no_words (what.Optional format) (Ok words) absent = tt
-no_words what.First (Ok words) absent = tt
-no_words what.Several (Ok words) absent = tt

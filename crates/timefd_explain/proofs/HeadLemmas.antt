@@ -1,13 +1,12 @@
 -- What follows a head and its modifiers.
-use Rattle.std.proofs.Common.{ℕ, ◌≡◌, ◌∙◌, Bool, true, false, List, [], ◌∷◌, ◌++◌, refl, sym, ap, subst, append_assoc}
+use Rattle.std.proofs.Common.{ℕ, ◌≡◌, ◌∙◌, false, List, [], ◌∷◌, ◌++◌, refl, sym, subst, append_assoc}
 use Rattle.std.proofs.lemmas.Bool.{and_parts, both_ways}
 use Rattle.std.specs.List.{list_all}
 use Rattle.timefd_component.specs.Tree.{Text}
 use Rattle.timefd_language.specs.declared.description_version.DescriptionVersion.TheVariants.{Three}
 use Rattle.timefd_language.specs.Bytes.{left, right, colon, is_white, is_word_byte, is_key_byte, ZeroOrMore, OneOrMore, StopsBefore}
-use Rattle.timefd_language.specs.Cut.{IsCut}
 use Rattle.timefd_language.specs.Grammar.{Nested, no_nested, nested, AreNested, nested_text, spelling, nesting_limit}
-use Rattle.timefd_language.specs.Head.{Head, IsHead, Modifier, IsModifier, AreModifiers, head_text, modifiers_text, modifier_text}
+use Rattle.timefd_language.specs.Head.{Head, IsHead, Modifier, IsModifier, AreModifiers, modifiers_text, modifier_text}
 use Rattle.timefd_language.proofs.Spans.{stops_one, key-word, white-not_word}
 use Rattle.timefd_parse.proofs.BracketLemmas.{cut_word}
 use Rattle.timefd_parse.specs.declared.modifier.Modifier as code

@@ -1,21 +1,21 @@
 -- What stands in a bracket, by the tree that it is.
-use Rattle.std.proofs.Common.{ℕ, suc, ◌≡◌, ◌∙◌, ◌+◌, cond, not, Bool, true, false, codes, List, [], ◌∷◌, ◌++◌, length, map, Option, Some, None, Result, Ok, Err, IsTrue, refl, sym, ap, subst, append_assoc}
+use Rattle.std.proofs.Common.{ℕ, ◌≡◌, ◌∙◌, ◌+◌, cond, not, Bool, true, false, codes, List, [], ◌∷◌, ◌++◌, length, map, Option, Some, None, Result, Ok, IsTrue, refl, sym, ap, subst, append_assoc}
 use Rattle.std.proofs.lemmas.Bool.{not-true}
 use Rattle.std.specs.Prelude.{⊤}
 use Rattle.timefd_component.specs.declared.component.Component.{Component}
-use Rattle.timefd_component.specs.Tree.{Text, Tree, component, literal, compound, optional, first, Trees, no_trees, more_trees, trees, pack}
+use Rattle.timefd_component.specs.Tree.{Text, Tree, component, literal, compound, optional, first, trees, pack}
 use Rattle.timefd_fault.specs.Faults.{Fault, fault}
 use Rattle.timefd_language.specs.declared.description_version.DescriptionVersion.{DescriptionVersion}
 use Rattle.timefd_language.specs.declared.description_version.DescriptionVersion.TheVariants.{One, Two, Three}
 use Rattle.timefd_language.specs.Bytes.{right, same, is_white, is_version_three, ZeroOrMore}
 use Rattle.timefd_language.specs.Fault.{expected_nested, expected_alternative, many_nested, optional_item, first_item}
-use Rattle.timefd_language.specs.Grammar.{Pieces, no_pieces, run, escape, closing, bracket, Nested, no_nested, nested, ArePieces, AreNested, Spells, bracket_verdict, is_empty, items, nested_text, parts_from, spelling}
+use Rattle.timefd_language.specs.Grammar.{Pieces, no_pieces, run, escape, closing, bracket, Nested, no_nested, nested, ArePieces, AreNested, Spells, bracket_verdict, items, nested_text, parts_from, spelling}
 use Rattle.timefd_language.specs.Head.{Head, IsHead, head_text, placed}
-use Rattle.timefd_language.specs.Letters.{Flag, Letter, letters, item_of}
+use Rattle.timefd_language.specs.Letters.{Flag, letters, item_of}
 use Rattle.timefd_language.specs.Names.{Row, row_of}
 use Rattle.timefd_language.specs.Strftime.{Directives, no_directives, plain, directive, AreDirectives, SpellsStrftime, directive_items}
 use Rattle.timefd_language.specs.Values.{format}
-use Rattle.timefd_language.specs.Verdict.{PlacedDescription, ◌or◌, refuse, unless, behind, bad_modifiers, settings, made, component_verdict, touching, too_many, nested_refused, nested_wanted, any_modifier, is_formatted, only, optional_verdict, first_verdict, verdict}
+use Rattle.timefd_language.specs.Verdict.{PlacedDescription, ◌or◌, unless, behind, bad_modifiers, settings, made, component_verdict, touching, too_many, nested_refused, nested_wanted, any_modifier, is_formatted, only, optional_verdict, first_verdict, verdict}
 use Rattle.timefd_explain.specs.Inside.{Nests}
 use Rattle.timefd_language.proofs.Lift.{unless_fault}
 use Rattle.timefd_language.proofs.Lookup.{Each, each-passes}

@@ -7,3 +7,4 @@ pub mod HeadLemmas
 pub mod WalkLemmas
 pub mod NestedLemmas
 pub mod PieceLemmas
+pub mod LineLemmas

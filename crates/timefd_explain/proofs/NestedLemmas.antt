@@ -3,7 +3,7 @@ use Rattle.std.proofs.Common.{ℕ, ◌≡◌, ◌∙◌, ◌+◌, ◌<◌, true,
 use Rattle.timefd_component.specs.Tree.{Text, Tree, component, literal, compound, optional, first, trees, pack}
 use Rattle.timefd_language.specs.declared.description_version.DescriptionVersion.TheVariants.{Three}
 use Rattle.timefd_language.specs.Bytes.{left, right, is_white, ZeroOrMore}
-use Rattle.timefd_language.specs.Grammar.{bracket, Nested, no_nested, nested, AreNested, Spells, nested_text, items, spelling, nesting_limit}
+use Rattle.timefd_language.specs.Grammar.{Nested, no_nested, nested, AreNested, Spells, nested_text, items, spelling, nesting_limit}
 use Rattle.timefd_language.specs.Head.{Head, IsHead, head_text}
 use Rattle.timefd_parse.proofs.BracketLemmas.{outer_pieces, same_cut}
 use Rattle.timefd_parse.specs.BracketParts.{BeginsNested}

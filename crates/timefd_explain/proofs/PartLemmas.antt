@@ -1,7 +1,7 @@
 -- Nodes that are appended for parts, one after another.
 use Rattle.std.proofs.Common.{ℕ, ◌≡◌, ◌∙◌, ◌+◌, List, [], ◌∷◌, ◌++◌, string_bytes, refl, sym, ap, subst, append_assoc, append-nil}
 use Rattle.timefd_component.specs.Reserved.{reserve}
-use Rattle.timefd_component.specs.Tree.{Text, Tree, component, literal, compound, optional, first, Trees, no_trees, more_trees, trees, pack}
+use Rattle.timefd_component.specs.Tree.{Text, Tree, component, literal, compound, optional, first, trees, pack}
 use Rattle.timefd_node_list.specs.Nodes.{kept_bytes}
 use Rattle.timefd_explain.specs.declared.node.Node.{Node}
 use Rattle.timefd_explain.specs.declared.node.NodeKind.{NodeKind}
@@ -17,15 +17,15 @@ use Rattle.timefd_explain.proofs.InsideLemmas.{NoCompounds}
 told_so : (w : What) (tree : Tree) (kind : NodeKind) (words x : Text) → kind ≡ kind_in w
     → AreWordsOf w words → IsExampleOf w x → IsWhat w tree → IsTold tree kind words x
 told_so (what.Literal text) tree kind words x k named is e =
-    subst (λ t. IsTold t kind words x) (sym e) (k, is)
+    subst (λ t. IsTold t kind words x) (sym e) (k, named, is)
 told_so (what.Component c) tree kind words x k named is e =
     subst (λ t. IsTold t kind words x) (sym e) (k, named, is)
 told_so (what.Optional format) tree kind words x k named is e =
-    subst (λ t. IsTold t kind words x) (sym e.1) (k, is)
+    subst (λ t. IsTold t kind words x) (sym e.1) (k, named, is)
 told_so what.First tree kind words x k named is e =
-    subst (λ t. IsTold t kind words x) (sym e.1) (k, is)
+    subst (λ t. IsTold t kind words x) (sym e.1) (k, named, is)
 told_so what.Several tree kind words x k named is e =
-    subst (λ t. IsTold t kind words x) (sym e.1) (k, is)
+    subst (λ t. IsTold t kind words x) (sym e.1) (k, named, is)
 
 pub piece_for : (w : What) (d : ℕ) (tree : Tree) (n : Node) → n.depth ≡ capped d
     → n.bytes ≡ kept_bytes (reserve tree) → n.kind ≡ kind_in w

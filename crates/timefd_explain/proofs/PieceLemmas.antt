@@ -3,7 +3,6 @@ use Rattle.std.proofs.Common.{ℕ, ◌≡◌, ◌+◌, Bool, List, [], ◌∷◌
 use Rattle.std.specs.Prelude.{⊤}
 use Rattle.timefd_component.specs.Tree.{Text, Tree, Trees, component, literal, compound, optional, first}
 use Rattle.timefd_component.specs.declared.component.Component.{Component}
-use Rattle.timefd_language.specs.declared.description_version.DescriptionVersion.{DescriptionVersion}
 use Rattle.timefd_language.specs.declared.description_version.DescriptionVersion.TheVariants.{Three}
 use Rattle.timefd_language.specs.Grammar.{Spells, nesting_limit}
 use Rattle.timefd_language.specs.Strftime.{SpellsStrftime}
@@ -11,7 +10,6 @@ use Rattle.timefd_parse.specs.Language.{SpellsIn}
 use Rattle.timefd_parse.specs.declared.language.Language.{Language}
 use Rattle.timefd_parse.specs.declared.language.Language.TheVariants.{Version, Strftime}
 use Rattle.timefd_explain.specs.declared.node.Node.{Node}
-use Rattle.timefd_explain.specs.declared.piece.What.{What}
 use Rattle.timefd_explain.specs.declared.piece.What.TheVariants as what
 use Rattle.timefd_explain.specs.Inside.{Nests, held_parts}
 use Rattle.timefd_explain.specs.Parts.{Part, piece, parts, members, IsPiece, Adds, capped}

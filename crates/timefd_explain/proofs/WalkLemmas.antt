@@ -1,5 +1,5 @@
 -- Pieces in turn, with the nodes of each.
-use Rattle.std.proofs.Common.{ℕ, ◌≡◌, ◌∙◌, ◌+◌, ◌<◌, ◌≤◌, List, [], ◌∷◌, ◌++◌, length, drop, get_or, map, refl, sym, ap, subst, add-one, drop-cons, append_assoc, append-nil}
+use Rattle.std.proofs.Common.{ℕ, ◌≡◌, ◌∙◌, ◌+◌, ◌<◌, ◌≤◌, List, [], ◌∷◌, ◌++◌, length, drop, get_or, refl, sym, ap, subst, add-one, drop-cons, append_assoc, append-nil}
 use Rattle.std.proofs.lemmas.List.{drop_all}
 use Rattle.timefd_component.specs.Tree.{Text, Tree, trees}
 use Rattle.timefd_format_item.specs.declared.borrowed_format_item.BorrowedFormatItem.{BorrowedFormatItem}

@@ -1,5 +1,5 @@
 -- The examples of all nodes.
-use Rattle.std.specs.Prelude.{◌≡◌, List, [], ◌∷◌, ◌++◌, string_bytes, ⊤}
+use Rattle.std.specs.Prelude.{◌≡◌, Bool, true, false, codes, List, [], ◌∷◌, ◌++◌, string_bytes, ⊤}
 use Rattle.timefd_component.specs.Modern.{modern}
 use Rattle.timefd_component.specs.Tree.{Text}
 use Rattle.timefd_component.specs.declared.component.Component.{Component}
@@ -23,12 +23,16 @@ kind_in what.Several = kinds.Several
 abbrev pub Names : Component → Text → Type 0
 Names c words = (rest : Text) × (words ≡ names.words Defaults.Written (modern c) ++ rest)
 
+abbrev pub optional_words : Bool → Text
+optional_words true = codes "optional, and formatted"
+optional_words false = codes "optional, and not formatted"
+
 abbrev pub AreWordsOf : What → Text → Type 0
-AreWordsOf (what.Literal text) words = ⊤
+AreWordsOf (what.Literal text) words = words ≡ codes "literal"
 AreWordsOf (what.Component c) words = Names c words
-AreWordsOf (what.Optional format) words = ⊤
-AreWordsOf what.First words = ⊤
-AreWordsOf what.Several words = ⊤
+AreWordsOf (what.Optional format) words = words ≡ optional_words format
+AreWordsOf what.First words = words ≡ codes "first of these"
+AreWordsOf what.Several words = words ≡ codes "these in turn"
 
 -- The example of a node of this kind with these words. That of a component is what the formatter writes
 -- of the component that the words name, at the moment of the examples.

@@ -3,3 +3,4 @@ pub mod Shown
 pub mod Examples
 pub mod Parts
 pub mod Inside
+pub mod Lines

@@ -1,5 +1,5 @@
 -- The parts of what a text spells, each in front of those that it holds, and the nodes that show them.
-use Rattle.std.specs.Prelude.{ℕ, ◌≡◌, ◌+◌, ◌-◌, ◌^◌, min, List, [], ◌∷◌, ◌++◌, string_bytes, ⊤}
+use Rattle.std.specs.Prelude.{ℕ, ◌≡◌, ◌+◌, ◌-◌, ◌^◌, min, codes, List, [], ◌∷◌, ◌++◌, string_bytes, ⊤}
 use Rattle.timefd_component.specs.Reserved.{reserve}
 use Rattle.timefd_component.specs.Tree.{Text, Tree, component, literal, compound, optional, first, Trees, no_trees, more_trees}
 use Rattle.timefd_node_list.specs.Nodes.{kept_bytes}
@@ -7,7 +7,7 @@ use Rattle.timefd_explain.specs.Samples.{IsExample}
 use Rattle.timefd_explain.specs.declared.node.Node.{Node}
 use Rattle.timefd_explain.specs.declared.node.NodeKind.{NodeKind}
 use Rattle.timefd_explain.specs.declared.node.NodeKind.TheVariants as kinds
-use Rattle.timefd_explain.specs.Examples.{Names}
+use Rattle.timefd_explain.specs.Examples.{Names, optional_words}
 
 -- a piece or a description in brackets, which has so many brackets around it; of a description it is
 -- the tree that its pieces are packed to
@@ -58,10 +58,14 @@ capped n = min n (2 ^ 64 - 1)
 abbrev pub IsTold : Tree → NodeKind → Text → Text → Type 0
 IsTold (component c) kind words example =
     (kind ≡ kinds.Component) × Names c words × IsExample c example
-IsTold (literal bytes) kind words example = (kind ≡ kinds.Literal) × (example ≡ bytes)
-IsTold (compound ts) kind words example = (kind ≡ kinds.Several) × (example ≡ [])
-IsTold (optional f t) kind words example = (kind ≡ kinds.Optional) × (example ≡ [])
-IsTold (first ts) kind words example = (kind ≡ kinds.First) × (example ≡ [])
+IsTold (literal bytes) kind words example =
+    (kind ≡ kinds.Literal) × (words ≡ codes "literal") × (example ≡ bytes)
+IsTold (compound ts) kind words example =
+    (kind ≡ kinds.Several) × (words ≡ codes "these in turn") × (example ≡ [])
+IsTold (optional f t) kind words example =
+    (kind ≡ kinds.Optional) × (words ≡ optional_words f) × (example ≡ [])
+IsTold (first ts) kind words example =
+    (kind ≡ kinds.First) × (words ≡ codes "first of these") × (example ≡ [])
 
 pub record IsPiece (d : ℕ) (tree : Tree) (n : Node) : Type 0 where
   pub depth : n.depth ≡ capped d
@@ -72,6 +76,7 @@ pub record IsDescription (d : ℕ) (tree : Tree) (n : Node) : Type 0 where
   pub depth : n.depth ≡ capped d
   pub bytes : n.bytes ≡ reserve tree
   pub kind : n.kind ≡ kinds.Description
+  pub words : string_bytes n.words ≡ codes "description"
 
 abbrev pub IsPart : Part → Node → Type 0
 IsPart (piece d tree) n = IsPiece d tree n

@@ -1,5 +1,5 @@
 -- How the pieces that are shown stand to what a text spells.
-use Rattle.std.specs.Prelude.{ℕ, ◌≡◌, ◌+◌, List, [], ◌∷◌, ◌++◌, string_bytes, ⊤}
+use Rattle.std.specs.Prelude.{◌≡◌, List, [], ◌∷◌, ◌++◌, string_bytes, ⊤}
 use Rattle.timefd_component.specs.Reserved.{reserve}
 use Rattle.timefd_component.specs.Tree.{Text, Tree, Trees, component, literal, compound, optional, first}
 use Rattle.timefd_language.specs.Grammar.{nesting_limit}

@@ -1,15 +1,17 @@
 //! An accepted description as its nodes, and as lines.
 
-ghost use Rattle.std.specs.Prelude.{◌≡◌, List, IfOk};
+ghost use Rattle.std.specs.Prelude.{◌≡◌, List, IfOk, string_bytes};
 ghost use Rattle.timefd_component.specs.Reserved.{reserve_all};
 ghost use Rattle.timefd_component.specs.Tree.{Tree, trees};
 ghost use Rattle.timefd_language.specs.Grammar.{nesting_limit};
 ghost use Rattle.timefd_node_list.specs.Nodes.{kept_bytes};
 ghost use Rattle.timefd_parse.specs.Language.{SpellsIn};
 ghost use Rattle.timefd_explain.specs.Examples.{Examples};
+ghost use Rattle.timefd_explain.specs.Lines.{IsExplained, IsTree};
 ghost use Rattle.timefd_explain.specs.Parts.{AreParts, all_parts};
 
-use crate::node::{Node, push_line};
+use crate::line::push_lines;
+use crate::node::Node;
 use crate::tree::push_pieces;
 use std::alloc::{AllocError, Global};
 use timefd_drawing::Origin;
@@ -54,22 +56,37 @@ pub fn explanation_of(
 }
 
 /// A text that a language accepts: a line for each of its nodes, with the bytes that it reserves,
-/// an example, the text that it came from and what it is; and the sum of the bytes.
+/// an example, the text that it came from and what it is; and the sum of the bytes. An `Err` says that
+/// memory ran out.
 pub fn explained(
     alloc: Global,
     language: Language,
     origin: Origin<'_>,
     text: &str,
-) -> Result<String, AllocError> {
+) -> Result<String, AllocError>
+    ensures { IfOk result (λ tree. IsExplained language origin.entry.file.now origin.entry.line text.now
+        (string_bytes tree)) }
+{
     let Explanation { nodes, bytes } = explanation_of(alloc, language, text)?;
+    tree_of(alloc, origin, text, &nodes, bytes)
+}
+
+fn tree_of(
+    alloc: Global,
+    origin: Origin<'_>,
+    text: &str,
+    nodes: &[Node],
+    bytes: usize,
+) -> Result<String, AllocError>
+    ensures { IfOk result (λ tree. IsTree origin.entry.file.now origin.entry.line text.now nodes.now bytes
+        (string_bytes tree)) }
+{
     let mut out = String::with_capacity(alloc, text.len().saturating_add(ROOM))?;
     push_safe(alloc, &mut out, origin.file)?;
     write!(out, ":{}: ", origin.line)?;
     push_safe(alloc, &mut out, text)?;
     out.push_str("\n")?;
-    for node in &nodes {
-        push_line(alloc, &mut out, text, node)?;
-    }
+    push_lines(alloc, &mut out, text, nodes)?;
     write!(out, "{bytes:5}  in all\n")?;
     Ok(out)
 }

@@ -4,6 +4,7 @@
 
 mod example;
 mod explain;
+mod line;
 mod members;
 mod node;
 mod piece;

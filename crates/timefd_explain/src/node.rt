@@ -4,6 +4,7 @@ ghost use Rattle.std.specs.Prelude.{ℕ, ◌≡◌, IfOk, string_bytes};
 ghost use Rattle.timefd_component.specs.Reserved.{reserve};
 ghost use Rattle.timefd_component.specs.Tree.{Tree};
 ghost use Rattle.timefd_node_list.specs.Nodes.{kept_bytes};
+ghost use Rattle.timefd_explain.specs.Examples as spec;
 ghost use Rattle.timefd_explain.specs.Examples.{AreWordsOf, HasExample, Names, kind_in};
 ghost use Rattle.timefd_explain.specs.Parts.{IsPiece, capped};
 ghost use Rattle.timefd_explain.specs.Shown.{IsExampleOf, IsWhat};
@@ -13,7 +14,7 @@ use crate::piece::What;
 use crate::words::words_of;
 use std::alloc::{AllocError, Global};
 use timefd_component::Component;
-use timefd_drawing::shown::{push_safe, safe};
+use timefd_drawing::shown::safe;
 use timefd_parse::{Language, bracket_name, first_modifier};
 
 /// What kind of node it is.
@@ -92,7 +93,6 @@ pub fn node_of(
     })
 }
 
-#[tactic(auto, using(crate::proofs::ExampleLemmas::no_words))]
 fn words_in(
     alloc: Global,
     language: Language,
@@ -101,10 +101,23 @@ fn words_in(
 ) -> Result<String, AllocError>
     ensures { IfOk result (λ words. AreWordsOf what.now (string_bytes words)) }
 {
-    let What::Component(component) = what else {
-        return String::from_str(alloc, plain_words(what));
-    };
-    component_words(alloc, language, text, *component)
+    match what {
+        What::Component(component) => component_words(alloc, language, text, *component),
+        What::Literal(_) => String::from_str(alloc, "literal"),
+        What::Optional(format) => String::from_str(alloc, optional_words(*format)),
+        What::First => String::from_str(alloc, "first of these"),
+        What::Several => String::from_str(alloc, "these in turn"),
+    }
+}
+
+fn optional_words(format: bool) -> &'static str
+    ensures { result.now ≡ spec.optional_words format }
+{
+    if format {
+        "optional, and formatted"
+    } else {
+        "optional, and not formatted"
+    }
 }
 
 fn kind_of(what: &What) -> NodeKind
@@ -119,17 +132,6 @@ fn kind_of(what: &What) -> NodeKind
     }
 }
 
-fn plain_words(what: &What) -> &'static str {
-    match what {
-        What::Literal(_) => "literal",
-        What::Component(_) => "component",
-        What::Optional(true) => "optional, and formatted",
-        What::Optional(false) => "optional, and not formatted",
-        What::First => "first of these",
-        What::Several => "these in turn",
-    }
-}
-
 fn example_of(alloc: Global, what: &What) -> Result<String, AllocError>
     ensures { IfOk result (λ text. IsExampleOf what.now (string_bytes text)) }
 {
@@ -138,32 +140,6 @@ fn example_of(alloc: Global, what: &What) -> Result<String, AllocError>
         What::Component(component) => sample(alloc, *component),
         What::Optional(_) | What::First | What::Several => Ok(String::new(alloc)),
     }
-}
-
-/// Appends a node's line, of a text.
-pub fn push_line(
-    alloc: Global,
-    out: &mut String,
-    text: &str,
-    node: &Node,
-) -> Result<(), AllocError> {
-    write!(out, "{:5}  ", node.bytes)?;
-    for _ in 0..node.depth {
-        out.push_str("  ")?;
-    }
-    let text = text.get(node.start..node.end).unwrap_or("");
-    if !text.is_empty() {
-        out.push_str("`")?;
-        push_safe(alloc, out, text)?;
-        out.push_str("`  ")?;
-    }
-    out.push_str(&node.words)?;
-    if node.example.is_empty() {
-        return out.push_str("\n");
-    }
-    out.push_str(", as `")?;
-    push_safe(alloc, out, &node.example)?;
-    out.push_str("`\n")
 }
 
 // The words of a component, and behind them which modifiers the text sets. That isn't said where it

@@ -5,4 +5,5 @@ pub mod Escapes
 pub mod Strings
 pub mod Names
 pub mod Comments
+pub mod Depths
 pub mod Found

@@ -18,7 +18,7 @@ use crate::passing::{depth_behind, passed_len};
 use crate::reading::{Reading, string_at};
 use std::alloc::{AllocError, Global};
 use timefd_sources::description::push_any;
-use timefd_sources::{Description, Dialect, Encoding, Kind, Piece, Token, VersionPlace};
+use timefd_sources::{Description, Dialect, Encoding, Items, Kind, Piece, Token, VersionPlace};
 
 /// What is looked at, and for which keys.
 #[derive(Clone, Copy)]
@@ -61,6 +61,7 @@ fn described(
         piece,
         kind,
         dialect,
+        items: Items::Refused,
         version: VersionPlace::Elsewhere,
         unescaped,
     })

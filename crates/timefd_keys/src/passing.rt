@@ -1,5 +1,8 @@
 //! What is passed over in front of the next name: comments, strings of several lines, single signs.
 
+ghost use Rattle.std.specs.Prelude.{◌≡◌};
+ghost use Rattle.timefd_keys.specs.Depths.{depth_at};
+
 use crate::format::Format;
 use timefd_sources::class::is_blank;
 use timefd_sources::line::from;
@@ -75,7 +78,9 @@ pub fn passed_len(format: Format, source: &[u8], at: usize) -> usize {
 }
 
 /// How many brackets are open behind the byte at a place, if this many are in front of it.
-pub fn depth_behind(source: &[u8], at: usize, depth: usize) -> usize {
+pub fn depth_behind(source: &[u8], at: usize, depth: usize) -> usize
+    ensures { result ≡ depth_at source.now at depth }
+{
     match source.get(at) {
         Some(b'[' | b'{') => depth.saturating_add(1),
         Some(b']' | b'}') => depth.saturating_sub(1),

@@ -5,3 +5,4 @@ pub mod AcceptedLemmas
 pub mod TextLemmas
 pub mod MarkLemmas
 pub mod RewrittenLemmas
+pub mod RuleLemmas

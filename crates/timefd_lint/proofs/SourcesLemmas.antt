@@ -17,7 +17,8 @@ use Rattle.timefd_lint_sources.specs.declared.told.Finder.{Finder}
 use Rattle.timefd_lint_sources.specs.declared.told.Source.{Source}
 use Rattle.timefd_lint_sources.specs.declared.told.Telling.{Telling}
 use Rattle.timefd_lint_sources.specs.Judged.{text_of}
-use Rattle.timefd_lint_sources.specs.Told.{AllFound, AreTold, IsFound, IsSourceTold, no_text_note, origin_of}
+use Rattle.timefd_lint_sources.specs.Items.{AreJudgedAs}
+use Rattle.timefd_lint_sources.specs.Told.{AllFound, AreTold, IsFound, IsJudgedFound, IsSourceTold, no_text_note, origin_of}
 use Rattle.timefd_lint.specs.declared.line.RunError.{RunError}
 use Rattle.timefd_lint.specs.declared.line.TextEnd.{TextEnd}
 use Rattle.timefd_lint.specs.declared.line.TextEnd.TheVariants.{NotText, Failed}
@@ -118,9 +119,18 @@ record AreLiterals (is_whole : Bool) (language : Language) (comment : Option (Bo
   said : message ≡ messages told
   found : (others : List Told) → tally_from (tally_of others) ends ≡ tally_of (others ++ told)
 
+-- Each that is judged is one that is found.
+judged_found : (s : Source) (found judged : List Description) → AllFound s found → AreJudgedAs found judged
+    → All (IsJudgedFound s) judged
+judged_found s [] judged stand are = subst (All (IsJudgedFound s)) (sym are) (All-nil (IsJudgedFound s))
+judged_found s (d ∷ ds) judged stand (one, others, is, are, whole) =
+    subst (All (IsJudgedFound s)) (sym whole)
+    (All-cons (IsJudgedFound s) one others (d, All-head (IsFound s) d ds stand, is)
+    (judged_found s ds others (All-tail (IsFound s) d ds stand) are))
+
 literals : (is_whole : Bool) (language : Language) (comment : Option (Bor Text)) (telling : Telling)
     (s : Source) (ds : List Description) (ends : List End) (message : Text)
-    → AllFound s ds → AreTold telling s ds ends message
+    → All (IsJudgedFound s) ds → AreTold telling s ds ends message
     → AreLiterals is_whole language comment telling ends message
 literals is_whole language comment telling s [] [] message stand are = record {
   told = [];
@@ -140,12 +150,12 @@ literals is_whole language comment telling s (d ∷ ds) (e ∷ ends) message sta
     } in
     let more : AreLiterals is_whole language comment telling ends rest =
     literals is_whole language comment telling s ds ends rest
-    (All-tail (IsFound s) d ds stand) others in
+    (All-tail (IsJudgedFound s) d ds stand) others in
     let is_literal : IsOfLiteral telling t = record {
       source = s;
       description = d;
       came = e;
-      stands = All-head (IsFound s) d ds stand;
+      stands = All-head (IsJudgedFound s) d ds stand;
       told = told;
       line = refl;
       origin = refl;
@@ -183,7 +193,7 @@ of_source is_whole language comment telling finder name bytes rest before behind
     (inl (source, all, read, inl (utf8, (s, f, by, t, (r, told, written, found))))) =
     let are : AreLiterals is_whole language comment telling r.ends.items r.message.items =
     literals is_whole language comment telling s told.descriptions r.ends.items r.message.items
-    told.stand told.told in
+    (judged_found s told.are.found told.descriptions told.are.stand told.are.judged) told.told in
     record {
       told = are.told;
       each = are.each;

@@ -8,4 +8,5 @@ pub mod Marks
 pub mod Rewritten
 pub mod Logs
 pub mod ErrorCodes
+pub mod Rules
 pub mod Pages

@@ -16,7 +16,7 @@ use Rattle.timefd_lint_sources.specs.declared.told.Finder.TheVariants.{Rust, Key
 use Rattle.timefd_lint_sources.specs.declared.told.Source.{Source}
 use Rattle.timefd_lint_sources.specs.declared.told.Telling.{Telling}
 use Rattle.timefd_lint_sources.specs.Judged.{text_of}
-use Rattle.timefd_lint_sources.specs.Told.{IsFound, IsSourceTold, no_text_note, origin_of}
+use Rattle.timefd_lint_sources.specs.Told.{IsJudgedFound, IsSourceTold, no_text_note, origin_of}
 use Rattle.timefd_lint_sources.specs.Told as literal
 use Rattle.timefd_lint.specs.declared.line.TextEnd.{TextEnd}
 use Rattle.timefd_lint.specs.declared.line.TextEnd.TheVariants.{PassedOver, Accepted, Refused, NotText, Failed}
@@ -99,7 +99,7 @@ pub record IsOfLiteral (telling : Telling) (t : Told) : Type 0 where
   pub source : Source
   pub description : Description
   pub came : End
-  pub stands : IsFound source description
+  pub stands : IsJudgedFound source description
   pub told : literal.IsTold telling source description came t.message
   pub line : t.line ≡ text_of description
   pub origin : t.origin ≡ origin_of source description

@@ -10,8 +10,9 @@ use timefd_rewrite::lay_out;
 use timefd_rewrite_sources::{Change, Outcome, layout_of};
 use timefd_sources::{Description, VersionPlace, body_alike, body_end, descriptions_of, inside};
 
-/// A line for each description of a source that would be converted, and whose version no number says, or
-/// whose literal can't hold what it would be: where it stands, why it stays, and what it would be.
+/// A line for each description of a source that would be converted, and whose version no number says, whose
+/// literal can't hold what it would be, or which no conversion takes: where it stands, why it stays, and what it
+/// would be.
 pub fn notes(
     alloc: Global,
     change: Change,
@@ -29,7 +30,10 @@ pub fn notes(
     let descriptions = descriptions_of(alloc, source)?;
     for (description, outcome) in descriptions.iter().zip(outcomes) {
         if wants_hand(*outcome) {
-            push_note(alloc, change, version, name, source, description, &mut told)?;
+            let Some(why) = why(alloc, change, version, source, description, *outcome)? else {
+                continue;
+            };
+            push_note(alloc, name, source, description, &why, &mut told)?;
         }
     }
     Ok(told)
@@ -47,7 +51,7 @@ fn version_of(change: Change) -> Option<&'static str> {
 
 fn wants_hand(outcome: Outcome) -> bool {
     match outcome {
-        Outcome::ByHand | Outcome::NotALiteral => true,
+        Outcome::ByHand | Outcome::NotALiteral | Outcome::WithItems => true,
         Outcome::PassedOver
         | Outcome::Same
         | Outcome::Rewritten
@@ -56,23 +60,38 @@ fn wants_hand(outcome: Outcome) -> bool {
     }
 }
 
-fn push_note(
+// Why a description stays, where that is told.
+fn why(
     alloc: Global,
     change: Change,
     version: &str,
+    source: &str,
+    description: &Description,
+    outcome: Outcome,
+) -> Result<Option<String>, AllocError> {
+    if let Outcome::WithItems = outcome {
+        return Ok(Some(format!(in alloc;
+            "the conversion to version {version} takes neither `[optional ..]` nor `[first ..]`"
+        )?));
+    }
+    let Some(new) = new_literal(alloc, change, source, description)? else {
+        return Ok(None);
+    };
+    let new = safe(alloc, &new)?;
+    Ok(Some(reason(alloc, version, source, description, &new)?))
+}
+
+fn push_note(
+    alloc: Global,
     name: &str,
     source: &str,
     description: &Description,
+    why: &str,
     told: &mut String,
 ) -> Result<(), AllocError> {
-    let Some(new) = new_literal(alloc, change, source, description)? else {
-        return Ok(());
-    };
-    let new = safe(alloc, &new)?;
-    let reason = reason(alloc, version, source, description, &new)?;
     told.push_str(&place(alloc, name, source, description)?)?;
     told.push_str(": change by hand: ")?;
-    told.push_str(&reason)?;
+    told.push_str(why)?;
     told.push_str("\n")
 }
 

@@ -2,6 +2,7 @@
 
 ghost use Rattle.std.specs.Prelude.{◌≡◌};
 ghost use Rattle.timefd_lint.specs.ErrorCodes as spec;
+ghost use Rattle.timefd_lint.specs.Rules as rules;
 
 use timefd_diagnosis::Code;
 
@@ -32,6 +33,18 @@ impl ErrorCode {
             ErrorCode::Unwritable => "unwritable",
             ErrorCode::ByteOrderMark => "byte-order-mark",
         }
+    }
+
+    /// Those that are no fault of a description.
+    pub fn others() -> &'static [ErrorCode]
+        ensures { result.now ≡ rules.others }
+    {
+        &[
+            ErrorCode::NotText,
+            ErrorCode::Unreadable,
+            ErrorCode::Unwritable,
+            ErrorCode::ByteOrderMark,
+        ]
     }
 
     /// That of a name.

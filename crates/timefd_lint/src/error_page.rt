@@ -91,9 +91,11 @@ fn fault_explanation(code: Code) -> &'static str {
             "`[optional [a] [b]]` has two. Put all into one pair of brackets: `[optional [ab]]`."
         }
         Code::OptionalItem => {
-            "`[optional [x]]` is of version 3 alone. Leave it out, or use version 3."
+            "In versions 1 and 2 `parse` and `parse_borrowed` refuse `[optional [x]]`; `format_description!` and `parse_owned` take it. Leave it out, call one of these, or use version 3."
         }
-        Code::FirstItem => "`[first [x]]` is of version 3 alone. Leave it out, or use version 3.",
+        Code::FirstItem => {
+            "In versions 1 and 2 `parse` and `parse_borrowed` refuse `[first [x]]`; `format_description!` and `parse_owned` take it. Leave it out, call one of these, or use version 3."
+        }
         Code::UnsupportedFlag => "`%Od` has the flag `O`. Leave it out: write `%d`.",
         Code::UnsupportedLetter => {
             "`%Z` is the name of a time zone. Write `%z`, the offset from UTC."

@@ -21,6 +21,7 @@ mod options;
 mod page;
 mod progress;
 mod rewriting;
+mod rules;
 mod run;
 mod running;
 mod rust;

@@ -1,3 +1,6 @@
+mod ItemLemmas
+mod OpeningLemmas
+mod JudgedLemmas
 mod ToldLemmas
 mod ReportLemmas
 pub mod FinderLemmas

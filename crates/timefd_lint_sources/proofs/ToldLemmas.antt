@@ -1,8 +1,11 @@
 -- What is told of one description.
 use Rattle.std.proofs.Common.{ℕ, ◌≡◌, true, false, Option, Some, List, [], ◌++◌, refl, sym, subst, ap, ◌∙◌}
 use Rattle.std.specs.Prelude.{IfOk, IfSome, IsUtf8, Result, Ok, Err}
+use Rattle.std.specs.List.{flat_map}
+use Rattle.std.specs.declared.alloc.Global.{Global}
+use Rattle.std.specs.declared.vec.Vec.{Vec}
 use Rattle.timefd_component.specs.Tree.{Text, Tree}
-use Rattle.timefd_fault.specs.Faults.{fault_of}
+use Rattle.timefd_fault.specs.Faults.{Fault, fault_of}
 use Rattle.timefd_language.specs.Grammar.{nesting_limit}
 use Rattle.timefd_parse.specs.declared.language.Language.{Language}
 use Rattle.timefd_parse.specs.Language.{SpellsIn, FaultIn}
@@ -11,6 +14,7 @@ use Rattle.timefd_diagnosis.specs.Diagnoses.{IsDiagnosis}
 use Rattle.timefd_diagnosis.specs.Further.{AreDiagnosed, AreFurther, most_further, without}
 use Rattle.timefd_drawing.specs.Positions.{told_column, line_number}
 use Rattle.timefd_sources.specs.declared.description.Description.{Description}
+use Rattle.timefd_sources.specs.declared.told.Items.TheVariants.{Taken, Refused as RefusedItems}
 use Rattle.timefd_warnings.specs.declared.levels.Level.TheVariants.{Allowed}
 use Rattle.timefd_warnings.specs.declared.levels.Levels.{Levels}
 use Rattle.timefd_warnings.specs.Levels.{all_at}
@@ -21,7 +25,7 @@ use Rattle.timefd_lint_sources.specs.declared.told.Source.{Source}
 use Rattle.timefd_lint_sources.specs.declared.told.Telling.{Telling}
 use Rattle.timefd_lint_sources.specs.declared.told.Told.{Told}
 use Rattle.timefd_lint_warnings.specs.Found.{found_by}
-use Rattle.timefd_lint_sources.specs.Judged.{is_passed_over, language_in, text_of}
+use Rattle.timefd_lint_sources.specs.Judged.{is_passed_over, language_in, text_of, told_further, unless_item}
 use Rattle.timefd_lint_sources.specs.Told.{IsMessageOn, IsTold, IsTree, drawing_of, note_of, origin_of}
 
 pub passed_over : (telling : Telling) (s : Source) (d : Description)
@@ -41,10 +45,11 @@ pub with_fault : (telling : Telling) (s : Source) (d : Description) (text : Text
     → IsUtf8 text → text ≡ text_of d
     → FaultIn (language_in d) nesting_limit text (fault_of g.fault)
     → IsDiagnosis (language_in d) text g
-    → AreFurther most_further (language_in d) (without (language_in d) text (fault_of g.fault)) further
+    → ((found : List Diagnostic) × AreFurther most_further (language_in d) (without (language_in d) text (fault_of g.fault)) found
+    × (further ≡ told_further d.items found))
     → end ≡ Refused → message ≡ drawing_of telling.style s d g further
     → IsTold telling s d end message
-with_fault telling s d text g further end message judges utf8 same faulty diagnosed others is told =
+with_fault telling s d text g further end message judges utf8 same faulty diagnosed (found, others, those) is told =
     subst (λ e. IsTold telling s d e message) (sym is)
     (record {
       end = (
@@ -60,10 +65,14 @@ with_fault telling s d text g further end message judges utf8 same faulty diagno
       message = (
         g,
         further,
-        subst (λ t. AreDiagnosed (language_in d) t g further) same (record {
-          first = record { fault = faulty; diagnosis = diagnosed };
-          further = others;
-        }),
+        record {
+          found = found;
+          are = subst (λ t. AreDiagnosed (language_in d) t g found) same (record {
+            first = record { fault = faulty; diagnosis = diagnosed };
+            further = others;
+          });
+          told = those;
+        },
         told,
       );
     })
@@ -75,7 +84,8 @@ pub with_faults : {E : Type 0} (telling : Telling) (s : Source) (d : Description
     → IsUtf8 text → text ≡ text_of d → found ≡ Some g
     → IfSome found (λ x. FaultIn language nesting_limit text (fault_of x.fault))
     → IfSome found (IsDiagnosis language text)
-    → AreFurther most_further language (without language text (fault_of g.fault)) further
+    → ((more : List Diagnostic) × AreFurther most_further (language_in d) (without (language_in d) text (fault_of g.fault)) more
+    × (further ≡ told_further d.items more))
     → IfOk told (λ t. t.end ≡ Refused)
     → IfOk told (λ t. t.message.items ≡ drawing_of telling.style s d g further)
     → IfOk told (λ t. IsTold telling s d t.end t.message.items)
@@ -85,8 +95,7 @@ with_faults telling s d language text found g further (Ok t) named judges utf8 s
     (subst (λ o. IfSome o (λ x. FaultIn language nesting_limit text (fault_of x.fault))) is faulty))
     (subst (λ l. IsDiagnosis l text g) named
     (subst (λ o. IfSome o (IsDiagnosis language text)) is diagnosed))
-    (subst (λ l. AreFurther most_further l (without l text (fault_of g.fault)) further) named others)
-    ended drawn
+    others ended drawn
 with_faults telling s d language text found g further (Err e) named judges utf8 same is faulty diagnosed others ended drawn =
     tt
 
@@ -127,3 +136,25 @@ tree_and_warnings telling s d found tree told message line col asked at_line at_
 pub nothing_told : (telling : Telling) (s : Source) (d : Description) → telling.explains ≡ false
     → IsMessageOn telling s d (Accepted (all_at Allowed)) []
 nothing_told telling s d quiet = ([], (λ _. refl), refl)
+
+-- The further faults that are told.
+pub further_told : {E : Type 0} (d : Description) (language : Language) (text : Text) (f : Fault)
+    (found : List Diagnostic) (done : Result (Vec Diagnostic Global) E) → language ≡ language_in d
+    → AreFurther most_further language (without language text f) found
+    → IfOk done (λ told. told.items ≡ told_further d.items found)
+    → IfOk done (λ told. (found : List Diagnostic)
+    × AreFurther most_further (language_in d) (without (language_in d) text f) found
+    × (told.items ≡ told_further d.items found))
+further_told d language text f found (Ok told) named are those =
+    (found, subst (λ l. AreFurther most_further l (without l text f) found) named are, those)
+further_told d language text f found (Err e) named are those = tt
+
+pub items_told : {E : Type 0} (d : Description) (found : List Diagnostic) (done : Result (Vec Diagnostic Global) E)
+    → d.items ≡ Taken → IfOk done (λ told. told.items ≡ flat_map unless_item found)
+    → IfOk done (λ told. told.items ≡ told_further d.items found)
+items_told d found (Ok told) is those = those ∙ sym (ap (λ i. told_further i found) is)
+items_told d found (Err e) is those = tt
+
+pub all_told : (d : Description) (found : List Diagnostic) → d.items ≡ RefusedItems
+    → found ≡ told_further d.items found
+all_told d found is = sym (ap (λ i. told_further i found) is)

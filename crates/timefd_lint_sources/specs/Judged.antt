@@ -1,6 +1,9 @@
 -- What a description of a source is.
-use Rattle.std.specs.Prelude.{◌≡◌, Bool, false, List, Option, IsUtf8, IsTrue, IsFalse}
+use Rattle.std.specs.Prelude.{◌≡◌, Bool, false, List, [], ◌∷◌, if◌then◌else◌, Option, IsUtf8, IsTrue, IsFalse}
+use Rattle.std.specs.List.{flat_map}
 use Rattle.timefd_component.specs.Tree.{Text, Tree}
+use Rattle.timefd_diagnosis.specs.declared.diagnostic.Diagnostic.{Diagnostic}
+use Rattle.timefd_diagnosis.specs.Further.{AreDiagnosed}
 use Rattle.timefd_fault.specs.Faults.{Fault}
 use Rattle.timefd_language.specs.Grammar.{nesting_limit}
 use Rattle.timefd_language.specs.declared.description_version.DescriptionVersion.TheVariants as versions
@@ -10,10 +13,13 @@ use Rattle.timefd_parse.specs.Language.{SpellsIn, FaultIn}
 use Rattle.timefd_sources.specs.declared.description.Description.{Description}
 use Rattle.timefd_sources.specs.declared.dialect.Dialect.{Dialect}
 use Rattle.timefd_sources.specs.declared.dialect.Dialect.TheVariants.{One, Two, Three, Strftime, Chrono}
+use Rattle.timefd_sources.specs.declared.told.Items.{Items}
+use Rattle.timefd_sources.specs.declared.told.Items.TheVariants.{Taken, Refused as RefusedItems}
 use Rattle.timefd_sources.specs.Chrono.{is_of_chrono}
 use Rattle.timefd_warnings.specs.declared.levels.Levels.{Levels}
 use Rattle.timefd_lint_warnings.specs.Found.{found_by}
 use Rattle.timefd_lint_sources.specs.declared.told.End.{End}
+use Rattle.timefd_lint_sources.specs.Items.{is_of_item}
 use Rattle.timefd_lint_sources.specs.declared.told.End.TheVariants.{PassedOver, Accepted, Refused, NotText}
 
 abbrev pub language_of : Dialect → Language
@@ -37,6 +43,20 @@ text_of d = d.unescaped.text.items
 
 abbrev pub language_in : Description → Language
 language_in d = language_of d.dialect
+
+-- Where items are taken, no fault is told that `parse` alone finds.
+abbrev pub unless_item : Diagnostic → List Diagnostic
+unless_item g = if is_of_item g.code then [] else g ∷ []
+
+abbrev pub told_further : Items → List Diagnostic → List Diagnostic
+told_further RefusedItems further = further
+told_further Taken further = flat_map unless_item further
+
+-- all that is told of a refused description: what is wrong with it, and what further
+pub record AreDiagnosedOf (d : Description) (g : Diagnostic) (further : List Diagnostic) : Type 0 where
+  pub found : List Diagnostic
+  pub are : AreDiagnosed (language_in d) (text_of d) g found
+  pub told : further ≡ told_further d.items found
 
 -- Accepted where it spells a list, with the warnings of that, refused where it has a fault, and else
 -- no UTF-8.

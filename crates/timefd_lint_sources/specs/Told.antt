@@ -3,7 +3,6 @@ use Rattle.std.specs.List.{All}
 use Rattle.std.specs.Prelude.{ℕ, ◌≡◌, Bool, List, [], ◌∷◌, ◌++◌, codes, map, IsFalse, ⊤}
 use Rattle.timefd_component.specs.Tree.{Text}
 use Rattle.timefd_diagnosis.specs.declared.diagnostic.Diagnostic.{Diagnostic}
-use Rattle.timefd_diagnosis.specs.Further.{AreDiagnosed}
 use Rattle.timefd_drawing.specs.declared.draw.Style.{Style}
 use Rattle.timefd_drawing.specs.declared.position.Origin.{Origin}
 use Rattle.timefd_drawing.specs.Drawing.{drawn_all, note}
@@ -20,7 +19,8 @@ use Rattle.timefd_lint_sources.specs.declared.told.Finder.{Finder}
 use Rattle.timefd_lint_sources.specs.declared.told.Finder.TheVariants.{Rust, Keys}
 use Rattle.timefd_lint_sources.specs.declared.told.Source.{Source}
 use Rattle.timefd_lint_sources.specs.declared.told.Telling.{Telling}
-use Rattle.timefd_lint_sources.specs.Judged.{IsEndOf, language_in, text_of}
+use Rattle.timefd_lint_sources.specs.Items.{AreJudgedAs, IsJudgedAs}
+use Rattle.timefd_lint_sources.specs.Judged.{AreDiagnosedOf, IsEndOf, text_of}
 
 -- Where a source begins, and the line in which the literal of a description does.
 abbrev pub whole_origin : Source → Origin
@@ -61,7 +61,7 @@ drawing_of style s d g further =
 
 abbrev pub IsDrawing : Style → Source → Description → Text → Type 0
 IsDrawing style s d message = (g : Diagnostic) × (further : List Diagnostic)
-    × AreDiagnosed (language_in d) (text_of d) g further × (message ≡ drawing_of style s d g further)
+    × AreDiagnosedOf d g further × (message ≡ drawing_of style s d g further)
 
 -- and of one that is no UTF-8 a note in the line of its literal
 abbrev pub no_text_note : Style → Origin → Text
@@ -113,10 +113,19 @@ AreAllBy (Keys format names) source ds = ⊤
 abbrev pub AreAllOf : Source → List Description → Type 0
 AreAllOf s ds = AreAllBy s.finder s.text.now ds
 
--- The descriptions stand in the source, one behind another.
+-- A description that is found in a source, as it is judged.
+abbrev pub IsJudgedFound : Source → Description → Type 0
+IsJudgedFound s d = (found : Description) × IsFound s found × IsJudgedAs found d
+
+-- These are the descriptions of a source as they are judged. They are found in it, one behind another.
+pub record AreJudgedIn (s : Source) (ds : List Description) : Type 0 where
+  pub found : List Description
+  pub all : AreAllOf s found
+  pub stand : AllFound s found
+  pub in_order : AreInOrder 0 found
+  pub judged : AreJudgedAs found ds
+
 pub record IsSourceTold (telling : Telling) (s : Source) (r : Report) : Type 0 where
   pub descriptions : List Description
-  pub all : AreAllOf s descriptions
-  pub stand : AllFound s descriptions
-  pub in_order : AreInOrder 0 descriptions
+  pub are : AreJudgedIn s descriptions
   pub told : AreTold telling s descriptions r.ends.items r.message.items

@@ -2,12 +2,19 @@
 #![tactic(auto)]
 
 mod accepted;
+mod further;
+mod item;
+mod judged;
 mod language;
+mod opening;
 mod position;
 mod source;
 mod told;
 
+pub use further::further_of;
+pub use judged::holds_item;
 pub use language::{is_passed_over, language_of};
+pub use opening::is_of_item;
 pub use position::FIRST_LINE;
-pub use source::{Report, descriptions_in, lint_source, tell_all};
+pub use source::{Report, descriptions_in, judged_in, lint_source, tell_all};
 pub use told::{End, Finder, Source, Telling, Told, tell};

@@ -1,9 +1,10 @@
 //! What is told of all descriptions of a source.
 
 ghost use Rattle.std.specs.Prelude.{IfOk, OnOk};
-ghost use Rattle.timefd_lint_sources.specs.Told.{AddsTold, AllFound, AreAllOf, AreTold, IsSourceTold};
+ghost use Rattle.timefd_lint_sources.specs.Told.{AddsTold, AllFound, AreAllOf, AreJudgedIn, AreTold, IsSourceTold};
 ghost use Rattle.timefd_sources.specs.Found.{AreInOrder};
 
+use crate::judged::judged_all;
 use crate::told::{End, Finder, Source, Telling, Told, tell};
 use std::alloc::{AllocError, Global};
 use timefd_keys::descriptions_by;
@@ -27,8 +28,17 @@ pub fn lint_source(
 ) -> Result<Report, AllocError>
     ensures { IfOk result (IsSourceTold telling source.entry) }
 {
-    let descriptions = descriptions_in(alloc, source)?;
+    let descriptions = judged_in(alloc, source)?;
     tell_all(alloc, telling, source, &descriptions)
+}
+
+/// The descriptions in a source, one after another, each with the text by which it is judged. An `Err` says
+/// that memory ran out.
+pub fn judged_in(alloc: Global, source: Source<'_>) -> Result<Vec<Description>, AllocError>
+    ensures { IfOk result (λ judged. AreJudgedIn source.entry judged.items) }
+{
+    let found = descriptions_in(alloc, source)?;
+    judged_all(alloc, found)
 }
 
 /// The descriptions in a source, one behind another. An `Err` says that memory ran out.

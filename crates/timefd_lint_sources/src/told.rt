@@ -8,11 +8,12 @@ ghost use Rattle.timefd_lint_sources.specs.Told.{IsTold, drawing_of, note_of};
 ghost use Rattle.timefd_lint_sources.specs.Told as spec;
 
 use crate::accepted::accepted;
+use crate::further::further_of;
 use crate::language::{is_passed_over, language_of};
 use crate::position::FIRST_LINE;
 use std::alloc::{AllocError, Global};
 use std::str;
-use timefd_diagnosis::{Diagnostic, MOST_FURTHER, Span, diagnose, further_faults};
+use timefd_diagnosis::{Diagnostic, Span, diagnose};
 use timefd_drawing::{Origin, Position, Style, drawn_all, note, position_of};
 use timefd_keys::{Format, Key};
 use timefd_sources::{Description, place_of};
@@ -142,7 +143,7 @@ fn judged(
     match diagnose(alloc, language, text)? {
         None => accepted(alloc, telling, source, description, language, text),
         Some(diagnostic) => {
-            let further = further_faults(alloc, language, text, &diagnostic, MOST_FURTHER)?;
+            let further = further_of(alloc, description, text, &diagnostic)?;
             refused(
                 alloc,
                 telling.style,

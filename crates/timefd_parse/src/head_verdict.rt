@@ -13,7 +13,7 @@ ghost use Rattle.timefd_parse.specs.HeadVerdicts as judging;
 ghost use Rattle.timefd_parse.specs.HeadVerdicts.{BeginsJudged, IsPlain, IsVerdict, ReadsJudgedHead};
 ghost use Rattle.timefd_parse.specs.Judged.{JudgedComponent, ShowsPlaces};
 
-use crate::fast::words::behind;
+use crate::fast::words::after_word;
 use crate::head::{Head, read_head};
 use crate::modifiers::Modifiers;
 use crate::places::Places;
@@ -90,7 +90,7 @@ fn plainly<'a>(
     requires { IsPlain word.now verdict }
     ensures { MatchOption result ⊤ (λ x. BeginsJudged strict inside.now x.0 x.1.now) }
 {
-    let rest = behind(inside, word)?;
+    let rest = after_word(inside, word)?;
     let Start::Opening(_) = start_of(rest) else {
         return None;
     };

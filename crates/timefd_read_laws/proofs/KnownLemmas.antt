@@ -138,16 +138,16 @@ clock_unless false true c = refl
 clock_unless false false c = refl
 
 some_clock : (f : Fields) (h : Option ℕ)
-    → is_ok (clock_at f h) ≡ is_some h && (not (is_left_out f.minute (is_some f.hour || has_second f))
+    → is_ok (clock_at f h) ≡ is_some h && (not (is_left_out f.minute (has_second f))
     && not (is_left_out f.second (is_some f.subsecond)))
 some_clock f None = refl
 some_clock f (Some h) =
-    clock_unless (is_left_out f.minute (is_some f.hour || has_second f)) (is_left_out f.second (is_some f.subsecond)) _
+    clock_unless (is_left_out f.minute (has_second f)) (is_left_out f.second (is_some f.subsecond)) _
 
 -- with a fraction or without
 abbrev clock_with : Bool → Shows → Bool
 clock_with fraction s = (s.hour || (s.hour_12 && s.is_afternoon))
-    && (not (not s.minute && (s.hour || (s.second || fraction))) && not (not s.second && fraction))
+    && (not (not s.minute && (s.second || fraction)) && not (not s.second && fraction))
 
 abbrev clock_known : Shows → Bool
 clock_known s = clock_with (is_some s.subsecond) s
@@ -155,12 +155,12 @@ clock_known s = clock_with (is_some s.subsecond) s
 clock_known_is : (f : Fields) → is_ok (clock_read f) ≡ clock_known (parts f)
 clock_known_is f =
     some_clock f (hour_read f.hour f.hour_12 f.is_afternoon)
-    ∙ ap (λ b. b && (not (is_left_out f.minute (is_some f.hour || has_second f))
+    ∙ ap (λ b. b && (not (is_left_out f.minute (has_second f))
     && not (is_left_out f.second (is_some f.subsecond)))) (some_hour f.hour f.hour_12 f.is_afternoon)
     ∙ ap (λ b. (is_some f.hour || (is_some f.hour_12 && is_some f.is_afternoon))
-    && (not b && not (is_left_out f.second (is_some f.subsecond)))) (left_out f.minute (is_some f.hour || has_second f))
+    && (not b && not (is_left_out f.second (is_some f.subsecond)))) (left_out f.minute (has_second f))
     ∙ ap (λ b. (is_some f.hour || (is_some f.hour_12 && is_some f.is_afternoon))
-    && (not (not (is_some f.minute) && (is_some f.hour || has_second f)) && not b))
+    && (not (not (is_some f.minute) && has_second f) && not b))
     (left_out f.second (is_some f.subsecond))
     ∙ ap (λ b. clock_with b (parts f)) (sym (some_digits f.subsecond))
 

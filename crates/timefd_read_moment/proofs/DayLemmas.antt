@@ -1,5 +1,5 @@
 -- Which date a day is, and which day a date is.
-use Rattle.std.proofs.Common.{ℕ, ◌≡◌, ◌∙◌, ◌+◌, ◌-◌, ◌*◌, ◌/◌, ◌%◌, ◌≤◌, Bool, true, false, nat_lt, Option, Some, None, Err, if◌then◌else◌, refl, sym, ap, arith}
+use Rattle.std.proofs.Common.{ℕ, ◌≡◌, ◌∙◌, ◌+◌, ◌-◌, ◌*◌, ◌/◌, ◌%◌, ◌≤◌, Bool, true, false, nat_lt, Option, Some, None, if◌then◌else◌, refl, sym, ap, arith}
 use Rattle.std.proofs.lemmas.Bool.{le-leb, lt-ltb, ltb-true, ltb-false}
 use Rattle.timefd_moment.specs.declared.date.Date.{Date}
 use Rattle.timefd_moment.specs.declared.time.Time.{Time}
@@ -9,9 +9,8 @@ use Rattle.timefd_moment.specs.Instants.{all_at, count, is_within}
 use Rattle.timefd_moment.specs.Moments.{date_ordinal, day_number, day_second, days_from_monday, days_from_sunday, iso_week, iso_years, monday_week, sunday_week}
 use Rattle.timefd_moment.proofs.CalendarLemmas as calendar
 use Rattle.timefd_moment.proofs.LawLemmas as law
-use Rattle.timefd_read_moment.specs.declared.part.DatePart.{DatePart}
 use Rattle.timefd_read_moment.specs.Dates.{Selects}
-use Rattle.timefd_read_moment.specs.Days.{iso_week_day, known, midnight, monday_week_day, ordinal_day, sunday_week_day}
+use Rattle.timefd_read_moment.specs.Days.{iso_week_day, midnight, monday_week_day, ordinal_day, sunday_week_day}
 
 from_one : (d : Date) → 1 ≤ date_ordinal d
 from_one d = omega (arith, d.exists.4)
@@ -54,21 +53,20 @@ day_of n d t o h =
     (omega (arith, t.hours, t.minutes, t.seconds)) t.nanoseconds (h.0 ∙ counted n)
 
 -- the date that a clock of UTC shows is that of the day
-pub found : (n : ℕ) (part : DatePart) (date : Option Date) (time : Option Time) (offset : Option UtcOffset)
-    → all_at date time offset (midnight n) → Selects (λ d. day_number d ≡ n) (known date part)
-found n part None time offset h = absurd h
-found n part (Some d) None offset h = absurd h
-found n part (Some d) (Some t) None h = absurd h
-found n part (Some d) (Some t) (Some o) h = λ e same. law.one_date d e (day_of n d t o h ∙ sym same)
+pub found : (n : ℕ) (date : Option Date) (time : Option Time) (offset : Option UtcOffset)
+    → all_at date time offset (midnight n) → Selects (λ d. day_number d ≡ n) date
+found n None time offset h = absurd h
+found n (Some d) None offset h = absurd h
+found n (Some d) (Some t) None h = absurd h
+found n (Some d) (Some t) (Some o) h = λ e same. law.one_date d e (day_of n d t o h ∙ sym same)
 
 clash : (b : Bool) → b ≡ false → b ≡ true → ⊥
 clash true e g = absurd cc
 clash false e g = absurd cc
 
 -- a day that no clock shows has no date
-pub unfound : (n : ℕ) (part : DatePart) → is_within (midnight n) ≡ false
-    → Selects (λ d. day_number d ≡ n) (Err part)
-unfound n part out = λ d same.
+pub unfound : (n : ℕ) → is_within (midnight n) ≡ false → Selects (λ d. day_number d ≡ n) None
+unfound n out = λ d same.
     let bounds = within d in
     clash (is_within (midnight n)) out
     (inside n (omega (arith, bounds.0, same)) (omega (arith, bounds.1, same)))

@@ -1,5 +1,5 @@
 -- The instant that was read of a timestamp is that of the moment.
-use Rattle.std.proofs.Common.{ℕ, ◌≡◌, ◌∙◌, ◌+◌, ◌-◌, ◌*◌, ◌/◌, ◌%◌, ◌≤◌, ◌⊎◌, inl, inr, ◌==◌, ◌||◌, Bool, true, false, nat_le, nat_lt, min, Option, Some, None, if◌then◌else◌, refl, sym, ap, subst, arith}
+use Rattle.std.proofs.Common.{ℕ, ◌≡◌, ◌∙◌, ◌+◌, ◌-◌, ◌*◌, ◌/◌, ◌%◌, ◌≤◌, ◌⊎◌, inl, inr, ◌==◌, ◌||◌, Bool, true, false, nat_le, nat_lt, Option, Some, None, if◌then◌else◌, refl, sym, ap, subst, arith}
 use Rattle.std.proofs.Math.Nat.{min-eq_left}
 use Rattle.std.proofs.lemmas.Bool.{eqb-true, leb-true, ltb-true, ltb-false}
 use Rattle.timefd_read_dates.specs.declared.fields.Fields.{Fields}
@@ -9,7 +9,6 @@ use Rattle.timefd_moment.specs.declared.date.Date.{Date}
 use Rattle.timefd_moment.specs.declared.time.Time.{Time}
 use Rattle.timefd_moment.specs.declared.offset.UtcOffset.{UtcOffset}
 use Rattle.timefd_moment.specs.declared.unix_time.UnixTime.{UnixTime}
-use Rattle.timefd_moment.specs.Instants.{count, is_within}
 use Rattle.timefd_moment.specs.Moments.{unix_start, unix_time, utc_nanoseconds, utc_seconds}
 use Rattle.timefd_moment.proofs.LawLemmas.{instant_kept}
 use Rattle.timefd_read_dates.specs.Readings.{same}

@@ -22,7 +22,6 @@ use Rattle.timefd_read_moment.specs.Offsets.{ShiftHas, shift_read}
 use Rattle.timefd_read_moment.specs.Shown.{DateAgrees, OffsetAgrees, TimeAgrees}
 use Rattle.timefd_read_moment.specs.Times as of_time
 use Rattle.timefd_read_moment.specs.Times.{IsTimeByParts, clock_read}
-use Rattle.timefd_read_moment.specs.Stamps.{instant_read}
 use Rattle.timefd_read_moment.specs.Values.{IsDateBy, IsTimeBy}
 use Rattle.timefd_read_moment.specs.Ways.{IsDetermined, date_way}
 use Rattle.timefd_read_moment.proofs.OffsetLemmas.{shift_has}

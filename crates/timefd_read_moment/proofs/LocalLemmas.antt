@@ -1,13 +1,13 @@
 -- What a clock shows of an instant.
 use Rattle.std.proofs.Common.{ℕ, ◌≡◌, ◌∙◌, ◌+◌, ◌-◌, ◌*◌, ◌≤◌, ◌<◌, Bool, true, false, nat_le, nat_lt, Option, Some, None, if◌then◌else◌, refl, arith}
-use Rattle.std.proofs.lemmas.Bool.{le-leb, leb-true, lt-ltb, ltb-true}
+use Rattle.std.proofs.lemmas.Bool.{le-leb, leb-true, lt-ltb}
 use Rattle.timefd_moment.specs.declared.date.Date.{Date}
 use Rattle.timefd_moment.specs.declared.time.Time.{Time}
 use Rattle.timefd_moment.specs.declared.offset.UtcOffset.{UtcOffset}
 use Rattle.timefd_moment.specs.declared.unix_time.UnixTime.{UnixTime}
 use Rattle.timefd_moment.specs.Instants.{all_at, count, is_within}
-use Rattle.timefd_moment.specs.Moments.{day_number, day_second, local_seconds}
-use Rattle.timefd_read_moment.specs.Locals.{IsShownAt, Shows, both_known, on_clock}
+use Rattle.timefd_moment.specs.Moments.{day_second, local_seconds}
+use Rattle.timefd_read_moment.specs.Locals.{IsShownAt, both_known, on_clock}
 use Rattle.timefd_read_moment.proofs.DayLemmas.{within}
 use Rattle.timefd_read_moment.proofs.ShownLemmas.{clash}
 

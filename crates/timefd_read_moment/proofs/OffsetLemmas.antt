@@ -5,8 +5,11 @@ use Rattle.timefd_read_dates.specs.declared.fields.Fields.{Fields}
 use Rattle.timefd_read_dates.specs.declared.fields.Signed.{Signed}
 use Rattle.timefd_read_dates.specs.Readings.{same}
 use Rattle.timefd_moment.specs.declared.offset.UtcOffset.{UtcOffset}
+use Rattle.timefd_read_moment.specs.declared.error.ValueError.TheVariants as error
 use Rattle.timefd_read_moment.specs.declared.part.OffsetPart.{OffsetPart}
+use Rattle.timefd_read_moment.specs.declared.part.Part.TheVariants as part
 use Rattle.timefd_read_moment.specs.declared.offsets.Shift.{Shift}
+use Rattle.timefd_read_moment.specs.Faults.{offset_fault, shift_fault}
 use Rattle.timefd_read_moment.specs.Ways.{IsDetermined}
 use Rattle.timefd_read_moment.specs.Shown.{OffsetAgrees, first_false, is_count_or_zero, is_shown, offset_has, offset_parts}
 use Rattle.timefd_read_moment.specs.Offsets.{HasShift, IsOffsetOf, IsSame, Selects, ShiftHas, shift_at, shift_read}
@@ -89,22 +92,34 @@ otherwise : (f : Fields) (o x : UtcOffset) (p : OffsetPart) → first_false (off
     → IsSame o x → offset_has f x p ≡ false
 otherwise f o x p off same = sym (same_parts f p o x same) ∙ some_false (offset_has f o) offset_parts p off
 
-pub contradicted : (f : Fields) (s : Shift) (o : UtcOffset) (part : Option OffsetPart) (p : OffsetPart)
-    → shift_read f ≡ Ok s → Selects (ShiftHas s) (Ok o) → part ≡ first_false (offset_has f o) offset_parts
-    → part ≡ Some p → IsDetermined (shift_read f) × ((x : UtcOffset) → OffsetAgrees f x → ⊥)
-    × ((x : UtcOffset) → HasShift (shift_read f) x → offset_has f x p ≡ false)
-contradicted f s o part p e one is some =
-    let off = λ (x : UtcOffset) (h : ShiftHas s x). otherwise f o x p (sym is ∙ some) (one x h) in (
-      determined f s e,
-      (λ x a. clash (offset_has f x p) (off x (shift_has f s x e a)) (a p)),
-      (λ x h. off x (subst (λ (r : Result Shift OffsetPart). HasShift r x) e h)),
-    )
+first_of_same : (f : Fields) (o q : UtcOffset) → IsSame o q
+    → first_false (offset_has f o) offset_parts ≡ first_false (offset_has f q) offset_parts
+first_of_same f o q s = λ i. first_false (λ p. same_parts f p o q s i) offset_parts
+
+pub contradicted : (f : Fields) (s : Shift) (o : UtcOffset) (first : Option OffsetPart) (p : OffsetPart)
+    → shift_read f ≡ Ok s → ShiftHas s o → Selects (ShiftHas s) (Ok o)
+    → first ≡ first_false (offset_has f o) offset_parts → first ≡ Some p
+    → IsOffsetOf f (Err (error.Contradiction (part.Offset p)))
+contradicted f s o first p shift has one is some = (
+  determined f s shift,
+  (λ x a.
+      clash (offset_has f x p) (otherwise f o x p (sym is ∙ some) (one x (shift_has f s x shift a))) (a p)),
+  (
+    (λ x h.
+        sym (first_of_same f o x (one x (subst (λ (r : Result Shift OffsetPart). HasShift r x) shift h)))
+        ∙ sym is ∙ some),
+    (λ none. absurd (none o (subst (λ (r : Result Shift OffsetPart). HasShift r o) (sym shift) has))),
+  ),
+)
 
 pub unfound : (f : Fields) (s : Shift) (p : OffsetPart) → shift_read f ≡ Ok s
-    → Selects (ShiftHas s) (Err p) → IsDetermined (shift_read f) × ((x : UtcOffset) → OffsetAgrees f x → ⊥)
-    × ((x : UtcOffset) → HasShift (shift_read f) x → offset_has f x p ≡ false)
-unfound f s p e none = (
-  determined f s e,
-  (λ x a. none x (shift_has f s x e a)),
-  (λ x h. absurd (none x (subst (λ (r : Result Shift OffsetPart). HasShift r x) e h))),
+    → Selects (ShiftHas s) (Err p) → shift_fault s ≡ Some p
+    → IsOffsetOf f (Err (error.Contradiction (part.Offset p)))
+unfound f s p shift none fault = (
+  determined f s shift,
+  (λ x a. none x (shift_has f s x shift a)),
+  (
+    (λ x h. absurd (none x (subst (λ (r : Result Shift OffsetPart). HasShift r x) shift h))),
+    (λ _. ap offset_fault shift ∙ fault),
+  ),
 )

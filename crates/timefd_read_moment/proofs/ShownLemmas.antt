@@ -62,7 +62,7 @@ date_agrees f d e DatePart.IsoYearLastTwo = true_at (date_has f d) date_parts 10
 date_agrees f d e DatePart.IsoCentury = true_at (date_has f d) date_parts 11 e
 date_agrees f d e DatePart.IsoYear = true_at (date_has f d) date_parts 12 e
 
-abbrev dated : (y m n : ℕ) → IsDay y m n → Date
+abbrev pub dated : (y m n : ℕ) → IsDay y m n → Date
 dated y m n h = record { years = y; month = m; day = n; exists = h }
 
 same_numbers : (f : Fields) (y m n : ℕ) (a b : IsDay y m n) (p : DatePart)
@@ -81,16 +81,28 @@ same_numbers f y m n a b DatePart.IsoYearLastTwo = refl
 same_numbers f y m n a b DatePart.IsoCentury = refl
 same_numbers f y m n a b DatePart.IsoYear = refl
 
+-- what is found of the numbers of a date is the same of each that is the same
+pub same_by : (g : Date → Bool)
+    → ((y m n : ℕ) (a b : IsDay y m n) → g (dated y m n a) ≡ g (dated y m n b)) → (e d : Date)
+    → IsSame e d → g e ≡ g d
+same_by g numbers e d s =
+    let day : (b : IsDay e.years e.month d.day) → g e ≡ g (dated e.years e.month d.day b) =
+    subst (λ n. (b : IsDay e.years e.month n) → g e ≡ g (dated e.years e.month n b)) s.2
+    (λ b. numbers e.years e.month e.day e.exists b) in
+    let month : (b : IsDay e.years d.month d.day) → g e ≡ g (dated e.years d.month d.day b) =
+    subst (λ m. (b : IsDay e.years m d.day) → g e ≡ g (dated e.years m d.day b)) s.1 day in
+    let year : (b : IsDay d.years d.month d.day) → g e ≡ g (dated d.years d.month d.day b) =
+    subst (λ y. (b : IsDay y d.month d.day) → g e ≡ g (dated y d.month d.day b)) s.0 month in
+    year d.exists
+
 pub same_parts : (f : Fields) (p : DatePart) (e d : Date) → IsSame e d → date_has f e p ≡ date_has f d p
 same_parts f p e d s =
-    let day : (b : IsDay e.years e.month d.day) → date_has f e p ≡ date_has f (dated e.years e.month d.day b) p =
-    subst (λ n. (b : IsDay e.years e.month n) → date_has f e p ≡ date_has f (dated e.years e.month n b) p) s.2
-    (λ b. same_numbers f e.years e.month e.day e.exists b p) in
-    let month : (b : IsDay e.years d.month d.day) → date_has f e p ≡ date_has f (dated e.years d.month d.day b) p =
-    subst (λ m. (b : IsDay e.years m d.day) → date_has f e p ≡ date_has f (dated e.years m d.day b) p) s.1 day in
-    let year : (b : IsDay d.years d.month d.day) → date_has f e p ≡ date_has f (dated d.years d.month d.day b) p =
-    subst (λ y. (b : IsDay y d.month d.day) → date_has f e p ≡ date_has f (dated y d.month d.day b) p) s.0 month in
-    year d.exists
+    same_by (λ (x : Date). date_has f x p) (λ y m n a b. same_numbers f y m n a b p) e d s
+
+-- and so the first part that is otherwise is the same
+pub first_of_same : (f : Fields) (e d : Date) → IsSame e d
+    → first_false (date_has f e) date_parts ≡ first_false (date_has f d) date_parts
+first_of_same f e d s = λ i. first_false (λ p. same_parts f p e d s i) date_parts
 
 -- the date that was looked at has another value of the part, and so has each that is the same
 pub date_otherwise : (f : Fields) (e d : Date) (p : DatePart)

@@ -1,5 +1,5 @@
 -- What was read of a moment with its timestamp is that moment.
-use Rattle.std.proofs.Common.{ℕ, ◌≡◌, ◌∙◌, ◌+◌, ◌-◌, ◌*◌, ◌⊎◌, inl, inr, Bool, true, false, Option, Some, None, Result, Ok, Err, if◌then◌else◌, refl, sym, ap, subst}
+use Rattle.std.proofs.Common.{ℕ, ◌≡◌, ◌∙◌, ◌+◌, ◌-◌, ◌*◌, inl, inr, Bool, true, false, Option, Some, None, Result, Ok, Err, if◌then◌else◌, refl, sym, ap, subst}
 use Rattle.timefd_read_dates.specs.declared.fields.Fields.{Fields}
 use Rattle.timefd_moment.specs.declared.date.Date.{Date}
 use Rattle.timefd_moment.specs.declared.time.Time.{Time}
@@ -20,13 +20,13 @@ use Rattle.timefd_read_moment.specs.Laws.{Answers}
 use Rattle.timefd_read_moment.specs.Offsets as of_offset
 use Rattle.timefd_read_moment.specs.Offsets.{HasShift}
 use Rattle.timefd_read_moment.specs.StampLaws.{AnswersMoment, AnswersParts, AreThese, InstantBack, IsKnown, IsRead, MomentBack, StampedDateBack, StampedInstantBack, StampedMomentBack, StampedTimeBack}
-use Rattle.timefd_read_moment.specs.Stamped.{IsStamped, moment_has, zone_read}
+use Rattle.timefd_read_moment.specs.Stamped.{IsStamped, moment_has, moment_parts, zone_read}
 use Rattle.timefd_read_moment.specs.Stamps.{instant_read}
 use Rattle.timefd_read_moment.specs.Times as of_time
 use Rattle.timefd_read_moment.specs.Values.{IsDateBy, IsInstantBy, IsInstantByParts, IsMomentBy, IsMomentByParts, IsPart, IsTimeBy}
 use Rattle.timefd_read_moment.proofs.InstantLemmas.{shown_back}
 use Rattle.timefd_read_moment.proofs.LawLemmas.{date_answered, offset_back, one_shift, time_answered}
-use Rattle.timefd_read_moment.proofs.ShownLemmas.{clash}
+use Rattle.timefd_read_moment.proofs.ShownLemmas.{clash, some_false}
 use Rattle.timefd_read_moment.proofs.StampedLemmas.{one_local, unix_at}
 
 one_zone : (r : Result Shift OffsetPart) (o p : UtcOffset) → HasShift r o → HasShift r p → of_offset.IsSame o p
@@ -53,7 +53,8 @@ none_wrong f u d t o (error.Missing (part.Offset p)) e is h =
     subst (λ (r : Result Shift OffsetPart). HasShift r o) h is.1
 none_wrong f u d t o (error.Missing (part.Instant p)) e is h = absurd h
 none_wrong f u d t o (error.Contradiction p) e is h =
-    clash (moment_has f d t o p) (h.1 d t o (shown_back f u d t o e is, is.1)) (is.0 p)
+    clash (moment_has f d t o p)
+    (some_false (moment_has f d t o) moment_parts p (h.1.0 d t o (shown_back f u d t o e is, is.1))) (is.0 p)
 
 date_answered_by : (f : Fields) (u : UnixTime) (d : Date) (t : Time) (o : UtcOffset)
     (r : Result Date ValueError) → instant_read f ≡ Some u → IsRead f d t o → IsDateBy (Some u) f r

@@ -1,13 +1,13 @@
 -- The moment of a timestamp, with all else that was read.
-use Rattle.std.proofs.Common.{ℕ, ◌≡◌, ◌∙◌, ◌+◌, ◌-◌, ◌*◌, ◌≤◌, Bool, true, false, nat_le, nat_lt, Option, Some, None, Result, Ok, Err, if◌then◌else◌, refl, sym, ap, subst, arith}
+use Rattle.std.proofs.Common.{ℕ, ◌≡◌, ◌∙◌, ◌+◌, ◌-◌, ◌*◌, ◌≤◌, Bool, true, false, nat_le, nat_lt, Option, Some, None, Result, Ok, Err, if◌then◌else◌, sym, ap, subst, arith}
 use Rattle.timefd_read_dates.specs.declared.fields.Fields.{Fields}
 use Rattle.timefd_moment.specs.declared.date.Date.{Date}
 use Rattle.timefd_moment.specs.declared.time.Time.{Time}
 use Rattle.timefd_moment.specs.declared.offset.UtcOffset.{UtcOffset}
 use Rattle.timefd_moment.specs.declared.unix_time.UnixTime.{UnixTime}
-use Rattle.timefd_moment.specs.Instants.{count}
 use Rattle.timefd_moment.specs.Moments.{day_number, day_second, hour_of_twelve, local_seconds, unix_start, utc_nanoseconds}
 use Rattle.timefd_moment.proofs.LawLemmas as law
+use Rattle.timefd_read_moment.specs.declared.error.ValueError.TheVariants as error
 use Rattle.timefd_read_moment.specs.declared.offsets.Shift.{Shift}
 use Rattle.timefd_read_moment.specs.declared.part.DatePart.{DatePart}
 use Rattle.timefd_read_moment.specs.declared.part.TimePart.{TimePart}
@@ -16,16 +16,18 @@ use Rattle.timefd_read_moment.specs.declared.part.InstantPart.{InstantPart}
 use Rattle.timefd_read_moment.specs.declared.part.Part.{Part}
 use Rattle.timefd_read_moment.specs.declared.part.Part.TheVariants as part
 use Rattle.timefd_read_moment.specs.Dates as of_date
+use Rattle.timefd_read_moment.specs.Faults.{shift_fault}
 use Rattle.timefd_read_moment.specs.Locals.{IsShownAt, Shows}
 use Rattle.timefd_read_moment.specs.Offsets as of_offset
 use Rattle.timefd_read_moment.specs.Offsets.{HasShift, Selects, ShiftHas}
 use Rattle.timefd_read_moment.specs.Shown.{first_false, is_count, is_flag}
-use Rattle.timefd_read_moment.specs.Stamped.{IsAt, IsOtherwise, MomentAgrees, has_digits, moment_has, moment_parts, stamp_has, time_shows, zone_read}
+use Rattle.timefd_read_moment.specs.Stamped.{IsAt, IsStamped, MomentAgrees, has_digits, moment_has, moment_parts, part_or_stamp, stamp_fault, stamp_has, time_shows, zone_read}
+use Rattle.timefd_read_moment.specs.Stamps.{finest}
 use Rattle.timefd_read_moment.specs.Times as of_time
 use Rattle.timefd_read_moment.specs.Ways.{IsDetermined}
 use Rattle.timefd_read_moment.proofs.OffsetLemmas as offset
 use Rattle.timefd_read_moment.proofs.ShownLemmas as date
-use Rattle.timefd_read_moment.proofs.ShownLemmas.{some_false, true_at}
+use Rattle.timefd_read_moment.proofs.ShownLemmas.{true_at}
 
 determined : (f : Fields) (s : Shift) → zone_read f ≡ Ok s → IsDetermined (zone_read f)
 determined f s e = subst (λ (r : Result Shift OffsetPart). IsDetermined r) (sym e) tt
@@ -142,35 +144,56 @@ agreed f u s d t o p e has shows is none = (
   (shows, subst (λ (r : Result Shift OffsetPart). HasShift r o) (sym e) has),
 )
 
+-- What the clock shows is the same moment, and so the first part that is otherwise.
+first_of_same : (f : Fields) (d e : Date) (t v : Time) (o q : UtcOffset) → of_date.IsSame d e
+    → of_time.IsSame t v → of_offset.IsSame o q → utc_nanoseconds d t o ≡ utc_nanoseconds e v q
+    → first_false (moment_has f d t o) moment_parts ≡ first_false (moment_has f e v q) moment_parts
+first_of_same f d e t v o q x y z h =
+    λ i. first_false (λ p. same_parts f p d e t v o q x y z h i) moment_parts
+
 pub contradicted : (f : Fields) (u : UnixTime) (s : Shift) (d : Date) (t : Time) (o : UtcOffset)
-    (first : Option Part) (p : Part) → zone_read f ≡ Ok s → Selects (ShiftHas s) (Ok o) → Shows u o d t
-    → first ≡ first_false (moment_has f d t o) moment_parts → first ≡ Some p
-    → IsDetermined (zone_read f) × IsOtherwise f u p
-contradicted f u s d t o first p e one shows is some = (
+    (first : Option Part) (p : Part) → zone_read f ≡ Ok s → ShiftHas s o → Selects (ShiftHas s) (Ok o)
+    → Shows u o d t → first ≡ first_false (moment_has f d t o) moment_parts → first ≡ Some p
+    → IsStamped f u (Err (error.Contradiction p))
+contradicted f u s d t o first p e has one shows is some = (
   determined f s e,
-  (λ x v q at.
-      let same = one q (zone_has f s q e at.1) in
-      let instant : utc_nanoseconds d t o ≡ utc_nanoseconds x v q = shows.0 ∙ sym at.0.0 in
-      let local = one_local d x t v o q same instant in
-      sym (same_parts f p d x t v o q local.0 local.1 same instant)
-      ∙ some_false (moment_has f d t o) moment_parts p (sym is ∙ some)),
+  (
+    (λ x v q at.
+        let same = one q (zone_has f s q e at.1) in
+        let instant : utc_nanoseconds d t o ≡ utc_nanoseconds x v q = shows.0 ∙ sym at.0.0 in
+        let local = one_local d x t v o q same instant in
+        sym (first_of_same f d x t v o q local.0 local.1 same instant) ∙ sym is ∙ some),
+    (λ none.
+        absurd (none d t o (shows, subst (λ (r : Result Shift OffsetPart). HasShift r o) (sym e) has))),
+  ),
 )
 
 -- no clock is so far from UTC
 pub unshifted : (f : Fields) (u : UnixTime) (s : Shift) (p : OffsetPart) → zone_read f ≡ Ok s
-    → Selects (ShiftHas s) (Err p) → IsDetermined (zone_read f) × IsOtherwise f u (part.Offset p)
-unshifted f u s p e none =
-    (determined f s e, (λ x v q at. absurd (none q (zone_has f s q e at.1))))
+    → Selects (ShiftHas s) (Err p) → shift_fault s ≡ Some p
+    → IsStamped f u (Err (error.Contradiction (part.Offset p)))
+unshifted f u s p e none fault = (
+  determined f s e,
+  (
+    (λ x v q at. absurd (none q (zone_has f s q e at.1))),
+    (λ _. ap (stamp_fault f) e ∙ ap (λ (q : Option OffsetPart). Some (part_or_stamp f q)) fault),
+  ),
+)
 
 -- the clock shows nothing at the instant
-pub unshown : (f : Fields) (u : UnixTime) (s : Shift) (o : UtcOffset) (p : Part) → zone_read f ≡ Ok s
-    → Selects (ShiftHas s) (Ok o) → IsShownAt u o None → IsDetermined (zone_read f) × IsOtherwise f u p
-unshown f u s o p e one none = (
+pub unshown : (f : Fields) (u : UnixTime) (s : Shift) (o : UtcOffset) (p : InstantPart)
+    → zone_read f ≡ Ok s → Selects (ShiftHas s) (Ok o) → shift_fault s ≡ None → IsShownAt u o None
+    → p ≡ finest f → IsStamped f u (Err (error.Contradiction (part.Instant p)))
+unshown f u s o p e one sound none is = (
   determined f s e,
-  (λ x v q at.
-      let same = one q (zone_has f s q e at.1) in
-      let moved : utc_nanoseconds x v o ≡ utc_nanoseconds x v q = moved_to x v o q same in
-      absurd (none x v (moved ∙ at.0.0, at.0.1))),
+  (
+    (λ x v q at.
+        let same = one q (zone_has f s q e at.1) in
+        let moved : utc_nanoseconds x v o ≡ utc_nanoseconds x v q = moved_to x v o q same in
+        absurd (none x v (moved ∙ at.0.0, at.0.1))),
+    (λ _. ap (stamp_fault f) e ∙ ap (λ (q : Option OffsetPart). Some (part_or_stamp f q)) sound
+        ∙ ap (λ (q : InstantPart). Some (part.Instant q)) (sym is)),
+  ),
 )
   where
     moved_to : (x : Date) (v : Time) (o q : UtcOffset) → of_offset.IsSame o q

@@ -1,13 +1,16 @@
 -- The time of day of fields.
-use Rattle.std.proofs.Common.{ℕ, ◌≡◌, ◌∙◌, ◌+◌, ◌-◌, ◌%◌, ◌≤◌, ◌||◌, Bool, true, false, nat_le, Option, Some, None, Result, Ok, Err, if◌then◌else◌, refl, sym, ap, subst, arith}
+use Rattle.std.proofs.Common.{ℕ, ◌≡◌, ◌∙◌, ◌+◌, ◌%◌, ◌≤◌, Bool, true, false, nat_le, Option, Some, None, Result, Ok, Err, if◌then◌else◌, refl, sym, ap, subst, arith}
 use Rattle.std.proofs.lemmas.Bool.{eqb-true, leb-true, leb-false}
 use Rattle.timefd_read_dates.specs.declared.fields.Fields.{Fields}
 use Rattle.timefd_read_dates.specs.declared.fields.Fraction.{Fraction}
 use Rattle.timefd_read_dates.specs.Readings.{same}
 use Rattle.timefd_moment.specs.declared.time.Time.{Time}
 use Rattle.timefd_moment.specs.Moments.{hour_of_twelve}
+use Rattle.timefd_read_moment.specs.declared.error.ValueError.TheVariants as error
+use Rattle.timefd_read_moment.specs.declared.part.Part.TheVariants as part
 use Rattle.timefd_read_moment.specs.declared.part.TimePart.{TimePart}
 use Rattle.timefd_read_moment.specs.declared.times.Clock.{Clock}
+use Rattle.timefd_read_moment.specs.Faults.{clock_fault, time_fault}
 use Rattle.timefd_read_moment.specs.Ways.{IsDetermined}
 use Rattle.timefd_read_moment.specs.Shown.{TimeAgrees, first_false, is_count, is_count_or_zero, is_flag, is_fraction, time_has, time_parts}
 use Rattle.timefd_read_moment.specs.Times.{ClockHas, HasClock, IsSame, IsTimeByParts, Selects, clock_at, clock_read, has_second, hour_read, is_left_out, nanosecond_read, number}
@@ -67,7 +70,7 @@ clock_is : (f : Fields) (o : Option ℕ) (c : Clock) (t : Time) → clock_at f o
     → TimeAgrees f t → ClockHas c t
 clock_is f None c t e k a = absurd cc
 clock_is f (Some h) c t e k a =
-    let is = numbers f h (is_left_out f.minute (is_some f.hour || has_second f))
+    let is = numbers f h (is_left_out f.minute (has_second f))
     (is_left_out f.second (is_some f.subsecond)) c e in (
       sym is.0 ∙ k,
       sym is.1 ∙ number_is f.minute t.minute (a TimePart.Minute),
@@ -97,22 +100,34 @@ otherwise : (f : Fields) (t x : Time) (p : TimePart) → first_false (time_has f
     → IsSame t x → time_has f x p ≡ false
 otherwise f t x p off same = sym (same_parts f p t x same) ∙ some_false (time_has f t) time_parts p off
 
+first_of_same : (f : Fields) (t u : Time) → IsSame t u
+    → first_false (time_has f t) time_parts ≡ first_false (time_has f u) time_parts
+first_of_same f t u s = λ i. first_false (λ p. same_parts f p t u s i) time_parts
+
 pub contradicted : (f : Fields) (c : Clock) (t : Time) (o : Option TimePart) (p : TimePart)
-    → clock_read f ≡ Ok c → Selects (ClockHas c) (Ok t) → o ≡ first_false (time_has f t) time_parts
-    → o ≡ Some p → IsDetermined (clock_read f) × ((x : Time) → TimeAgrees f x → ⊥)
-    × ((x : Time) → HasClock (clock_read f) x → time_has f x p ≡ false)
-contradicted f c t o p e one is some =
-    let off = λ (x : Time) (h : ClockHas c x). otherwise f t x p (sym is ∙ some) (one x h) in (
-      determined f c e,
-      (λ x a. clash (time_has f x p) (off x (clock_has f c x e a)) (a p)),
-      (λ x h. off x (subst (λ (r : Result Clock TimePart). HasClock r x) e h)),
-    )
+    → clock_read f ≡ Ok c → ClockHas c t → Selects (ClockHas c) (Ok t)
+    → o ≡ first_false (time_has f t) time_parts → o ≡ Some p
+    → IsTimeByParts f (Err (error.Contradiction (part.Time p)))
+contradicted f c t o p clock has one is some = (
+  determined f c clock,
+  (λ x a.
+      clash (time_has f x p) (otherwise f t x p (sym is ∙ some) (one x (clock_has f c x clock a))) (a p)),
+  (
+    (λ x h.
+        sym (first_of_same f t x (one x (subst (λ (r : Result Clock TimePart). HasClock r x) clock h)))
+        ∙ sym is ∙ some),
+    (λ none. absurd (none t (subst (λ (r : Result Clock TimePart). HasClock r t) (sym clock) has))),
+  ),
+)
 
 pub unfound : (f : Fields) (c : Clock) (p : TimePart) → clock_read f ≡ Ok c
-    → Selects (ClockHas c) (Err p) → IsDetermined (clock_read f) × ((x : Time) → TimeAgrees f x → ⊥)
-    × ((x : Time) → HasClock (clock_read f) x → time_has f x p ≡ false)
-unfound f c p e none = (
-  determined f c e,
-  (λ x a. none x (clock_has f c x e a)),
-  (λ x h. absurd (none x (subst (λ (r : Result Clock TimePart). HasClock r x) e h))),
+    → Selects (ClockHas c) (Err p) → clock_fault c ≡ Some p
+    → IsTimeByParts f (Err (error.Contradiction (part.Time p)))
+unfound f c p clock none fault = (
+  determined f c clock,
+  (λ x a. none x (clock_has f c x clock a)),
+  (
+    (λ x h. absurd (none x (subst (λ (r : Result Clock TimePart). HasClock r x) clock h))),
+    (λ _. ap time_fault clock ∙ fault),
+  ),
 )

@@ -1,10 +1,10 @@
 -- A date that agrees with fields has those of their way, and is the only one.
-use Rattle.std.proofs.Common.{ℕ, ◌≡◌, ◌∙◌, ◌+◌, ◌-◌, ◌≤◌, Bool, true, false, nat_le, nat_lt, Option, Some, None, Result, Ok, Err, if◌then◌else◌, sym, ap, subst, arith}
+use Rattle.std.proofs.Common.{ℕ, ◌≡◌, ◌∙◌, ◌+◌, ◌-◌, ◌≤◌, ◌==◌, ◌&&◌, Bool, true, false, nat_le, nat_lt, Option, Some, None, Result, Ok, Err, if◌then◌else◌, refl, sym, ap, subst, arith}
 use Rattle.std.specs.Prelude.{⊤, is_some}
-use Rattle.std.proofs.lemmas.Bool.{eqb-true}
+use Rattle.std.proofs.lemmas.Bool.{eq-eqb, eqb-true}
 use Rattle.timefd_read_dates.specs.declared.fields.Fields.{Fields}
 use Rattle.timefd_moment.specs.declared.date.Date.{Date}
-use Rattle.timefd_moment.specs.Calendar.{days_in_year}
+use Rattle.timefd_moment.specs.Calendar.{IsDay, days_in_year}
 use Rattle.timefd_moment.specs.Moments as of
 use Rattle.timefd_moment.proofs.LawLemmas as law
 use Rattle.timefd_read_moment.specs.declared.part.DatePart.{DatePart}
@@ -12,10 +12,11 @@ use Rattle.timefd_read_moment.specs.declared.way.DateWay.{DateWay}
 use Rattle.timefd_read_moment.specs.declared.way.DateWay.TheVariants as by
 use Rattle.timefd_read_moment.specs.Dates.{IsSame}
 use Rattle.timefd_read_moment.specs.Shown.{DateAgrees, is_count}
-use Rattle.timefd_read_moment.specs.Ways.{WayHas, calendar, date_way, iso_week, lack, monday_week, or_else, ordinal, sunday_week, unless, way_of}
+use Rattle.timefd_read_moment.specs.Ways.{WayHas, calendar, date_way, has_way, iso_week, lack, monday_week, or_else, ordinal, sunday_week, unless, way_of}
 use Rattle.timefd_read_moment.specs.Years.{years_read}
 use Rattle.timefd_read_moment.proofs.DayLemmas as day
-use Rattle.timefd_read_moment.proofs.YearLemmas.{Known, years_known}
+use Rattle.timefd_read_moment.proofs.ShownLemmas.{dated, same_by}
+use Rattle.timefd_read_moment.proofs.YearLemmas.{Known, both, years_known}
 
 abbrev Has : Option DateWay → Date → Type 0
 Has None d = ⊤
@@ -65,9 +66,9 @@ has_first : (a b : Option DateWay) (d : Date) → Has a d → Has b d → Has (o
 has_first (Some w) b d h k = h
 has_first None b d h k = k
 
-has_way : (f : Fields) (years iso_years : Option ℕ) (d : Date) → Known years d.years
+way_of_agreed : (f : Fields) (years iso_years : Option ℕ) (d : Date) → Known years d.years
     → Known iso_years (of.iso_years d) → DateAgrees f d → Has (way_of f years iso_years) d
-has_way f years iso_years d k i a =
+way_of_agreed f years iso_years d k i a =
     let monday = monday_week years f.monday_week f.weekday in
     let sunday = sunday_week years f.sunday_week f.weekday in
     let iso = iso_week iso_years f.iso_week f.weekday in
@@ -107,7 +108,7 @@ way_has f w d e a =
     let years = years_read f.year f.century f.year_last_two in
     let iso_years = years_read f.iso_year f.iso_century f.iso_year_last_two in
     chosen (lack f (is_some years) (is_some iso_years)) (way_of f years iso_years) w d e
-    (has_way f years iso_years d
+    (way_of_agreed f years iso_years d
     (years_known f.year f.century f.year_last_two d.years (omega (arith, d.exists.1)) (a DatePart.Year)
     (a DatePart.Century) (a DatePart.YearLastTwo))
     (years_known f.iso_year f.iso_century f.iso_year_last_two (of.iso_years d) (iso_within d)
@@ -124,3 +125,56 @@ one_way (by.SundayWeek y w n) d e h k =
     law.one_date d e (day.sunday y w n d h.0 h.1 h.2 ∙ sym (day.sunday y w n e k.0 k.1 k.2))
 one_way (by.MondayWeek y w n) d e h k =
     law.one_date d e (day.monday y w n d h.0 h.1 h.2 ∙ sym (day.monday y w n e k.0 k.1 k.2))
+
+-- the test of the fields of a way
+
+pub has_fields : (w : DateWay) (d : Date) → has_way w d ≡ true → WayHas w d
+has_fields (by.Calendar y m n) d e =
+    let h = both ((y == d.years) && (m == d.month)) (n == d.day) e in
+    let k = both (y == d.years) (m == d.month) h.0 in
+    (eqb-true y d.years k.0, eqb-true m d.month k.1, eqb-true n d.day h.1)
+has_fields (by.Ordinal y n) d e =
+    let h = both (y == d.years) (n == of.date_ordinal d) e in
+    (eqb-true y d.years h.0, eqb-true n (of.date_ordinal d) h.1)
+has_fields (by.IsoWeek y w n) d e =
+    let h = both ((y == of.iso_years d) && (w == of.iso_week d)) (n == of.days_from_monday d) e in
+    let k = both (y == of.iso_years d) (w == of.iso_week d) h.0 in
+    (eqb-true y (of.iso_years d) k.0, eqb-true w (of.iso_week d) k.1, eqb-true n (of.days_from_monday d) h.1)
+has_fields (by.SundayWeek y w n) d e =
+    let h = both ((y == d.years) && (w == of.sunday_week d)) (n == of.days_from_monday d) e in
+    let k = both (y == d.years) (w == of.sunday_week d) h.0 in
+    (eqb-true y d.years k.0, eqb-true w (of.sunday_week d) k.1, eqb-true n (of.days_from_monday d) h.1)
+has_fields (by.MondayWeek y w n) d e =
+    let h = both ((y == d.years) && (w == of.monday_week d)) (n == of.days_from_monday d) e in
+    let k = both (y == d.years) (w == of.monday_week d) h.0 in
+    (eqb-true y d.years k.0, eqb-true w (of.monday_week d) k.1, eqb-true n (of.days_from_monday d) h.1)
+
+all_of : (a b : Bool) → a ≡ true → b ≡ true → (a && b) ≡ true
+all_of true b e g = g
+all_of false b e g = absurd cc
+
+pub fields_had : (w : DateWay) (d : Date) → WayHas w d → has_way w d ≡ true
+fields_had (by.Calendar y m n) d h =
+    all_of _ _ (all_of _ _ (eq-eqb y d.years h.0) (eq-eqb m d.month h.1)) (eq-eqb n d.day h.2)
+fields_had (by.Ordinal y n) d h =
+    all_of _ _ (eq-eqb y d.years h.0) (eq-eqb n (of.date_ordinal d) h.1)
+fields_had (by.IsoWeek y w n) d h =
+    all_of _ _ (all_of _ _ (eq-eqb y (of.iso_years d) h.0) (eq-eqb w (of.iso_week d) h.1))
+    (eq-eqb n (of.days_from_monday d) h.2)
+fields_had (by.SundayWeek y w n) d h =
+    all_of _ _ (all_of _ _ (eq-eqb y d.years h.0) (eq-eqb w (of.sunday_week d) h.1))
+    (eq-eqb n (of.days_from_monday d) h.2)
+fields_had (by.MondayWeek y w n) d h =
+    all_of _ _ (all_of _ _ (eq-eqb y d.years h.0) (eq-eqb w (of.monday_week d) h.1))
+    (eq-eqb n (of.days_from_monday d) h.2)
+
+same_fields : (w : DateWay) (y m n : ℕ) (a b : IsDay y m n)
+    → has_way w (dated y m n a) ≡ has_way w (dated y m n b)
+same_fields (by.Calendar x k l) y m n a b = refl
+same_fields (by.Ordinal x k) y m n a b = refl
+same_fields (by.IsoWeek x k l) y m n a b = refl
+same_fields (by.SundayWeek x k l) y m n a b = refl
+same_fields (by.MondayWeek x k l) y m n a b = refl
+
+pub same_way : (w : DateWay) (e d : Date) → IsSame e d → has_way w e ≡ has_way w d
+same_way w e d s = same_by (has_way w) (same_fields w) e d s

@@ -1,5 +1,5 @@
 -- The date of the fields of a date.
-use Rattle.std.specs.Prelude.{◌≡◌, IsFalse, Result, Ok, Err}
+use Rattle.std.specs.Prelude.{◌≡◌, Option, Some, None, Result, Ok, Err}
 use Rattle.timefd_read_dates.specs.declared.fields.Fields.{Fields}
 use Rattle.timefd_moment.specs.declared.date.Date.{Date}
 use Rattle.timefd_read_moment.specs.declared.error.ValueError.{ValueError}
@@ -8,16 +8,17 @@ use Rattle.timefd_read_moment.specs.declared.part.DatePart.{DatePart}
 use Rattle.timefd_read_moment.specs.declared.way.DateWay.{DateWay}
 use Rattle.timefd_read_moment.specs.declared.part.Part.{Part}
 use Rattle.timefd_read_moment.specs.declared.part.Part.TheVariants as part
-use Rattle.timefd_read_moment.specs.Shown.{DateAgrees, date_has}
+use Rattle.timefd_read_moment.specs.Faults.{IsNamed, date_fault}
+use Rattle.timefd_read_moment.specs.Shown.{DateAgrees, date_has, date_parts, first_false}
 use Rattle.timefd_read_moment.specs.Ways.{IsDetermined, WayHas, date_way}
 
 abbrev pub IsSame : Date → Date → Type 0
 IsSame d e = (d.years ≡ e.years) × (d.month ≡ e.month) × (d.day ≡ e.day)
 
--- the one date of this kind; where there is none, a part that none has
-abbrev pub Selects : (Date → Type 0) → Result Date DatePart → Type 0
-Selects Is (Ok e) = (d : Date) → Is d → IsSame e d
-Selects Is (Err part) = (d : Date) → Is d → ⊥
+-- No date but this one is of the kind.
+abbrev pub Selects : (Date → Type 0) → Option Date → Type 0
+Selects Is (Some e) = (d : Date) → Is d → IsSame e d
+Selects Is None = (d : Date) → Is d → ⊥
 
 abbrev pub IsMissing : Fields → Part → Type 0
 IsMissing f (part.Date p) = date_way f ≡ Err p
@@ -30,17 +31,19 @@ abbrev pub HasWay : Result DateWay DatePart → Date → Type 0
 HasWay (Ok w) d = WayHas w d
 HasWay (Err p) d = ⊥
 
--- what has the fields that determine one has another value of this part
-abbrev pub IsOtherwise : Fields → Part → Type 0
-IsOtherwise f (part.Date p) = (d : Date) → HasWay (date_way f) d → IsFalse (date_has f d p)
-IsOtherwise f (part.Time p) = ⊥
-IsOtherwise f (part.Offset p) = ⊥
-IsOtherwise f (part.Instant p) = ⊥
+-- The first part that the date of these fields has otherwise. Where no date has them, the part that makes
+-- it so.
+abbrev pub IsAtFault : Fields → Part → Type 0
+IsAtFault f (part.Date p) =
+    IsNamed (HasWay (date_way f)) (λ d. first_false (date_has f d) date_parts) (date_fault f (date_way f)) p
+IsAtFault f (part.Time p) = ⊥
+IsAtFault f (part.Offset p) = ⊥
+IsAtFault f (part.Instant p) = ⊥
 
 -- The date that has all that was read, where that determines one. Else what was not read is told, or that
--- no date has all of it, and a part that is otherwise.
+-- no date has all of it, and the part at fault.
 abbrev pub IsDateByParts : Fields → Result Date ValueError → Type 0
 IsDateByParts f (Ok d) = DateAgrees f d × IsDetermined (date_way f)
 IsDateByParts f (Err (error.Missing part)) = IsMissing f part
 IsDateByParts f (Err (error.Contradiction p)) =
-    IsDetermined (date_way f) × ((d : Date) → DateAgrees f d → ⊥) × IsOtherwise f p
+    IsDetermined (date_way f) × ((d : Date) → DateAgrees f d → ⊥) × IsAtFault f p

@@ -1,10 +1,8 @@
 -- Days, counted from 1 January of the year -1,000,000 on.
-use Rattle.std.specs.Prelude.{ℕ, ◌+◌, ◌-◌, ◌*◌, ◌%◌, true, false, nat_lt, if◌then◌else◌, Option, Some, None, Result, Ok, Err}
-use Rattle.timefd_moment.specs.declared.date.Date.{Date}
+use Rattle.std.specs.Prelude.{ℕ, ◌+◌, ◌-◌, ◌*◌, ◌%◌, true, false, nat_lt, if◌then◌else◌}
 use Rattle.timefd_moment.specs.declared.unix_time.UnixTime.{UnixTime}
 use Rattle.timefd_moment.specs.Calendar.{days_of_years, weekday_of_day}
 use Rattle.timefd_moment.specs.Laws.{first_monday}
-use Rattle.timefd_read_moment.specs.declared.part.DatePart.{DatePart}
 
 abbrev pub ordinal_day : ℕ → ℕ → ℕ
 ordinal_day years place = days_of_years years + place - 1
@@ -36,7 +34,3 @@ midnight day = if nat_lt day 365962028 then (record {
   is_negative = false;
   nanoseconds = (day - 365962028) * (86400 * 1000000000);
 })
-
-abbrev pub known : Option Date → DatePart → Result Date DatePart
-known None part = Err part
-known (Some d) part = Ok d

@@ -1,6 +1,7 @@
 pub mod Shown
 pub mod Years
 pub mod Ways
+pub mod Faults
 pub mod Days
 pub mod Dates
 pub mod Times

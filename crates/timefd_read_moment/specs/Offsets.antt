@@ -1,5 +1,5 @@
 -- The offset from UTC of fields.
-use Rattle.std.specs.Prelude.{◌≡◌, ◌⊎◌, ◌/◌, ◌%◌, if◌then◌else◌, Option, Some, None, is_some, IsFalse, Result, Ok, Err}
+use Rattle.std.specs.Prelude.{◌≡◌, ◌⊎◌, ◌/◌, ◌%◌, if◌then◌else◌, Option, Some, None, is_some, Result, Ok, Err}
 use Rattle.timefd_read_dates.specs.declared.fields.Fields.{Fields}
 use Rattle.timefd_read_dates.specs.declared.fields.Signed.{Signed}
 use Rattle.timefd_moment.specs.declared.offset.UtcOffset.{UtcOffset}
@@ -9,7 +9,8 @@ use Rattle.timefd_read_moment.specs.declared.part.OffsetPart.{OffsetPart}
 use Rattle.timefd_read_moment.specs.declared.part.Part.{Part}
 use Rattle.timefd_read_moment.specs.declared.part.Part.TheVariants as part
 use Rattle.timefd_read_moment.specs.declared.offsets.Shift.{Shift}
-use Rattle.timefd_read_moment.specs.Shown.{OffsetAgrees, offset_has}
+use Rattle.timefd_read_moment.specs.Faults.{IsNamed, offset_fault}
+use Rattle.timefd_read_moment.specs.Shown.{OffsetAgrees, first_false, offset_has, offset_parts}
 use Rattle.timefd_read_moment.specs.Ways.{IsDetermined}
 use Rattle.timefd_read_moment.specs.Times.{is_left_out, number}
 
@@ -52,17 +53,20 @@ abbrev pub HasShift : Result Shift OffsetPart → UtcOffset → Type 0
 HasShift (Ok s) o = ShiftHas s o
 HasShift (Err p) o = ⊥
 
--- what has the fields that determine one has another value of this part
-abbrev pub IsOtherwise : Fields → Part → Type 0
-IsOtherwise f (part.Date p) = ⊥
-IsOtherwise f (part.Time p) = ⊥
-IsOtherwise f (part.Offset p) = (o : UtcOffset) → HasShift (shift_read f) o → IsFalse (offset_has f o p)
-IsOtherwise f (part.Instant p) = ⊥
+-- The first part that the offset of these numbers has otherwise. Where no offset has them, the first that
+-- none has.
+abbrev pub IsAtFault : Fields → Part → Type 0
+IsAtFault f (part.Date p) = ⊥
+IsAtFault f (part.Time p) = ⊥
+IsAtFault f (part.Offset p) =
+    IsNamed (HasShift (shift_read f)) (λ o. first_false (offset_has f o) offset_parts)
+    (offset_fault (shift_read f)) p
+IsAtFault f (part.Instant p) = ⊥
 
 -- The offset that has all that was read, where that determines one. Else what was not read is told, or
--- that no offset has all of it, and a part that is otherwise.
+-- that no offset has all of it, and the part at fault.
 abbrev pub IsOffsetOf : Fields → Result UtcOffset ValueError → Type 0
 IsOffsetOf f (Ok o) = OffsetAgrees f o × IsDetermined (shift_read f)
 IsOffsetOf f (Err (error.Missing p)) = IsMissing f p
 IsOffsetOf f (Err (error.Contradiction p)) =
-    IsDetermined (shift_read f) × ((o : UtcOffset) → OffsetAgrees f o → ⊥) × IsOtherwise f p
+    IsDetermined (shift_read f) × ((o : UtcOffset) → OffsetAgrees f o → ⊥) × IsAtFault f p

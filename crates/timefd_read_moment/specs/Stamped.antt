@@ -1,5 +1,5 @@
 -- The moment of a timestamp, with all else that was read.
-use Rattle.std.specs.Prelude.{ℕ, ◌≡◌, ◌+◌, ◌/◌, ◌==◌, Bool, true, false, List, [], ◌∷◌, nat_le, if◌then◌else◌, Option, Some, None, IsFalse, IsTrue, Result, Ok, Err}
+use Rattle.std.specs.Prelude.{ℕ, ◌≡◌, ◌+◌, ◌/◌, ◌==◌, Bool, true, false, List, [], ◌∷◌, nat_le, if◌then◌else◌, Option, Some, None, IsTrue, Result, Ok, Err}
 use Rattle.timefd_read_dates.specs.declared.fields.Fields.{Fields}
 use Rattle.timefd_read_dates.specs.declared.fields.Fraction.{Fraction}
 use Rattle.timefd_read_dates.specs.Readings.{unit}
@@ -18,10 +18,12 @@ use Rattle.timefd_read_moment.specs.declared.part.InstantPart.{InstantPart}
 use Rattle.timefd_read_moment.specs.declared.part.Part.{Part}
 use Rattle.timefd_read_moment.specs.declared.part.Part.TheVariants as part
 use Rattle.timefd_read_moment.specs.declared.stamped.Stamped.{Stamped}
+use Rattle.timefd_read_moment.specs.Faults.{shift_fault}
 use Rattle.timefd_read_moment.specs.Known.{has_offset}
 use Rattle.timefd_read_moment.specs.Locals.{Shows}
 use Rattle.timefd_read_moment.specs.Offsets.{HasShift, shift_read}
-use Rattle.timefd_read_moment.specs.Shown.{date_has, is_count, is_flag, is_shown, offset_has}
+use Rattle.timefd_read_moment.specs.Shown.{date_has, first_false, is_count, is_flag, is_shown, offset_has}
+use Rattle.timefd_read_moment.specs.Stamps.{finest}
 use Rattle.timefd_read_moment.specs.Ways.{IsDetermined}
 
 -- whole seconds, rounded down
@@ -99,14 +101,28 @@ IsMissing f (part.Time p) = ⊥
 IsMissing f (part.Offset p) = zone_read f ≡ Err p
 IsMissing f (part.Instant p) = ⊥
 
--- what the clock shows at the instant has another value of this part
-abbrev pub IsOtherwise : Fields → UnixTime → Part → Type 0
-IsOtherwise f u p = (d : Date) (t : Time) (o : UtcOffset) → IsAt f u d t o
-    → IsFalse (moment_has f d t o p)
+-- Where no clock shows anything at the instant: the offset, where none has these numbers; else the
+-- timestamp, which lies outside the years.
+
+abbrev pub part_or_stamp : Fields → Option OffsetPart → Part
+part_or_stamp f (Some p) = part.Offset p
+part_or_stamp f None = part.Instant (finest f)
+
+abbrev pub stamp_fault : Fields → Result Shift OffsetPart → Option Part
+stamp_fault f (Ok s) = Some (part_or_stamp f (shift_fault s))
+stamp_fault f (Err p) = None
+
+-- The first part that what the clock shows at the instant has otherwise. Where it shows nothing, the part
+-- that makes it so.
+abbrev pub IsAtFault : Fields → UnixTime → Part → Type 0
+IsAtFault f u p =
+    ((d : Date) (t : Time) (o : UtcOffset) → IsAt f u d t o
+    → first_false (moment_has f d t o) moment_parts ≡ Some p)
+    × (((d : Date) (t : Time) (o : UtcOffset) → IsAt f u d t o → ⊥) → stamp_fault f (zone_read f) ≡ Some p)
 
 -- What the clock shows at the instant has all that was read. Else an offset is wanted, or that what the
--- clock shows is otherwise in a part.
+-- clock shows is otherwise, and the part at fault.
 abbrev pub IsStamped : Fields → UnixTime → Result Stamped ValueError → Type 0
 IsStamped f u (Ok s) = MomentAgrees f s.date s.time s.offset × IsAt f u s.date s.time s.offset
 IsStamped f u (Err (error.Missing p)) = IsMissing f p
-IsStamped f u (Err (error.Contradiction p)) = IsDetermined (zone_read f) × IsOtherwise f u p
+IsStamped f u (Err (error.Contradiction p)) = IsDetermined (zone_read f) × IsAtFault f u p

@@ -1,5 +1,5 @@
 -- The time of day of the fields of a time of day.
-use Rattle.std.specs.Prelude.{ℕ, ◌≡◌, ◌+◌, ◌%◌, Bool, false, ◌||◌, if◌then◌else◌, Option, Some, None, is_some, IsFalse, Result, Ok, Err}
+use Rattle.std.specs.Prelude.{ℕ, ◌≡◌, ◌+◌, ◌%◌, Bool, false, ◌||◌, if◌then◌else◌, Option, Some, None, is_some, Result, Ok, Err}
 use Rattle.timefd_read_dates.specs.declared.fields.Fields.{Fields}
 use Rattle.timefd_read_dates.specs.declared.fields.Fraction.{Fraction}
 use Rattle.timefd_moment.specs.declared.time.Time.{Time}
@@ -9,7 +9,8 @@ use Rattle.timefd_read_moment.specs.declared.part.TimePart.{TimePart}
 use Rattle.timefd_read_moment.specs.declared.part.Part.{Part}
 use Rattle.timefd_read_moment.specs.declared.part.Part.TheVariants as part
 use Rattle.timefd_read_moment.specs.declared.times.Clock.{Clock}
-use Rattle.timefd_read_moment.specs.Shown.{TimeAgrees, time_has}
+use Rattle.timefd_read_moment.specs.Faults.{IsNamed, time_fault}
+use Rattle.timefd_read_moment.specs.Shown.{TimeAgrees, first_false, time_has, time_parts}
 use Rattle.timefd_read_moment.specs.Ways.{IsDetermined}
 
 abbrev pub hour_by_period : Option ℕ → Option Bool → Option ℕ
@@ -43,10 +44,10 @@ abbrev pub is_left_out : Option ℕ → Bool → Bool
 is_left_out None is_finer_read = is_finer_read
 is_left_out (Some n) is_finer_read = false
 
--- Nothing is read without what is coarser. An hour of twelve and its period alone are a whole hour.
+-- Nothing is read without what is coarser. An hour alone is a whole hour.
 abbrev pub clock_from : Fields → ℕ → Result Clock TimePart
 clock_from f h =
-    if is_left_out f.minute (is_some f.hour || has_second f) then Err TimePart.Minute
+    if is_left_out f.minute (has_second f) then Err TimePart.Minute
     else (if is_left_out f.second (is_some f.subsecond) then Err TimePart.Second else Ok (record {
       hour = h;
       minute = number f.minute;
@@ -86,17 +87,19 @@ abbrev pub HasClock : Result Clock TimePart → Time → Type 0
 HasClock (Ok c) t = ClockHas c t
 HasClock (Err p) t = ⊥
 
--- what has the fields that determine one has another value of this part
-abbrev pub IsOtherwise : Fields → Part → Type 0
-IsOtherwise f (part.Date p) = ⊥
-IsOtherwise f (part.Time p) = (t : Time) → HasClock (clock_read f) t → IsFalse (time_has f t p)
-IsOtherwise f (part.Offset p) = ⊥
-IsOtherwise f (part.Instant p) = ⊥
+-- The first part that the time of these numbers has otherwise. Where no time has them, the first that none
+-- has.
+abbrev pub IsAtFault : Fields → Part → Type 0
+IsAtFault f (part.Date p) = ⊥
+IsAtFault f (part.Time p) =
+    IsNamed (HasClock (clock_read f)) (λ t. first_false (time_has f t) time_parts) (time_fault (clock_read f)) p
+IsAtFault f (part.Offset p) = ⊥
+IsAtFault f (part.Instant p) = ⊥
 
 -- The time that has all that was read, where that determines one. Else what was not read is told, or that
--- no time has all of it, and a part that is otherwise.
+-- no time has all of it, and the part at fault.
 abbrev pub IsTimeByParts : Fields → Result Time ValueError → Type 0
 IsTimeByParts f (Ok t) = TimeAgrees f t × IsDetermined (clock_read f)
 IsTimeByParts f (Err (error.Missing p)) = IsMissing f p
 IsTimeByParts f (Err (error.Contradiction p)) =
-    IsDetermined (clock_read f) × ((t : Time) → TimeAgrees f t → ⊥) × IsOtherwise f p
+    IsDetermined (clock_read f) × ((t : Time) → TimeAgrees f t → ⊥) × IsAtFault f p

@@ -1,5 +1,5 @@
 -- The ways in which fields determine a date.
-use Rattle.std.specs.Prelude.{ℕ, ◌≡◌, Bool, ◌||◌, if◌then◌else◌, Option, Some, None, is_some, Result, Ok, Err, ⊤}
+use Rattle.std.specs.Prelude.{ℕ, ◌≡◌, ◌==◌, ◌&&◌, Bool, ◌||◌, if◌then◌else◌, Option, Some, None, is_some, Result, Ok, Err, ⊤}
 use Rattle.timefd_read_dates.specs.declared.fields.Fields.{Fields}
 use Rattle.timefd_moment.specs.declared.date.Date.{Date}
 use Rattle.timefd_moment.specs.Moments as of
@@ -93,6 +93,18 @@ way_years (by.Ordinal y n) = y
 way_years (by.IsoWeek y w d) = y
 way_years (by.SundayWeek y w d) = y
 way_years (by.MondayWeek y w d) = y
+
+-- a date has these fields, as a test
+
+abbrev pub has_way : DateWay → Date → Bool
+has_way (by.Calendar y m n) d = ((y == d.years) && (m == d.month)) && (n == d.day)
+has_way (by.Ordinal y n) d = (y == d.years) && (n == of.date_ordinal d)
+has_way (by.IsoWeek y w n) d =
+    ((y == of.iso_years d) && (w == of.iso_week d)) && (n == of.days_from_monday d)
+has_way (by.SundayWeek y w n) d =
+    ((y == d.years) && (w == of.sunday_week d)) && (n == of.days_from_monday d)
+has_way (by.MondayWeek y w n) d =
+    ((y == d.years) && (w == of.monday_week d)) && (n == of.days_from_monday d)
 
 -- a date has these fields
 abbrev pub WayHas : DateWay → Date → Type 0

@@ -8,11 +8,12 @@ ghost use Rattle.timefd_read_moment.specs.declared.way.DateWay.TheVariants as by
 
 use crate::day::{date_of_day, iso_week_day, monday_week_day, ordinal_day, sunday_week_day};
 use crate::error::ValueError;
-use crate::part::{DatePart, Part};
+use crate::fault::way_fault;
+use crate::part::Part;
 use crate::shown::date_contradiction;
 use crate::stamp::instant_read;
 use crate::stamped::of_stamp;
-use crate::way::{DateWay, date_way};
+use crate::way::{DateWay, date_way, has_way};
 use crate::year::at_most;
 use timefd_moment::Date;
 use timefd_read_dates::Fields;
@@ -50,51 +51,55 @@ fn compared(fields: &Fields, way: DateWay) -> Result<Date, ValueError>
     ensures { IsDateByParts fields.now result }
 {
     match date_in(way) {
-        Ok(date) => match date_contradiction(fields, date) {
+        Some(date) => match date_contradiction(fields, date) {
             None => Ok(date),
-            Some(part) => Err(ValueError::Contradiction(Part::Date(part))),
+            Some(part) => {
+                if has_way(way, date) {
+                    Err(ValueError::Contradiction(Part::Date(part)))
+                } else {
+                    Err(ValueError::Contradiction(Part::Date(way_fault(fields, way))))
+                }
+            }
         },
-        Err(part) => Err(ValueError::Contradiction(Part::Date(part))),
+        None => Err(ValueError::Contradiction(Part::Date(way_fault(fields, way)))),
     }
 }
 
-/// The date that has the fields of a way.
-fn date_in(way: DateWay) -> Result<Date, DatePart>
+/// The date that has the fields of a way, where one has.
+fn date_in(way: DateWay) -> Option<Date>
     requires { way_years way ≤ 2000000 }
     ensures { Selects (WayHas way) result }
 {
     match way {
         DateWay::Calendar { years, month, day } => calendar_date(years, month, day),
-        DateWay::Ordinal { years, ordinal } => {
-            date_of_day(ordinal_day(years, ordinal), DatePart::Ordinal)
-        }
+        DateWay::Ordinal { years, ordinal } => date_of_day(ordinal_day(years, ordinal)),
         DateWay::IsoWeek {
             years,
             week,
             weekday,
-        } => date_of_day(iso_week_day(years, week, weekday), DatePart::IsoWeek),
+        } => date_of_day(iso_week_day(years, week, weekday)),
         DateWay::SundayWeek {
             years,
             week,
             weekday,
-        } => date_of_day(sunday_week_day(years, week, weekday), DatePart::SundayWeek),
+        } => date_of_day(sunday_week_day(years, week, weekday)),
         DateWay::MondayWeek {
             years,
             week,
             weekday,
-        } => date_of_day(monday_week_day(years, week, weekday), DatePart::MondayWeek),
+        } => date_of_day(monday_week_day(years, week, weekday)),
     }
 }
 
-fn calendar_date(years: u32, month: u16, day: u16) -> Result<Date, DatePart>
+fn calendar_date(years: u32, month: u16, day: u16) -> Option<Date>
     requires { years ≤ 2000000 }
     ensures { Selects (WayHas (by.Calendar years month day)) result }
 {
     let month = at_most(month as u128, 255) as u8;
     let day = at_most(day as u128, 255) as u8;
     match Date::from_calendar_date(signed_year(years), month, day) {
-        Ok(date) => Ok(date),
-        Err(_) => Err(DatePart::Day),
+        Ok(date) => Some(date),
+        Err(_) => None,
     }
 }
 

@@ -6,7 +6,6 @@ ghost use Rattle.timefd_moment.specs.Moments.{day_number};
 ghost use Rattle.timefd_read_moment.specs.Dates.{Selects};
 ghost use Rattle.timefd_read_moment.specs.Days as spec;
 
-use crate::part::DatePart;
 use timefd_moment::{Date, Moment, UnixTime};
 
 /// How many days lie before a year.
@@ -81,22 +80,13 @@ fn midnight(day: u32) -> UnixTime
     }
 }
 
-/// The date of a day. Where no year from -999,999 to 999,999 has it, the `Err` is the part given.
-pub(crate) fn date_of_day(day: u32, part: DatePart) -> Result<Date, DatePart>
+/// The date of a day, where a year from -999,999 to 999,999 has it.
+pub(crate) fn date_of_day(day: u32) -> Option<Date>
     requires { day ≤ 800000000 }
     ensures { Selects (λ d. day_number d ≡ day) result }
 {
     match Moment::from_unix(midnight(day)) {
-        Ok(moment) => known(moment.date, part),
-        Err(_) => Err(part),
-    }
-}
-
-fn known(date: Option<Date>, part: DatePart) -> Result<Date, DatePart>
-    ensures { result ≡ spec.known date part }
-{
-    match date {
-        Some(date) => Ok(date),
-        None => Err(part),
+        Ok(moment) => moment.date,
+        Err(_) => None,
     }
 }

@@ -12,7 +12,8 @@ use std::fmt;
 pub enum ValueError {
     /// The fields determine no value: this was not read.
     Missing(Part),
-    /// No value has all that was read. This is one part that disagrees with others.
+    /// No value has all that was read. This is the first part that the value which the fields determine
+    /// has otherwise; or the part that makes it so that there is none.
     Contradiction(Part),
 }
 

@@ -8,6 +8,7 @@ mod dates;
 mod day;
 mod days;
 mod error;
+mod fault;
 mod instants;
 mod known;
 pub mod laws;

@@ -1,6 +1,7 @@
 //! The offset from UTC of fields.
 
 ghost use Rattle.std.specs.Prelude.{◌≡◌, Ok, IfOk};
+ghost use Rattle.timefd_read_moment.specs.Faults.{fault_of, shift_fault};
 ghost use Rattle.timefd_read_moment.specs.Offsets as spec;
 ghost use Rattle.timefd_read_moment.specs.Offsets.{IsOffsetOf, Selects};
 
@@ -45,10 +46,11 @@ fn compared(fields: &Fields, shift: Shift) -> Result<UtcOffset, ValueError>
     }
 }
 
-/// The offset of these numbers.
+/// The offset of these numbers. An `Err` is the first that none has.
 pub(crate) fn offset_of(shift: Shift) -> Result<UtcOffset, OffsetPart>
     ensures found { IfOk result (λ offset. spec.ShiftHas shift offset) }
     ensures one { Selects (spec.ShiftHas shift) result }
+    ensures fault { shift_fault shift ≡ fault_of result }
 {
     if shift.hour > 25 {
         return Err(OffsetPart::Hour);

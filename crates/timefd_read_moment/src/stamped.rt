@@ -1,6 +1,7 @@
 //! The moment of a timestamp, with all else that was read.
 
-ghost use Rattle.std.specs.Prelude.{◌≡◌, Ok};
+ghost use Rattle.std.specs.Prelude.{◌≡◌, None, Ok};
+ghost use Rattle.timefd_read_moment.specs.Faults.{shift_fault};
 ghost use Rattle.timefd_read_moment.specs.Locals.{Shows};
 ghost use Rattle.timefd_read_moment.specs.Offsets.{Selects, ShiftHas};
 ghost use Rattle.timefd_read_moment.specs.Stamped as spec;
@@ -54,6 +55,7 @@ fn at_offset(
     requires zone { spec.zone_read fields.now ≡ Ok shift }
     requires found { ShiftHas shift offset }
     requires one { Selects (ShiftHas shift) (Ok offset) }
+    requires sound { shift_fault shift ≡ None }
     ensures { IsStamped fields.now unix result }
 {
     match shown_at(unix, offset) {

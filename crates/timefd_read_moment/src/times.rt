@@ -1,6 +1,7 @@
 //! The time of day of fields.
 
-ghost use Rattle.std.specs.Prelude.{◌≡◌, Ok};
+ghost use Rattle.std.specs.Prelude.{◌≡◌, Ok, IfOk};
+ghost use Rattle.timefd_read_moment.specs.Faults.{clock_fault, fault_of};
 ghost use Rattle.timefd_read_moment.specs.Times as spec;
 ghost use Rattle.timefd_read_moment.specs.Times.{IsTimeByParts, Selects};
 ghost use Rattle.timefd_read_moment.specs.Values.{IsTimeOf};
@@ -22,11 +23,10 @@ pub(crate) struct Clock {
     nanosecond: u128,
 }
 
-/// The time of day that has all that was read. It is determined by the hour, or the hour of twelve
-/// and the period, and the minute. Seconds and their digits that were not read are 0, and behind an
-/// hour of twelve minutes too. With a timestamp it is that of the [`moment`](crate::moment). An `Err`
-/// tells what was not read, or that no time has all that was read. It stands for `Time::try_from` of
-/// `Parsed` of `time`.
+/// The time of day that has all that was read. It is determined by the hour, or by the hour of twelve
+/// and the period. Minutes, seconds and their digits that were not read are 0, unless something finer
+/// was. With a timestamp it is that of the [`moment`](crate::moment). An `Err` tells what was not read,
+/// or that no time has all that was read. It stands for `Time::try_from` of `Parsed` of `time`.
 pub fn time(fields: &Fields) -> Result<Time, ValueError>
     ensures { IsTimeOf fields.now result }
 {
@@ -62,9 +62,11 @@ fn compared(fields: &Fields, clock: Clock) -> Result<Time, ValueError>
     }
 }
 
-/// The time of day of these numbers.
+/// The time of day of these numbers. An `Err` is the first that none has.
 fn time_of(clock: Clock) -> Result<Time, TimePart>
-    ensures { Selects (spec.ClockHas clock) result }
+    ensures found { IfOk result (λ time. spec.ClockHas clock time) }
+    ensures one { Selects (spec.ClockHas clock) result }
+    ensures fault { clock_fault clock ≡ fault_of result }
 {
     if clock.hour > 23 {
         return Err(TimePart::Hour);
@@ -130,7 +132,7 @@ fn lack_of_hour(fields: &Fields) -> TimePart
 fn clock_from(fields: &Fields, hour: u16) -> Result<Clock, TimePart>
     ensures { result ≡ spec.clock_from fields.now hour }
 {
-    if is_left_out(fields.minute, fields.hour.is_some() || has_second(fields)) {
+    if is_left_out(fields.minute, has_second(fields)) {
         return Err(TimePart::Minute);
     }
     if is_left_out(fields.second, fields.subsecond.is_some()) {

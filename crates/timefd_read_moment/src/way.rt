@@ -3,8 +3,10 @@
 ghost use Rattle.std.specs.Prelude.{◌≡◌, ◌≤◌, IfOk, IfSome};
 ghost use Rattle.timefd_read_moment.specs.Ways as spec;
 
+use crate::days;
 use crate::part::DatePart;
 use crate::year::years_read;
+use timefd_moment::Date;
 use timefd_read_dates::Fields;
 
 /// The fields that determine a date. Years are counted from the year -1,000,000 on, and weekdays
@@ -156,5 +158,46 @@ fn lack_of_year(fields: &Fields) -> DatePart
         DatePart::Century
     } else {
         DatePart::Year
+    }
+}
+
+/// Whether a date has the fields of a way.
+pub(crate) fn has_way(way: DateWay, date: Date) -> bool
+    ensures { result ≡ spec.has_way way date }
+{
+    match way {
+        DateWay::Calendar { years, month, day } => {
+            years == date.years && month == date.month as u16 && day == date.day as u16
+        }
+        DateWay::Ordinal { years, ordinal } => {
+            years == date.years && ordinal as u32 == days::ordinal(date)
+        }
+        DateWay::IsoWeek {
+            years,
+            week,
+            weekday,
+        } => {
+            years == days::iso_years(date)
+                && week as u32 == days::iso_week(date)
+                && weekday as u32 == days::weekday(date)
+        }
+        DateWay::SundayWeek {
+            years,
+            week,
+            weekday,
+        } => {
+            years == date.years
+                && week as u32 == days::sunday_week(date)
+                && weekday as u32 == days::weekday(date)
+        }
+        DateWay::MondayWeek {
+            years,
+            week,
+            weekday,
+        } => {
+            years == date.years
+                && week as u32 == days::monday_week(date)
+                && weekday as u32 == days::weekday(date)
+        }
     }
 }

@@ -3,7 +3,7 @@ use Rattle.std.proofs.Common.{ℕ, ◌≡◌, ◌≢◌, true, false, inl, inr, 
 use Rattle.std.specs.Prelude.{IsUtf8, Option, None, Some}
 use Rattle.timefd_component.specs.Tree.{Text}
 use Rattle.timefd_fault.specs.declared.invalid_format_description.InvalidFormatDescription.{InvalidFormatDescription}
-use Rattle.timefd_fault.specs.Faults.{fault_of}
+use Rattle.timefd_fault.specs.Faults.{Fault, fault_of}
 use Rattle.timefd_language.specs.declared.parse_error.ParseError.{ParseError}
 use Rattle.timefd_language.specs.declared.parse_error.ParseError.TheVariants.{Invalid}
 use Rattle.timefd_rewrite.specs.declared.layout.Layout.{Layout}
@@ -11,10 +11,11 @@ use Rattle.timefd_rewrite.specs.Layouts.{IsConverted, IsRefusal, IsRefusedFor}
 use Rattle.timefd_rewrite.proofs.RewriteLemmas.{refused_for}
 use Rattle.timefd_sources.specs.declared.description.Description.{Description}
 use Rattle.timefd_sources.specs.Written.{IsBodyFor, has_body}
+use Rattle.timefd_lint_sources.specs.Items.{HoldsItem, taking}
 use Rattle.timefd_lint_sources.specs.Judged.{text_of}
 use Rattle.timefd_rewrite_sources.specs.declared.answer.Answer.TheVariants.{Stays}
 use Rattle.timefd_rewrite_sources.specs.declared.change.Change.{Change}
-use Rattle.timefd_rewrite_sources.specs.declared.outcome.Outcome.TheVariants.{PassedOver, Same, Refused, NotText, NotALiteral, ByHand}
+use Rattle.timefd_rewrite_sources.specs.declared.outcome.Outcome.TheVariants.{PassedOver, Same, Refused, WithItems, NotText, NotALiteral, ByHand}
 use Rattle.timefd_rewrite_sources.specs.Changes.{layout_of, new_digit}
 use Rattle.timefd_rewrite_sources.specs.Written.{Becoming, IsAnswer, IsAnew, IsChange, IsLaidOutBy, is_sayable, line_ends, old_line_ends}
 
@@ -43,22 +44,27 @@ becoming change d layout text answer same by is = record {
   converted = subst (λ (t : Text). IsConverted layout t answer) same is;
 }
 
-pub refused : (change : Change) (source : Text) (d : Description) (layout : Layout) (text : Text) (e : ParseError)
-    (f : InvalidFormatDescription) → IsLaidOutBy change d layout → text ≡ text_of d → IsUtf8 text → e ≡ Invalid f
-    → IsRefusal layout text e → IsAnswer change source d (Stays Refused)
-refused change source d layout text e f by same utf8 which is =
-    let for : IsRefusedFor layout text (fault_of f) =
-    refused_for layout text f (subst (λ (x : ParseError). IsRefusal layout text x) which is) in (
-      refl,
-      (
-        subst (λ (x : Text). IsUtf8 x) same utf8,
-        (
-          layout,
-          by,
-          (fault_of f, subst (λ (x : Text). IsRefusedFor layout x (fault_of f)) same for),
-        ),
-      ),
-    )
+pub is_refused : (layout : Layout) (text : Text) (e : ParseError) (f : InvalidFormatDescription) → e ≡ Invalid f
+    → IsRefusal layout text e → (g : Fault) × IsRefusedFor layout text g
+is_refused layout text e f which is =
+    (fault_of f, refused_for layout text f (subst (λ (x : ParseError). IsRefusal layout text x) which is))
+
+pub refused : (change : Change) (source : Text) (d : Description) (layout : Layout) (text : Text)
+    → IsLaidOutBy change d layout → text ≡ text_of d → IsUtf8 text → ((g : Fault) × IsRefusedFor layout text g)
+    → (HoldsItem (taking d.items d.dialect) text → ⊥) → IsAnswer change source d (Stays Refused)
+refused change source d layout text by same utf8 (g, for) none = (
+  refl,
+  (
+    subst (λ (x : Text). IsUtf8 x) same utf8,
+    (layout, by, (g, subst (λ (x : Text). IsRefusedFor layout x g) same for)),
+    subst (λ (x : Text). HoldsItem (taking d.items d.dialect) x → ⊥) same none,
+  ),
+)
+
+pub with_items : (change : Change) (source : Text) (d : Description) (text : Text) → text ≡ text_of d
+    → HoldsItem (taking d.items d.dialect) text → IsAnswer change source d (Stays WithItems)
+with_items change source d text same holds =
+    (refl, subst (λ (x : Text). HoldsItem (taking d.items d.dialect) x) same holds)
 
 pub by_hand : (change : Change) (source : Text) (d : Description) (answer : Text) (digit : Option ℕ)
     → Becoming change d answer → digit ≡ new_digit change d.dialect → is_sayable d.version digit ≡ false

@@ -21,7 +21,7 @@ use Rattle.timefd_rewrite_sources.specs.declared.answer.Anew.{Anew}
 use Rattle.timefd_rewrite_sources.specs.declared.answer.Answer.{Answer}
 use Rattle.timefd_rewrite_sources.specs.declared.answer.Answer.TheVariants.{Stays, Becomes}
 use Rattle.timefd_rewrite_sources.specs.declared.outcome.Outcome.{Outcome}
-use Rattle.timefd_rewrite_sources.specs.declared.outcome.Outcome.TheVariants.{PassedOver, Same, Rewritten, Refused, NotText, NotALiteral, ByHand}
+use Rattle.timefd_rewrite_sources.specs.declared.outcome.Outcome.TheVariants.{PassedOver, Same, Rewritten, Refused, WithItems, NotText, NotALiteral, ByHand}
 use Rattle.timefd_rewrite_sources.specs.declared.change.Change.{Change}
 use Rattle.timefd_rewrite_sources.specs.Written.{AddsRewritten, AreRewritten, IsAnew, IsAnswer, IsOutcome, IsPlaced, IsPut, IsRenumbered, IsReplaced, IsRespelled, IsSaidAnew, IsSpliced, Puts, Renumbers, Replaces, argument, can_say, is_rewriting, is_sayable, items_of}
 
@@ -215,6 +215,7 @@ stays_placed source from d PassedOver e = (refl, refl)
 stays_placed source from d Same e = (refl, refl)
 stays_placed source from d Rewritten e = absurd cc
 stays_placed source from d Refused e = (refl, refl)
+stays_placed source from d WithItems e = (refl, refl)
 stays_placed source from d NotText e = (refl, refl)
 stays_placed source from d NotALiteral e = (refl, refl)
 stays_placed source from d ByHand e = (refl, refl)
@@ -322,6 +323,8 @@ ends_within source d from next Rewritten digit body front stands behind placed =
     (renumbered_within source d from placed.middle digit placed.first stands behind placed.renumbered)
     placed.respelled
 ends_within source d from next Refused digit body front stands behind placed =
+    omega (arith, placed.1, stands.between.end_inside.behind, stands.between.end_inside.before)
+ends_within source d from next WithItems digit body front stands behind placed =
     omega (arith, placed.1, stands.between.end_inside.behind, stands.between.end_inside.before)
 ends_within source d from next NotText digit body front stands behind placed =
     omega (arith, placed.1, stands.between.end_inside.behind, stands.between.end_inside.before)

@@ -13,6 +13,7 @@ use Rattle.timefd_sources.specs.Found.{AllStandIn, AreDescriptionsOf, AreInOrder
 use Rattle.timefd_sources.specs.Literals.{body_end, inside}
 use Rattle.timefd_sources.specs.Versions.{digit_of}
 use Rattle.timefd_sources.specs.Written.{IsBodyFor, has_body}
+use Rattle.timefd_lint_sources.specs.Items.{HoldsItem, taking}
 use Rattle.timefd_lint_sources.specs.Judged.{text_of}
 use Rattle.timefd_rewrite_sources.specs.declared.answer.Answer.{Answer}
 use Rattle.timefd_rewrite_sources.specs.declared.answer.Answer.TheVariants.{Stays, Becomes}
@@ -20,7 +21,7 @@ use Rattle.timefd_rewrite_sources.specs.declared.answer.Anew.{Anew}
 use Rattle.timefd_rewrite_sources.specs.declared.change.Change.{Change}
 use Rattle.timefd_rewrite_sources.specs.declared.source.NewSource.{NewSource}
 use Rattle.timefd_rewrite_sources.specs.declared.outcome.Outcome.{Outcome}
-use Rattle.timefd_rewrite_sources.specs.declared.outcome.Outcome.TheVariants.{PassedOver, Same, Rewritten, Refused, NotText, NotALiteral, ByHand}
+use Rattle.timefd_rewrite_sources.specs.declared.outcome.Outcome.TheVariants.{PassedOver, Same, Rewritten, Refused, WithItems, NotText, NotALiteral, ByHand}
 use Rattle.timefd_rewrite_sources.specs.Changes.{layout_of, new_digit}
 
 abbrev pub is_rewriting : Outcome → Bool
@@ -28,6 +29,7 @@ is_rewriting PassedOver = false
 is_rewriting Same = false
 is_rewriting Rewritten = true
 is_rewriting Refused = false
+is_rewriting WithItems = false
 is_rewriting NotText = false
 is_rewriting NotALiteral = false
 is_rewriting ByHand = false
@@ -37,6 +39,7 @@ is_refusing PassedOver = false
 is_refusing Same = false
 is_refusing Rewritten = false
 is_refusing Refused = true
+is_refusing WithItems = false
 is_refusing NotText = true
 is_refusing NotALiteral = true
 is_refusing ByHand = false
@@ -103,6 +106,10 @@ pub record IsAnew (change : Change) (source : Text) (d : Description) (digit : O
   pub body_of : IsBodyOf source d answer body
   pub changes : IsChange digit body
 
+-- Its place takes an item for which `parse` refuses it.
+abbrev pub HasItem : Description → Type 0
+HasItem d = HoldsItem (taking d.items d.dialect) (text_of d)
+
 -- What came of a description, and the digit and the body that it has then if it is rewritten.
 abbrev pub IsOutcome : Change → Text → Description → Outcome → Option ℕ → Option Text → Type 0
 IsOutcome change source d PassedOver digit body = layout_of change d.dialect (text_of d) ≡ None
@@ -110,6 +117,8 @@ IsOutcome change source d Same digit body = Becoming change d (text_of d) × (ne
 IsOutcome change source d Rewritten digit body = IsAnew change source d digit body
 IsOutcome change source d Refused digit body = IsUtf8 (text_of d)
     × ((layout : Layout) × IsLaidOutBy change d layout × ((f : Fault) × IsRefusedFor layout (text_of d) f))
+    × (HasItem d → ⊥)
+IsOutcome change source d WithItems digit body = HasItem d
 IsOutcome change source d NotText digit body = (¬ IsUtf8 (text_of d)) × ((layout : Layout) × IsLaidOutBy change d layout)
 IsOutcome change source d NotALiteral digit body =
     (answer : Text) × Becoming change d answer × (answer ≢ text_of d) × IsUnwritable source d answer
@@ -179,6 +188,7 @@ IsPlaced source from d PassedOver digit body front next = (front ≡ []) × (nex
 IsPlaced source from d Same digit body front next = (front ≡ []) × (next ≡ from)
 IsPlaced source from d Rewritten digit body front next = IsPut source from d digit body front next
 IsPlaced source from d Refused digit body front next = (front ≡ []) × (next ≡ from)
+IsPlaced source from d WithItems digit body front next = (front ≡ []) × (next ≡ from)
 IsPlaced source from d NotText digit body front next = (front ≡ []) × (next ≡ from)
 IsPlaced source from d NotALiteral digit body front next = (front ≡ []) × (next ≡ from)
 IsPlaced source from d ByHand digit body front next = (front ≡ []) × (next ≡ from)

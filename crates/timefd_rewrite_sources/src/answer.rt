@@ -2,7 +2,8 @@
 
 ghost use Rattle.std.specs.Prelude.{◌≡◌, ◌≢◌, IfOk, IsTrue, IsUtf8, None};
 ghost use Rattle.timefd_lint_sources.specs.Judged.{text_of};
-ghost use Rattle.timefd_rewrite.specs.Layouts.{IsConverted};
+ghost use Rattle.timefd_fault.specs.Faults.{Fault};
+ghost use Rattle.timefd_rewrite.specs.Layouts.{IsConverted, IsRefusedFor};
 ghost use Rattle.timefd_rewrite_sources.specs.Changes as changes;
 ghost use Rattle.timefd_rewrite_sources.specs.Written.{Becoming, IsAnswer, IsLaidOutBy, is_sayable, line_ends, old_line_ends};
 ghost use Rattle.timefd_rewrite_sources.specs.Written as spec;
@@ -11,6 +12,7 @@ use crate::change::{Change, layout_of, new_digit};
 use crate::outcome::Outcome;
 use std::alloc::{AllocError, Global};
 use std::str;
+use timefd_lint_sources::holds_item;
 use timefd_parse::ParseError;
 use timefd_rewrite::{Layout, lay_out};
 use timefd_sources::{Description, VersionPlace, body_alike, inside};
@@ -54,7 +56,7 @@ pub fn answer_to(
 }
 
 // What a description that is this text becomes in this layout.
-#[tactic(auto, using(crate::proofs::AnswerLemmas::becoming, crate::proofs::AnswerLemmas::refused))]
+#[tactic(auto, using(crate::proofs::AnswerLemmas::becoming))]
 fn laid_out(
     alloc: Global,
     change: Change,
@@ -69,8 +71,30 @@ fn laid_out(
 {
     match lay_out(alloc, layout, text) {
         Ok(answer) => becoming(alloc, change, source, description, text, answer.as_str()),
-        Err(ParseError::Invalid(_)) => Ok(Answer::Stays(Outcome::Refused)),
+        Err(ParseError::Invalid(_)) => refused(alloc, change, layout, source, description, text),
         Err(ParseError::Memory(error)) => Err(error),
+    }
+}
+
+// Why a description that is this text stays, which is refused in this layout.
+#[tactic(auto, using(crate::proofs::AnswerLemmas::refused, crate::proofs::AnswerLemmas::with_items))]
+fn refused(
+    alloc: Global,
+    change: Change,
+    layout: Layout,
+    source: &str,
+    description: &Description,
+    text: &str,
+) -> Result<Answer, AllocError>
+    requires layout { IsLaidOutBy change description.now layout }
+    requires text { text.now ≡ text_of description.now }
+    requires refused { (f : Fault) × IsRefusedFor layout text.now f }
+    ensures { IfOk result (IsAnswer change source.now description.now) }
+{
+    if holds_item(alloc, description, text)? {
+        Ok(Answer::Stays(Outcome::WithItems))
+    } else {
+        Ok(Answer::Stays(Outcome::Refused))
     }
 }
 

@@ -15,6 +15,9 @@ pub enum Outcome {
     Rewritten,
     /// Its language refuses it, also mended as far as may be, and it stays as it is.
     Refused,
+    /// It has `[optional ..]` or `[first ..]`, which its place takes and no conversion of its version does,
+    /// and stays as it is.
+    WithItems,
     /// It is no UTF-8, and stays as it is.
     NotText,
     /// No literal of its kind stands for what it is mended or converted to, as a raw one can't hold what
@@ -34,6 +37,7 @@ impl Outcome {
             Outcome::PassedOver
             | Outcome::Same
             | Outcome::Refused
+            | Outcome::WithItems
             | Outcome::NotText
             | Outcome::NotALiteral
             | Outcome::ByHand => false,
@@ -46,7 +50,11 @@ impl Outcome {
     {
         match self {
             Outcome::Refused | Outcome::NotText | Outcome::NotALiteral => true,
-            Outcome::PassedOver | Outcome::Same | Outcome::Rewritten | Outcome::ByHand => false,
+            Outcome::PassedOver
+            | Outcome::Same
+            | Outcome::Rewritten
+            | Outcome::WithItems
+            | Outcome::ByHand => false,
         }
     }
 }

@@ -1,11 +1,13 @@
 -- What a bracket tells of a token in it: whether it is a description, of which language, and where that is said.
-use Rattle.std.specs.Prelude.{ℕ, ◌+◌, ◌-◌, Bool, true, false, ◌&&◌, ◌||◌, nat_eq, nat_le, if◌then◌else◌, List, codes, bytes_eq, Option, Some, None}
+use Rattle.std.specs.Prelude.{ℕ, ◌+◌, ◌-◌, Bool, true, false, not, ◌&&◌, ◌||◌, nat_eq, nat_le, if◌then◌else◌, List, codes, bytes_eq, Option, Some, None}
 use Rattle.std.specs.List.{slice_get}
 use Rattle.timefd_sources.specs.declared.calls.Argument.{Argument}
 use Rattle.timefd_sources.specs.declared.calls.Argument.TheVariants as arguments
 use Rattle.timefd_sources.specs.declared.calls.Call.{Call}
-use Rattle.timefd_sources.specs.declared.calls.Call.TheVariants.{Macro, First, Second, Format, Other}
+use Rattle.timefd_sources.specs.declared.calls.Call.TheVariants.{Macro, First, Owned, Second, Format, Other}
 use Rattle.timefd_sources.specs.declared.calls.Frame.{Frame}
+use Rattle.timefd_sources.specs.declared.told.Items.{Items}
+use Rattle.timefd_sources.specs.declared.told.Items.TheVariants.{Taken, Refused}
 use Rattle.timefd_sources.specs.declared.told.Told.{Told}
 use Rattle.timefd_sources.specs.declared.dialect.Dialect.{Dialect}
 use Rattle.timefd_sources.specs.declared.dialect.Dialect.TheVariants.{One, Chrono}
@@ -46,13 +48,22 @@ digit_of_piece (Some p) = places.Digit p.start
 abbrev pub digit_before : List Piece → ℕ → ℕ → VersionPlace
 digit_before ps i back = if nat_le back i then digit_of_piece (slice_get ps (i - back)) else places.Elsewhere
 
--- Where a macro says the version of its description: in front of it, if it is the only argument but that.
+-- the first byte of the token that stands so many after one
+abbrev pub digit_after : List Piece → ℕ → ℕ → VersionPlace
+digit_after ps i ahead = digit_of_piece (slice_get ps (i + ahead))
+
+-- A module follows the version: `version = 2, mod m, T, ".."`
+abbrev pub says_module : Text → List Piece → ℕ → Bool
+says_module source ps opening = bytes_eq (text_behind source ps opening 5) (codes "mod")
+
+-- Where a macro says the version of its description, the last argument: nowhere where that is the only one;
+-- after `version = ` where it comes next, or where the macro makes a module of it.
 abbrev pub macro_place : Text → List Piece → ℕ → ℕ → VersionPlace
 macro_place source ps opening i =
-    if is_last source ps i then
-    (if nat_eq i (opening + 1) then places.Unsaid
-    else if says_version source ps opening && nat_eq i (opening + 5) then digit_before ps i 2
-    else places.Call)
+    if not (is_last source ps i) then places.Call
+    else if nat_eq i (opening + 1) then places.Unsaid
+    else if not (says_version source ps opening) then places.Call
+    else if nat_eq i (opening + 5) || says_module source ps opening then digit_after ps opening 3
     else places.Call
 
 -- Where another call says it: `parse_borrowed::<2>(`
@@ -67,6 +78,9 @@ dialect_by Macro argument version = version
 dialect_by (First dialect) arguments.First version = Some dialect
 dialect_by (First dialect) arguments.Second version = None
 dialect_by (First dialect) arguments.Later version = None
+dialect_by (Owned dialect) arguments.First version = Some dialect
+dialect_by (Owned dialect) arguments.Second version = None
+dialect_by (Owned dialect) arguments.Later version = None
 dialect_by (Second dialect) arguments.First version = None
 dialect_by (Second dialect) arguments.Second version = Some dialect
 dialect_by (Second dialect) arguments.Later version = None
@@ -85,6 +99,7 @@ dialect_in source ps i frame =
 abbrev pub version_place : Text → List Piece → ℕ → Frame → Call → VersionPlace
 version_place source ps i frame Macro = macro_place source ps frame.opened i
 version_place source ps i frame (First dialect) = call_place source ps frame.opened
+version_place source ps i frame (Owned dialect) = call_place source ps frame.opened
 version_place source ps i frame (Second dialect) = places.Elsewhere
 version_place source ps i frame Format = places.Elsewhere
 version_place source ps i frame Other = places.Elsewhere
@@ -93,14 +108,25 @@ version_place source ps i frame Other = places.Elsewhere
 abbrev pub wants_percent : Call → Bool
 wants_percent Macro = false
 wants_percent (First dialect) = false
+wants_percent (Owned dialect) = false
 wants_percent (Second dialect) = false
 wants_percent Format = true
 wants_percent Other = false
+
+-- The macro and `parse_owned` take `[optional ..]` and `[first ..]` in versions 1 and 2.
+abbrev pub items_in : Call → Items
+items_in Macro = Taken
+items_in (First dialect) = Refused
+items_in (Owned dialect) = Taken
+items_in (Second dialect) = Refused
+items_in Format = Refused
+items_in Other = Refused
 
 abbrev pub told_of : Text → List Piece → ℕ → Frame → Option Dialect → Option Told
 told_of source ps i frame None = None
 told_of source ps i frame (Some dialect) = Some (record {
   dialect = dialect;
+  items = items_in frame.call;
   version = version_place source ps i frame frame.call;
   wants_percent = wants_percent frame.call;
 })

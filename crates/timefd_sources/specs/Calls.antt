@@ -1,7 +1,7 @@
 -- Calls that make descriptions of their arguments.
 use Rattle.std.specs.Prelude.{ℕ, Bool, ◌&&◌, ◌||◌, if◌then◌else◌, List, codes, bytes_eq, Option, Some, None}
 use Rattle.timefd_sources.specs.declared.calls.Call.{Call}
-use Rattle.timefd_sources.specs.declared.calls.Call.TheVariants.{Macro, First, Second, Format, Other}
+use Rattle.timefd_sources.specs.declared.calls.Call.TheVariants.{Macro, First, Owned, Second, Format, Other}
 use Rattle.timefd_sources.specs.declared.dialect.Dialect.{Dialect}
 use Rattle.timefd_sources.specs.declared.dialect.Dialect.TheVariants.{One, Strftime, Chrono}
 use Rattle.timefd_sources.specs.declared.piece.Piece.{Piece}
@@ -17,6 +17,10 @@ macro_named name = if bytes_eq name (codes "format_description") then Macro else
 abbrev pub takes_version : Text → Bool
 takes_version name = bytes_eq name (codes "parse_borrowed") || bytes_eq name (codes "parse_owned")
 
+-- `parse_owned` keeps its description, which may hold items that the others refuse.
+abbrev pub parser_named : Text → Dialect → Call
+parser_named name dialect = if bytes_eq name (codes "parse_owned") then Owned dialect else First dialect
+
 abbrev pub is_of_strftime : Text → Bool
 is_of_strftime name =
     bytes_eq name (codes "parse_strftime_borrowed") || bytes_eq name (codes "parse_strftime_owned")
@@ -26,7 +30,7 @@ is_of_chrono name = bytes_eq name (codes "parse_from_str") || bytes_eq name (cod
 
 abbrev pub call_named : Text → Call
 call_named name =
-    if takes_version name then First One
+    if takes_version name then parser_named name One
     else if is_of_strftime name then First Strftime
     else if is_of_chrono name then Second Chrono
     else Other
@@ -41,9 +45,9 @@ call_in_module name path =
     if bytes_eq name (codes "parse") && bytes_eq path (codes "format_description") then First One
     else call_named name
 
-abbrev pub first_by : Option Dialect → Call
-first_by None = Other
-first_by (Some dialect) = First dialect
+abbrev pub parser_by : Text → Option Dialect → Call
+parser_by name None = Other
+parser_by name (Some dialect) = parser_named name dialect
 
 -- `::<2>(`
 abbrev pub is_turbofish : Text → List Piece → ℕ → Bool
@@ -55,7 +59,7 @@ is_turbofish source ps i = bytes_eq (text_before source ps i 3) (codes "<")
 abbrev pub call_with_version : Text → List Piece → ℕ → Call
 call_with_version source ps i =
     if is_turbofish source ps i && takes_version (text_before source ps i 6) then
-    first_by (version_named (text_before source ps i 2))
+    parser_by (text_before source ps i 6) (version_named (text_before source ps i 2))
     else Other
 
 abbrev pub is_behind_path : Text → List Piece → ℕ → Bool

@@ -8,6 +8,7 @@ use Rattle.timefd_sources.specs.declared.candidate.Candidate.{Candidate}
 use Rattle.timefd_sources.specs.declared.dialect.Dialect.{Dialect}
 use Rattle.timefd_sources.specs.declared.marks.Mark.{Mark}
 use Rattle.timefd_sources.specs.declared.piece.Piece.{Piece}
+use Rattle.timefd_sources.specs.declared.told.Items.TheVariants.{Refused}
 use Rattle.timefd_sources.specs.declared.told.Told.{Told}
 use Rattle.timefd_sources.specs.declared.token.Kind.{Kind}
 use Rattle.timefd_sources.specs.declared.token.Token.{Token}
@@ -48,7 +49,7 @@ significant ps = flat_map kept ps
 -- what a comment tells of a literal
 abbrev pub by_comment : Option Dialect → Option Told
 by_comment None = None
-by_comment (Some dialect) = Some (record { dialect = dialect; version = Elsewhere; wants_percent = false })
+by_comment (Some dialect) = Some (record { dialect = dialect; items = Refused; version = Elsewhere; wants_percent = false })
 
 abbrev pub candidate_from : Piece → Option Kind → Option Told → Option Candidate
 candidate_from p None told = None

@@ -57,6 +57,7 @@ pub record IsDescription (source : Text) (c : Candidate) (t : Placed) (d : Descr
   pub piece : d.piece ≡ c.piece
   pub kind : d.kind ≡ c.kind
   pub dialect : d.dialect ≡ c.told.dialect
+  pub items : d.items ≡ c.told.items
   pub said : IsSaid source c.piece c.told.dialect d.version
   pub kept : IsSaid source c.piece c.told.dialect c.told.version → d.version ≡ c.told.version
   pub text : placed d.unescaped ≡ t

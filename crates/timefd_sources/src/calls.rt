@@ -14,6 +14,8 @@ pub enum Call {
     Macro,
     /// The first is a description.
     First(Dialect),
+    /// The first is one that is kept: it may hold `[optional ..]` and `[first ..]`.
+    Owned(Dialect),
     /// The second is one.
     Second(Dialect),
     /// The first is a description of chrono if it holds a `%`: `format` is a common name.
@@ -102,6 +104,17 @@ fn takes_version(name: &[u8]) -> bool
     is(name, "parse_borrowed") || is(name, "parse_owned")
 }
 
+/// The call of a parser that takes a version, with a description of this language.
+fn parser_named(name: &[u8], dialect: Dialect) -> Call
+    ensures { result ≡ spec.parser_named name.now dialect }
+{
+    if is(name, "parse_owned") {
+        Call::Owned(dialect)
+    } else {
+        Call::First(dialect)
+    }
+}
+
 fn is_of_strftime(name: &[u8]) -> bool
     ensures { result ≡ spec.is_of_strftime name.now }
 {
@@ -118,7 +131,7 @@ fn call_named(name: &[u8]) -> Call
     ensures { result ≡ spec.call_named name.now }
 {
     if takes_version(name) {
-        Call::First(Dialect::One)
+        parser_named(name, Dialect::One)
     } else if is_of_strftime(name) {
         Call::First(Dialect::Strftime)
     } else if is_of_chrono(name) {
@@ -136,11 +149,11 @@ fn is_turbofish(source: &[u8], pieces: &[Piece], opening: usize) -> bool
         && is(text_before(source, pieces, opening, 5), ":")
 }
 
-fn first_by(dialect: Option<Dialect>) -> Call
-    ensures { result ≡ spec.first_by dialect }
+fn parser_by(name: &[u8], dialect: Option<Dialect>) -> Call
+    ensures { result ≡ spec.parser_by name.now dialect }
 {
     match dialect {
-        Some(dialect) => Call::First(dialect),
+        Some(dialect) => parser_named(name, dialect),
         None => Call::Other,
     }
 }
@@ -149,10 +162,9 @@ fn first_by(dialect: Option<Dialect>) -> Call
 fn call_with_version(source: &[u8], pieces: &[Piece], opening: usize) -> Call
     ensures { result ≡ spec.call_with_version source.now pieces.now opening }
 {
-    if is_turbofish(source, pieces, opening)
-        && takes_version(text_before(source, pieces, opening, 6))
-    {
-        first_by(version_named(text_before(source, pieces, opening, 2)))
+    let name = text_before(source, pieces, opening, 6);
+    if is_turbofish(source, pieces, opening) && takes_version(name) {
+        parser_by(name, version_named(text_before(source, pieces, opening, 2)))
     } else {
         Call::Other
     }

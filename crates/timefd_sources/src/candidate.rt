@@ -7,7 +7,7 @@ use crate::calls::Frame;
 use crate::dialect::Dialect;
 use crate::piece::Piece;
 use crate::token::{Kind, Token};
-use crate::told::{Told, told_in};
+use crate::told::{Items, Told, told_in};
 use crate::version::VersionPlace;
 use std::alloc::{AllocError, Global};
 
@@ -78,6 +78,7 @@ fn by_comment(dialect: Option<Dialect>) -> Option<Told>
     match dialect {
         Some(dialect) => Some(Told {
             dialect,
+            items: Items::Refused,
             version: VersionPlace::Elsewhere,
             wants_percent: false,
         }),

@@ -16,6 +16,7 @@ use crate::marks::{Mark, marks_of, still_open, told_at};
 use crate::names::may_describe;
 use crate::piece::{Piece, pieces_of};
 use crate::token::Kind;
+use crate::told::Items;
 use crate::unescape::Unescaped;
 use crate::version::{VersionPlace, first_place, tested};
 use std::alloc::{AllocError, Global};
@@ -29,6 +30,8 @@ pub struct Description {
     pub kind: Kind,
     /// Its language.
     pub dialect: Dialect,
+    /// What it may hold.
+    pub items: Items,
     /// Where its version is said.
     pub version: VersionPlace,
     /// What it stands for, and where that stands in the source.
@@ -56,6 +59,7 @@ fn of_text(source: &str, candidate: Candidate, unescaped: Unescaped) -> Option<D
         piece,
         kind,
         dialect: told.dialect,
+        items: told.items,
         version: tested(source, piece, told.dialect, told.version),
         unescaped,
     })

@@ -57,6 +57,26 @@ fn digit_before(pieces: &[Piece], index: usize, back: usize) -> VersionPlace
     }
 }
 
+/// The first byte of the token that stands so many after one, as the digit of a version.
+fn digit_after(pieces: &[Piece], index: usize, ahead: usize) -> VersionPlace
+    ensures { result ≡ spec.digit_after pieces.now index ahead }
+{
+    let Some(at) = index.checked_add(ahead) else {
+        return VersionPlace::Elsewhere;
+    };
+    match pieces.get(at) {
+        Some(piece) => VersionPlace::Digit(piece.start),
+        None => VersionPlace::Elsewhere,
+    }
+}
+
+/// Whether the arguments of a macro go on with a module after the version, as those of serde's do.
+fn says_module(source: &[u8], pieces: &[Piece], opening: usize) -> bool
+    ensures { result ≡ spec.says_module source.now pieces.now opening }
+{
+    is(text_behind(source, pieces, opening, 5), "mod")
+}
+
 /// Whether a token stands so many behind another.
 fn stands_behind(index: usize, other: usize, ahead: usize) -> bool
     ensures { result ≡ nat_eq index (other + ahead) }
@@ -64,7 +84,8 @@ fn stands_behind(index: usize, other: usize, ahead: usize) -> bool
     index.checked_sub(other) == Some(ahead)
 }
 
-/// Where the version of a macro's only description is said; nowhere where there are other arguments.
+/// Where the version of a macro's only description is said: `version = 2, ".."`, `version = 2, mod m, T, ".."`;
+/// nowhere where there are other arguments.
 fn macro_place(source: &[u8], pieces: &[Piece], opening: usize, index: usize) -> VersionPlace
     ensures { result ≡ spec.macro_place source.now pieces.now opening index }
 {
@@ -72,8 +93,10 @@ fn macro_place(source: &[u8], pieces: &[Piece], opening: usize, index: usize) ->
         VersionPlace::Call
     } else if stands_behind(index, opening, 1) {
         VersionPlace::Unsaid
-    } else if says_version(source, pieces, opening) && stands_behind(index, opening, 5) {
-        digit_before(pieces, index, 2)
+    } else if !says_version(source, pieces, opening) {
+        VersionPlace::Call
+    } else if stands_behind(index, opening, 5) || says_module(source, pieces, opening) {
+        digit_after(pieces, opening, 3)
     } else {
         VersionPlace::Call
     }
@@ -97,9 +120,11 @@ fn dialect_by(call: Call, argument: Argument, version: Option<Dialect>) -> Optio
     match (call, argument) {
         (Call::Macro, _) => version,
         (Call::First(dialect), Argument::First) => Some(dialect),
+        (Call::Owned(dialect), Argument::First) => Some(dialect),
         (Call::Second(dialect), Argument::Second) => Some(dialect),
         (Call::Format, Argument::First) => Some(Dialect::Chrono),
         (Call::First(_), Argument::Second | Argument::Later)
+        | (Call::Owned(_), Argument::Second | Argument::Later)
         | (Call::Second(_), Argument::First | Argument::Later)
         | (Call::Format, Argument::Second | Argument::Later)
         | (Call::Other, _) => None,
@@ -118,11 +143,22 @@ fn dialect_in(source: &[u8], pieces: &[Piece], index: usize, frame: Frame) -> Op
     }
 }
 
+/// What a description may hold in versions 1 and 2.
+#[derive(Clone, Copy, Debug, PartialEq, Eq)]
+pub enum Items {
+    /// `[optional ..]` and `[first ..]` too: it is read by the macro, or by `parse_owned`.
+    Taken,
+    /// Neither of them.
+    Refused,
+}
+
 /// What is told of a literal.
 #[derive(Clone, Copy)]
 pub struct Told {
     /// Its language.
     pub dialect: Dialect,
+    /// What it may hold.
+    pub items: Items,
     /// Where its version is said.
     pub version: VersionPlace,
     /// Whether it is a description only with a `%`.
@@ -134,7 +170,7 @@ fn version_place(source: &[u8], pieces: &[Piece], index: usize, frame: Frame) ->
 {
     match frame.call {
         Call::Macro => macro_place(source, pieces, frame.opened, index),
-        Call::First(_) => call_place(source, pieces, frame.opened),
+        Call::First(_) | Call::Owned(_) => call_place(source, pieces, frame.opened),
         Call::Second(_) | Call::Format | Call::Other => VersionPlace::Elsewhere,
     }
 }
@@ -144,7 +180,16 @@ fn wants_percent(call: Call) -> bool
 {
     match call {
         Call::Format => true,
-        Call::Macro | Call::First(_) | Call::Second(_) | Call::Other => false,
+        Call::Macro | Call::First(_) | Call::Owned(_) | Call::Second(_) | Call::Other => false,
+    }
+}
+
+fn items_in(call: Call) -> Items
+    ensures { result ≡ spec.items_in call }
+{
+    match call {
+        Call::Macro | Call::Owned(_) => Items::Taken,
+        Call::First(_) | Call::Second(_) | Call::Format | Call::Other => Items::Refused,
     }
 }
 
@@ -160,6 +205,7 @@ pub fn told_in(source: &[u8], pieces: &[Piece], index: usize, frame: Option<Fram
     };
     Some(Told {
         dialect,
+        items: items_in(frame.call),
         version: version_place(source, pieces, index, frame),
         wants_percent: wants_percent(frame.call),
     })

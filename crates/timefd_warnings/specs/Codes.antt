@@ -1,5 +1,5 @@
 -- The names of warnings, and what is told of a description that has one.
-use Rattle.std.specs.Prelude.{◌≡◌, codes, bytes_eq, if◌then◌else◌, List, [], ◌∷◌, Option, Some, None}
+use Rattle.std.specs.Prelude.{◌≡◌, ◌++◌, codes, bytes_eq, if◌then◌else◌, List, [], ◌∷◌, Option, Some, None}
 use Rattle.timefd_component.specs.Tree.{Text}
 use Rattle.timefd_warnings.specs.declared.warning.Warning.{Warning}
 use Rattle.timefd_warnings.specs.declared.warning.Warning.TheVariants.{NoComponent, OtherLanguage, MonthForMinute, MinuteForMonth, HourWithoutPeriod, PeriodWithHour24, SubsecondWithoutSecond, WeekWithCalendarYear, DateWithIsoYear, ShownTwice, UndeterminedDate, UnsettledWidth, UnsettledYear, DeprecatedComponent}
@@ -62,3 +62,7 @@ all = NoComponent ∷ OtherLanguage ∷ MonthForMinute ∷ MinuteForMonth ∷ Ho
 -- each name is that of its warning, so no two have one
 abbrev pub NamesAreRead : Type 0
 NamesAreRead = (w : Warning) → named (name_of w) ≡ Some w
+
+-- Each warning stands among them.
+abbrev pub AllAreThere : Type 0
+AllAreThere = (w : Warning) → (before after : List Warning) × (all ≡ before ++ w ∷ after)

@@ -1,9 +1,9 @@
 -- What holds of the definitions: for each warning a description that has it and one that doesn't.
-use Rattle.std.specs.Prelude.{◌≡◌, Bool, true, false, List, [], ◌∷◌, codes}
+use Rattle.std.specs.Prelude.{◌≡◌, true, false, List, [], ◌∷◌, codes}
 use Rattle.timefd_modifier.specs.declared.enums.Padding.{Padding}
 use Rattle.timefd_modifier.specs.declared.enums.SubsecondDigits.{SubsecondDigits}
 use Rattle.timefd_component.specs.declared.component.Component.TheVariants.{Day, MonthNumerical, MonthShort, WeekNumberIso, WeekdayMonday, CalendarYearFullExtendedRange, CalendarYearFullStandardRange, IsoYearFullStandardRange, Hour12, Hour24, Minute, Period, Second, Subsecond, UnixTimestampSecond, Hour}
-use Rattle.timefd_component.specs.Tree.{Text, Tree, component, literal}
+use Rattle.timefd_component.specs.Tree.{Tree, component, literal}
 use Rattle.timefd_warnings.specs.declared.warning.Warning.{Warning}
 use Rattle.timefd_warnings.specs.declared.warning.Warning.TheVariants.{NoComponent, OtherLanguage, MonthForMinute, MinuteForMonth, HourWithoutPeriod, PeriodWithHour24, SubsecondWithoutSecond, WeekWithCalendarYear, DateWithIsoYear, ShownTwice, UndeterminedDate, UnsettledWidth, UnsettledYear, DeprecatedComponent}
 use Rattle.timefd_warnings.specs.declared.warned.Style.{Style}

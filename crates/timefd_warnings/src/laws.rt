@@ -1,6 +1,6 @@
 //! What holds of the definitions: each law is the contract of a function with an empty body.
 
-ghost use Rattle.timefd_warnings.specs.Codes.{NamesAreRead};
+ghost use Rattle.timefd_warnings.specs.Codes.{AllAreThere, NamesAreRead};
 ghost use Rattle.timefd_warnings.specs.Levels.{FoundAsDefined, LevelIsSet};
 ghost use Rattle.timefd_warnings.specs.Reads.{DeterminedAsRead};
 ghost use Rattle.timefd_warnings.specs.Laws.{ClockExamples, DateExamples, TextExamples, WidthExamples};
@@ -9,6 +9,12 @@ ghost use Rattle.timefd_warnings.specs.Laws.{ClockExamples, DateExamples, TextEx
 #[tactic(auto, using(crate::proofs::LawLemmas::names_are_read))]
 pub fn names_are_read()
     ensures { NamesAreRead }
+{}
+
+/// Each warning stands among all of them, so none is left out of what goes through all.
+#[tactic(auto, using(crate::proofs::LawLemmas::all_are_there))]
+pub fn all_are_there()
+    ensures { AllAreThere }
 {}
 
 /// Examples of warnings of texts: of each, a description that has it and one that doesn't.

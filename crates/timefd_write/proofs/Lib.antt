@@ -1,4 +1,11 @@
 pub mod AskedLemmas
+pub mod FieldLemmas
+pub mod FrameLemmas
+pub mod HeaderLemmas
 pub mod LineLemmas
+pub mod ReadLemmas
+pub mod RecordLemmas
+pub mod SecondsLemmas
 pub mod RunLemmas
+pub mod TableLemmas
 pub mod WarnedLemmas

@@ -17,16 +17,26 @@ use Rattle.timefd_node_list.specs.declared.leaves.Leaf.{Leaf}
 use Rattle.timefd_node_list.specs.LeafMeaning.{leaf_tree}
 use Rattle.timefd_parse.specs.declared.parsing.BorrowedOutput.{BorrowedOutput}
 use Rattle.timefd_parse.specs.declared.parsing.BorrowedOutput.TheVariants.{Items, Description}
+use Rattle.timefd_write.specs.declared.frame.Cell.{Cell}
+use Rattle.timefd_write.specs.declared.frame.Frame.TheVariants as frames
 use Rattle.timefd_write.specs.declared.source.Source.{Source}
+use Rattle.timefd_write.specs.Frames.{framed}
 use Rattle.timefd_write.specs.ReadBack.{AreLeavesOf, IsMadeOf, tree_of}
 use Rattle.timefd_write.specs.Sources.{AreLeavesIn, IsTextOf}
-use Rattle.timefd_write.specs.Written.{AppendsLine, EndsWith, EndsWithLine, IsLineOf, written_of}
+use Rattle.timefd_write.specs.Written.{AppendsIn, EndsWith, EndsWithLine, IsLineOf, written_of}
 
 -- a line that is written whole
 pub line_sent : (x : Result Text Unshown) (before behind : Option Text) (line : Text) → IsLineOf x line
-    → Appends before behind line → AppendsLine x before behind
+    → Appends before behind line → AppendsIn frames.Line x before behind
 line_sent (Ok text) before behind line is sent = subst (Appends before behind) is sent
 line_sent (Err u) before behind line is sent = absurd is
+
+-- a field that is written with the text which a room ends with
+pub field_sent : (x : Result Text Unshown) (cell : Cell) (before after : Option Text) (text : Text)
+    → x ≡ Ok text → Appends before after (framed (frames.Field cell) text)
+    → AppendsIn (frames.Field cell) x before after
+field_sent x cell before after text is sent =
+    subst (λ w. AppendsIn (frames.Field cell) w before after) (sym is) sent
 
 inside : (text old new : Text) (at : ℕ) → IsOutcome (Ok text) old new (Ok at) → at ≤ length new
 inside text old new at h =

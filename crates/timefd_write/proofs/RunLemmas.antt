@@ -7,10 +7,13 @@ use Rattle.timefd_component.specs.Tree.{Text}
 use Rattle.timefd_diagnosis.specs.Words.{texts}
 use Rattle.timefd_parse.specs.declared.parsing.BorrowedOutput.{BorrowedOutput}
 use Rattle.timefd_rewrite.specs.Lines.{AreLinesOf, IsNextLine, without_newline}
+use Rattle.timefd_write.specs.declared.frame.Frame.TheVariants as frames
+use Rattle.timefd_write.specs.declared.otherwise.Otherwise.{Otherwise}
 use Rattle.timefd_write.specs.declared.outcome.Outcome.{Outcome}
 use Rattle.timefd_write.specs.declared.outcome.Tally.{Tally}
 use Rattle.timefd_write.specs.declared.source.Source.{Source}
 use Rattle.timefd_write.specs.Tallies.{at_end, tally_of, both}
+use Rattle.timefd_write.specs.declared.column.Column.{Column}
 use Rattle.timefd_write.specs.declared.description.Reading.{Reading}
 use Rattle.timefd_write.specs.declared.description.Reading.TheVariants as readings
 use Rattle.timefd_write.specs.declared.end.RunEnd.TheVariants as ends
@@ -46,54 +49,54 @@ tally_is a b refused text failed =
     ∙ (ap (λ x. made b.is_refused x a.has_failed) text
     ∙ ap (λ x. made b.is_refused b.not_text x) failed)
 
-none_more : (t : Tally) → both t (at_end false) ≡ t
+pub none_more : (t : Tally) → both t (at_end false) ≡ t
 none_more t =
     tally_is (both t (at_end false)) t (or_false t.is_refused) (or_false t.not_text) (or_false t.has_failed)
 
-both_assoc : (a b c : Tally) → both (both a b) c ≡ both a (both b c)
+pub both_assoc : (a b c : Tally) → both (both a b) c ≡ both a (both b c)
 both_assoc a b c =
     tally_is (both (both a b) c) (both a (both b c))
     (or_assoc a.is_refused b.is_refused c.is_refused) (or_assoc a.not_text b.not_text c.not_text)
     (or_assoc a.has_failed b.has_failed c.has_failed)
 
 -- What is left, run behind what is done, runs all.
-abbrev pub Completes : Source → BorrowedOutput → List Text → List Text → Option Text
+abbrev pub Completes : Otherwise → Source → BorrowedOutput → List Text → List Text → Option Text
     → Option Text → Tally → Type 0
-Completes source o words rest before between tally = (behind : Option Text) (more : Tally)
-    → Runs false source o rest between behind more
-    → Runs false source o words before behind (both tally more)
+Completes otherwise source o words rest before between tally = (behind : Option Text) (more : Tally)
+    → Runs false otherwise source o rest between behind more
+    → Runs false otherwise source o words before behind (both tally more)
 
-pub starts : (source : Source) (o : BorrowedOutput) (words : List Text) (before : Option Text)
-    (tally : Tally) → tally ≡ at_end false → Completes source o words words before before tally
-starts source o words before tally none behind more runs =
-    subst (λ t. Runs false source o words before behind (both t more)) (sym none) runs
+pub starts : (otherwise : Otherwise) (source : Source) (o : BorrowedOutput) (words : List Text) (before : Option Text)
+    (tally : Tally) → tally ≡ at_end false → Completes otherwise source o words words before before tally
+starts otherwise source o words before tally none behind more runs =
+    subst (λ t. Runs false otherwise source o words before behind (both t more)) (sym none) runs
 
-pub goes_on : (source : Source) (o : BorrowedOutput) (words rest behind : List Text)
+pub goes_on : (otherwise : Otherwise) (source : Source) (o : BorrowedOutput) (words rest behind : List Text)
     (word : Text) (before between next : Option Text) (tally one sum : Tally) (outcome : Outcome)
-    → rest ≡ word ∷ behind → Completes source o words rest before between tally
-    → IsOne source o word between next outcome → one ≡ tally_of outcome → sum ≡ both tally one
-    → Completes source o words behind before next sum
-goes_on source o words rest behind word before between next tally one sum outcome split so_far is
+    → rest ≡ word ∷ behind → Completes otherwise source o words rest before between tally
+    → IsOne otherwise source o frames.Line word between next outcome → one ≡ tally_of outcome → sum ≡ both tally one
+    → Completes otherwise source o words behind before next sum
+goes_on otherwise source o words rest behind word before between next tally one sum outcome split so_far is
     is_one is_sum end more runs =
-    subst (λ t. Runs false source o words before end t)
+    subst (λ t. Runs false otherwise source o words before end t)
     (sym (ap (λ t. both t more) (is_sum ∙ ap (λ t. both tally t) is_one)
     ∙ both_assoc tally (tally_of outcome) more))
     (so_far end (both (tally_of outcome) more)
-    (subst (λ ws. Runs false source o ws between end (both (tally_of outcome) more)) (sym split)
+    (subst (λ ws. Runs false otherwise source o ws between end (both (tally_of outcome) more)) (sym split)
     (outcome, next, more, is, runs, refl)))
 
 none_left : (words : List (Bor Text)) → length words < 1 → words ≡ []
 none_left [] short = refl
 none_left (word ∷ words) short = absurd (omega (arith, short))
 
-pub is_done : (source : Source) (o : BorrowedOutput) (words rest : List (Bor Text))
+pub is_done : (otherwise : Otherwise) (source : Source) (o : BorrowedOutput) (words rest : List (Bor Text))
     (before behind : Option Text) (tally : Tally) → length rest < 1
-    → Completes source o (texts words) (texts rest) before behind tally
-    → Runs false source o (texts words) before behind tally
-is_done source o words rest before behind tally short so_far =
-    subst (λ t. Runs false source o (texts words) before behind t) (none_more tally)
+    → Completes otherwise source o (texts words) (texts rest) before behind tally
+    → Runs false otherwise source o (texts words) before behind tally
+is_done otherwise source o words rest before behind tally short so_far =
+    subst (λ t. Runs false otherwise source o (texts words) before behind t) (none_more tally)
     (so_far behind (at_end false)
-    (subst (λ ws. Runs false source o (texts ws) behind behind (at_end false))
+    (subst (λ ws. Runs false otherwise source o (texts ws) behind behind (at_end false))
     (sym (none_left rest short)) (refl, refl)))
 
 -- The first of some lent words, and those behind it, as a pattern takes them.
@@ -108,16 +111,16 @@ split_texts (word ∷ rest) n d bytes same some is =
     ∙ ap (λ r. word.now ∷ texts r) (take-length rest))
 
 -- The same of lines.
-abbrev pub CompletesLines : Source → BorrowedOutput → Option Text → Option Text → Option Text
+abbrev pub CompletesLines : Otherwise → Source → BorrowedOutput → Option Text → Option Text → Option Text
     → Option Text → Tally → Type 0
-CompletesLines source o bytes left before between tally = (failed : Bool) (behind : Option Text)
-    (more : Tally) → RunsOn failed source o left between behind more
-    → RunsOn failed source o bytes before behind (both tally more)
+CompletesLines otherwise source o bytes left before between tally = (failed : Bool) (behind : Option Text)
+    (more : Tally) → RunsOn failed otherwise source o left between behind more
+    → RunsOn failed otherwise source o bytes before behind (both tally more)
 
-pub lines_start : (source : Source) (o : BorrowedOutput) (bytes before : Option Text)
-    (tally : Tally) → tally ≡ at_end false → CompletesLines source o bytes bytes before before tally
-lines_start source o bytes before tally none failed behind more runs =
-    subst (λ t. RunsOn failed source o bytes before behind (both t more)) (sym none) runs
+pub lines_start : (otherwise : Otherwise) (source : Source) (o : BorrowedOutput) (bytes before : Option Text)
+    (tally : Tally) → tally ≡ at_end false → CompletesLines otherwise source o bytes bytes before before tally
+lines_start otherwise source o bytes before tally none failed behind more runs =
+    subst (λ t. RunsOn failed otherwise source o bytes before behind (both t more)) (sym none) runs
 
 more_lines : (bytes rest : Option Text) (line : Text) (lines : List Text) (failed : Bool)
     → IsNextLine bytes line rest → AreLinesOf rest lines failed
@@ -129,23 +132,23 @@ more_lines (Some xs) rest line lines true next are =
 more_lines (Some xs) rest line lines false next are =
     (next.0, next.1, subst (λ r. AreLinesOf r lines false) next.2 are)
 
-pub line_more : (source : Source) (o : BorrowedOutput) (bytes left rest : Option Text)
+pub line_more : (otherwise : Otherwise) (source : Source) (o : BorrowedOutput) (bytes left rest : Option Text)
     (line word : Text) (before between next : Option Text) (tally one sum : Tally)
     (outcome : Outcome) (r : LineRead) → r ≡ Line
-    → CompletesLines source o bytes left before between tally
+    → CompletesLines otherwise source o bytes left before between tally
     → IsRead left rest line r → word ≡ without_newline line
-    → IsOne source o word between next outcome → one ≡ tally_of outcome → sum ≡ both tally one
-    → CompletesLines source o bytes rest before next sum
-line_more source o bytes left rest line word before between next tally one sum outcome r is_line so_far
+    → IsOne otherwise source o frames.Line word between next outcome → one ≡ tally_of outcome → sum ≡ both tally one
+    → CompletesLines otherwise source o bytes rest before next sum
+line_more otherwise source o bytes left rest line word before between next tally one sum outcome r is_line so_far
     read without is is_one is_sum failed end more runs =
-    subst (λ t. RunsOn failed source o bytes before end t)
+    subst (λ t. RunsOn failed otherwise source o bytes before end t)
     (sym (ap (λ t. both t more) (is_sum ∙ ap (λ t. both tally t) is_one)
     ∙ both_assoc tally (tally_of outcome) more))
     (so_far failed end (both (tally_of outcome) more) (
       line ∷ runs.0,
       more_lines left rest line runs.0 failed
           (subst (λ x. IsRead left rest line x) is_line read) runs.1,
-      (outcome, next, more, subst (λ w. IsOne source o w between next outcome) without is, runs.2, refl),
+      (outcome, next, more, subst (λ w. IsOne otherwise source o frames.Line w between next outcome) without is, runs.2, refl),
     ))
 
 no_line_left : (left : Option Text) → IsAtEnd left → AreLinesOf left [] false
@@ -156,34 +159,34 @@ no_line_read : (left : Option Text) → AreLinesOf left [] true
 no_line_read None = tt
 no_line_read (Some xs) = (xs, refl)
 
-pub lines_end : (source : Source) (o : BorrowedOutput) (bytes left rest before behind : Option Text)
+pub lines_end : (otherwise : Otherwise) (source : Source) (o : BorrowedOutput) (bytes left rest before behind : Option Text)
     (line : Text) (tally : Tally) (r : LineRead) → r ≡ End
-    → CompletesLines source o bytes left before behind tally → IsRead left rest line r
-    → RunsOver source o bytes before behind tally
-lines_end source o bytes left rest before behind line tally r is so_far read = (
+    → CompletesLines otherwise source o bytes left before behind tally → IsRead left rest line r
+    → RunsOver otherwise source o bytes before behind tally
+lines_end otherwise source o bytes left rest before behind line tally r is so_far read = (
   false,
-  subst (λ t. RunsOn false source o bytes before behind t) (none_more tally)
+  subst (λ t. RunsOn false otherwise source o bytes before behind t) (none_more tally)
       (so_far false behind (at_end false)
       ([], no_line_left left (subst (λ x. IsRead left rest line x) is read), (refl, refl))),
 )
 
-pub lines_fail : (source : Source) (o : BorrowedOutput) (bytes left before behind : Option Text)
-    (tally failing sum : Tally) → CompletesLines source o bytes left before behind tally
+pub lines_fail : (otherwise : Otherwise) (source : Source) (o : BorrowedOutput) (bytes left before behind : Option Text)
+    (tally failing sum : Tally) → CompletesLines otherwise source o bytes left before behind tally
     → failing ≡ at_end true → sum ≡ both tally failing
-    → RunsOver source o bytes before behind sum
-lines_fail source o bytes left before behind tally failing sum so_far is is_sum = (
+    → RunsOver otherwise source o bytes before behind sum
+lines_fail otherwise source o bytes left before behind tally failing sum so_far is is_sum = (
   true,
-  subst (λ t. RunsOn true source o bytes before behind t)
+  subst (λ t. RunsOn true otherwise source o bytes before behind t)
       (sym (is_sum ∙ ap (λ t. both tally t) is))
       (so_far true behind (at_end true) ([], no_line_read left, (refl, refl))),
 )
 
 -- A run by the description that is read.
-pub ran : (source : Source) (quiet : Bool) (languages : Languages) (text : Text)
+pub ran : (column : Option Column) (otherwise : Otherwise) (source : Source) (quiet : Bool) (languages : Languages) (text : Text)
     (words : List Text) (input before behind : Option Text) (r : Reading) (o : BorrowedOutput)
     (warned : Warned) (tally : Tally) → r ≡ readings.Description o
     → IsReading languages.written text r → warned ≡ warned_by quiet languages source o
-    → IsRunOf source o words input before behind tally
-    → IsRunFrom source quiet languages text words input before behind (ends.Done warned tally)
-ran source quiet languages text words input before behind r o warned tally is reading told run =
+    → IsRunOf column otherwise source o words input before behind tally
+    → IsRunFrom column otherwise source quiet languages text words input before behind (ends.Done warned tally)
+ran column otherwise source quiet languages text words input before behind r o warned tally is reading told run =
     (o, subst (λ x. IsReading languages.written text x) is reading, told, run)

@@ -2,7 +2,6 @@
 use Rattle.std.specs.Prelude.{List, [], ◌∷◌, length, false, true, Option, Some, None, Result, Ok, Err}
 use denote.Ref.{Bor}
 use Rattle.timefd_component.specs.Tree.{Text}
-use Rattle.timefd_parse.specs.declared.language.Language.{Language}
 use Rattle.timefd_write.specs.declared.asked.Asked.{Asked}
 use Rattle.timefd_write.specs.declared.asked.Asked.TheVariants as asks
 use Rattle.timefd_write.specs.declared.asked.OptionError.{OptionError}
@@ -12,41 +11,67 @@ use Rattle.timefd_write.specs.declared.asked.Step.{Step}
 use Rattle.timefd_write.specs.declared.asked.Step.TheVariants.{Next, Done}
 use Rattle.timefd_write.specs.declared.asked.Wanted.{Wanted}
 use Rattle.timefd_write.specs.declared.asked.Wanted.TheVariants as wants
-use Rattle.timefd_write.specs.declared.language.Languages.{Languages}
+use Rattle.timefd_write.specs.declared.column.Column.{Column}
+use Rattle.timefd_write.specs.declared.otherwise.Otherwise.{Otherwise}
+use Rattle.timefd_write.specs.declared.otherwise.Otherwise.TheVariants as otherwise
+use Rattle.timefd_write.specs.declared.language.Wording.{Wording}
+use Rattle.timefd_write.specs.declared.language.Wordings.{Wordings}
 use Rattle.timefd_write.specs.declared.word.LanguageOption.{LanguageOption}
 use Rattle.timefd_write.specs.declared.word.LanguageOption.TheVariants as options
 use Rattle.timefd_write.specs.declared.word.Word.{Word}
 use Rattle.timefd_write.specs.declared.word.Word.TheVariants as words
-use Rattle.timefd_write.specs.Words.{word_of, language_named, default_language}
+use Rattle.timefd_write.specs.Words.{word_of, column_named, wording_named, default_wording, otherwise_named}
 
 abbrev pub Answer : Type 0
 Answer = Result Asked OptionError
 
 -- Another language to write in goes with a description to read by alone.
-abbrev pub languages_by : Option Language → Option (Bor Text) → Language → Option Languages
-languages_by None read language = Some (record { read = language; written = language })
-languages_by (Some written) (Some text) language =
+abbrev pub wordings_by : Option Wording → Option (Bor Text) → Wording → Option Wordings
+wordings_by None read language = Some (record { read = language; written = language })
+wordings_by (Some written) (Some text) language =
     Some (record { read = language; written = written })
-languages_by (Some written) None language = None
+wordings_by (Some written) None language = None
 
--- the languages of both descriptions
-abbrev pub languages_of : State → Option Languages
-languages_of state = languages_by state.to_language state.read state.language
+-- the wordings of both descriptions
+abbrev pub wordings_of : State → Option Wordings
+wordings_of state = wordings_by state.to_language state.read state.language
 
-abbrev pub requested_in : Option Languages → State → Bor Text → List (Bor Text) → Answer
-requested_in (Some languages) state description moments = Ok (asks.Run (record {
-  languages = languages;
+-- Where nothing else is asked for, a record of a table stays as it is, and a line is left out.
+abbrev pub otherwise_by : Option Otherwise → Option Column → Otherwise
+otherwise_by (Some o) column = o
+otherwise_by None (Some column) = otherwise.Keep
+otherwise_by None None = otherwise.Nothing
+
+abbrev pub otherwise_of : State → Otherwise
+otherwise_of state = otherwise_by state.otherwise state.column
+
+abbrev pub request : Wordings → State → Bor Text → List (Bor Text) → Answer
+request wordings state description moments = Ok (asks.Run (record {
+  wordings = wordings;
   read = state.read;
   description = description;
+  column = state.column;
+  otherwise = otherwise_of state;
   moment_count = length moments;
   is_quiet = state.is_quiet;
 }))
+
+-- A column is one of the standard input, so no moment stands beside it.
+abbrev pub request_of : Option Column → Wordings → State → Bor Text → List (Bor Text) → Answer
+request_of None wordings state description moments = request wordings state description moments
+request_of (Some column) wordings state description [] = request wordings state description []
+request_of (Some column) wordings state description (moment ∷ moments) =
+    Err errors.MomentBesideColumn
+
+abbrev pub requested_in : Option Wordings → State → Bor Text → List (Bor Text) → Answer
+requested_in (Some wordings) state description moments =
+    request_of state.column wordings state description moments
 requested_in None state description moments = Err errors.NothingRead
 
 -- The words behind a description are moments, whatever they begin with.
 abbrev pub requested : State → Bor Text → List (Bor Text) → Answer
 requested state description moments =
-    requested_in (languages_of state) state description moments
+    requested_in (wordings_of state) state description moments
 
 abbrev pub behind_end : State → List (Bor Text) → Answer
 behind_end state [] = Err errors.NoDescription
@@ -60,10 +85,20 @@ before_read_of None state = Next (record state { wanted = wants.Read })
 abbrev pub before_read : State → Step
 before_read state = before_read_of state.read state
 
+abbrev pub before_column_of : Option Column → State → Step
+before_column_of (Some column) state = Done (Err errors.ColumnTwice)
+before_column_of None state = Next (record state { wanted = wants.Column })
+
+-- A column is given once.
+abbrev pub before_column : State → Step
+before_column state = before_column_of state.column state
+
 abbrev pub first_by : Word → State → Bor Text → List (Bor Text) → Step
 first_by (words.Language option) state word behind =
     Next (record state { wanted = wants.Language option })
 first_by words.Read state word behind = before_read state
+first_by words.Csv state word behind = before_column state
+first_by words.Else state word behind = Next (record state { wanted = wants.Otherwise })
 first_by words.Quiet state word behind = Next (record state { is_quiet = true })
 first_by words.Help state word behind = Done (Ok asks.Help)
 first_by words.Version state word behind = Done (Ok asks.Version)
@@ -75,25 +110,42 @@ abbrev pub first : State → Bor Text → List (Bor Text) → Step
 first state word behind = first_by (word_of word.now) state word behind
 
 -- what is known where an option has this language
-abbrev pub with_option : State → LanguageOption → Language → State
+abbrev pub with_option : State → LanguageOption → Wording → State
 with_option state options.Both l = record state { language = l; wanted = wants.Nothing }
 with_option state options.Written l =
     record state { to_language = Some l; wanted = wants.Nothing }
 
-abbrev pub with_language_by : Option Language → State → LanguageOption → Bor Text → Step
+abbrev pub with_language_by : Option Wording → State → LanguageOption → Bor Text → Step
 with_language_by (Some l) state option word = Next (with_option state option l)
 with_language_by None state option word = Done (Err (errors.NoLanguage option word))
 
 abbrev pub with_language : State → LanguageOption → Bor Text → Step
-with_language state option word = with_language_by (language_named word.now) state option word
+with_language state option word = with_language_by (wording_named word.now) state option word
 
 abbrev pub with_read : State → Bor Text → Step
 with_read state word = Next (record state { read = Some word; wanted = wants.Nothing })
+
+abbrev pub with_column_by : Option Column → State → Step
+with_column_by (Some c) state = Next (record state { column = Some c; wanted = wants.Nothing })
+with_column_by None state = Done (Err errors.NoColumn)
+
+abbrev pub with_column : State → Bor Text → Step
+with_column state word = with_column_by (column_named word) state
+
+abbrev pub with_otherwise_by : Option Otherwise → State → Bor Text → Step
+with_otherwise_by (Some o) state word =
+    Next (record state { otherwise = Some o; wanted = wants.Nothing })
+with_otherwise_by None state word = Done (Err (errors.NoOtherwise word))
+
+abbrev pub with_otherwise : State → Bor Text → Step
+with_otherwise state word = with_otherwise_by (otherwise_named word.now) state word
 
 abbrev pub one_more_by : Wanted → State → Bor Text → List (Bor Text) → Step
 one_more_by wants.Nothing state word behind = first state word behind
 one_more_by (wants.Language option) state word behind = with_language state option word
 one_more_by wants.Read state word behind = with_read state word
+one_more_by wants.Column state word behind = with_column state word
+one_more_by wants.Otherwise state word behind = with_otherwise state word
 
 -- What one more word comes to.
 abbrev pub one_more : State → Bor Text → List (Bor Text) → Step
@@ -103,6 +155,8 @@ abbrev pub at_end : Wanted → OptionError
 at_end wants.Nothing = errors.NoDescription
 at_end (wants.Language option) = errors.MissingLanguage option
 at_end wants.Read = errors.MissingRead
+at_end wants.Column = errors.MissingColumn
+at_end wants.Otherwise = errors.MissingOtherwise
 
 abbrev pub go : (State → Answer) → Step → Answer
 go more (Next state) = more state
@@ -116,9 +170,11 @@ asked_from state (word ∷ behind) = go (λ s. asked_from s behind) (one_more st
 abbrev pub asked_of : List (Bor Text) → Answer
 asked_of words =
     asked_from (record {
-      language = default_language;
+      language = default_wording;
       to_language = None;
       read = None;
+      column = None;
+      otherwise = None;
       is_quiet = false;
       wanted = wants.Nothing;
     }) words

@@ -1,11 +1,17 @@
 pub mod Words
 pub mod Asked
 pub mod Descriptions
+pub mod Seconds
 pub mod Moments
 pub mod ReadBack
 pub mod Sources
 pub mod Tallies
 pub mod Messages
+pub mod Frames
+pub mod Fields
+pub mod Records
 pub mod Written
+pub mod Tables
 pub mod Warned
 pub mod Runs
+pub mod Converted

@@ -9,6 +9,8 @@ use Rattle.timefd_read_moment.specs.Sentences.{sentence}
 use Rattle.timefd_read_text.specs.Sentences.{unread_sentence}
 use Rattle.timefd_write.specs.declared.asked.OptionError.{OptionError}
 use Rattle.timefd_write.specs.declared.asked.OptionError.TheVariants as errors
+use Rattle.timefd_write.specs.declared.header.HeaderError.{HeaderError}
+use Rattle.timefd_write.specs.declared.header.HeaderError.TheVariants as header
 use Rattle.timefd_write.specs.declared.moment.MomentError.{MomentError}
 use Rattle.timefd_write.specs.declared.moment.MomentError.TheVariants as fails
 use Rattle.timefd_write.specs.declared.word.LanguageOption.{LanguageOption}
@@ -29,21 +31,60 @@ not_read (Some line) word why =
 not_read None word why =
     codes "timefd_format: `" ++ (safe word ++ (codes "` is not read: " ++ (why ++ codes "\n")))
 
+-- of a word after whose `@` no moment stands
+abbrev pub no_seconds : Text → Text
+no_seconds word =
+    codes "timefd_format: `" ++ (safe word
+    ++ codes "` is no moment: after `@` stand whole seconds since 1970, as in @1700000000, of a year from -999999 to 999999\n")
+
+-- of a word with something in brackets at its end
+abbrev pub brackets : Text → Text
+brackets word =
+    codes "timefd_format: `" ++ (safe word
+    ++ codes "` is no moment: what stands in brackets isn't checked against the offset; leave it out, as in 2026-11-23T05:36:07+01:00\n")
+
 -- of a word that names or shows no moment: why a name is none, is in the words of the library jiff
 abbrev pub IsUnreadMessage : Option ℕ → Text → MomentError → Text → Type 0
 IsUnreadMessage line word fails.Clock message =
     message ≡ codes "timefd_format: the clock can't be read\n"
+IsUnreadMessage line word fails.Seconds message = message ≡ no_seconds word
+IsUnreadMessage line word fails.Brackets message = message ≡ brackets word
 IsUnreadMessage line word (fails.Text e) message = ⊤
 IsUnreadMessage line word (fails.Unread u) message =
     message ≡ not_read line word (unread_sentence u)
 IsUnreadMessage line word (fails.Value v) message = message ≡ not_read line word (sentence v)
 
+-- of a record without the column
+abbrev pub no_field_message : ℕ → Text
+no_field_message line =
+    codes "timefd_format: line " ++ (decimal line
+    ++ codes " has too few fields to have the column\n")
+
+-- of quotes that don't end
+abbrev pub open_message : ℕ → Text
+open_message line =
+    codes "timefd_format: line " ++ (decimal line
+    ++ codes ": quotes begin and don't end; nothing is read from here on\n")
+
+-- of a table without a first record
+abbrev pub no_header_message : Text → Text
+no_header_message name =
+    codes "timefd_format: there is no first line to name the column `" ++ (safe name ++ codes "`\n")
+
+-- of a table whose first record doesn't name the column
+abbrev pub unnamed_message : Text → HeaderError → Text
+unnamed_message name header.Missing =
+    codes "timefd_format: the first line names no column `" ++ (safe name ++ codes "`\n")
+unnamed_message name header.Twice =
+    codes "timefd_format: the first line names two columns `" ++ (safe name
+    ++ codes "`; give the number of one\n")
+
 -- of a word that is no value of the option
 abbrev pub no_language : LanguageOption → Text → Text
 no_language options.Both word =
-    codes "`" ++ (safe word ++ codes "` is no value of `--language`: one of 1, 2, 3, strftime")
+    codes "`" ++ (safe word ++ codes "` is no value of `--language`: one of 1, 2, 3, strftime, python, c, gnu, chrono, jiff, ruby, java, go, moment")
 no_language options.Written word =
-    codes "`" ++ (safe word ++ codes "` is no value of `--to-language`: one of 1, 2, 3, strftime")
+    codes "`" ++ (safe word ++ codes "` is no value of `--to-language`: one of 1, 2, 3, strftime, python, c, gnu, chrono, jiff, ruby, java, go, moment")
 
 -- of arguments
 abbrev pub option_sentence : OptionError → Text
@@ -51,10 +92,21 @@ option_sentence (errors.Unknown word) =
     codes "there is no option `" ++ (safe word.now
     ++ codes "`; --help lists them, and behind `--` it is a description")
 option_sentence (errors.MissingLanguage option) =
-    codes "`" ++ (option_name option ++ codes "` wants a value: one of 1, 2, 3, strftime")
+    codes "`" ++ (option_name option ++ codes "` wants a value: one of 1, 2, 3, strftime, python, c, gnu, chrono, jiff, ruby, java, go, moment")
 option_sentence errors.MissingRead = codes "`--read` wants a value: a description to read by"
 option_sentence errors.ReadTwice = codes "`--read` stands twice"
 option_sentence (errors.NoLanguage option word) = no_language option word.now
+option_sentence errors.MissingColumn =
+    codes "`--csv` wants a value: the number of a column, or its name in the first line"
+option_sentence errors.ColumnTwice =
+    codes "`--csv` stands twice, and one run changes one column"
+option_sentence errors.NoColumn = codes "`--csv` counts from 1; there is no column 0"
+option_sentence errors.MissingOtherwise =
+    codes "`--else` wants a value: one of keep, empty, fail"
+option_sentence (errors.NoOtherwise word) =
+    codes "`" ++ (safe word.now ++ codes "` is no value of `--else`: one of keep, empty, fail")
+option_sentence errors.MomentBesideColumn =
+    codes "`--csv` reads the standard input; no moment stands after the description then"
 option_sentence errors.NothingRead =
     codes "`--to-language` goes with `--read`; without it `--language` names the language"
 option_sentence errors.NoDescription = codes "there is no description; --help shows the usage"

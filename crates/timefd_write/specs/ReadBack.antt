@@ -33,11 +33,15 @@ AreLeavesOf o (Some leaves) = IsMadeOf o leaves.now
 abbrev pub IsOfFields : Result Fields ReadError → Result Moment MomentError → Type 0
 IsOfFields (Ok f) (Ok m) = IsMomentOf f (Ok m)
 IsOfFields (Ok f) (Err fails.Clock) = ⊥
+IsOfFields (Ok f) (Err fails.Seconds) = ⊥
+IsOfFields (Ok f) (Err fails.Brackets) = ⊥
 IsOfFields (Ok f) (Err (fails.Text e)) = ⊥
 IsOfFields (Ok f) (Err (fails.Unread e)) = ⊥
 IsOfFields (Ok f) (Err (fails.Value e)) = IsMomentOf f (Err e)
 IsOfFields (Err u) (Ok m) = ⊥
 IsOfFields (Err u) (Err fails.Clock) = ⊥
+IsOfFields (Err u) (Err fails.Seconds) = ⊥
+IsOfFields (Err u) (Err fails.Brackets) = ⊥
 IsOfFields (Err u) (Err (fails.Text e)) = ⊥
 IsOfFields (Err u) (Err (fails.Unread e)) = e ≡ u
 IsOfFields (Err u) (Err (fails.Value e)) = ⊥

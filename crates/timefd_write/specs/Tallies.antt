@@ -21,6 +21,10 @@ is_not_text NotText = true
 abbrev pub at_end : Bool → Tally
 at_end failed = record { is_refused = false; not_text = false; has_failed = failed }
 
+-- that of a record without the field that is asked for, and of a table without its column
+abbrev pub refused : Tally
+refused = record { is_refused = true; not_text = false; has_failed = false }
+
 abbrev pub tally_of : Outcome → Tally
 tally_of outcome = record {
   is_refused = is_refused outcome;

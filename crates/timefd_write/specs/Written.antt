@@ -1,5 +1,5 @@
 -- What is written of words, one after another.
-use Rattle.std.specs.Prelude.{ℕ, ◌≡◌, ◌≤◌, Bool, List, [], ◌∷◌, ◌++◌, codes, drop, length, map, Option, Result, Ok, Err, IsUtf8, ⊤}
+use Rattle.std.specs.Prelude.{ℕ, ◌≡◌, ◌≤◌, Bool, List, [], ◌∷◌, ◌++◌, codes, drop, length, map, Option, Some, None, Result, Ok, Err, IfSome, IsUtf8, ⊤}
 use Rattle.std.specs.Io.KnownBytes.{Appends, IsAtEnd}
 use Rattle.std.specs.declared.alloc.Global.{Global}
 use Rattle.std.specs.declared.vec.Vec.{Vec}
@@ -16,12 +16,16 @@ use Rattle.timefd_moment.specs.declared.moment.Moment.{Moment}
 use Rattle.timefd_parse.specs.declared.parsing.BorrowedOutput.{BorrowedOutput}
 use Rattle.timefd_parse.specs.declared.parsing.BorrowedOutput.TheVariants.{Items, Description}
 use Rattle.timefd_rewrite.specs.Lines.{AreLinesOf, IsNextLine, without_newline}
+use Rattle.timefd_write.specs.declared.frame.Frame.{Frame}
+use Rattle.timefd_write.specs.declared.frame.Frame.TheVariants.{Line}
 use Rattle.timefd_write.specs.declared.lines.LineRead.{LineRead}
-use Rattle.timefd_write.specs.declared.lines.LineRead.TheVariants.{Line, End, Failed}
+use Rattle.timefd_write.specs.declared.lines.LineRead.TheVariants as reads
+use Rattle.timefd_write.specs.declared.otherwise.Otherwise.{Otherwise}
 use Rattle.timefd_write.specs.declared.outcome.Outcome.{Outcome}
 use Rattle.timefd_write.specs.declared.outcome.Outcome.TheVariants as came
 use Rattle.timefd_write.specs.declared.outcome.Tally.{Tally}
 use Rattle.timefd_write.specs.declared.source.Source.{Source}
+use Rattle.timefd_write.specs.Frames.{Replaces, framed}
 use Rattle.timefd_write.specs.Sources.{IsMomentIn}
 use Rattle.timefd_write.specs.Tallies.{at_end, tally_of, both}
 
@@ -56,58 +60,76 @@ IsLine (Err v) (Ok line) = ⊥
 IsLine (Err v) (Err (fails.Unshown u)) = u ≡ v
 IsLine (Err v) (Err (fails.Memory e)) = ⊤
 
--- A line is appended, and no other byte.
-abbrev pub AppendsLine : Result Text Unshown → Option Text → Option Text → Type 0
-AppendsLine (Ok text) before behind = Appends before behind (text ++ codes "\n")
-AppendsLine (Err u) before behind = ⊥
+-- That text is appended with what stands around it, and no other byte.
+abbrev pub AppendsIn : Frame → Result Text Unshown → Option Text → Option Text → Type 0
+AppendsIn frame (Ok text) before behind = Appends before behind (framed frame text)
+AppendsIn frame (Err u) before behind = ⊥
 
--- What comes of a moment, beside what is written before it and behind it.
-abbrev pub IsOneOfMoment : Moment → BorrowedOutput → Option Text → Option Text → Outcome → Type 0
-IsOneOfMoment m o before behind (came.Written n) =
-    (n ≡ m) × AppendsLine (written_of m o) before behind
-IsOneOfMoment m o before behind (came.Unshown n u) =
-    (n ≡ m) × (written_of m o ≡ Err u) × (behind ≡ before)
-IsOneOfMoment m o before behind (came.Unread e) = ⊥
-IsOneOfMoment m o before behind came.NotText = ⊥
+-- That text is appended; or nothing is, and this component shows nothing.
+abbrev pub IsSent : Frame → Result Text Unshown → Option Text → Option Text → Option Unshown → Type 0
+IsSent frame written before after None = AppendsIn frame written before after
+IsSent frame written before after (Some u) = (written ≡ Err u) × (after ≡ before)
 
--- What comes of a word. Where it names or shows a moment that the description shows, the line is written; else
--- nothing is.
-abbrev pub IsOne : Source → BorrowedOutput → Text → Option Text → Option Text → Outcome
-    → Type 0
-IsOne source o word before behind (came.Written m) =
-    IsMomentIn source word (Ok m) × AppendsLine (written_of m o) before behind
-IsOne source o word before behind (came.Unshown m u) =
-    IsMomentIn source word (Ok m) × (written_of m o ≡ Err u) × (behind ≡ before)
-IsOne source o word before behind (came.Unread e) = IsMomentIn source word (Err e) × (behind ≡ before)
-IsOne source o word before behind came.NotText = (¬ IsUtf8 word) × (behind ≡ before)
+-- What comes of a moment of a word, beside what is written before it and behind it.
+abbrev pub IsOneOfMoment : Otherwise → Frame → Text → Moment → BorrowedOutput → Option Text → Option Text
+    → Outcome → Type 0
+IsOneOfMoment otherwise frame word m o before behind (came.Written n) =
+    (n ≡ m) × AppendsIn frame (written_of m o) before behind
+IsOneOfMoment otherwise frame word m o before behind (came.Unshown n u) =
+    (n ≡ m) × (written_of m o ≡ Err u) × Replaces otherwise frame word before behind
+IsOneOfMoment otherwise frame word m o before behind (came.Unread e) = ⊥
+IsOneOfMoment otherwise frame word m o before behind came.NotText = ⊥
+
+-- What comes of a word. Where it names or shows a moment that the description shows, that is written; else
+-- what is asked for in place of it.
+abbrev pub IsOne : Otherwise → Source → BorrowedOutput → Frame → Text → Option Text → Option Text
+    → Outcome → Type 0
+IsOne otherwise source o frame word before behind (came.Written m) =
+    IsMomentIn source word (Ok m) × AppendsIn frame (written_of m o) before behind
+IsOne otherwise source o frame word before behind (came.Unshown m u) =
+    IsMomentIn source word (Ok m) × (written_of m o ≡ Err u) × Replaces otherwise frame word before behind
+IsOne otherwise source o frame word before behind (came.Unread e) =
+    IsMomentIn source word (Err e) × Replaces otherwise frame word before behind
+IsOne otherwise source o frame word before behind came.NotText =
+    (¬ IsUtf8 word) × Replaces otherwise frame word before behind
 
 -- what a word adds to the tally
-abbrev pub IsTallyOf : Source → BorrowedOutput → Text → Option Text → Option Text → Tally → Type 0
-IsTallyOf source o word before behind tally =
-    (outcome : Outcome) × IsOne source o word before behind outcome × (tally ≡ tally_of outcome)
+abbrev pub IsTallyOf : Otherwise → Source → BorrowedOutput → Frame → Text → Option Text → Option Text
+    → Tally → Type 0
+IsTallyOf otherwise source o frame word before behind tally =
+    (outcome : Outcome) × IsOne otherwise source o frame word before behind outcome
+    × (tally ≡ tally_of outcome)
 
 -- What comes of each word in turn, and of the end behind them, where a read has failed or not.
-abbrev pub Runs : Bool → Source → BorrowedOutput → List Text → Option Text → Option Text
+abbrev pub Runs : Bool → Otherwise → Source → BorrowedOutput → List Text → Option Text → Option Text
     → Tally → Type 0
-Runs failed source o [] before behind tally = (behind ≡ before) × (tally ≡ at_end failed)
-Runs failed source o (word ∷ words) before behind tally = (outcome : Outcome) × (between : Option Text)
-    × (more : Tally) × IsOne source o word before between outcome
-    × Runs failed source o words between behind more × (tally ≡ both (tally_of outcome) more)
+Runs failed otherwise source o [] before behind tally = (behind ≡ before) × (tally ≡ at_end failed)
+Runs failed otherwise source o (word ∷ words) before behind tally = (outcome : Outcome) × (between : Option Text)
+    × (more : Tally) × IsOne otherwise source o Line word before between outcome
+    × Runs failed otherwise source o words between behind more × (tally ≡ both (tally_of outcome) more)
 
 -- The words are the lines of a reader, all of them unless a read has failed.
-abbrev pub RunsOn : Bool → Source → BorrowedOutput → Option Text → Option Text → Option Text
+abbrev pub RunsOn : Bool → Otherwise → Source → BorrowedOutput → Option Text → Option Text → Option Text
     → Tally → Type 0
-RunsOn failed source o bytes before behind tally = (lines : List Text)
+RunsOn failed otherwise source o bytes before behind tally = (lines : List Text)
     × AreLinesOf bytes lines failed
-    × Runs failed source o (map without_newline lines) before behind tally
+    × Runs failed otherwise source o (map without_newline lines) before behind tally
 
-abbrev pub RunsOver : Source → BorrowedOutput → Option Text → Option Text → Option Text
+abbrev pub RunsOver : Otherwise → Source → BorrowedOutput → Option Text → Option Text → Option Text
     → Tally → Type 0
-RunsOver source o bytes before behind tally =
-    (failed : Bool) × RunsOn failed source o bytes before behind tally
+RunsOver otherwise source o bytes before behind tally =
+    (failed : Bool) × RunsOn failed otherwise source o bytes before behind tally
+
+-- What a read of one more line does to some bytes: nothing is known of a reader that has failed.
+abbrev pub IsReadMore : Option Text → Option Text → Text → Text → LineRead → Type 0
+IsReadMore old new bytes longer reads.Line =
+    (line : Text) × (longer ≡ bytes ++ line) × IsNextLine old line new
+IsReadMore old new bytes longer reads.End =
+    IsAtEnd old × (longer ≡ bytes) × IfSome old (λ xs. new ≡ Some [])
+IsReadMore old new bytes longer reads.Failed = ⊤
 
 -- What a read of a line does: nothing is known of a reader that has failed.
 abbrev pub IsRead : Option Text → Option Text → Text → LineRead → Type 0
-IsRead old new line Line = IsNextLine old line new
-IsRead old new line End = IsAtEnd old
-IsRead old new line Failed = ⊤
+IsRead old new line reads.Line = IsNextLine old line new
+IsRead old new line reads.End = IsAtEnd old
+IsRead old new line reads.Failed = ⊤

@@ -3,19 +3,24 @@
 ghost use Rattle.std.specs.Prelude.{◌≡◌};
 ghost use Rattle.timefd_write.specs.Asked as spec;
 
-use crate::language::{Languages, default_language, language_named};
+use crate::column::{Column, column_named};
+use crate::language::{Wording, Wordings, default_wording, wording_named};
+use crate::otherwise::{Otherwise, otherwise_named};
 use crate::word::{LanguageOption, Word, word_of};
-use timefd_parse::Language;
 
 /// A description, and the moments that are written by it.
 #[derive(Clone, Copy)]
 pub struct Request<'a> {
-    /// The languages of both descriptions.
-    pub languages: Languages,
+    /// The wordings of both descriptions.
+    pub wordings: Wordings,
     /// The text of the description that moments are read by; none, where they are named.
     pub read: Option<&'a str>,
     /// The text of the description that they are written by.
     pub description: &'a str,
+    /// The column of the standard input that is written anew; none, where its lines are moments.
+    pub column: Option<Column<'a>>,
+    /// What is written in place of a moment that has no line.
+    pub otherwise: Otherwise,
     /// How many of the last words are moments: none, where the standard input is read.
     pub moment_count: usize,
     /// Whether warnings are left out.
@@ -46,6 +51,18 @@ pub enum OptionError<'a> {
     ReadTwice,
     /// The word names no language, and is the value of the option.
     NoLanguage(LanguageOption, &'a str),
+    /// No word stands after `--csv`.
+    MissingColumn,
+    /// `--csv` stands twice.
+    ColumnTwice,
+    /// The value of `--csv` is the number 0.
+    NoColumn,
+    /// No word stands after `--else`.
+    MissingOtherwise,
+    /// The word is no value of `--else`.
+    NoOtherwise(&'a str),
+    /// A moment stands after the description beside `--csv`.
+    MomentBesideColumn,
     /// `--to-language` stands without `--read`.
     NothingRead,
     /// There is no description.
@@ -58,14 +75,18 @@ enum Wanted {
     Nothing,
     Language(LanguageOption),
     Read,
+    Column,
+    Otherwise,
 }
 
 // What is known in front of a word.
 #[derive(Clone, Copy)]
 struct State<'a> {
-    language: Language,
-    to_language: Option<Language>,
+    language: Wording,
+    to_language: Option<Wording>,
     read: Option<&'a str>,
+    column: Option<Column<'a>>,
+    otherwise: Option<Otherwise>,
     is_quiet: bool,
     wanted: Wanted,
 }
@@ -83,9 +104,11 @@ pub fn asked_of<'a>(words: &'a [&'a str]) -> Result<Asked<'a>, OptionError<'a>>
     ensures { result ≡ spec.asked_of words.now }
 {
     let mut state = State {
-        language: default_language(),
+        language: default_wording(),
         to_language: None,
         read: None,
+        column: None,
+        otherwise: None,
         is_quiet: false,
         wanted: Wanted::Nothing,
     };
@@ -108,6 +131,8 @@ fn at_end(wanted: Wanted) -> OptionError<'static>
         Wanted::Nothing => OptionError::NoDescription,
         Wanted::Language(option) => OptionError::MissingLanguage(option),
         Wanted::Read => OptionError::MissingRead,
+        Wanted::Column => OptionError::MissingColumn,
+        Wanted::Otherwise => OptionError::MissingOtherwise,
     }
 }
 
@@ -123,6 +148,36 @@ fn one_more<'a>(state: State<'a>, word: &'a str, behind: &'a [&'a str]) -> Step<
             wanted: Wanted::Nothing,
             ..state
         }),
+        Wanted::Column => with_column(state, word),
+        Wanted::Otherwise => with_otherwise(state, word),
+    }
+}
+
+// A word that is to name the column.
+fn with_column<'a>(state: State<'a>, word: &'a str) -> Step<'a>
+    ensures { result ≡ spec.with_column state.entry word.entry }
+{
+    match column_named(word) {
+        Some(column) => Step::Next(State {
+            column: Some(column),
+            wanted: Wanted::Nothing,
+            ..state
+        }),
+        None => Step::Done(Err(OptionError::NoColumn)),
+    }
+}
+
+// A word that is to name what stands where a line can't be written.
+fn with_otherwise<'a>(state: State<'a>, word: &'a str) -> Step<'a>
+    ensures { result ≡ spec.with_otherwise state.entry word.entry }
+{
+    match otherwise_named(word) {
+        Some(otherwise) => Step::Next(State {
+            otherwise: Some(otherwise),
+            wanted: Wanted::Nothing,
+            ..state
+        }),
+        None => Step::Done(Err(OptionError::NoOtherwise(word))),
     }
 }
 
@@ -130,14 +185,14 @@ fn one_more<'a>(state: State<'a>, word: &'a str, behind: &'a [&'a str]) -> Step<
 fn with_language<'a>(state: State<'a>, option: LanguageOption, word: &'a str) -> Step<'a>
     ensures { result ≡ spec.with_language state.entry option word.entry }
 {
-    match language_named(word) {
+    match wording_named(word) {
         Some(language) => Step::Next(with_option(state, option, language)),
         None => Step::Done(Err(OptionError::NoLanguage(option, word))),
     }
 }
 
 // What is known where an option has this language.
-fn with_option<'a>(state: State<'a>, option: LanguageOption, language: Language) -> State<'a>
+fn with_option<'a>(state: State<'a>, option: LanguageOption, language: Wording) -> State<'a>
     ensures { result ≡ spec.with_option state.entry option language }
 {
     match option {
@@ -164,6 +219,11 @@ fn first<'a>(state: State<'a>, word: &'a str, behind: &'a [&'a str]) -> Step<'a>
             ..state
         }),
         Word::Read => before_read(state),
+        Word::Csv => before_column(state),
+        Word::Else => Step::Next(State {
+            wanted: Wanted::Otherwise,
+            ..state
+        }),
         Word::Quiet => Step::Next(State {
             is_quiet: true,
             ..state
@@ -189,6 +249,19 @@ fn before_read<'a>(state: State<'a>) -> Step<'a>
     }
 }
 
+// `--csv`, which stands once.
+fn before_column<'a>(state: State<'a>) -> Step<'a>
+    ensures { result ≡ spec.before_column state.entry }
+{
+    match state.column {
+        Some(_) => Step::Done(Err(OptionError::ColumnTwice)),
+        None => Step::Next(State {
+            wanted: Wanted::Column,
+            ..state
+        }),
+    }
+}
+
 // The description behind `--`, and its moments.
 fn behind_end<'a>(state: State<'a>, words: &'a [&'a str]) -> Result<Asked<'a>, OptionError<'a>>
     ensures { result ≡ spec.behind_end state.entry words.now }
@@ -206,28 +279,45 @@ fn requested<'a>(
 ) -> Result<Asked<'a>, OptionError<'a>>
     ensures { result ≡ spec.requested state.entry description.entry moments.now }
 {
-    match languages_of(state) {
-        Some(languages) => Ok(Asked::Run(Request {
-            languages,
+    let Some(wordings) = wordings_of(state) else {
+        return Err(OptionError::NothingRead);
+    };
+    match (state.column, moments) {
+        (Some(_), [_, ..]) => Err(OptionError::MomentBesideColumn),
+        _ => Ok(Asked::Run(Request {
+            wordings,
             read: state.read,
             description,
+            column: state.column,
+            otherwise: otherwise_of(state),
             moment_count: moments.len(),
             is_quiet: state.is_quiet,
         })),
-        None => Err(OptionError::NothingRead),
     }
 }
 
-// The languages of both descriptions. `None` where one to write in is named, and none is to be read by.
-fn languages_of(state: State<'_>) -> Option<Languages>
-    ensures { result ≡ spec.languages_of state.entry }
+// What stands where a line can't be written. Where nothing else is asked for, a record of a table stays as
+// it is, and a line is left out.
+fn otherwise_of(state: State<'_>) -> Otherwise
+    ensures { result ≡ spec.otherwise_of state.entry }
+{
+    match (state.otherwise, state.column) {
+        (Some(otherwise), _) => otherwise,
+        (None, Some(_)) => Otherwise::Keep,
+        (None, None) => Otherwise::Nothing,
+    }
+}
+
+// The wordings of both descriptions. `None` where one to write in is named, and nothing is read.
+fn wordings_of(state: State<'_>) -> Option<Wordings>
+    ensures { result ≡ spec.wordings_of state.entry }
 {
     match (state.to_language, state.read) {
-        (None, _) => Some(Languages {
+        (None, _) => Some(Wordings {
             read: state.language,
             written: state.language,
         }),
-        (Some(written), Some(_)) => Some(Languages {
+        (Some(written), Some(_)) => Some(Wordings {
             read: state.language,
             written,
         }),

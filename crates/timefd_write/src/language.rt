@@ -3,7 +3,26 @@
 ghost use Rattle.std.specs.Prelude.{◌≡◌};
 ghost use Rattle.timefd_write.specs.Words as spec;
 
+use timefd_dialect::Dialect;
 use timefd_parse::{DescriptionVersion, Language};
+
+/// How a description is written.
+#[derive(Clone, Copy)]
+pub enum Wording {
+    /// In a language of `time`.
+    Own(Language),
+    /// As a format of another language.
+    Other(Dialect),
+}
+
+/// The wordings of both descriptions.
+#[derive(Clone, Copy)]
+pub struct Wordings {
+    /// That of the description which moments are read by.
+    pub read: Wording,
+    /// That of the description which they are written by.
+    pub written: Wording,
+}
 
 /// The languages of both descriptions.
 #[derive(Clone, Copy)]
@@ -14,15 +33,34 @@ pub struct Languages {
     pub written: Language,
 }
 
-/// The language of a description where none is named.
-pub fn default_language() -> Language
-    ensures { result ≡ spec.default_language }
+/// The wording of a description where none is named.
+pub fn default_wording() -> Wording
+    ensures { result ≡ spec.default_wording }
 {
-    Language::Version(DescriptionVersion::Three)
+    Wording::Own(Language::Version(DescriptionVersion::Three))
 }
 
-/// The language that a word names.
-pub fn language_named(word: &str) -> Option<Language>
+/// The wording that a word names.
+pub fn wording_named(word: &str) -> Option<Wording>
+    ensures { result ≡ spec.wording_named word.now }
+{
+    match language_named(word) {
+        Some(language) => Some(Wording::Own(language)),
+        None => dialect_named(word),
+    }
+}
+
+fn dialect_named(word: &str) -> Option<Wording>
+    ensures { result ≡ spec.dialect_named word.now }
+{
+    match Dialect::named(word) {
+        Some(dialect) => Some(Wording::Other(dialect)),
+        None => None,
+    }
+}
+
+/// The language of `time` that a word names.
+fn language_named(word: &str) -> Option<Language>
     ensures { result ≡ spec.language_named word.now }
 {
     match word {

@@ -1,11 +1,14 @@
 //! The moments that the lines of a reader name, one after another.
 
 ghost use Rattle.std.specs.Prelude.{◌≡◌, IfErr, IfOk};
+ghost use Rattle.timefd_write.specs.Frames.{EndsOnlyAsAsked};
 ghost use Rattle.timefd_write.specs.ReadBack.{AreLeavesOf};
 ghost use Rattle.timefd_write.specs.Sources.{AreLeavesIn};
-ghost use Rattle.timefd_write.specs.Written.{IsRead, RunsOver};
+ghost use Rattle.timefd_write.specs.Written.{IsRead, IsReadMore, RunsOver};
 
-use crate::line::tally_one;
+use crate::entry::tally_one;
+use crate::frame::{Entry, Frame};
+use crate::otherwise::Otherwise;
 use crate::outcome::{RunError, Tally};
 use crate::read_back::leaves_of;
 use crate::source::{Source, source_leaves};
@@ -20,25 +23,24 @@ const ITEM_ROOM: usize = 256;
 
 const MOST_ROOM: usize = 65_536;
 
-// What a read of a line comes to.
+/// What a read of a line comes to.
 #[derive(Clone, Copy)]
-enum LineRead {
-    // One more line.
+pub enum LineRead {
+    /// One more line.
     Line,
-    // The end.
+    /// The end.
     End,
-    // The read failed.
+    /// The read failed.
     Failed,
 }
 
-// Reads one more line into this room, with its newline. An `Err` says that memory ran out.
-#[tactic(auto, using(timefd_rewrite::proofs::LineLemmas::next_line))]
-fn read_line<R: BufRead>(reader: &mut R, bytes: &mut Vec<u8>) -> Result<LineRead, RunError>
-    ensures read { IfOk result (IsRead (R.remaining reader.old) (R.remaining reader.new)
-        bytes.new.items) }
+/// Reads one more line, with its newline, to the end of these bytes. An `Err` says that memory ran out.
+#[tactic(auto, using(crate::proofs::ReadLemmas::one_line, crate::proofs::ReadLemmas::no_line))]
+pub fn read_more<R: BufRead>(reader: &mut R, bytes: &mut Vec<u8>) -> Result<LineRead, RunError>
+    ensures read { IfOk result (IsReadMore (R.remaining reader.old) (R.remaining reader.new)
+        bytes.old.items bytes.new.items) }
     ensures memory { IfErr result (λ error. error ≡ RunError.Memory) }
 {
-    bytes.clear();
     match reader.read_until(b'\n', bytes) {
         Ok(count) => {
             if count == 0 {
@@ -57,8 +59,19 @@ fn read_line<R: BufRead>(reader: &mut R, bytes: &mut Vec<u8>) -> Result<LineRead
     }
 }
 
-// Room for what the description shows, or for most texts.
-fn line_room(alloc: Global, description: &BorrowedOutput<'_>) -> Result<Vec<u8>, AllocError> {
+// Reads one more line into this room.
+#[tactic(auto, using(crate::proofs::ReadLemmas::whole_line))]
+fn read_line<R: BufRead>(reader: &mut R, bytes: &mut Vec<u8>) -> Result<LineRead, RunError>
+    ensures read { IfOk result (IsRead (R.remaining reader.old) (R.remaining reader.new)
+        bytes.new.items) }
+    ensures memory { IfErr result (λ error. error ≡ RunError.Memory) }
+{
+    bytes.clear();
+    read_more(reader, bytes)
+}
+
+/// Room for what the description shows, or for most texts.
+pub fn line_room(alloc: Global, description: &BorrowedOutput<'_>) -> Result<Vec<u8>, AllocError> {
     let count = match description {
         BorrowedOutput::Items(_) => ITEM_ROOM,
         BorrowedOutput::Description(description) => {
@@ -75,12 +88,14 @@ pub fn write_lines<R: BufRead, W: Write, E: Write>(
     alloc: Global,
     source: &Source<'_>,
     description: &BorrowedOutput<'_>,
+    otherwise: Otherwise,
     reader: &mut R,
     output: &mut W,
     errors: &mut E,
 ) -> Result<Tally, RunError>
-    ensures { IfOk result (RunsOver source.now description.now (R.remaining reader.old)
+    ensures runs { IfOk result (RunsOver otherwise source.now description.now (R.remaining reader.old)
         (W.contents output.old) (W.contents output.new)) }
+    ensures ends { IfErr result (EndsOnlyAsAsked otherwise) }
 {
     let read = source_leaves(alloc, source)?;
     let written = leaves_of(alloc, description)?;
@@ -90,6 +105,7 @@ pub fn write_lines<R: BufRead, W: Write, E: Write>(
         read.as_deref(),
         description,
         written.as_deref(),
+        otherwise,
         reader,
         output,
         errors,
@@ -104,14 +120,16 @@ fn write_by<R: BufRead, W: Write, E: Write>(
     source_leaves: Option<&[Leaf<'_>]>,
     description: &BorrowedOutput<'_>,
     leaves: Option<&[Leaf<'_>]>,
+    otherwise: Otherwise,
     reader: &mut R,
     output: &mut W,
     errors: &mut E,
 ) -> Result<Tally, RunError>
     requires source { AreLeavesIn source.now source_leaves }
     requires written { AreLeavesOf description.now leaves }
-    ensures { IfOk result (RunsOver source.now description.now (R.remaining reader.old)
+    ensures runs { IfOk result (RunsOver otherwise source.now description.now (R.remaining reader.old)
         (W.contents output.old) (W.contents output.new)) }
+    ensures ends { IfErr result (EndsOnlyAsAsked otherwise) }
 {
     let mut tally = Tally::at_end(false);
     let mut bytes = Vec::new(alloc);
@@ -126,8 +144,12 @@ fn write_by<R: BufRead, W: Write, E: Write>(
                     source_leaves,
                     description,
                     leaves,
-                    Some(line),
-                    word,
+                    otherwise,
+                    Entry {
+                        line: Some(line),
+                        text: word,
+                        frame: Frame::Line,
+                    },
                     &mut room,
                     output,
                     errors,

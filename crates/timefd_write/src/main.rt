@@ -5,17 +5,30 @@
 
 mod asked;
 mod clock;
+mod column;
+mod converted;
 mod description;
 mod end;
+mod entry;
+mod field;
+mod fields;
+mod frame;
+mod header;
 mod language;
 mod line;
 mod lines;
 mod message;
 mod moment;
+mod otherwise;
 mod outcome;
+mod progress;
+mod quoting;
 mod read_back;
+mod records;
 mod run;
+mod seconds;
 mod source;
+mod table;
 mod usage;
 mod warned;
 mod word;
@@ -23,16 +36,22 @@ mod words;
 
 use asked::{Asked, OptionError, Request, asked_of};
 use clock::moment_now;
+use converted::{Described, limits_sentence, own_description, refused_sentence};
 use end::RunEnd;
+use language::Languages;
 use message::Manner;
 use outcome::RunError;
+use progress::{Progress, Watched};
 use run::run;
 use std::alloc::AllocError;
 use std::io::{BufReader, BufWriter, IsTerminal, Write};
 use std::process::ExitCode;
+use timefd_dialect::DialectError;
 use timefd_streams::{WordsError, all_words, lent, shows_colors};
 
 // The statuses of runs that did not come to their end.
+const REFUSED: u8 = 1;
+
 const WRONG_ARGUMENTS: u8 = 2;
 
 const NO_MEMORY: u8 = 3;
@@ -89,25 +108,74 @@ fn status(rt: &HostRuntime, words: &[&str]) -> u8 {
     }
 }
 
+// Why a format of another language is not converted.
+fn not_converted(rt: &HostRuntime, error: DialectError) -> u8 {
+    match error {
+        DialectError::Refused(refusal) => match refused_sentence(rt.alloc(), refusal) {
+            Ok(sentence) => told(rt, REFUSED, &sentence),
+            Err(AllocError) => no_memory(rt),
+        },
+        DialectError::Memory(_) => no_memory(rt),
+    }
+}
+
+// Says of which moments alone a format writes the same as its text.
+fn tell_limits(rt: &HostRuntime, description: &Described<'_>) -> Result<(), AllocError> {
+    if let Some(sentence) = limits_sentence(rt.alloc(), description.limits())? {
+        told(rt, 0, &sentence);
+    }
+    Ok(())
+}
+
 fn run_status(rt: &HostRuntime, request: Request<'_>, moments: &[&str]) -> u8 {
+    let written = match own_description(rt.alloc(), request.wordings.written, request.description) {
+        Ok(written) => written,
+        Err(error) => return not_converted(rt, error),
+    };
+    if !request.is_quiet && tell_limits(rt, &written).is_err() {
+        return no_memory(rt);
+    }
+    let Some(text) = request.read else {
+        return described_status(rt, request, None, &written, moments);
+    };
+    match own_description(rt.alloc(), request.wordings.read, text) {
+        Ok(read) => described_status(rt, request, Some(&read), &written, moments),
+        Err(error) => not_converted(rt, error),
+    }
+}
+
+fn described_status(
+    rt: &HostRuntime,
+    request: Request<'_>,
+    read: Option<&Described<'_>>,
+    written: &Described<'_>,
+    moments: &[&str],
+) -> u8 {
     let Ok(mut output) = BufWriter::new(rt.alloc(), rt.stdout()) else {
         return no_memory(rt);
     };
-    let end = run_to(rt, request, moments, &mut output);
+    let progress = Progress::new(rt);
+    let end = run_to(rt, request, read, written, moments, &progress, &mut output);
+    progress.end();
     match (end, output.flush()) {
         (Ok(end), Ok(())) => end_status(rt, end.status()),
         (Err(RunError::Memory), _) => no_memory(rt),
-        (Err(RunError::Write), _) | (Ok(_), Err(_)) => write_failed(rt),
+        (Err(RunError::Refused), Ok(())) => REFUSED,
+        (Err(RunError::Write), _) | (_, Err(_)) => write_failed(rt),
     }
 }
 
 fn run_to<W: Write>(
     rt: &HostRuntime,
     request: Request<'_>,
+    read: Option<&Described<'_>>,
+    written: &Described<'_>,
     moments: &[&str],
+    progress: &Progress<'_>,
     output: &mut W,
 ) -> Result<RunEnd, RunError> {
-    let Ok(mut input) = BufReader::with_capacity(rt.alloc(), BUFFER, rt.stdin()) else {
+    let input = Watched::new(progress, rt.stdin());
+    let Ok(mut input) = BufReader::with_capacity(rt.alloc(), BUFFER, input) else {
         return Err(RunError::Memory);
     };
     run(
@@ -117,14 +185,36 @@ fn run_to<W: Write>(
             is_colored: is_colored(rt),
             is_quiet: request.is_quiet,
         },
-        request.languages,
-        request.read,
-        request.description,
+        languages_of(read, written),
+        text_of(read),
+        written.text(),
+        request.otherwise,
+        request.column,
         moments,
         &mut input,
         output,
         &mut rt.stderr(),
     )
+}
+
+// The languages of both descriptions.
+fn languages_of(read: Option<&Described<'_>>, written: &Described<'_>) -> Languages {
+    let read = match read {
+        Some(read) => read.language(),
+        None => written.language(),
+    };
+    Languages {
+        read,
+        written: written.language(),
+    }
+}
+
+// The text of the description that moments are read by, if there is one.
+fn text_of<'a>(read: Option<&'a Described<'_>>) -> Option<&'a str> {
+    match read {
+        Some(read) => Some(read.text()),
+        None => None,
+    }
 }
 
 // Says that the standard input was not read to its end, where it was not.

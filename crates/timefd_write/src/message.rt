@@ -3,6 +3,7 @@
 ghost use Rattle.std.specs.Prelude.{◌≡◌, IfOk, string_bytes};
 ghost use Rattle.timefd_write.specs.Messages as spec;
 
+use crate::header::HeaderError;
 use crate::moment::MomentError;
 use std::alloc::{AllocError, Global};
 use std::io::Write;
@@ -63,6 +64,8 @@ pub fn unread_message(
 {
     match error {
         MomentError::Clock => String::from_str(alloc, "timefd_format: the clock can't be read\n"),
+        MomentError::Seconds => no_seconds(alloc, word),
+        MomentError::Brackets => brackets(alloc, word),
         MomentError::Text(error) => {
             let word = safe(alloc, word)?;
             format!(in alloc; "timefd_format: `{word}` is no moment: {error}\n")
@@ -76,6 +79,28 @@ pub fn unread_message(
             not_read(alloc, line, word, &sentence)
         }
     }
+}
+
+// Of a word after whose `@` no moment stands.
+fn no_seconds(alloc: Global, word: &str) -> Result<String, AllocError>
+    ensures { IfOk result (λ message. string_bytes message ≡ spec.no_seconds word.now) }
+{
+    let word = safe(alloc, word)?;
+    format!(in alloc;
+        "timefd_format: `{word}` is no moment: after `@` stand whole seconds since 1970, as in \
+        @1700000000, of a year from -999999 to 999999\n"
+    )
+}
+
+// Of a word that would be a moment without what stands in brackets at its end.
+fn brackets(alloc: Global, word: &str) -> Result<String, AllocError>
+    ensures { IfOk result (λ message. string_bytes message ≡ spec.brackets word.now) }
+{
+    let word = safe(alloc, word)?;
+    format!(in alloc;
+        "timefd_format: `{word}` is no moment: what stands in brackets isn't checked against the \
+        offset; leave it out, as in 2026-11-23T05:36:07+01:00\n"
+    )
 }
 
 fn not_read(
@@ -103,4 +128,45 @@ pub fn unshown_message(alloc: Global, word: &str, unshown: Unshown) -> Result<St
 {
     let word = safe(alloc, word)?;
     format!(in alloc; "timefd_format: `{word}` is not written: {unshown}\n")
+}
+
+/// What is told of a record without the column.
+pub fn no_field_message(alloc: Global, line: u64) -> Result<String, AllocError>
+    ensures { IfOk result (λ message. string_bytes message ≡ spec.no_field_message line) }
+{
+    format!(in alloc; "timefd_format: line {line} has too few fields to have the column\n")
+}
+
+/// What is told of quotes that don't end.
+pub fn open_message(alloc: Global, line: u64) -> Result<String, AllocError>
+    ensures { IfOk result (λ message. string_bytes message ≡ spec.open_message line) }
+{
+    format!(in alloc;
+        "timefd_format: line {line}: quotes begin and don't end; nothing is read from here on\n"
+    )
+}
+
+/// What is told of a table without a first record.
+pub fn no_header_message(alloc: Global, name: &str) -> Result<String, AllocError>
+    ensures { IfOk result (λ message. string_bytes message ≡ spec.no_header_message name.now) }
+{
+    let name = safe(alloc, name)?;
+    format!(in alloc; "timefd_format: there is no first line to name the column `{name}`\n")
+}
+
+/// What is told of a table whose first record doesn't name the column.
+pub fn unnamed_message(alloc: Global, name: &str, error: HeaderError) -> Result<String, AllocError>
+    ensures { IfOk result (λ message. string_bytes message ≡ spec.unnamed_message name.now error) }
+{
+    let name = safe(alloc, name)?;
+    match error {
+        HeaderError::Missing => {
+            format!(in alloc; "timefd_format: the first line names no column `{name}`\n")
+        }
+        HeaderError::Twice => {
+            format!(in alloc;
+                "timefd_format: the first line names two columns `{name}`; give the number of one\n"
+            )
+        }
+    }
 }

@@ -15,6 +15,8 @@ pub enum RunError {
     Memory,
     /// A write failed.
     Write,
+    /// A moment isn't written, and the run is to end there.
+    Refused,
 }
 
 impl From<AllocError> for RunError {
@@ -61,6 +63,17 @@ impl Tally {
             is_refused: false,
             not_text: false,
             has_failed,
+        }
+    }
+
+    /// That of a record without the field that is asked for, and of a table without its column.
+    pub fn refused() -> Tally
+        ensures { result ≡ spec.refused }
+    {
+        Tally {
+            is_refused: true,
+            not_text: false,
+            has_failed: false,
         }
     }
 

@@ -1,16 +1,20 @@
 //! A whole run: from a description and words to lines.
 
-ghost use Rattle.std.specs.Prelude.{IfOk};
+ghost use Rattle.std.specs.Prelude.{IfErr, IfOk};
 ghost use Rattle.timefd_diagnosis.specs.Words.{texts};
-ghost use Rattle.timefd_write.specs.Runs.{IsRun, IsRunFrom, IsRunOf};
+ghost use Rattle.timefd_write.specs.Frames.{EndsOnlyAsAsked};
+ghost use Rattle.timefd_write.specs.Runs.{IsInputRun, IsRun, IsRunFrom, IsRunOf};
 
+use crate::column::Column;
 use crate::description::{Reading, read};
 use crate::end::RunEnd;
 use crate::language::Languages;
 use crate::lines::write_lines;
 use crate::message::{Manner, tell_fault};
+use crate::otherwise::Otherwise;
 use crate::outcome::{RunError, Tally};
 use crate::source::{Source, source_of};
+use crate::table::write_table;
 use crate::warned::{WRITTEN, tell_warned};
 use crate::words::write_words;
 use std::alloc::Global;
@@ -29,12 +33,15 @@ pub fn run<I: BufRead, W: Write, E: Write>(
     languages: Languages,
     read: Option<&str>,
     description: &str,
+    otherwise: Otherwise,
+    column: Option<Column<'_>>,
     words: &[&str],
     input: &mut I,
     output: &mut W,
     errors: &mut E,
 ) -> Result<RunEnd, RunError>
-    ensures { IfOk result (IsRun now manner.is_quiet languages read.entry description.now
+    ensures ends { IfErr result (EndsOnlyAsAsked otherwise) }
+    ensures run { IfOk result (IsRun column.entry otherwise now manner.is_quiet languages read.entry description.now
         (texts words.now) (I.remaining input.old) (W.contents output.old)
         (W.contents output.new)) }
 {
@@ -54,6 +61,8 @@ pub fn run<I: BufRead, W: Write, E: Write>(
             manner,
             languages,
             description,
+            otherwise,
+            column,
             words,
             input,
             output,
@@ -70,12 +79,15 @@ fn run_from<I: BufRead, W: Write, E: Write>(
     manner: Manner,
     languages: Languages,
     description: &str,
+    otherwise: Otherwise,
+    column: Option<Column<'_>>,
     words: &[&str],
     input: &mut I,
     output: &mut W,
     errors: &mut E,
 ) -> Result<RunEnd, RunError>
-    ensures { IfOk result (IsRunFrom source.now manner.is_quiet languages description.now
+    ensures ends { IfErr result (EndsOnlyAsAsked otherwise) }
+    ensures run { IfOk result (IsRunFrom column.entry otherwise source.now manner.is_quiet languages description.now
         (texts words.now) (I.remaining input.old) (W.contents output.old)
         (W.contents output.new)) }
 {
@@ -94,7 +106,17 @@ fn run_from<I: BufRead, W: Write, E: Write>(
         }
         Reading::Description(description) => {
             let warned = tell_warned(alloc, manner, languages, source, &description, errors)?;
-            let tally = write_all(alloc, source, &description, words, input, output, errors)?;
+            let tally = write_all(
+                alloc,
+                source,
+                &description,
+                otherwise,
+                column,
+                words,
+                input,
+                output,
+                errors,
+            )?;
             Ok(RunEnd::Done(warned, tally))
         }
     }
@@ -105,17 +127,59 @@ fn write_all<I: BufRead, W: Write, E: Write>(
     alloc: Global,
     source: &Source<'_>,
     description: &BorrowedOutput<'_>,
+    otherwise: Otherwise,
+    column: Option<Column<'_>>,
     words: &[&str],
     input: &mut I,
     output: &mut W,
     errors: &mut E,
 ) -> Result<Tally, RunError>
-    ensures { IfOk result (IsRunOf source.now description.now (texts words.now) (I.remaining input.old)
+    ensures ends { IfErr result (EndsOnlyAsAsked otherwise) }
+    ensures run { IfOk result (IsRunOf column.entry otherwise source.now description.now (texts words.now) (I.remaining input.old)
         (W.contents output.old) (W.contents output.new)) }
 {
     if words.is_empty() {
-        write_lines(alloc, source, description, input, output, errors)
+        write_input(
+            alloc,
+            source,
+            description,
+            otherwise,
+            column,
+            input,
+            output,
+            errors,
+        )
     } else {
-        write_words(alloc, source, description, words, output, errors)
+        write_words(alloc, source, description, otherwise, words, output, errors)
+    }
+}
+
+// The moments of the input: those of its lines, or those of a column.
+fn write_input<I: BufRead, W: Write, E: Write>(
+    alloc: Global,
+    source: &Source<'_>,
+    description: &BorrowedOutput<'_>,
+    otherwise: Otherwise,
+    column: Option<Column<'_>>,
+    input: &mut I,
+    output: &mut W,
+    errors: &mut E,
+) -> Result<Tally, RunError>
+    ensures run { IfOk result (IsInputRun column.entry otherwise source.now description.now (I.remaining input.old)
+        (W.contents output.old) (W.contents output.new)) }
+    ensures ends { IfErr result (EndsOnlyAsAsked otherwise) }
+{
+    match column {
+        Some(column) => write_table(
+            alloc,
+            source,
+            description,
+            otherwise,
+            column,
+            input,
+            output,
+            errors,
+        ),
+        None => write_lines(alloc, source, description, otherwise, input, output, errors),
     }
 }

@@ -16,20 +16,28 @@ pub const USAGE: &str = "usage: timefd_format [OPTION].. [--] DESCRIPTION [MOMEN
 
 Writes each moment by the format description, a line each. Without a moment it reads them from the
 standard input, one a line. A moment is a date, with a time of day and an offset where they are
-known, as 2026-11-23T05:36:07.25+01:00; the word now is that of the program's start, in UTC.
+known, as 2026-11-23T05:36:07.25+01:00; the word now is that of the program's start, and @1700000000
+that many seconds after 1970 began, both in UTC.
 
-  --language 1|2|3|strftime      the language of the descriptions; version 3 if it isn't given
+  --language LANGUAGE            the language of the descriptions: 1, 2, 3 (if it isn't given),
+                                 strftime of time, or python, c, gnu, chrono, jiff, ruby, java,
+                                 go, moment, whose formats become version 3
   --read DESCRIPTION             moments are texts of this description
-  --to-language 1|2|3|strftime   with --read, the language of DESCRIPTION alone
+  --to-language LANGUAGE         with --read, the language of DESCRIPTION alone
+  --csv COLUMN                   the standard input is comma-separated values, and the moments of
+                                 this column are written in their place: its number, counted from
+                                 1, or its name in the first line, which is kept then
+  --else keep|empty|fail         what stands where a moment isn't written: its text, nothing, or
+                                 the run ends; else a line is left out, and a field is kept
   --quiet, -q                    leaves out warnings: no component in a description, or text that
                                  another language reads as one
   --help, -h                     writes this
   --version, -V                  writes the program's version
   --                             ends the options
 
-The status is 0 where all moments are written, 1 where a description or a moment is refused, 2 at
-wrong arguments, 3 where memory ran out, 4 where a read or a write failed, 5 where a line is no
-UTF-8.
+The status is 0 where all moments are written, 1 where a description, a moment or a column is
+refused, 2 at wrong arguments, 3 where memory ran out, 4 where a read or a write failed, 5 where a
+line is no UTF-8.
 ";
 
 /// What is wrong with the arguments, in a sentence.
@@ -45,13 +53,40 @@ pub fn sentence(alloc: Global, error: OptionError<'_>) -> Result<String, AllocEr
         }
         OptionError::MissingLanguage(option) => {
             let name = option.name();
-            format!(in alloc; "`{name}` wants a value: one of 1, 2, 3, strftime")
+            format!(in alloc;
+                "`{name}` wants a value: one of 1, 2, 3, strftime, python, c, gnu, chrono, \
+                jiff, ruby, java, go, moment"
+            )
         }
         OptionError::MissingRead => {
             String::from_str(alloc, "`--read` wants a value: a description to read by")
         }
         OptionError::ReadTwice => String::from_str(alloc, "`--read` stands twice"),
         OptionError::NoLanguage(option, word) => no_language(alloc, option, word),
+        OptionError::MissingColumn => String::from_str(
+            alloc,
+            "`--csv` wants a value: the number of a column, or its name in the first line",
+        ),
+        OptionError::ColumnTwice => {
+            String::from_str(
+                alloc,
+                "`--csv` stands twice, and one run changes one column",
+            )
+        }
+        OptionError::NoColumn => {
+            String::from_str(alloc, "`--csv` counts from 1; there is no column 0")
+        }
+        OptionError::MissingOtherwise => {
+            String::from_str(alloc, "`--else` wants a value: one of keep, empty, fail")
+        }
+        OptionError::NoOtherwise(word) => {
+            let word = safe(alloc, word)?;
+            format!(in alloc; "`{word}` is no value of `--else`: one of keep, empty, fail")
+        }
+        OptionError::MomentBesideColumn => String::from_str(
+            alloc,
+            "`--csv` reads the standard input; no moment stands after the description then",
+        ),
         OptionError::NothingRead => String::from_str(
             alloc,
             "`--to-language` goes with `--read`; without it `--language` names the language",
@@ -69,10 +104,16 @@ fn no_language(alloc: Global, option: LanguageOption, word: &str) -> Result<Stri
     let word = safe(alloc, word)?;
     match option {
         LanguageOption::Both => {
-            format!(in alloc; "`{word}` is no value of `--language`: one of 1, 2, 3, strftime")
+            format!(in alloc;
+                "`{word}` is no value of `--language`: one of 1, 2, 3, strftime, python, c, gnu, \
+                chrono, jiff, ruby, java, go, moment"
+            )
         }
         LanguageOption::Written => {
-            format!(in alloc; "`{word}` is no value of `--to-language`: one of 1, 2, 3, strftime")
+            format!(in alloc;
+                "`{word}` is no value of `--to-language`: one of 1, 2, 3, strftime, python, c, \
+                gnu, chrono, jiff, ruby, java, go, moment"
+            )
         }
     }
 }

@@ -31,6 +31,10 @@ pub enum Word {
     Language(LanguageOption),
     /// `--read`, whose value is the word behind it.
     Read,
+    /// `--csv`, whose value is the word after it.
+    Csv,
+    /// `--else`, whose value is the word after it.
+    Else,
     /// `--quiet` or `-q`.
     Quiet,
     /// `--help` or `-h`.
@@ -53,6 +57,8 @@ pub fn word_of(word: &str) -> Word
         "--language" => Word::Language(LanguageOption::Both),
         "--to-language" => Word::Language(LanguageOption::Written),
         "--read" => Word::Read,
+        "--csv" => Word::Csv,
+        "--else" => Word::Else,
         "--quiet" | "-q" => Word::Quiet,
         "--help" | "-h" => Word::Help,
         "--version" | "-V" => Word::Version,

@@ -1,10 +1,13 @@
 //! The moments that the arguments name, one after another.
 
-ghost use Rattle.std.specs.Prelude.{false, IfOk};
+ghost use Rattle.std.specs.Prelude.{false, IfErr, IfOk};
 ghost use Rattle.timefd_diagnosis.specs.Words.{texts};
+ghost use Rattle.timefd_write.specs.Frames.{EndsOnlyAsAsked};
 ghost use Rattle.timefd_write.specs.Written.{Runs};
 
-use crate::line::tally_one;
+use crate::entry::tally_one;
+use crate::frame::{Entry, Frame};
+use crate::otherwise::Otherwise;
 use crate::outcome::{RunError, Tally};
 use crate::source::Source;
 use std::alloc::Global;
@@ -18,12 +21,14 @@ pub fn write_words<W: Write, E: Write>(
     alloc: Global,
     source: &Source<'_>,
     description: &BorrowedOutput<'_>,
+    otherwise: Otherwise,
     words: &[&str],
     output: &mut W,
     errors: &mut E,
 ) -> Result<Tally, RunError>
-    ensures { IfOk result (Runs false source.now description.now (texts words.now) (W.contents output.old)
-        (W.contents output.new)) }
+    ensures runs { IfOk result (Runs false otherwise source.now description.now (texts words.now)
+        (W.contents output.old) (W.contents output.new)) }
+    ensures ends { IfErr result (EndsOnlyAsAsked otherwise) }
 {
     let mut tally = Tally::at_end(false);
     let mut rest = words;
@@ -34,8 +39,12 @@ pub fn write_words<W: Write, E: Write>(
             None,
             description,
             None,
-            None,
-            word.as_bytes(),
+            otherwise,
+            Entry {
+                line: None,
+                text: word.as_bytes(),
+                frame: Frame::Line,
+            },
             &mut [],
             output,
             errors,

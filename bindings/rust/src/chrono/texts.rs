@@ -4,7 +4,8 @@ use alloc::string::String;
 
 use chrono::format::{Fixed, Item, Numeric, Pad};
 
-use crate::unsupported::{Unsupported, push_literal};
+use crate::literal::push_escaped;
+use crate::unsupported::Unsupported;
 
 /// The text of version 3 that has the items. It writes what `chrono` writes of years from 0 to 9999.
 ///
@@ -16,9 +17,9 @@ pub fn to_text(items: &[Item<'_>]) -> Result<String, Unsupported> {
     let mut text = String::new();
     for item in items {
         match item {
-            Item::Literal(literal) | Item::Space(literal) => push_literal(&mut text, literal),
+            Item::Literal(literal) | Item::Space(literal) => push_escaped(&mut text, literal),
             Item::OwnedLiteral(literal) | Item::OwnedSpace(literal) => {
-                push_literal(&mut text, literal);
+                push_escaped(&mut text, literal);
             }
             Item::Numeric(number, pad) => push_number(&mut text, number, *pad)?,
             Item::Fixed(fixed) => text.push_str(of_fixed(fixed)?),

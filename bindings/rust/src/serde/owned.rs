@@ -4,10 +4,11 @@ use alloc::string::String;
 use core::fmt;
 use core::hash::{Hash, Hasher};
 
-use crate::{FormatDescription, Language, ParseError};
-use serde::de::{Error, Visitor};
+use crate::{FormatDescription, Language, ParseError, Warning};
+use serde::de::Error;
 use serde::{Deserializer, Serializer};
 
+use crate::serde::any::AnyVisitor;
 use crate::serde::text::{Name, serialize_text};
 use crate::serde::traits::{DeserializeIn, SerializeIn};
 
@@ -24,6 +25,10 @@ use crate::serde::traits::{DeserializeIn, SerializeIn};
 /// assert_eq!(error.to_string(), "unclosed opening bracket at byte index 4");
 /// # Ok::<(), timefd::ParseError>(())
 /// ```
+///
+/// What `serde` reads has a component: a text without one, as `%Y-%m-%d` in version 3, is refused, since
+/// each date would be written alike. [`AnyFormat`](crate::serde::AnyFormat) takes such texts too, and so
+/// does [`new`](Self::new).
 ///
 /// Two are equal where both their languages and their texts are.
 #[derive(Debug, Clone)]
@@ -107,26 +112,29 @@ impl<'de> DeserializeIn<'de> for OwnedFormat {
         language: Language,
         deserializer: D,
     ) -> Result<Self, D::Error> {
-        deserializer.deserialize_string(OwnedVisitor { language })
+        let format = deserializer.deserialize_string(AnyVisitor { language })?;
+        let warnings = format.description.warnings().map_err(D::Error::custom)?;
+        if warnings.contains(&Warning::NoComponent) {
+            return Err(D::Error::custom(NoComponent { format: &format, warnings: &warnings }));
+        }
+        Ok(format)
     }
 }
 
-struct OwnedVisitor {
-    language: Language,
+/// Shows why a format without a component is refused.
+struct NoComponent<'a> {
+    format: &'a OwnedFormat,
+    warnings: &'a [Warning],
 }
 
-impl Visitor<'_> for OwnedVisitor {
-    type Value = OwnedFormat;
-
-    fn expecting(&self, f: &mut fmt::Formatter<'_>) -> fmt::Result {
-        write!(f, "a format of {}", Name(self.language))
-    }
-
-    fn visit_str<E: Error>(self, text: &str) -> Result<OwnedFormat, E> {
-        OwnedFormat::new(self.language, text).map_err(E::custom)
-    }
-
-    fn visit_string<E: Error>(self, text: String) -> Result<OwnedFormat, E> {
-        OwnedFormat::new(self.language, text).map_err(E::custom)
+impl fmt::Display for NoComponent<'_> {
+    fn fmt(&self, f: &mut fmt::Formatter<'_>) -> fmt::Result {
+        let text = self.format.text();
+        write!(f, "the format `{text}` has no component, so each date would be written alike")?;
+        if self.warnings.contains(&Warning::OtherLanguage) {
+            let language = Name(self.format.language());
+            write!(f, "; it is a format of another language than {language}")?;
+        }
+        Ok(())
     }
 }

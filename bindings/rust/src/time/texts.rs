@@ -10,7 +10,8 @@ use time::format_description::modifier::{
 };
 use time::format_description::{Component, FormatItem};
 
-use crate::unsupported::{Unsupported, push_literal};
+use crate::literal::push_escaped;
+use crate::unsupported::Unsupported;
 
 /// The text of version 3 that has the items, the years in their extended range.
 ///
@@ -60,7 +61,7 @@ fn write_nested(text: &mut String, item: &FormatItem<'_>) -> Result<(), Unsuppor
 }
 
 fn write_literal(text: &mut String, bytes: &[u8]) -> Result<(), Unsupported> {
-    push_literal(text, str::from_utf8(bytes).map_err(|_| Unsupported::new("literal of bytes"))?);
+    push_escaped(text, str::from_utf8(bytes).map_err(|_| Unsupported::new("literal of bytes"))?);
     Ok(())
 }
 

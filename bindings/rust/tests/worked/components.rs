@@ -3,7 +3,7 @@
 use std::num::NonZeroU16;
 
 use crate::rows::{Parse, Tree, VERSIONS, expect_items};
-use timefd::{Component as C, Padding, SubsecondDigits, TrailingInput};
+use timefd::{Component as C, DescriptionBuilder, Padding, SubsecondDigits, TrailingInput};
 
 /// The text between the brackets, at most how many bytes, and the component.
 type Row = (&'static str, usize, C);
@@ -160,5 +160,16 @@ fn each_component_is_as_expected() {
 fn each_component_knows_its_bytes() {
     for (text, bytes, component) in [DAYS, YEARS, CLOCKS, OTHERS].concat() {
         assert_eq!(component.max_bytes_needed(), bytes, "[{text}]");
+    }
+}
+
+/// A builder writes its text, which is no longer than that of the row.
+#[test]
+fn each_component_is_built() {
+    for (text, _, component) in [DAYS, YEARS, CLOCKS, OTHERS].concat() {
+        let row = format!("[{text}]");
+        let built = DescriptionBuilder::new().component(component).build().expect(&row);
+        expect_items(&row, built.items(), &[Tree::Component(component)]);
+        assert!(built.text().len() <= row.len(), "{row}: {}", built.text());
     }
 }

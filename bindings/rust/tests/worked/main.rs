@@ -1,9 +1,11 @@
 //! Texts whose answers are known, through the crate.
 
 mod accepted;
+mod builder;
 mod components;
 mod conversions;
 mod dates;
+mod dialects;
 mod faults;
 mod moments;
 mod presets;

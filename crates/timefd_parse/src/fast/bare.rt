@@ -1,7 +1,6 @@
 //! Brackets that hold the name of a component and nothing else, as most brackets do.
 
 ghost use Rattle.std.specs.Prelude.{◌≡◌, ◌++◌, ◌∷◌, [], IfSome, MatchOption, Ok, ⊤};
-ghost use Rattle.std.specs.Str.{IsUtf8};
 ghost use Rattle.timefd_component.specs.Modern.{modern};
 ghost use Rattle.timefd_component.specs.Reserved.{reserved};
 ghost use Rattle.timefd_language.specs.Bytes.{is_version_three};
@@ -10,6 +9,7 @@ ghost use Rattle.timefd_language.specs.Settings.{defaults};
 ghost use Rattle.timefd_language.specs.declared.name.ComponentName as names;
 ghost use Rattle.timefd_parse.specs.Read.{IsBare};
 
+use crate::fast::words::after_word;
 use timefd_items::Component;
 use timefd_language::description_version::DescriptionVersion;
 use timefd_language::name::ComponentName;
@@ -18,15 +18,6 @@ use timefd_modifier::{
     MonthNumerical, OffsetHour, OffsetMinute, OffsetSecond, Ordinal, Period, Second, Subsecond,
     UnixTimestampSecond, WeekNumberIso, WeekdayLong,
 };
-
-/// What follows these bytes, if the text begins with them.
-#[inline(always)]
-fn behind<'a>(text: &'a str, front: &str) -> Option<&'a str>
-    ensures { MatchOption result ⊤ (λ rest. (text.now ≡ front.now ++ rest.now) × IsUtf8 rest.now) }
-{
-    let rest = text.strip_prefix(front)?;
-    Some(rest)
-}
 
 /// This component, which is that of the name with no modifiers and reserves so many bytes, if the text
 /// begins with the name and `]`, and what follows.
@@ -45,7 +36,7 @@ fn alone<'a>(
     ensures component { MatchOption result ⊤ (λ x. IsBare version inside.now x.0 x.2.now) }
     ensures bytes { IfSome result (λ x. x.1 ≡ reserved (modern x.0)) }
 {
-    let rest = behind(inside, closed)?;
+    let rest = after_word(inside, closed)?;
     Some((component, bytes, rest))
 }
 

@@ -8,7 +8,7 @@ ghost use Rattle.timefd_parse.specs.Quick.{IsModified, IsNoted, TakesModifiers};
 ghost use Rattle.timefd_parse.specs.Read.{IsBare};
 
 use crate::fast::values::value_in;
-use crate::fast::words::{behind, key_in, name_in};
+use crate::fast::words::{after_word, key_in, name_in};
 use crate::head_verdict::combination_fault;
 use crate::places::Places;
 use timefd_items::Component;
@@ -54,10 +54,10 @@ fn take<'a>(
 {
     let mut rest = text;
     'modifiers: loop {
-        if let Some(after) = behind(rest, "]") {
+        if let Some(after) = after_word(rest, "]") {
             return Some(after);
         }
-        let word = behind(rest, " ")?;
+        let word = after_word(rest, " ")?;
         let (key, setting, after) = modifier(name, word)?;
         if repeated(strict, places, key, word.len()) {
             return None;

@@ -17,7 +17,7 @@ use timefd_language::setting::Setting;
 /// What follows the word, if the text begins with it. Its bytes are compared in place, where its
 /// length and they are constants.
 #[inline(always)]
-pub fn behind<'a>(text: &'a str, word: &str) -> Option<&'a str>
+pub fn after_word<'a>(text: &'a str, word: &str) -> Option<&'a str>
     ensures { MatchOption result ⊤ (λ rest. (text.now ≡ word.now ++ rest.now) × IsUtf8 rest.now) }
 {
     if text.len() < word.len() {
@@ -61,7 +61,7 @@ pub fn name_in(inside: &str) -> Option<(ComponentName, &str)>
 fn named(inside: &str, name: ComponentName) -> Option<(ComponentName, &str)>
     ensures { MatchOption result ⊤ (λ x. BeginsWithName inside.now x.0 x.1.now) }
 {
-    let rest = behind(inside, name.spelling())?;
+    let rest = after_word(inside, name.spelling())?;
     Some((name, rest))
 }
 
@@ -127,7 +127,7 @@ fn keyed(name: ComponentName, text: &str, key: Key) -> Option<(Key, &str)>
     requires anyhow { spec.key_in false (key_for key).key (row_for name).keys ≡ Some (key_for key) }
     ensures { MatchOption result ⊤ (λ x. BeginsWithKey name text.now x.0 x.1.now) }
 {
-    let rest = behind(text, key.spelling())?;
+    let rest = after_word(text, key.spelling())?;
     Some((key, rest))
 }
 
@@ -144,6 +144,6 @@ pub fn valued<'a>(
     requires anyhow { spec.setting_in false (key_for key).values word.now ≡ Some setting }
     ensures { MatchOption result ⊤ (λ x. BeginsWithValue key text.now x.0 x.1.now) }
 {
-    let rest = behind(text, word)?;
+    let rest = after_word(text, word)?;
     Some((setting, rest))
 }

@@ -6,6 +6,7 @@ use super::moments::{
 };
 use crate::fault::RowFault;
 use std::alloc::Global;
+use std::fmt::Display;
 use timefd_moment::{ComponentRange, Date, Time, UtcOffset, Weekday};
 
 /// What is asked of numbers.
@@ -67,21 +68,33 @@ pub fn answer(alloc: Global, ask: CalendarAsk, fields: &[&str]) -> Result<String
         return Err(RowFault::Fields(ask.fields()));
     };
     match ask {
-        CalendarAsk::Places => places(alloc, date_of(alloc, field)?),
-        CalendarAsk::DateFault => name_of(alloc, date_fault(alloc, field)?),
-        CalendarAsk::TimeFault => name_of(alloc, time_fault(alloc, field)?),
-        CalendarAsk::OffsetFault => name_of(alloc, offset_fault(field)?),
-        CalendarAsk::DateSentence => sentence_of(alloc, date_fault(alloc, field)?),
-        CalendarAsk::Date => Ok(date_of(alloc, field)?.to_string(alloc)?),
-        CalendarAsk::Time => Ok(time_of(alloc, field)?.to_string(alloc)?),
-        CalendarAsk::Offset => Ok(offset_of(field)?.to_string(alloc)?),
-        CalendarAsk::Weekday => weekday_text(alloc, weekday_of(field)?),
+        CalendarAsk::Places => places(alloc, field),
+        CalendarAsk::DateFault => name_of(alloc, date_fault(alloc, field)),
+        CalendarAsk::TimeFault => name_of(alloc, time_fault(alloc, field)),
+        CalendarAsk::OffsetFault => name_of(alloc, offset_fault(field)),
+        CalendarAsk::DateSentence => sentence_of(alloc, date_fault(alloc, field)),
+        CalendarAsk::Date => printed(alloc, date_of(alloc, field)),
+        CalendarAsk::Time => printed(alloc, time_of(alloc, field)),
+        CalendarAsk::Offset => printed(alloc, offset_of(field)),
+        CalendarAsk::Weekday => weekday_text(alloc, field),
+    }
+}
+
+/// What was read of a field, as it is printed.
+pub fn printed<V: Display + Drop>(
+    alloc: Global,
+    read: Result<V, RowFault>,
+) -> Result<String, RowFault> {
+    match read {
+        Ok(value) => Ok(value.to_string(alloc)?),
+        Err(fault) => Err(fault),
     }
 }
 
 /// The place of a date in its year, in its week, and of its week in the year of ISO 8601 and in years whose weeks
 /// begin on Sunday or Monday.
-fn places(alloc: Global, date: Date) -> Result<String, RowFault> {
+fn places(alloc: Global, field: &str) -> Result<String, RowFault> {
+    let date = date_of(alloc, field)?;
     let mut text = String::new(alloc);
     write!(text, "day {} of {}; ", date.ordinal(), date.year())?;
     write!(text, "{}, ", date.weekday())?;
@@ -114,16 +127,22 @@ fn offset_fault(field: &str) -> Result<Option<ComponentRange>, RowFault> {
 }
 
 /// The name of what is out of range.
-fn name_of(alloc: Global, fault: Option<ComponentRange>) -> Result<String, RowFault> {
-    match fault {
+fn name_of(
+    alloc: Global,
+    fault: Result<Option<ComponentRange>, RowFault>,
+) -> Result<String, RowFault> {
+    match fault? {
         Some(fault) => Ok(format!(in alloc; "{fault:?}")?),
         None => Ok(String::from_str(alloc, "none")?),
     }
 }
 
 /// The sentence about what is out of range.
-fn sentence_of(alloc: Global, fault: Option<ComponentRange>) -> Result<String, RowFault> {
-    match fault {
+fn sentence_of(
+    alloc: Global,
+    fault: Result<Option<ComponentRange>, RowFault>,
+) -> Result<String, RowFault> {
+    match fault? {
         Some(fault) => Ok(format!(in alloc; "{fault}")?),
         None => Ok(String::from_str(alloc, "none")?),
     }
@@ -142,7 +161,8 @@ fn weekday_of(name: &str) -> Result<Weekday, RowFault> {
     }
 }
 
-fn weekday_text(alloc: Global, weekday: Weekday) -> Result<String, RowFault> {
+fn weekday_text(alloc: Global, name: &str) -> Result<String, RowFault> {
+    let weekday = weekday_of(name)?;
     let mut text = String::new(alloc);
     write!(
         text,

@@ -1,5 +1,6 @@
 //! Instants, the dates and times that they are in UTC, and how moments and instants are printed.
 
+use super::calendar::printed;
 use super::moments::{date_of, moment_of, offset_of, time_of};
 use crate::fault::RowFault;
 use std::alloc::Global;
@@ -41,17 +42,12 @@ impl InstantAsk {
 /// The answer to the ask.
 pub fn answer(alloc: Global, ask: InstantAsk, fields: &[&str]) -> Result<String, RowFault> {
     match (ask, fields) {
-        (InstantAsk::Nanoseconds, [date, time, offset]) => {
-            let date = date_of(alloc, date)?;
-            let time = time_of(alloc, time)?;
-            let unix = UnixTime::of(date, time, offset_of(offset)?);
-            nanoseconds(alloc, unix)
-        }
-        (InstantAsk::Utc, [count]) => in_utc(alloc, unix_of(count)?),
+        (InstantAsk::Nanoseconds, [date, time, offset]) => nanoseconds(alloc, date, time, offset),
+        (InstantAsk::Utc, [count]) => in_utc(alloc, count),
         (InstantAsk::Moment, [date, time, offset]) => {
-            Ok(moment_of(alloc, date, time, offset)?.to_string(alloc)?)
+            printed(alloc, moment_of(alloc, date, time, offset))
         }
-        (InstantAsk::Instant, [count]) => Ok(unix_of(count)?.to_string(alloc)?),
+        (InstantAsk::Instant, [count]) => printed(alloc, unix_of(count)),
         _ => Err(RowFault::Fields(ask.fields())),
     }
 }
@@ -64,15 +60,19 @@ fn unix_of(field: &str) -> Result<UnixTime, RowFault> {
     }
 }
 
-fn nanoseconds(alloc: Global, unix: UnixTime) -> Result<String, RowFault> {
+/// The nanoseconds from the start of 1970 to a date and a time of day at an offset.
+fn nanoseconds(alloc: Global, date: &str, time: &str, offset: &str) -> Result<String, RowFault> {
+    let date = date_of(alloc, date)?;
+    let time = time_of(alloc, time)?;
+    let unix = UnixTime::of(date, time, offset_of(offset)?);
     let sign = if unix.is_negative { "-" } else { "" };
     let count = unix.nanoseconds;
     Ok(format!(in alloc; "{sign}{count}")?)
 }
 
 /// The date, the time of day and the offset in numbers.
-fn in_utc(alloc: Global, unix: UnixTime) -> Result<String, RowFault> {
-    match Moment::from_unix(unix) {
+fn in_utc(alloc: Global, count: &str) -> Result<String, RowFault> {
+    match Moment::from_unix(unix_of(count)?) {
         Ok(moment) => moment_numbers(alloc, moment),
         Err(fault) => Ok(format!(in alloc; "{fault:?}")?),
     }

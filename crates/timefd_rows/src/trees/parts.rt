@@ -71,14 +71,24 @@ pub fn member_trees(alloc: Global, text: &str) -> Result<String, RowFault> {
     for member in members_of(description.view())?.in_turn() {
         write!(in_place, "{member:?}; ")?;
     }
-    let FormatDescriptionV3Inner::OwnedCompound(trees) = description.to_inner(alloc)? else {
-        return Err(RowFault::Field("a text of several members in turn"));
-    };
+    let tree = description.to_inner(alloc)?;
+    agreed(alloc, in_place, &print_members(alloc, &tree)?)
+}
+
+/// The members of a compound, each as `Debug` prints it.
+fn print_members(alloc: Global, tree: &FormatDescriptionV3Inner<'_>) -> Result<String, RowFault> {
+    match tree {
+        FormatDescriptionV3Inner::OwnedCompound(trees) => print_trees(alloc, trees),
+        _ => Err(RowFault::Field("a text of several members in turn")),
+    }
+}
+
+fn print_trees(alloc: Global, trees: &[FormatDescriptionV3Inner<'_>]) -> Result<String, RowFault> {
     let mut apart = String::new(alloc);
-    for tree in &trees {
+    for tree in trees {
         write!(apart, "{tree:?}; ")?;
     }
-    agreed(alloc, in_place, &apart)
+    Ok(apart)
 }
 
 /// How many bytes the longest literal has.
@@ -90,6 +100,10 @@ pub fn longest(alloc: Global, text: &str) -> Result<String, RowFault> {
 /// How many bytes the tree reserves: as many within any limit that is no less, and none within one that is less.
 pub fn reserved(alloc: Global, text: &str) -> Result<String, RowFault> {
     let tree = described(alloc, text)?.to_inner(alloc)?;
+    reserved_by(alloc, &tree)
+}
+
+fn reserved_by(alloc: Global, tree: &FormatDescriptionV3Inner<'_>) -> Result<String, RowFault> {
     let Some(bytes) = tree.bytes_within(usize::MAX) else {
         return Ok(String::from_str(alloc, "more than any limit")?);
     };

@@ -21,4 +21,17 @@ returns c = record {
   version_2 = refl;
   version_3 = refl;
   strftime = refl;
+  python = refl;
+  c = refl;
+  gnu = refl;
+  chrono = refl;
+  jiff = refl;
+  ruby = refl;
+  java = refl;
+  go = refl;
+  moment = refl;
+  not_1 = refl;
+  not_2 = refl;
+  not_3 = refl;
+  not_4 = refl;
 }

@@ -10,5 +10,5 @@ returns-in-None c =
 pub returns-in-Some : goal.returns-in-Some
 returns-in-Some c =
     contradicted c.args.fields.now c.args.unix c.args.shift c.args.date c.args.time c.args.offset
-    c.contradiction.result c.in-Some.part c.requires.zone c.requires.one c.requires.shows
+    c.contradiction.result c.in-Some.part c.requires.zone c.requires.found c.requires.one c.requires.shows
     c.contradiction.ensures c.in-Some.is

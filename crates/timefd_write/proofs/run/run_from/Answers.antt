@@ -3,10 +3,13 @@ use Rattle.timefd_write.proofs.RunLemmas.{ran}
 use Rattle.timefd_write.proofs.run.run_from.Goals as goal
 
 pub returns-in_ok-tally-in-Description : goal.returns-in_ok-tally-in-Description
-returns-in_ok-tally-in-Description g c =
-    ran c.args.source.now c.args.manner.is_quiet c.args.languages c.args.description.now (texts c.args.words.now)
-    (g.I.Read.remaining c.args.input.now) (g.W.Write.contents c.args.output.now)
-    (g.W.Write.contents c.write_all.new.output) c.in_ok-diagnostic.field-0
-    c.in-Description.description c.in_ok-warned-in-Description.warned c.in_ok-tally-in-Description.tally c.in-Description.is
-    c.in_ok-diagnostic.ensures c.in_ok-warned-in-Description.ensures
-    c.in_ok-tally-in-Description.ensures
+returns-in_ok-tally-in-Description g c = record {
+  ends = tt;
+  run =
+      ran c.args.column c.args.otherwise c.args.source.now c.args.manner.is_quiet c.args.languages c.args.description.now (texts c.args.words.now)
+      (g.I.Read.remaining c.args.input.now) (g.W.Write.contents c.args.output.now)
+      (g.W.Write.contents c.write_all.new.output) c.in_ok-diagnostic.field-0
+      c.in-Description.description c.in_ok-warned-in-Description.warned c.in_ok-tally-in-Description.tally c.in-Description.is
+      c.in_ok-diagnostic.ensures c.in_ok-warned-in-Description.ensures
+      c.in_ok-tally-in-Description.ensures.run;
+}

@@ -6,7 +6,7 @@ use Rattle.timefd_write.proofs.words.write_words.Given as goal
 -- The words that are gone are written.
 abbrev pub invariant-words : goal.invariant-words
 invariant-words g l =
-    Completes l.source l.description (texts l.fn.words) (texts l.rest)
+    Completes l.otherwise l.source l.description (texts l.fn.words) (texts l.rest)
     (g.W.Write.contents l.fn.output) (g.W.Write.contents l.output) l.tally
 
 abbrev pub decreases-words : goal.decreases-words

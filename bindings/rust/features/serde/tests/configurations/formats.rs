@@ -1,6 +1,6 @@
 //! Formats that are accepted and refused. The rows are some of those of `timefd`.
 
-use timefd::serde::OwnedFormat;
+use timefd::serde::{AnyFormat, OwnedFormat};
 use timefd::{FormatDescription, Language};
 
 use crate::languages::{ALL, ONE, STRFTIME, THREE, TWO, VERSIONS, read, write};
@@ -59,7 +59,7 @@ fn accepted() {
 
 fn expect_accepted(language: Language, text: &str, bytes: usize) {
     let row = format!("{text:?} in {language:?}");
-    let owned: OwnedFormat = read(language, text).expect(&row);
+    let AnyFormat(owned) = read(language, text).expect(&row);
     assert_eq!((owned.language(), owned.text()), (language, text), "{row}");
     let borrowed: FormatDescription = read(language, text).expect(&row);
     assert_eq!((borrowed.language(), borrowed.text()), (language, text), "{row}");
@@ -68,6 +68,27 @@ fn expect_accepted(language: Language, text: &str, bytes: usize) {
     assert_eq!(write(language, &owned).expect(&row), text, "{row}");
     assert_eq!(write(language, &borrowed).expect(&row), text, "{row}");
     assert_eq!(owned.into_text(), text, "{row}");
+}
+
+/// Texts by which each date is written alike are refused, unless the type takes them.
+#[test]
+fn no_component() {
+    let alike = "has no component, so each date would be written alike";
+    let other = "it is a format of another language than";
+    let rows = [
+        (THREE, "", format!("the format `` {alike}")),
+        (TWO, "due", format!("the format `due` {alike}")),
+        (THREE, "%Y-%m-%d", format!("the format `%Y-%m-%d` {alike}; {other} version 3")),
+        (STRFTIME, "[year]", format!("the format `[year]` {alike}; {other} strftime")),
+    ];
+    for (language, text, sentence) in rows {
+        let error = read::<OwnedFormat>(language, text).expect_err(text);
+        assert_eq!(error.to_string(), sentence);
+        let any: AnyFormat = read(language, text).expect(text);
+        assert_eq!(write(language, &any).expect(text), text);
+    }
+    let own: OwnedFormat = read(STRFTIME, "%d [year]").expect("a component beside another text");
+    assert_eq!(own.text(), "%d [year]");
 }
 
 #[test]

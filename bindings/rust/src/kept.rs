@@ -1,0 +1,25 @@
+//! Lists that a description keeps: made when a text was read, or written by `format_description!`.
+
+use alloc::boxed::Box;
+use core::ops::Deref;
+
+/// A list of its own, or a constant one.
+#[derive(Debug, Clone)]
+pub(crate) enum Kept<T: 'static> {
+    Own(Box<[T]>),
+    #[cfg(feature = "macros")]
+    Constant(&'static [T]),
+}
+
+impl<T> Deref for Kept<T> {
+    type Target = [T];
+
+    #[inline]
+    fn deref(&self) -> &[T] {
+        match self {
+            Self::Own(list) => list,
+            #[cfg(feature = "macros")]
+            Self::Constant(list) => list,
+        }
+    }
+}

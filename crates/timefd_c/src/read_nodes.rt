@@ -1,0 +1,106 @@
+//! The function that C calls to read a date by nodes.
+
+ghost use Rattle.std.specs.List.{list_all};
+ghost use Rattle.std.specs.Prelude.{◌≡◌, IsUtf8, None, map, true};
+ghost use Rattle.timefd_c.specs.Dates.{ReadsBy, silent};
+ghost use Rattle.timefd_c.specs.NodeDates.{ReadsNodes};
+ghost use Rattle.timefd_c_format.specs.Literals.{is_text};
+ghost use Rattle.timefd_c_format.specs.Nodes.{node_fault, node_trees};
+ghost use Rattle.timefd_c_format.specs.Parts.{role_in};
+ghost use Rattle.timefd_node_list.specs.LeafMeaning.{leaf_tree};
+ghost use Rattle.timefd_node_list.specs.Views.{view_tree};
+ghost use Rattle.timefd_read_dates.specs.Reads.{fields_of};
+ghost use Rattle.timefd_read_text.specs.Answers.{IsReadAs, fields_in};
+
+use crate::answer::NOT_UTF8;
+use crate::date_answer::{DATE_NOT_UTF8, DateAnswer};
+use crate::format_answer::NO_DESCRIPTION;
+use std::alloc::Global;
+use timefd_c_format::{are_texts, leaves_of, listed, node_fault};
+use timefd_c_nodes::Node;
+use timefd_c_read::text_of;
+use timefd_moment::Moment;
+use timefd_node_list::{Leaf, View};
+use timefd_read_dates::{NO_FIELDS, fill_leaf_fields, read_fields};
+use timefd_read_moment::moment;
+use timefd_read_text::ReadTextError;
+
+/// Reads the bytes of a date by nodes, as `timefd_read` writes them, and the bytes of their literals,
+/// and answers the moment that they show.
+#[unsafe(no_mangle)]
+pub extern "C" fn timefd_read_nodes(
+    alloc: Global,
+    nodes: &[Node],
+    literals: &[u8],
+    date: &[u8],
+) -> DateAnswer
+    ensures reads { ReadsNodes nodes.now literals.now date.now result }
+{
+    // Most nodes have no members. Then they are read by without a second look.
+    if let Some(leaves) = leaves_of(alloc, nodes, literals) {
+        return read_by_leaves(&leaves, date);
+    }
+    if let Some(at) = node_fault(nodes, literals) {
+        return DateAnswer::silent(NO_DESCRIPTION, at);
+    }
+    if !are_texts(nodes, literals) {
+        return DateAnswer::silent(NOT_UTF8, 0);
+    }
+    let Ok(date) = text_of(date) else {
+        return DateAnswer::silent(DATE_NOT_UTF8, 0);
+    };
+    let read = read_listed(alloc, nodes, literals, date);
+    DateAnswer::of(&read)
+}
+
+fn read_by_leaves(leaves: &[Leaf<'_>], date: &[u8]) -> DateAnswer
+    ensures not_utf8 { ¬ (IsUtf8 date.now) → result ≡ silent DATE_NOT_UTF8 0 }
+    ensures reads { IsUtf8 date.now → ReadsBy (map leaf_tree leaves.now) date.now result }
+{
+    let Ok(date) = text_of(date) else {
+        return DateAnswer::silent(DATE_NOT_UTF8, 0);
+    };
+    let read = read_leaves(leaves, date);
+    DateAnswer::of(&read)
+}
+
+fn read_leaves<'e>(leaves: &[Leaf<'_>], date: &str) -> Result<Moment, ReadTextError<'e>>
+    ensures { IsReadAs (fields_in (map leaf_tree leaves.now) date.now) result }
+{
+    let mut fields = NO_FIELDS;
+    match fill_leaf_fields(leaves, date, &mut fields) {
+        Ok(()) => match moment(&fields) {
+            Ok(moment) => Ok(moment),
+            Err(error) => Err(ReadTextError::Value(error)),
+        },
+        Err(error) => Err(ReadTextError::Unread(error)),
+    }
+}
+
+fn read_listed<'e>(
+    alloc: Global,
+    nodes: &[Node],
+    literals: &[u8],
+    date: &str,
+) -> Result<Moment, ReadTextError<'e>>
+    requires sound { node_fault literals.now nodes.now ≡ None }
+    requires texts { list_all (λ n. is_text (role_in literals.now n)) nodes.now ≡ true }
+    ensures { IsReadAs (fields_in (node_trees literals.now nodes.now) date.now) result }
+{
+    match listed(alloc, nodes, literals) {
+        Ok(list) => read_by_view(View::new(list.nodes()), date),
+        Err(error) => Err(ReadTextError::Memory(error)),
+    }
+}
+
+fn read_by_view<'e>(view: View<'_, '_>, date: &str) -> Result<Moment, ReadTextError<'e>>
+    ensures { IsReadAs (fields_of (view_tree view.entry) date.now) result }
+{
+    match read_fields(view, date) {
+        Ok(fields) => match moment(&fields) {
+            Ok(moment) => Ok(moment),
+            Err(error) => Err(ReadTextError::Value(error)),
+        },
+        Err(error) => Err(ReadTextError::Unread(error)),
+    }
+}

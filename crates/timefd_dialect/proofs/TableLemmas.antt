@@ -1,0 +1,44 @@
+-- Each text of version 3 in a table is one.
+use Rattle.std.proofs.Common.{◌≡◌, Bool, true, false, List, Result, Ok, Err, refl}
+use Rattle.timefd_component.specs.Tree.{Tree}
+use Rattle.timefd_fault.specs.Faults.{Fault}
+use Rattle.timefd_dialect.specs.declared.dialect.Dialect.{Dialect}
+use Rattle.timefd_dialect.specs.declared.dialect.Dialect.TheVariants.{Python, C, Gnu, Chrono, Jiff, Ruby, Java, Go, Moment}
+use Rattle.timefd_dialect.specs.Rows.{Entry, Meaning, written, refused}
+use Rattle.timefd_dialect.specs.Tables.{rows_of}
+use Rattle.timefd_dialect.specs.Python.{python_plain}
+use Rattle.timefd_dialect.specs.C.{c_plain, c_padded, c_cased}
+use Rattle.timefd_dialect.specs.Gnu.{gnu_plain, gnu_padded, gnu_cased}
+use Rattle.timefd_dialect.specs.Chrono.{chrono_plain, chrono_padded}
+use Rattle.timefd_dialect.specs.Jiff.{jiff_plain, jiff_padded, jiff_cased}
+use Rattle.timefd_dialect.specs.Ruby.{ruby_plain, ruby_padded, ruby_cased}
+use Rattle.timefd_dialect.specs.Java.{java_plain}
+use Rattle.timefd_dialect.specs.Go.{go_plain}
+use Rattle.timefd_dialect.specs.Moment.{moment_plain}
+use Rattle.timefd_dialect.proofs.RowLemmas.{all_pass}
+use Rattle.timefd_language.specs.declared.description_version.DescriptionVersion.TheVariants.{Three}
+use Rattle.timefd_language.specs.Grammar.{nesting_limit}
+use Rattle.timefd_language.proofs.Reader.{answer_of}
+
+abbrev pub is_read : Result (List Tree) Fault → Bool
+is_read (Ok list) = true
+is_read (Err f) = false
+
+abbrev pub meaning_reads : Meaning → Bool
+meaning_reads (written text range) = is_read (answer_of Three nesting_limit text)
+meaning_reads (refused reason) = true
+
+abbrev pub reads : Entry → Bool
+reads row = meaning_reads row.meaning
+
+pub all_read : (dialect : Dialect) → all_pass reads (rows_of dialect) ≡ true
+unfolding python_plain c_plain c_padded c_cased gnu_plain gnu_padded gnu_cased chrono_plain chrono_padded jiff_plain jiff_padded jiff_cased ruby_plain ruby_padded ruby_cased java_plain go_plain moment_plain answer_of
+all_read Python = refl
+all_read C = refl
+all_read Gnu = refl
+all_read Chrono = refl
+all_read Jiff = refl
+all_read Ruby = refl
+all_read Java = refl
+all_read Go = refl
+all_read Moment = refl

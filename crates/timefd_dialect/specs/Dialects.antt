@@ -1,0 +1,44 @@
+-- The name of each dialect, and how it quotes.
+use Rattle.std.specs.Prelude.{codes, if◌then◌else◌, Option, Some, None}
+use Rattle.std.specs.Str.{bytes_eq}
+use Rattle.timefd_component.specs.Tree.{Text}
+use Rattle.timefd_dialect.specs.declared.dialect.Dialect.{Dialect}
+use Rattle.timefd_dialect.specs.declared.dialect.Dialect.TheVariants.{Python, C, Gnu, Chrono, Jiff, Ruby, Java, Go, Moment}
+use Rattle.timefd_dialect.specs.declared.dialect.Quoting.{Quoting}
+use Rattle.timefd_dialect.specs.declared.dialect.Quoting.TheVariants.{Unquoted, Apostrophes, Brackets}
+
+abbrev pub name_of : Dialect → Text
+name_of Python = codes "python"
+name_of C = codes "c"
+name_of Gnu = codes "gnu"
+name_of Chrono = codes "chrono"
+name_of Jiff = codes "jiff"
+name_of Ruby = codes "ruby"
+name_of Java = codes "java"
+name_of Go = codes "go"
+name_of Moment = codes "moment"
+
+-- the dialect of this name
+abbrev pub named : Text → Option Dialect
+named name =
+    if bytes_eq name (codes "python") then Some Python
+    else if bytes_eq name (codes "c") then Some C
+    else if bytes_eq name (codes "gnu") then Some Gnu
+    else if bytes_eq name (codes "chrono") then Some Chrono
+    else if bytes_eq name (codes "jiff") then Some Jiff
+    else if bytes_eq name (codes "ruby") then Some Ruby
+    else if bytes_eq name (codes "java") then Some Java
+    else if bytes_eq name (codes "go") then Some Go
+    else if bytes_eq name (codes "moment") then Some Moment
+    else None
+
+abbrev pub quoting_of : Dialect → Quoting
+quoting_of Python = Unquoted
+quoting_of C = Unquoted
+quoting_of Gnu = Unquoted
+quoting_of Chrono = Unquoted
+quoting_of Jiff = Unquoted
+quoting_of Ruby = Unquoted
+quoting_of Java = Apostrophes
+quoting_of Go = Unquoted
+quoting_of Moment = Brackets

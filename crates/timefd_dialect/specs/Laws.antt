@@ -1,0 +1,21 @@
+-- What holds of all formats.
+use Rattle.std.specs.Prelude.{ℕ, ◌≡◌, ◌⊎◌, List}
+use Rattle.timefd_component.specs.Tree.{Text}
+use Rattle.timefd_dialect.specs.declared.dialect.Dialect.{Dialect}
+use Rattle.timefd_dialect.specs.declared.reason.Reason.{Reason}
+use Rattle.timefd_dialect.specs.Reading.{Piece, Means, RefusedAt}
+
+-- A format means a list of pieces, or is refused.
+abbrev pub HasAnswer : Dialect → Text → Type 0
+HasAnswer dialect text =
+    ((ps : List Piece) × Means dialect text ps)
+    ⊎ ((reason : Reason) × (index : ℕ) × RefusedAt dialect text reason index)
+
+-- A format means one list of pieces, or is refused for one reason at one index, and not both.
+pub record OneAnswer (dialect : Dialect) (text : Text) : Type 0 where
+  pub answer : HasAnswer dialect text
+  pub one_meaning : (ps qs : List Piece) → Means dialect text ps → Means dialect text qs → ps ≡ qs
+  pub one_refusal : (r s : Reason) (i j : ℕ) → RefusedAt dialect text r i
+      → RefusedAt dialect text s j → (r ≡ s) × (i ≡ j)
+  pub not_both : (ps : List Piece) (r : Reason) (i : ℕ) → Means dialect text ps
+      → ¬ (RefusedAt dialect text r i)

@@ -1,0 +1,23 @@
+-- How a step over a format stands to what is at its front.
+use Rattle.std.specs.Prelude.{◌≡◌, ◌++◌, Result, MatchResult, ⊤}
+use Rattle.timefd_component.specs.Tree.{Text}
+use Rattle.timefd_dialect.specs.declared.front.Step.{Step}
+use Rattle.timefd_dialect.specs.declared.front.Stop.{Stop}
+use Rattle.timefd_dialect.specs.declared.front.Stop.TheVariants.{Refused, Memory}
+use Rattle.timefd_dialect.specs.QuoteSteps.{IsLess}
+use Rattle.timefd_dialect.specs.Reading.{Piece, Front, piece, refused_for}
+
+-- a piece and the rest stand at the front, and the text of the piece is appended
+pub record Takes (front : Front) (text old new : Text) (step : Step) : Type 0 where
+  pub taken : Piece
+  pub is : front ≡ piece taken step.rest.now
+  pub appended : new ≡ old ++ taken.text
+  pub range : taken.range ≡ step.range
+  pub left : IsLess text step.rest.now
+
+abbrev pub IsStop : Front → Stop → Type 0
+IsStop front (Refused reason) = front ≡ refused_for reason
+IsStop front (Memory e) = ⊤
+
+abbrev pub GivesStep : Front → Text → Text → Text → Result Step Stop → Type 0
+GivesStep front text old new r = MatchResult r (Takes front text old new) (IsStop front)

@@ -1,0 +1,92 @@
+//! The dialects: the name of each, and how it quotes.
+
+ghost use Rattle.std.specs.Prelude.{◌≡◌};
+ghost use Rattle.timefd_dialect.specs.Dialects as spec;
+
+/// A language or a library whose formats are read.
+#[derive(Debug, Clone, Copy, PartialEq, Eq)]
+pub enum Dialect {
+    /// `strftime` of Python's `datetime`.
+    Python,
+    /// `strftime` of C, as glibc has it.
+    C,
+    /// `date` of GNU coreutils.
+    Gnu,
+    /// `format` of chrono, for Rust.
+    Chrono,
+    /// `strftime` of jiff, for Rust.
+    Jiff,
+    /// `strftime` of Ruby's `Time`.
+    Ruby,
+    /// Patterns of Java's `DateTimeFormatter`.
+    Java,
+    /// Layouts of Go's `time`.
+    Go,
+    /// Tokens of moment.js, for JavaScript.
+    Moment,
+}
+
+/// How a dialect quotes what stands for itself.
+#[derive(Clone, Copy)]
+pub enum Quoting {
+    /// It doesn't.
+    Unquoted,
+    /// Between `'` and `'`, where `''` is one `'`.
+    Apostrophes,
+    /// Between `[` and the last `]` before the next `[`.
+    Brackets,
+}
+
+impl Dialect {
+    /// Its name, as `python`.
+    pub fn name(self) -> &'static str
+        ensures { result.now ≡ spec.name_of self }
+    {
+        match self {
+            Dialect::Python => "python",
+            Dialect::C => "c",
+            Dialect::Gnu => "gnu",
+            Dialect::Chrono => "chrono",
+            Dialect::Jiff => "jiff",
+            Dialect::Ruby => "ruby",
+            Dialect::Java => "java",
+            Dialect::Go => "go",
+            Dialect::Moment => "moment",
+        }
+    }
+
+    /// The dialect of this name.
+    pub fn named(name: &str) -> Option<Self>
+        ensures { result ≡ spec.named name.now }
+    {
+        match name {
+            "python" => Some(Dialect::Python),
+            "c" => Some(Dialect::C),
+            "gnu" => Some(Dialect::Gnu),
+            "chrono" => Some(Dialect::Chrono),
+            "jiff" => Some(Dialect::Jiff),
+            "ruby" => Some(Dialect::Ruby),
+            "java" => Some(Dialect::Java),
+            "go" => Some(Dialect::Go),
+            "moment" => Some(Dialect::Moment),
+            _ => None,
+        }
+    }
+
+    /// How it quotes.
+    pub fn quoting(self) -> Quoting
+        ensures { result ≡ spec.quoting_of self }
+    {
+        match self {
+            Dialect::Python
+            | Dialect::C
+            | Dialect::Gnu
+            | Dialect::Chrono
+            | Dialect::Jiff
+            | Dialect::Ruby
+            | Dialect::Go => Quoting::Unquoted,
+            Dialect::Java => Quoting::Apostrophes,
+            Dialect::Moment => Quoting::Brackets,
+        }
+    }
+}

@@ -1,0 +1,10 @@
+//! What holds of all formats: each law is the contract of a function with an empty body.
+
+ghost use Rattle.timefd_component.specs.Tree.{Text};
+ghost use Rattle.timefd_dialect.specs.Laws.{OneAnswer};
+ghost use Rattle.timefd_dialect.specs.declared.dialect.Dialect.{Dialect};
+
+/// A format has one meaning, or is refused for one reason at one index, and not both.
+pub fn one_answer()
+    ensures { (dialect : Dialect) (text : Text) → OneAnswer dialect text }
+{}

@@ -1,0 +1,22 @@
+//! Formats of other languages and libraries, and the texts of version 3 that mean the same.
+#![tactic(auto)]
+
+mod character;
+mod dialect;
+mod error;
+mod front;
+pub mod laws;
+mod limits;
+mod longest;
+mod quote;
+mod reading;
+mod reason;
+mod row;
+mod rows;
+mod tables;
+
+pub use dialect::Dialect;
+pub use error::{DialectError, Refusal};
+pub use limits::Limits;
+pub use reading::{Converted, to_version_three};
+pub use reason::Reason;

@@ -1,0 +1,100 @@
+//! What a dialect quotes.
+
+ghost use Rattle.std.specs.Prelude.{◌≡◌, ◌<◌, ◌==◌, ◌++◌, IfOk, IfSome, MatchOption, Option, length, slice_index, string_bytes};
+ghost use Rattle.std.specs.Str.{IsUtf8};
+ghost use Rattle.timefd_dialect.specs.Quotes as spec;
+ghost use Rattle.timefd_dialect.specs.QuoteSteps.{AppendsQuotation, IsBracketed, IsQuoteStep};
+ghost use Rattle.timefd_language.specs.Bytes.{right};
+
+use crate::character::{first_char, push_char};
+use std::alloc::AllocError;
+use timefd_language::text::tail;
+
+/// What stands next behind an apostrophe that opens.
+#[derive(Clone, Copy)]
+pub enum QuoteStep<'a> {
+    /// Nothing.
+    End,
+    /// The apostrophe that closes, and what follows it.
+    Closing(&'a str),
+    /// A character that stands for itself, and what follows it.
+    Character(&'a str, &'a str),
+}
+
+/// Appends what stands between an apostrophe and the one that closes it, and answers what follows
+/// that; `None` if none closes it.
+pub fn push_quotation<'a>(
+    answer: &mut String,
+    behind: &'a str,
+) -> Result<Option<&'a str>, AllocError>
+    ensures { IfOk result (λ rest. AppendsQuotation behind.now (string_bytes answer.old)
+        (string_bytes answer.new) rest) }
+{
+    let mut rest = behind;
+    'characters: loop {
+        match quote_step(rest) {
+            QuoteStep::End => return Ok(None),
+            QuoteStep::Closing(after) => return Ok(Some(after)),
+            QuoteStep::Character(character, after) => {
+                push_char(answer, character)?;
+                rest = after;
+            }
+        }
+    }
+}
+
+/// What stands next behind an apostrophe that opens.
+fn quote_step(text: &str) -> QuoteStep<'_>
+    ensures { IsQuoteStep text.now result }
+{
+    let Some((character, after)) = first_char(text) else {
+        return QuoteStep::End;
+    };
+    if !begins_with(text, b'\'') {
+        return QuoteStep::Character(character, after);
+    }
+    let behind = tail(text);
+    match behind.as_bytes() {
+        [b'\'', ..] => QuoteStep::Character("'", tail(behind)),
+        _ => QuoteStep::Closing(behind),
+    }
+}
+
+/// Whether the first byte is this one.
+pub fn begins_with(text: &str, byte: u8) -> bool
+    requires { 0 < length text.now }
+    ensures { result ≡ (slice_index text.now 0 == byte) }
+{
+    text.as_bytes()[0] == byte
+}
+
+/// What stands between a `[` and the last `]` before the next `[`, and what follows that.
+pub fn bracketed(behind: &str) -> Option<(&str, &str)>
+    ensures { IsBracketed behind.now result }
+{
+    match closing(behind.as_bytes()) {
+        Some(at) => {
+            let (quoted, rest) = behind.split_at(at);
+            Some((quoted, tail(rest)))
+        }
+        None => None,
+    }
+}
+
+/// The index of the last `]` before the next `[`.
+fn closing(behind: &[u8]) -> Option<usize>
+    ensures index { result ≡ spec.closing behind.now }
+    ensures within { IfSome result (λ at. at < length behind.now) }
+    ensures bracket { IfSome result (λ at. slice_index behind.now at ≡ right) }
+{
+    let mut last = None;
+    'bytes: for at in 0..behind.len() {
+        if behind[at] == b'[' {
+            return last;
+        }
+        if behind[at] == b']' {
+            last = Some(at);
+        }
+    }
+    last
+}

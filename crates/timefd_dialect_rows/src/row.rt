@@ -1,0 +1,42 @@
+//! The answer to a row.
+
+use std::alloc::{AllocError, Global};
+use timefd_dialect::{Converted, Dialect, DialectError, Refusal, to_version_three};
+
+/// What stands beside a line.
+pub fn answer(alloc: Global, line: &str) -> Result<String, AllocError> {
+    if line.is_empty() || line.starts_with('#') {
+        return String::from_str(alloc, line);
+    }
+    let Some((name, format)) = line.split_once('\t') else {
+        return String::from_str(alloc, "a row is the name of a dialect, a tab and a format");
+    };
+    match Dialect::named(name) {
+        Some(dialect) => answer_of(alloc, dialect, format),
+        None => format!(in alloc; "`{name}` is no dialect"),
+    }
+}
+
+fn answer_of(alloc: Global, dialect: Dialect, format: &str) -> Result<String, AllocError> {
+    match to_version_three(alloc, dialect, format) {
+        Ok(converted) => told(alloc, &converted),
+        Err(DialectError::Refused(refusal)) => refused(alloc, refusal),
+        Err(DialectError::Memory(error)) => Err(error),
+    }
+}
+
+/// The text, and for which moments it writes the same, where it doesn't of each.
+fn told(alloc: Global, converted: &Converted) -> Result<String, AllocError> {
+    let text = converted.text.as_str();
+    let year = converted.limits.first_year;
+    match (year, converted.limits.whole_minutes) {
+        (0, false) => String::from_str(alloc, text),
+        (0, true) => format!(in alloc; "{text}\twhole minutes"),
+        (_, false) => format!(in alloc; "{text}\tfrom {year}"),
+        (_, true) => format!(in alloc; "{text}\tfrom {year}, whole minutes"),
+    }
+}
+
+fn refused(alloc: Global, refusal: Refusal) -> Result<String, AllocError> {
+    format!(in alloc; "{} at byte {}", refusal.reason.name(), refusal.index)
+}

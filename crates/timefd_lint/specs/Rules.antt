@@ -1,0 +1,53 @@
+-- The rules of a log: one for each code that a result may have.
+use Rattle.std.specs.Prelude.{◌≡◌, List, [], ◌∷◌, ◌++◌, codes}
+use Rattle.timefd_component.specs.Tree.{Text}
+use Rattle.timefd_diagnosis.specs.declared.code.Code.{Code}
+use Rattle.timefd_diagnosis.specs.Codes as faults
+use Rattle.timefd_drawing.specs.Json.{quoted}
+use Rattle.timefd_editor.specs.Each.{AreOf}
+use Rattle.timefd_lint.specs.declared.error_code.ErrorCode.{ErrorCode}
+use Rattle.timefd_lint.specs.declared.error_code.ErrorCode.TheVariants.{Fault, NotText, Unreadable, Unwritable, ByteOrderMark}
+use Rattle.timefd_lint.specs.ErrorCodes.{name_of}
+use Rattle.timefd_warnings.specs.declared.warning.Warning.{Warning}
+use Rattle.timefd_warnings.specs.Codes as warnings
+use Rattle.timefd_warnings.specs.Explanations.{explanation_of}
+
+-- A rule behind a comma: its name, and how bad a result of it is,
+abbrev pub rule_front : Text → Text → Text
+rule_front name level =
+    (codes ",{\"id\":" ++ quoted name) ++ (codes ",\"defaultConfiguration\":{\"level\":" ++ quoted level)
+
+-- what that is in a few words, and what it means.
+abbrev pub rule_words : Text → Text → Text
+rule_words summary explanation =
+    (codes "},\"shortDescription\":{\"text\":" ++ quoted summary)
+    ++ ((codes "},\"help\":{\"text\":" ++ quoted explanation) ++ codes "}}\n")
+
+abbrev pub rule : Text → Text → Text → Text → Text
+rule name level summary explanation = rule_front name level ++ rule_words summary explanation
+
+-- that of an error, with some words on it
+abbrev pub IsErrorRule : ErrorCode → Text → Type 0
+IsErrorRule code text =
+    (summary explanation : Text) × (text ≡ rule (name_of code) (codes "error") summary explanation)
+
+abbrev pub IsFaultRule : Code → Text → Type 0
+IsFaultRule code text = IsErrorRule (Fault code) text
+
+abbrev pub IsWarningRule : Warning → Text → Type 0
+IsWarningRule w text =
+    text ≡ rule (warnings.name_of w) (codes "warning") (warnings.sentence_of w) (explanation_of w)
+
+-- the errors that are no fault of a description
+abbrev pub others : List ErrorCode
+others = NotText ∷ Unreadable ∷ Unwritable ∷ ByteOrderMark ∷ []
+
+-- All rules: those of faults, of other errors, and of warnings.
+pub record AreRules (text : Text) : Type 0 where
+  pub faults_text : Text
+  pub others_text : Text
+  pub warnings_text : Text
+  pub faults : AreOf IsFaultRule faults.all faults_text
+  pub errors : AreOf IsErrorRule others others_text
+  pub warned : AreOf IsWarningRule warnings.all warnings_text
+  pub whole : text ≡ faults_text ++ (others_text ++ warnings_text)

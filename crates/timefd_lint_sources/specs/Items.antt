@@ -1,0 +1,145 @@
+-- Brackets that `parse` refuses in versions 1 and 2, and that other places take: `[optional [..]]`,
+-- `[first [..] [..]]`. A description of such a place is judged as it is written: with what is optional, and
+-- with the first of its alternatives.
+use Rattle.std.specs.Prelude.{ℕ, zero, suc, ◌≡◌, ◌+◌, ◌-◌, ◌⊎◌, Bool, true, false, not, ◌&&◌, List, [], ◌∷◌, ◌++◌, codes, length, Option, None, Some, if◌then◌else◌, IsUtf8, IsTrue}
+use Rattle.std.specs.List.{flat_map, repeat}
+use Rattle.timefd_component.specs.Tree.{Text}
+use Rattle.timefd_diagnosis.specs.declared.code.Code.{Code}
+use Rattle.timefd_diagnosis.specs.declared.code.Code.TheVariants.{UnclosedBracket, UnknownName, InvalidModifier, MissingName, MissingModifier, InvalidEscape, UnescapedBracket, MissingSpace, MissingDescription, MissingAlternative, NestedTooDeep, SeveralDescriptions, OptionalItem, FirstItem, UnsupportedFlag, UnsupportedLetter, NestedInComponent, DuplicateModifier, RefusedModifier}
+use Rattle.timefd_diagnosis.specs.declared.diagnostic.Diagnostic.{Diagnostic}
+use Rattle.timefd_diagnosis.specs.Codes.{code_of}
+use Rattle.timefd_diagnosis.specs.Further.{AreDiagnosed}
+use Rattle.timefd_fault.specs.Faults.{Fault, fault_of}
+use Rattle.timefd_language.specs.Bytes.{right, is_white, ZeroOrMore}
+use Rattle.timefd_language.specs.Grammar.{nesting_limit}
+use Rattle.timefd_language.specs.declared.description_version.DescriptionVersion.{DescriptionVersion}
+use Rattle.timefd_language.specs.declared.description_version.DescriptionVersion.TheVariants as versions
+use Rattle.timefd_parse.specs.BracketParts.{BeginsNamed, BeginsNested}
+use Rattle.timefd_parse.specs.declared.language.Language.{Language}
+use Rattle.timefd_parse.specs.declared.language.Language.TheVariants as languages
+use Rattle.timefd_parse.specs.Language.{FaultIn}
+use Rattle.timefd_sources.specs.declared.description.Description.{Description}
+use Rattle.timefd_sources.specs.declared.dialect.Dialect.{Dialect}
+use Rattle.timefd_sources.specs.declared.dialect.Dialect.TheVariants.{One, Two, Three, Strftime, Chrono}
+use Rattle.timefd_sources.specs.declared.told.Items.{Items}
+use Rattle.timefd_sources.specs.declared.told.Items.TheVariants.{Taken, Refused}
+
+-- A text goes on with white bytes and `]`, and then the rest.
+abbrev pub IsClosing : Text → Text → Type 0
+IsClosing text rest = (white : Text) × ZeroOrMore is_white white × (text ≡ white ++ right ∷ rest)
+
+-- The same behind these nested descriptions.
+abbrev pub Closes : DescriptionVersion → List Text → Text → Text → Type 0
+Closes v [] text rest = IsClosing text rest
+Closes v (inner ∷ others) text rest =
+    (after : Text) × BeginsNested v text inner after × Closes v others after rest
+
+pub record HasEnd (v : DescriptionVersion) (text rest : Text) : Type 0 where
+  pub others : List Text
+  pub closes : Closes v others text rest
+
+-- A text begins with a bracket that has a name and nested descriptions and nothing else. The first of them
+-- stands there, `after` follows the `]` of that, and `rest` the bracket.
+pub record IsItem (v : DescriptionVersion) (text first after rest : Text) : Type 0 where
+  pub name : Text
+  pub nested : Text
+  pub named : BeginsNamed text name nested
+  pub begins : BeginsNested v nested first after
+  pub end : HasEnd v after rest
+
+-- a fault that `parse` alone finds in a bracket
+abbrev pub is_of_item : Code → Bool
+is_of_item UnclosedBracket = false
+is_of_item UnknownName = false
+is_of_item InvalidModifier = false
+is_of_item MissingName = false
+is_of_item MissingModifier = false
+is_of_item InvalidEscape = false
+is_of_item UnescapedBracket = false
+is_of_item MissingSpace = false
+is_of_item MissingDescription = false
+is_of_item MissingAlternative = false
+is_of_item NestedTooDeep = false
+is_of_item SeveralDescriptions = false
+is_of_item OptionalItem = true
+is_of_item FirstItem = true
+is_of_item UnsupportedFlag = false
+is_of_item UnsupportedLetter = false
+is_of_item NestedInComponent = false
+is_of_item DuplicateModifier = false
+is_of_item RefusedModifier = false
+
+abbrev pub spaces : ℕ → Text
+spaces n = repeat n (codes " ")
+
+-- An item with spaces in the place of all but its first description, and the rest.
+abbrev pub opened : Text → Text → Text → Text → Text
+opened text first after rest =
+    spaces (length text - length first - length after - 1) ++ (first
+    ++ (spaces (length after + 1 - length rest) ++ rest))
+
+-- The rules assign a fault to the text that `parse` alone finds.
+pub record IsItemFault (v : DescriptionVersion) (text : Text) (fault : Fault) : Type 0 where
+  pub faulty : FaultIn (languages.Version v) nesting_limit text fault
+  pub of_item : is_of_item (code_of fault.kind) ≡ true
+
+-- The text has such a fault, and becomes this one with that item opened.
+pub record IsOpened (v : DescriptionVersion) (text next : Text) : Type 0 where
+  pub fault : Fault
+  pub front : Text
+  pub item : Text
+  pub first : Text
+  pub after : Text
+  pub rest : Text
+  pub faulty : IsItemFault v text fault
+  pub at : length front ≡ fault.index
+  pub whole : text ≡ front ++ item
+  pub is : IsItem v item first after rest
+  pub so : next ≡ front ++ opened item first after rest
+
+-- What becomes of a text when its items are opened one after another, as long as it has one that is refused
+-- by `parse` alone, and at most so many times.
+abbrev pub IsAllOpened : ℕ → DescriptionVersion → Text → Text → Type 0
+IsAllOpened zero v text all = all ≡ text
+IsAllOpened (suc n) v text all =
+    (((next : Text) → IsOpened v text next → ⊥) × (all ≡ text))
+    ⊎ ((next : Text) × IsOpened v text next × IsAllOpened n v next all)
+
+-- the version by whose rules a place takes items that `parse` refuses
+abbrev pub version_of : Dialect → Option DescriptionVersion
+version_of One = Some versions.One
+version_of Two = Some versions.Two
+version_of Three = None
+version_of Strftime = None
+version_of Chrono = None
+
+abbrev pub taking : Items → Dialect → Option DescriptionVersion
+taking Taken dialect = version_of dialect
+taking Refused dialect = None
+
+-- The place takes an item for which `parse` refuses the text.
+abbrev pub HoldsItem : Option DescriptionVersion → Text → Type 0
+HoldsItem None text = ⊥
+HoldsItem (Some v) text = (next : Text) × IsOpened v text next
+
+-- The text by which a description is judged: its own, or with its items opened where its place takes them.
+abbrev pub IsJudgedText : Option DescriptionVersion → Text → Text → Type 0
+IsJudgedText None text judged = judged ≡ text
+IsJudgedText (Some v) text judged =
+    ((¬ IsUtf8 text) × (judged ≡ text)) ⊎ (IsUtf8 text × IsAllOpened (length text) v text judged)
+
+-- The same description with the text by which it is judged.
+pub record IsJudgedAs (d judged : Description) : Type 0 where
+  pub piece : judged.piece ≡ d.piece
+  pub kind : judged.kind ≡ d.kind
+  pub dialect : judged.dialect ≡ d.dialect
+  pub items : judged.items ≡ d.items
+  pub version : judged.version ≡ d.version
+  pub places : judged.unescaped.places.items ≡ d.unescaped.places.items
+  pub text : IsJudgedText (taking d.items d.dialect) d.unescaped.text.items judged.unescaped.text.items
+
+-- each of these in turn
+abbrev pub AreJudgedAs : List Description → List Description → Type 0
+AreJudgedAs [] judged = judged ≡ []
+AreJudgedAs (d ∷ ds) judged = (one : Description) × (others : List Description)
+    × IsJudgedAs d one × AreJudgedAs ds others × (judged ≡ one ∷ others)

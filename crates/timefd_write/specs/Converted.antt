@@ -1,0 +1,53 @@
+-- Descriptions in a language of `time`, and what is told of formats that are none.
+use Rattle.std.specs.Prelude.{ℕ, ◌≡◌, codes, decimal, ◌++◌, string_bytes}
+use Rattle.timefd_component.specs.Tree.{Text}
+use Rattle.timefd_dialect.specs.Answers.{IsConverted, IsRefusedFor}
+use Rattle.timefd_dialect.specs.Limits.{all_limits}
+use Rattle.timefd_dialect.specs.Reasons.{sentence, cure}
+use Rattle.timefd_dialect.specs.declared.dialect.Dialect.{Dialect}
+use Rattle.timefd_dialect.specs.declared.error.DialectError.{DialectError}
+use Rattle.timefd_dialect.specs.declared.error.Refusal.{Refusal}
+use Rattle.timefd_dialect.specs.declared.reason.Reason.{Reason}
+use Rattle.timefd_dialect.specs.declared.limits.Limits.{Limits}
+use Rattle.timefd_language.specs.declared.description_version.DescriptionVersion.TheVariants.{Three}
+use Rattle.timefd_parse.specs.declared.language.Language.{Language}
+use Rattle.timefd_parse.specs.declared.language.Language.TheVariants as languages
+use Rattle.timefd_write.specs.declared.converted.Described.{Described}
+use Rattle.timefd_write.specs.declared.converted.Described.TheVariants.{Own, Converted}
+use Rattle.timefd_write.specs.declared.language.Wording.{Wording}
+use Rattle.timefd_write.specs.declared.language.Wording.TheVariants as wordings
+
+abbrev pub language_of : Described → Language
+language_of (Own language text) = language
+language_of (Converted converted) = languages.Version Three
+
+abbrev pub text_of : Described → Text
+text_of (Own language text) = text.now
+text_of (Converted converted) = string_bytes converted.text
+
+abbrev pub limits_of : Described → Limits
+limits_of (Own language text) = all_limits
+limits_of (Converted converted) = converted.limits
+
+-- a language of `time` stays as it is, and a format of another is converted
+abbrev pub IsDescribedFrom : Wording → Text → Described → Type 0
+IsDescribedFrom wording text (Own language own) =
+    (wording ≡ wordings.Own language) × (own.now ≡ text)
+IsDescribedFrom wording text (Converted converted) =
+    (dialect : Dialect) × (wording ≡ wordings.Other dialect) × IsConverted dialect text converted
+
+-- the refusal of a format of another language
+abbrev pub IsRefusedIn : Wording → Text → DialectError → Type 0
+IsRefusedIn wording text e =
+    (dialect : Dialect) × (wording ≡ wordings.Other dialect) × IsRefusedFor dialect text e
+
+-- what is said of a reason, and what to do
+abbrev pub why : Reason → Text
+why reason = sentence reason ++ (codes ". " ++ cure reason)
+
+-- where a format is refused
+abbrev pub at_index : ℕ → Text
+at_index index = codes "at byte " ++ (decimal index ++ codes " of the format: ")
+
+abbrev pub refused_sentence : Refusal → Text
+refused_sentence refusal = at_index refusal.index ++ why refusal.reason

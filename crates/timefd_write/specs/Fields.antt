@@ -1,0 +1,106 @@
+-- The fields of a record of comma-separated values.
+use Rattle.std.specs.Prelude.{ℕ, zero, suc, ◌≡◌, Bool, true, false, nat_eq, List, [], ◌∷◌, ◌++◌, Option, Some, None, if◌then◌else◌}
+use denote.Ref.{Bor}
+use Rattle.timefd_component.specs.Tree.{Text}
+use Rattle.timefd_rewrite.specs.Lines.{end_of, without_newline}
+use Rattle.timefd_write.specs.declared.fields.Split.{Split}
+use Rattle.timefd_write.specs.declared.frame.Cell.{Cell}
+use Rattle.timefd_write.specs.declared.quoting.Quoting.{Quoting}
+use Rattle.timefd_write.specs.declared.quoting.Quoting.TheVariants.{Start, Bare, Inside, Closed}
+
+-- after a byte that stands in no quotes: a comma begins another field
+abbrev pub bare_after : ℕ → Quoting
+bare_after b = if nat_eq b 44 then Start else Bare
+
+-- A quote opens the quotes of a field at its start alone; within them two stand for one.
+abbrev pub after : Quoting → ℕ → Quoting
+after Start b = if nat_eq b 34 then Inside else bare_after b
+after Bare b = bare_after b
+after Inside b = if nat_eq b 34 then Closed else Inside
+after Closed b = if nat_eq b 34 then Inside else bare_after b
+
+abbrev pub after_all : Quoting → Text → Quoting
+after_all q [] = q
+after_all q (b ∷ bs) = after_all (after q b) bs
+
+abbrev pub is_inside : Quoting → Bool
+is_inside Start = false
+is_inside Bare = false
+is_inside Inside = true
+is_inside Closed = false
+
+-- a comma in no quotes
+abbrev pub ends_field : Quoting → ℕ → Bool
+ends_field Start b = nat_eq b 44
+ends_field Bare b = nat_eq b 44
+ends_field Inside b = false
+ends_field Closed b = nat_eq b 44
+
+-- more bytes of the first field
+abbrev pub with_front : Text → List Text → List Text
+with_front front [] = []
+with_front front (field ∷ fields) = (front ++ field) ∷ fields
+
+-- the fields of what is left of a record, byte for byte
+abbrev pub fields_from : Quoting → Text → List Text
+fields_from q [] = [] ∷ []
+fields_from q (b ∷ bs) =
+    if ends_field q b then [] ∷ fields_from Start bs
+    else with_front (b ∷ []) (fields_from (after q b) bs)
+
+abbrev pub fields : Text → List Text
+fields row = fields_from Start row
+
+abbrev pub fields_of_rest : Option (Bor Text) → List Text
+fields_of_rest None = []
+fields_of_rest (Some rest) = fields rest.now
+
+-- what follows a field: a comma and the others
+abbrev pub after_field : Option (Bor Text) → Text
+after_field None = []
+after_field (Some rest) = 44 ∷ rest.now
+
+-- The first field of a record, and what is left after its comma.
+abbrev pub IsSplit : Text → Split → Type 0
+IsSplit row split = (fields row ≡ split.field.now ∷ fields_of_rest split.rest)
+    × (row ≡ split.field.now ++ after_field split.rest)
+
+-- what a byte of a field stands for: a quote that opens or closes is none of its text
+abbrev pub shown : Quoting → ℕ → Text
+shown Start b = if nat_eq b 34 then [] else b ∷ []
+shown Bare b = b ∷ []
+shown Inside b = if nat_eq b 34 then [] else b ∷ []
+shown Closed b = b ∷ []
+
+abbrev pub text_from : Quoting → Text → Text
+text_from q [] = []
+text_from q (b ∷ bs) = shown q b ++ text_from (after q b) bs
+
+-- the text of a field: without its quotes, where it has some
+abbrev pub text_of : Text → Text
+text_of field = text_from Start field
+
+-- fields with a comma after each but the last
+abbrev pub joined : List Text → Text
+joined [] = []
+joined (field ∷ []) = field
+joined (field ∷ next ∷ fields) = field ++ (44 ∷ joined (next ∷ fields))
+
+-- another field in place of the one after some others
+abbrev pub with_field : ℕ → Text → List Text → List Text
+with_field n new [] = []
+with_field zero new (field ∷ fields) = new ∷ fields
+with_field (suc n) new (field ∷ fields) = field ∷ with_field n new fields
+
+-- the field after some others
+abbrev pub field_after : ℕ → List Text → Option Text
+field_after n [] = None
+field_after zero (field ∷ fields) = Some field
+field_after (suc n) (field ∷ fields) = field_after n fields
+
+-- The field after some others, and what stands around it: with another one in its place these are the record with that
+-- field changed, and nothing else.
+abbrev pub IsCell : ℕ → Text → Cell → Type 0
+IsCell n row cell = (field_after n (fields (without_newline row)) ≡ Some cell.field.now)
+    × ((new : Text) → cell.front.now ++ (new ++ cell.after.now)
+    ≡ joined (with_field n new (fields (without_newline row))) ++ end_of row)

@@ -1,0 +1,69 @@
+-- What is written of a text, with what stands around it; and what in place of it.
+use Rattle.std.specs.Prelude.{ℕ, ◌≡◌, Bool, ◌||◌, nat_eq, List, [], ◌∷◌, ◌++◌, codes, Option, if◌then◌else◌, ⊤}
+use Rattle.std.specs.Io.KnownBytes.{Appends}
+use Rattle.std.specs.List.{list_any, starts_with}
+use Rattle.timefd_component.specs.Tree.{Text}
+use Rattle.timefd_write.specs.declared.frame.Frame.{Frame}
+use Rattle.timefd_write.specs.declared.frame.Frame.TheVariants.{Line, Field}
+use Rattle.timefd_write.specs.declared.otherwise.Otherwise.{Otherwise}
+use Rattle.timefd_write.specs.declared.otherwise.Otherwise.TheVariants as otherwise
+use Rattle.timefd_write.specs.declared.outcome.RunError.{RunError}
+use Rattle.timefd_write.specs.declared.outcome.RunError.TheVariants as stops
+
+-- In a field with quotes each quote stands twice.
+abbrev pub doubled_byte : ℕ → Text
+doubled_byte b = if nat_eq b 34 then 34 ∷ 34 ∷ [] else b ∷ []
+
+abbrev pub doubled : Text → Text
+doubled [] = []
+doubled (b ∷ bs) = doubled_byte b ++ doubled bs
+
+abbrev pub quoted : Text → Text
+quoted text = codes "\"" ++ (doubled text ++ codes "\"")
+
+abbrev pub is_quoted : Text → Bool
+is_quoted field = starts_with nat_eq field (codes "\"")
+
+-- a comma, a quote, or a byte that ends a line
+abbrev pub wants_quotes : ℕ → Bool
+wants_quotes b = nat_eq b 44 || nat_eq b 34 || nat_eq b 10 || nat_eq b 13
+
+-- A text in place of a field has quotes where that had some, and where it wants some.
+abbrev pub field_of : Text → Text → Text
+field_of old text =
+    if is_quoted old || list_any wants_quotes text then quoted text else text
+
+-- a text with what stands around it
+abbrev pub framed : Frame → Text → Text
+framed Line text = text ++ codes "\n"
+framed (Field cell) text =
+    cell.front.now ++ (field_of cell.field.now text ++ cell.after.now)
+
+-- a text as it was read
+abbrev pub kept : Frame → Text → Text
+kept Line text = text ++ codes "\n"
+kept (Field cell) text = cell.front.now ++ (cell.field.now ++ cell.after.now)
+
+-- nothing, on a line of its own or as a field
+abbrev pub emptied : Frame → Text
+emptied Line = codes "\n"
+emptied (Field cell) = cell.front.now ++ cell.after.now
+
+-- What is written in place of a moment that has no text: where the run is to fail, nothing goes on.
+abbrev pub Replaces : Otherwise → Frame → Text → Option Text → Option Text → Type 0
+Replaces otherwise.Nothing frame text before after = after ≡ before
+Replaces otherwise.Keep frame text before after = Appends before after (kept frame text)
+Replaces otherwise.Empty frame text before after = Appends before after (emptied frame)
+Replaces otherwise.Fail frame text before after = ⊥
+
+-- A run ends at a moment that has no text only where that is asked for.
+abbrev pub EndsOnlyAsAsked : Otherwise → RunError → Type 0
+EndsOnlyAsAsked o stops.Memory = ⊤
+EndsOnlyAsAsked o stops.Write = ⊤
+EndsOnlyAsAsked o stops.Refused = o ≡ otherwise.Fail
+
+-- Memory ran out, or a write failed.
+abbrev pub IsFailure : RunError → Type 0
+IsFailure stops.Memory = ⊤
+IsFailure stops.Write = ⊤
+IsFailure stops.Refused = ⊥

@@ -1,0 +1,166 @@
+//! A text that is to be a moment, and what comes of it.
+
+ghost use Rattle.std.specs.Prelude.{◌≡◌, IfErr, IfOk};
+ghost use Rattle.timefd_write.specs.Frames.{EndsOnlyAsAsked, IsFailure};
+ghost use Rattle.timefd_write.specs.ReadBack.{AreLeavesOf};
+ghost use Rattle.timefd_write.specs.Sources.{AreLeavesIn};
+ghost use Rattle.timefd_write.specs.Written.{IsOne, IsOneOfMoment, IsSent, IsTallyOf, written_of};
+
+use crate::field::write_field;
+use crate::frame::{Entry, Frame, replace};
+use crate::line::write_line;
+use crate::message::{NOT_TEXT, tell, unread_message, unshown_message};
+use crate::otherwise::Otherwise;
+use crate::outcome::{Outcome, RunError, Tally};
+use crate::source::{Source, moment_in};
+use std::alloc::Global;
+use std::io::Write;
+use std::str;
+use timefd_format::Unshown;
+use timefd_moment::Moment;
+use timefd_node_list::Leaf;
+use timefd_parse::BorrowedOutput;
+
+/// What one text adds to a tally: its moment is written, or why there is none is told, with the number of its
+/// line, and what is asked for in place of it is written. The leaves are those of the source and of the
+/// description, and the room holds the text where it has room for it. An `Err` says why that wasn't done:
+/// `Refused` that there is no moment, and the run is to end there.
+pub fn tally_one<W: Write, E: Write>(
+    alloc: Global,
+    source: &Source<'_>,
+    source_leaves: Option<&[Leaf<'_>]>,
+    description: &BorrowedOutput<'_>,
+    leaves: Option<&[Leaf<'_>]>,
+    otherwise: Otherwise,
+    entry: Entry<'_>,
+    room: &mut [u8],
+    output: &mut W,
+    errors: &mut E,
+) -> Result<Tally, RunError>
+    requires source { AreLeavesIn source.now source_leaves }
+    requires written { AreLeavesOf description.now leaves }
+    ensures one { IfOk result (IsTallyOf otherwise source.now description.now entry.entry.frame entry.entry.text.now
+        (W.contents output.old) (W.contents output.new)) }
+    ensures ends { IfErr result (EndsOnlyAsAsked otherwise) }
+{
+    let outcome = write_one(
+        alloc,
+        source,
+        source_leaves,
+        description,
+        leaves,
+        otherwise,
+        entry,
+        room,
+        output,
+        errors,
+    )?;
+    Ok(Tally::of(outcome))
+}
+
+// Writes the moment that a text names or shows, or tells why there is none.
+#[inline(always)]
+fn write_one<W: Write, E: Write>(
+    alloc: Global,
+    source: &Source<'_>,
+    source_leaves: Option<&[Leaf<'_>]>,
+    description: &BorrowedOutput<'_>,
+    leaves: Option<&[Leaf<'_>]>,
+    otherwise: Otherwise,
+    entry: Entry<'_>,
+    room: &mut [u8],
+    output: &mut W,
+    errors: &mut E,
+) -> Result<Outcome, RunError>
+    requires source { AreLeavesIn source.now source_leaves }
+    requires written { AreLeavesOf description.now leaves }
+    ensures one { IfOk result (IsOne otherwise source.now description.now entry.entry.frame entry.entry.text.now
+        (W.contents output.old) (W.contents output.new)) }
+    ensures ends { IfErr result (EndsOnlyAsAsked otherwise) }
+{
+    let Ok(text) = str::from_utf8(entry.text) else {
+        tell(errors, NOT_TEXT.as_bytes());
+        replace(otherwise, entry, output)?;
+        return Ok(Outcome::NotText);
+    };
+    match moment_in(source, source_leaves, text) {
+        Ok(moment) => write_moment(
+            alloc,
+            moment,
+            description,
+            leaves,
+            otherwise,
+            entry,
+            text,
+            room,
+            output,
+            errors,
+        ),
+        Err(error) => {
+            let message = unread_message(alloc, entry.line, text, error)?;
+            tell(errors, message.as_bytes());
+            replace(otherwise, entry, output)?;
+            Ok(Outcome::Unread(error))
+        }
+    }
+}
+
+// Writes the moment of a text; or tells which component shows nothing of it.
+fn write_moment<W: Write, E: Write>(
+    alloc: Global,
+    moment: Moment,
+    description: &BorrowedOutput<'_>,
+    leaves: Option<&[Leaf<'_>]>,
+    otherwise: Otherwise,
+    entry: Entry<'_>,
+    text: &str,
+    room: &mut [u8],
+    output: &mut W,
+    errors: &mut E,
+) -> Result<Outcome, RunError>
+    requires { AreLeavesOf description.now leaves }
+    ensures one { IfOk result (IsOneOfMoment otherwise entry.entry.frame entry.entry.text.now moment description.now
+        (W.contents output.old) (W.contents output.new)) }
+    ensures ends { IfErr result (EndsOnlyAsAsked otherwise) }
+{
+    match write_in(
+        alloc,
+        moment,
+        description,
+        leaves,
+        entry.frame,
+        room,
+        output,
+    )? {
+        None => Ok(Outcome::Written(moment)),
+        Some(unshown) => {
+            let message = unshown_message(alloc, text, unshown)?;
+            tell(errors, message.as_bytes());
+            replace(otherwise, entry, output)?;
+            Ok(Outcome::Unshown(moment, unshown))
+        }
+    }
+}
+
+// Writes a moment where its text belongs. `Some` has the component that shows nothing of it.
+fn write_in<W: Write>(
+    alloc: Global,
+    moment: Moment,
+    description: &BorrowedOutput<'_>,
+    leaves: Option<&[Leaf<'_>]>,
+    frame: Frame<'_>,
+    room: &mut [u8],
+    output: &mut W,
+) -> Result<Option<Unshown>, RunError>
+    requires { AreLeavesOf description.now leaves }
+    ensures sent { IfOk result (IsSent frame.entry (written_of moment description.now)
+        (W.contents output.old) (W.contents output.new)) }
+    ensures error { IfErr result IsFailure }
+{
+    match frame {
+        Frame::Line => write_line(alloc, moment, description, leaves, room, output),
+        Frame::Field(cell) => {
+            write_field(alloc, moment, description, leaves, cell, room, output)
+        }
+    }
+}

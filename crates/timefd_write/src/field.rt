@@ -1,0 +1,157 @@
+//! The text of a moment, written in place of a field.
+
+ghost use Rattle.std.specs.Prelude.{◌≡◌, ◌++◌, IfErr, IfOk, OnOk};
+ghost use Rattle.std.specs.Io.KnownBytes.{Appends};
+ghost use Rattle.std.specs.List.{list_any};
+ghost use Rattle.timefd_write.specs.declared.frame.Frame.TheVariants as frames;
+ghost use Rattle.timefd_write.specs.declared.outcome.RunError.TheVariants as stops;
+ghost use Rattle.timefd_write.specs.Frames as spec;
+ghost use Rattle.timefd_write.specs.Frames.{IsFailure};
+ghost use Rattle.timefd_write.specs.ReadBack.{AreLeavesOf};
+ghost use Rattle.timefd_write.specs.Written.{IsSent, written_of};
+
+use crate::frame::{Cell, send};
+use crate::line::{shown, text_in};
+use crate::outcome::RunError;
+use std::alloc::Global;
+use std::io::Write;
+use timefd_format::{FormatError, TextError, Unshown};
+use timefd_moment::Moment;
+use timefd_node_list::Leaf;
+use timefd_parse::BorrowedOutput;
+
+/// Writes the record of a field with the text of a moment in its place. `Some` has the component that
+/// shows nothing of it; nothing is written then. Where the room is too small, the text is written in
+/// memory of its own.
+#[tactic(auto, using(crate::proofs::LineLemmas::field_sent))]
+pub fn write_field<W: Write>(
+    alloc: Global,
+    moment: Moment,
+    description: &BorrowedOutput<'_>,
+    leaves: Option<&[Leaf<'_>]>,
+    cell: Cell<'_>,
+    room: &mut [u8],
+    output: &mut W,
+) -> Result<Option<Unshown>, RunError>
+    requires { AreLeavesOf description.now leaves }
+    ensures sent { IfOk result (IsSent (frames.Field cell.entry) (written_of moment description.now)
+        (W.contents output.old) (W.contents output.new)) }
+    ensures error { IfErr result IsFailure }
+{
+    match text_in(moment, description, leaves, room) {
+        Ok(at) => {
+            send_field(cell, &room[at..], output)?;
+            Ok(None)
+        }
+        Err(FormatError::Unshown(unshown)) => Ok(Some(unshown)),
+        Err(FormatError::Room) => write_long_field(alloc, moment, description, cell, output),
+    }
+}
+
+// The text, written in memory of its own.
+fn write_long_field<W: Write>(
+    alloc: Global,
+    moment: Moment,
+    description: &BorrowedOutput<'_>,
+    cell: Cell<'_>,
+    output: &mut W,
+) -> Result<Option<Unshown>, RunError>
+    ensures sent { IfOk result (IsSent (frames.Field cell.entry) (written_of moment description.now)
+        (W.contents output.old) (W.contents output.new)) }
+    ensures error { IfErr result IsFailure }
+{
+    match shown(alloc, moment, description) {
+        Ok(text) => {
+            send_field(cell, &text, output)?;
+            Ok(None)
+        }
+        Err(TextError::Unshown(unshown)) => Ok(Some(unshown)),
+        Err(TextError::Memory(_)) => Err(RunError::Memory),
+    }
+}
+
+// Writes the record with this text as its field.
+#[tactic(auto, using(crate::proofs::FrameLemmas::in_turn))]
+fn send_field<W: Write>(cell: Cell<'_>, text: &[u8], output: &mut W) -> Result<(), RunError>
+    ensures sent { OnOk result (Appends (W.contents output.old) (W.contents output.new)
+        (spec.framed (frames.Field cell.entry) text.now)) }
+    ensures error { IfErr result (λ error. error ≡ stops.Write) }
+{
+    send(cell.front, output)?;
+    send_text(cell.field, text, output)?;
+    send(cell.after, output)
+}
+
+// Writes a text in place of a field: with quotes where that had some, and where it wants some.
+fn send_text<W: Write>(field: &[u8], text: &[u8], output: &mut W) -> Result<(), RunError>
+    ensures sent { OnOk result (Appends (W.contents output.old) (W.contents output.new)
+        (spec.field_of field.now text.now)) }
+    ensures error { IfErr result (λ error. error ≡ stops.Write) }
+{
+    if field.starts_with(b"\"") || any_wants_quotes(text) {
+        send_quoted(text, output)
+    } else {
+        send(text, output)
+    }
+}
+
+// Whether a byte of the text wants quotes around it.
+#[tactic(auto, using(crate::proofs::FieldLemmas::nothing))]
+fn any_wants_quotes(text: &[u8]) -> bool
+    ensures { result ≡ list_any spec.wants_quotes text.now }
+{
+    let mut rest = text;
+    'bytes: while let [byte, more @ ..] = rest {
+        if wants_quotes(*byte) {
+            return true;
+        }
+        rest = more;
+    }
+    false
+}
+
+// A comma, a quote, or a byte that ends a line.
+fn wants_quotes(byte: u8) -> bool
+    ensures { result ≡ spec.wants_quotes byte }
+{
+    matches!(byte, b',' | b'"' | b'\n' | b'\r')
+}
+
+#[tactic(auto, using(crate::proofs::FrameLemmas::in_turn))]
+fn send_quoted<W: Write>(text: &[u8], output: &mut W) -> Result<(), RunError>
+    ensures sent { OnOk result (Appends (W.contents output.old) (W.contents output.new)
+        (spec.quoted text.now)) }
+    ensures error { IfErr result (λ error. error ≡ stops.Write) }
+{
+    send(b"\"", output)?;
+    send_doubled(text, output)?;
+    send(b"\"", output)
+}
+
+// Writes a text with each quote twice.
+#[tactic(auto, using(crate::proofs::FrameLemmas::one_more, crate::proofs::FrameLemmas::none_left))]
+fn send_doubled<W: Write>(text: &[u8], output: &mut W) -> Result<(), RunError>
+    ensures sent { OnOk result (Appends (W.contents output.old) (W.contents output.new)
+        (spec.doubled text.now)) }
+    ensures error { IfErr result (λ error. error ≡ stops.Write) }
+{
+    let mut rest = text;
+    'bytes: while let [byte, more @ ..] = rest {
+        send_byte(*byte, output)?;
+        rest = more;
+    }
+    Ok(())
+}
+
+// Writes a byte, and a quote twice.
+fn send_byte<W: Write>(byte: u8, output: &mut W) -> Result<(), RunError>
+    ensures sent { OnOk result (Appends (W.contents output.old) (W.contents output.new)
+        (spec.doubled_byte byte)) }
+    ensures error { IfErr result (λ error. error ≡ stops.Write) }
+{
+    if byte == b'"' {
+        send(b"\"\"", output)
+    } else {
+        send(&[byte], output)
+    }
+}

@@ -1,0 +1,90 @@
+//! The fields of a record of comma-separated values.
+
+ghost use Rattle.std.specs.Prelude.{◌≡◌, None, IfOk, IfSome};
+ghost use Rattle.timefd_rewrite.specs.Lines as lines;
+ghost use Rattle.timefd_write.specs.Fields as spec;
+ghost use Rattle.timefd_write.specs.Fields.{IsCell, IsSplit};
+
+use crate::frame::Cell;
+use crate::quoting::Quoting;
+use std::alloc::AllocError;
+use timefd_rewrite::without_newline;
+
+/// The first field of a record, and what is left after its comma, where one follows.
+#[derive(Clone, Copy)]
+pub struct Split<'a> {
+    /// The field, byte for byte.
+    pub field: &'a [u8],
+    /// The other fields.
+    pub rest: Option<&'a [u8]>,
+}
+
+/// The first field of a record without its newline.
+#[tactic(auto, using(crate::proofs::FieldLemmas::begins, crate::proofs::FieldLemmas::in_fits, crate::proofs::FieldLemmas::goes_on, crate::proofs::FieldLemmas::found, crate::proofs::FieldLemmas::ends))]
+pub fn split_field(row: &[u8]) -> Split<'_>
+    ensures { IsSplit row.now result }
+{
+    let mut quoting = Quoting::Start;
+    let mut rest = row;
+    'bytes: while let [byte, more @ ..] = rest {
+        if quoting.ends_field(*byte) {
+            let len = row.len() - rest.len();
+            return Split {
+                field: &row[..len],
+                rest: Some(more),
+            };
+        }
+        quoting = quoting.after(*byte);
+        rest = more;
+    }
+    Split {
+        field: row,
+        rest: None,
+    }
+}
+
+/// The field of a record after this many others, and what stands around it. `None` where there are no
+/// more than those.
+#[tactic(auto, using(crate::proofs::FieldLemmas::first_left, crate::proofs::FieldLemmas::next_left, crate::proofs::FieldLemmas::cell_found, crate::proofs::FieldLemmas::none_left, crate::proofs::FieldLemmas::left_fits, crate::proofs::FieldLemmas::field_fits, crate::proofs::FieldLemmas::next_shorter))]
+pub fn cell_after(count: usize, row: &[u8]) -> Option<Cell<'_>>
+    ensures some { IfSome result (IsCell count row.now) }
+    ensures none { result ≡ None
+        → spec.field_after count (spec.fields (lines.without_newline row.now)) ≡ None }
+{
+    let content = without_newline(row);
+    let mut left = count;
+    let mut more = Some(content);
+    'fields: while let Some(text) = more {
+        let split = split_field(text);
+        if left == 0 {
+            let from = content.len() - text.len();
+            let to = from + split.field.len();
+            return Some(Cell {
+                front: &row[..from],
+                field: split.field,
+                after: &row[to..],
+            });
+        }
+        left -= 1;
+        more = split.rest;
+    }
+    None
+}
+
+/// Puts the text of a field, without its quotes, in place of these bytes. An `Err` says that memory ran
+/// out.
+pub fn text_in(field: &[u8], bytes: &mut Vec<u8>) -> Result<(), AllocError>
+    ensures { IfOk result (λ _. bytes.new.items ≡ spec.text_of field.now) }
+{
+    bytes.clear();
+    let mut quoting = Quoting::Start;
+    let mut rest = field;
+    'bytes: while let [byte, more @ ..] = rest {
+        if quoting.shows(*byte) {
+            bytes.push(*byte)?;
+        }
+        quoting = quoting.after(*byte);
+        rest = more;
+    }
+    Ok(())
+}

@@ -1,0 +1,120 @@
+//! What stands around a text that is written, and what is written in place of one.
+
+ghost use Rattle.std.specs.Prelude.{◌≡◌, ◌++◌, IfErr, OnOk};
+ghost use Rattle.std.specs.Io.KnownBytes.{Appends};
+ghost use Rattle.timefd_write.specs.declared.outcome.RunError.TheVariants as stops;
+ghost use Rattle.timefd_write.specs.declared.otherwise.Otherwise.TheVariants as otherwise;
+ghost use Rattle.timefd_write.specs.declared.frame.Frame.TheVariants as frames;
+ghost use Rattle.timefd_write.specs.Frames as spec;
+ghost use Rattle.timefd_write.specs.Frames.{EndsOnlyAsAsked, Replaces};
+
+use crate::otherwise::Otherwise;
+use crate::outcome::RunError;
+use std::io::Write;
+
+/// A field of a record of comma-separated values, byte for byte, and what stands around it.
+#[derive(Clone, Copy)]
+pub struct Cell<'a> {
+    /// The fields before it, with their commas.
+    pub front: &'a [u8],
+    /// The field with its quotes, where it has some.
+    pub field: &'a [u8],
+    /// The comma after it, and all that follows, with the end of the line.
+    pub after: &'a [u8],
+}
+
+/// Where the text of a moment is written.
+#[derive(Clone, Copy)]
+pub enum Frame<'a> {
+    /// On a line of its own.
+    Line,
+    /// In place of a field.
+    Field(Cell<'a>),
+}
+
+/// A text that is to be a moment, and where that is written.
+#[derive(Clone, Copy)]
+pub struct Entry<'a> {
+    /// The number of its line, where it is one.
+    pub line: Option<u64>,
+    /// The text.
+    pub text: &'a [u8],
+    /// Where its moment is written.
+    pub frame: Frame<'a>,
+}
+
+/// Writes some bytes.
+pub fn send<W: Write>(bytes: &[u8], output: &mut W) -> Result<(), RunError>
+    ensures sent { OnOk result (Appends (W.contents output.old) (W.contents output.new) bytes.now) }
+    ensures error { IfErr result (λ error. error ≡ stops.Write) }
+{
+    match output.write_all(bytes) {
+        Ok(()) => Ok(()),
+        Err(_) => Err(RunError::Write),
+    }
+}
+
+// Writes these pieces, one after another.
+#[tactic(auto, using(crate::proofs::FrameLemmas::in_turn))]
+fn send_both<W: Write>(first: &[u8], second: &[u8], output: &mut W) -> Result<(), RunError>
+    ensures sent { OnOk result (Appends (W.contents output.old) (W.contents output.new)
+        (first.now ++ second.now)) }
+    ensures error { IfErr result (λ error. error ≡ stops.Write) }
+{
+    send(first, output)?;
+    send(second, output)
+}
+
+/// Writes what the option `--else` asks for in place of a moment. `Err(RunError::Refused)` says that it
+/// asks for the end of the run, and nothing is written then.
+pub fn replace<W: Write>(
+    otherwise: Otherwise,
+    entry: Entry<'_>,
+    output: &mut W,
+) -> Result<(), RunError>
+    ensures replaced { OnOk result (Replaces otherwise entry.entry.frame entry.entry.text.now (W.contents output.old)
+        (W.contents output.new)) }
+    ensures ends { IfErr result (EndsOnlyAsAsked otherwise) }
+{
+    match otherwise {
+        Otherwise::Nothing => Ok(()),
+        Otherwise::Keep => keep(entry, output),
+        Otherwise::Empty => empty(entry.frame, output),
+        Otherwise::Fail => Err(RunError::Refused),
+    }
+}
+
+// Writes the text as it was read.
+fn keep<W: Write>(entry: Entry<'_>, output: &mut W) -> Result<(), RunError>
+    ensures sent { OnOk result (Appends (W.contents output.old) (W.contents output.new)
+        (spec.kept entry.entry.frame entry.entry.text.now)) }
+    ensures error { IfErr result (λ error. error ≡ stops.Write) }
+{
+    match entry.frame {
+        Frame::Line => send_both(entry.text, b"\n", output),
+        Frame::Field(cell) => send_around(cell, cell.field, output),
+    }
+}
+
+// Writes an empty line, or a record whose field is empty.
+fn empty<W: Write>(frame: Frame<'_>, output: &mut W) -> Result<(), RunError>
+    ensures sent { OnOk result (Appends (W.contents output.old) (W.contents output.new)
+        (spec.emptied frame.entry)) }
+    ensures error { IfErr result (λ error. error ≡ stops.Write) }
+{
+    match frame {
+        Frame::Line => send(b"\n", output),
+        Frame::Field(cell) => send_both(cell.front, cell.after, output),
+    }
+}
+
+// Writes a record with these bytes as its field.
+#[tactic(auto, using(crate::proofs::FrameLemmas::in_turn))]
+fn send_around<W: Write>(cell: Cell<'_>, field: &[u8], output: &mut W) -> Result<(), RunError>
+    ensures sent { OnOk result (Appends (W.contents output.old) (W.contents output.new)
+        (cell.entry.front.now ++ (field.now ++ cell.entry.after.now))) }
+    ensures error { IfErr result (λ error. error ≡ stops.Write) }
+{
+    send(cell.front, output)?;
+    send_both(field, cell.after, output)
+}

@@ -1,0 +1,116 @@
+//! The quotes of comma-separated values.
+
+ghost use Rattle.std.specs.Prelude.{◌≡◌, [], ◌∷◌, if◌then◌else◌};
+ghost use Rattle.timefd_write.specs.Fields as spec;
+
+/// Where a byte stands in its field.
+#[derive(Clone, Copy)]
+pub enum Quoting {
+    /// At its start.
+    Start,
+    /// After its start, in no quotes.
+    Bare,
+    /// In its quotes.
+    Inside,
+    /// After a quote within them, which is their end, or the first of two.
+    Closed,
+}
+
+impl Quoting {
+    /// What it is after one byte more.
+    pub fn after(self, byte: u8) -> Quoting
+        ensures { result ≡ spec.after self byte }
+    {
+        match self {
+            Quoting::Start => after_first(byte),
+            Quoting::Bare => bare_after(byte),
+            Quoting::Inside => after_inner(byte),
+            Quoting::Closed => after_quote(byte),
+        }
+    }
+
+    /// Whether a comma here ends the field.
+    pub fn ends_field(self, byte: u8) -> bool
+        ensures { result ≡ spec.ends_field self byte }
+    {
+        match self {
+            Quoting::Start | Quoting::Bare | Quoting::Closed => byte == b',',
+            Quoting::Inside => false,
+        }
+    }
+
+    /// Whether a byte here is one of the field's text, and no quote that opens or closes.
+    pub fn shows(self, byte: u8) -> bool
+        ensures { spec.shown self byte ≡ if result then byte ∷ [] else [] }
+    {
+        match self {
+            Quoting::Start | Quoting::Inside => byte != b'"',
+            Quoting::Bare | Quoting::Closed => true,
+        }
+    }
+
+    /// Whether the quotes are open.
+    pub fn is_inside(self) -> bool
+        ensures { result ≡ spec.is_inside self }
+    {
+        match self {
+            Quoting::Inside => true,
+            Quoting::Start | Quoting::Bare | Quoting::Closed => false,
+        }
+    }
+
+    /// What it is after some bytes more.
+    #[tactic(auto, using(crate::proofs::FieldLemmas::nothing))]
+    pub fn after_all(self, bytes: &[u8]) -> Quoting
+        ensures { result ≡ spec.after_all self bytes.now }
+    {
+        let mut quoting = self;
+        let mut rest = bytes;
+        'bytes: while let [byte, more @ ..] = rest {
+            quoting = quoting.after(*byte);
+            rest = more;
+        }
+        quoting
+    }
+}
+
+fn after_first(byte: u8) -> Quoting
+    ensures { result ≡ spec.after Quoting.Start byte }
+{
+    if byte == b'"' {
+        Quoting::Inside
+    } else {
+        bare_after(byte)
+    }
+}
+
+fn after_inner(byte: u8) -> Quoting
+    ensures { result ≡ spec.after Quoting.Inside byte }
+{
+    if byte == b'"' {
+        Quoting::Closed
+    } else {
+        Quoting::Inside
+    }
+}
+
+fn after_quote(byte: u8) -> Quoting
+    ensures { result ≡ spec.after Quoting.Closed byte }
+{
+    if byte == b'"' {
+        Quoting::Inside
+    } else {
+        bare_after(byte)
+    }
+}
+
+// After a byte in no quotes.
+fn bare_after(byte: u8) -> Quoting
+    ensures { result ≡ spec.bare_after byte }
+{
+    if byte == b',' {
+        Quoting::Start
+    } else {
+        Quoting::Bare
+    }
+}

@@ -1,0 +1,61 @@
+//! Records of comma-separated values, read one after another.
+
+ghost use Rattle.std.specs.Prelude.{◌≡◌, IfErr, IfOk};
+ghost use Rattle.timefd_write.specs.Records as spec;
+ghost use Rattle.timefd_write.specs.Records.{IsRecordRead};
+
+use crate::lines::{LineRead, read_more};
+use crate::outcome::RunError;
+use crate::quoting::Quoting;
+use std::io::BufRead;
+
+/// What a read of a record comes to.
+#[derive(Clone, Copy)]
+pub enum RecordRead {
+    /// One more record, of this many lines.
+    Record(u64),
+    /// What is left, whose last quotes don't end.
+    Open,
+    /// The end.
+    End,
+    /// The read failed.
+    Failed,
+}
+
+/// Reads one more record in place of these bytes, with its newline. An `Err` says that memory ran out.
+#[tactic(auto, using(crate::proofs::RecordLemmas::starts, crate::proofs::RecordLemmas::line_more, crate::proofs::RecordLemmas::row_done, crate::proofs::RecordLemmas::row_ended))]
+pub fn read_record<R: BufRead>(reader: &mut R, row: &mut Vec<u8>) -> Result<RecordRead, RunError>
+    ensures read { IfOk result (IsRecordRead (R.remaining reader.old) (R.remaining reader.new)
+        row.new.items) }
+    ensures memory { IfErr result (λ error. error ≡ RunError.Memory) }
+{
+    row.clear();
+    let mut quoting = Quoting::Start;
+    'lines: for count in 1..u64::MAX {
+        let from = row.len();
+        match read_more(reader, row)? {
+            LineRead::Line => {
+                quoting = quoting.after_all(&row[from..]);
+                if !quoting.is_inside() {
+                    return Ok(RecordRead::Record(count));
+                }
+            }
+            LineRead::End => return Ok(at_end(row, quoting)),
+            LineRead::Failed => return Ok(RecordRead::Failed),
+        }
+    }
+    Ok(RecordRead::Failed)
+}
+
+// What the end comes to after these bytes of a record.
+fn at_end(row: &[u8], quoting: Quoting) -> RecordRead
+    ensures { result ≡ spec.at_end row.now quoting }
+{
+    if row.is_empty() {
+        RecordRead::End
+    } else if quoting.is_inside() {
+        RecordRead::Open
+    } else {
+        RecordRead::Record(1)
+    }
+}

@@ -1,0 +1,44 @@
+//! Moments that are named by seconds of Unix time.
+
+ghost use Rattle.timefd_write.specs.Seconds as spec;
+ghost use Rattle.timefd_write.specs.Seconds.{IsAtSeconds, IsUnixTime, text_of};
+ghost use Rattle.std.specs.Prelude.{◌≡◌};
+
+use crate::moment::MomentError;
+use timefd_moment::{Moment, UnixTime};
+
+const NANOSECONDS: u128 = 1_000_000_000;
+
+/// What follows the `@` that a word begins with. `None` where it begins with none.
+#[tactic(auto, using(crate::proofs::SecondsLemmas::after))]
+pub fn after_at(word: &str) -> Option<&str>
+    ensures { text_of result ≡ spec.after_at word.now }
+{
+    word.strip_prefix('@')
+}
+
+/// The moment so many seconds after 1970 began in UTC, or before it.
+pub fn moment_at(seconds: &str) -> Result<Moment, MomentError>
+    ensures { IsAtSeconds seconds.now result }
+{
+    let Some(unix) = unix_time_in(seconds) else {
+        return Err(MomentError::Seconds);
+    };
+    match Moment::from_unix(unix) {
+        Ok(moment) => Ok(moment),
+        Err(_) => Err(MomentError::Seconds),
+    }
+}
+
+// The instant of these seconds, where they are a number.
+fn unix_time_in(seconds: &str) -> Option<UnixTime>
+    ensures { IsUnixTime seconds.now result }
+{
+    let Ok(seconds) = seconds.parse::<i64>() else {
+        return None;
+    };
+    Some(UnixTime {
+        is_negative: seconds < 0,
+        nanoseconds: seconds.unsigned_abs() as u128 * NANOSECONDS,
+    })
+}

@@ -1,0 +1,283 @@
+//! A table of comma-separated values, with one column written anew.
+
+ghost use Rattle.std.specs.Prelude.{◌≡◌, false, IfErr, IfOk, OnOk};
+ghost use Rattle.timefd_write.specs.Frames.{EndsOnlyAsAsked};
+ghost use Rattle.timefd_write.specs.ReadBack.{AreLeavesOf};
+ghost use Rattle.timefd_write.specs.Records.{is_open};
+ghost use Rattle.timefd_write.specs.Sources.{AreLeavesIn};
+ghost use Rattle.timefd_write.specs.Tallies.{refused};
+ghost use Rattle.timefd_write.specs.Tables.{IsNamedTable, IsRecord, IsTable, ReplacesRecord, RunsRecordsOver};
+
+use crate::column::Column;
+use crate::entry::tally_one;
+use crate::fields::{cell_after, text_in};
+use crate::frame::{Entry, Frame, send};
+use crate::header::named_in;
+use crate::lines::line_room;
+use crate::message::{no_field_message, no_header_message, open_message, tell, unnamed_message};
+use crate::otherwise::Otherwise;
+use crate::outcome::{RunError, Tally};
+use crate::read_back::leaves_of;
+use crate::records::{RecordRead, read_record};
+use crate::source::{Source, source_leaves};
+use std::alloc::Global;
+use std::io::{BufRead, Write};
+use timefd_node_list::Leaf;
+use timefd_parse::BorrowedOutput;
+use timefd_rewrite::without_newline;
+
+/// Writes the records of a reader in turn, each with the moment of one field in its place, and every
+/// other byte as it is. Fields that are no moment are told, with the number of their line, and what is
+/// asked for stands in their place.
+#[tactic(auto, using(crate::proofs::LineLemmas::lent_in, crate::proofs::LineLemmas::lent_of))]
+pub fn write_table<R: BufRead, W: Write, E: Write>(
+    alloc: Global,
+    source: &Source<'_>,
+    description: &BorrowedOutput<'_>,
+    otherwise: Otherwise,
+    column: Column<'_>,
+    reader: &mut R,
+    output: &mut W,
+    errors: &mut E,
+) -> Result<Tally, RunError>
+    ensures table { IfOk result (IsTable otherwise source.now description.now column.entry
+        (R.remaining reader.old) (W.contents output.old) (W.contents output.new)) }
+    ensures ends { IfErr result (EndsOnlyAsAsked otherwise) }
+{
+    let read = source_leaves(alloc, source)?;
+    let written = leaves_of(alloc, description)?;
+    match column {
+        Column::After(count) => write_records(
+            alloc,
+            source,
+            read.as_deref(),
+            description,
+            written.as_deref(),
+            otherwise,
+            count,
+            1,
+            reader,
+            output,
+            errors,
+        ),
+        Column::Named(name) => write_named(
+            alloc,
+            source,
+            read.as_deref(),
+            description,
+            written.as_deref(),
+            otherwise,
+            name,
+            reader,
+            output,
+            errors,
+        ),
+    }
+}
+
+// The same by the name that the first record gives the column.
+fn write_named<R: BufRead, W: Write, E: Write>(
+    alloc: Global,
+    source: &Source<'_>,
+    source_leaves: Option<&[Leaf<'_>]>,
+    description: &BorrowedOutput<'_>,
+    leaves: Option<&[Leaf<'_>]>,
+    otherwise: Otherwise,
+    name: &str,
+    reader: &mut R,
+    output: &mut W,
+    errors: &mut E,
+) -> Result<Tally, RunError>
+    requires source { AreLeavesIn source.now source_leaves }
+    requires written { AreLeavesOf description.now leaves }
+    ensures table { IfOk result (IsNamedTable otherwise source.now description.now name.now
+        (R.remaining reader.old) (W.contents output.old) (W.contents output.new)) }
+    ensures ends { IfErr result (EndsOnlyAsAsked otherwise) }
+{
+    let mut header = Vec::new(alloc);
+    let lines = match read_record(reader, &mut header)? {
+        RecordRead::Record(lines) => lines,
+        RecordRead::Open => 1,
+        RecordRead::End => {
+            let message = no_header_message(alloc, name)?;
+            tell(errors, message.as_bytes());
+            return Ok(Tally::refused());
+        }
+        RecordRead::Failed => return Ok(Tally::at_end(true)),
+    };
+    match named_in(alloc, name, &header)? {
+        Ok(count) => {
+            send(&header, output)?;
+            write_records(
+                alloc,
+                source,
+                source_leaves,
+                description,
+                leaves,
+                otherwise,
+                count,
+                lines.saturating_add(1),
+                reader,
+                output,
+                errors,
+            )
+        }
+        Err(error) => {
+            let message = unnamed_message(alloc, name, error)?;
+            tell(errors, message.as_bytes());
+            Ok(Tally::refused())
+        }
+    }
+}
+
+// The records from a line on, by the field after some others.
+#[tactic(auto, using(crate::proofs::TableLemmas::starts, crate::proofs::TableLemmas::row_more, crate::proofs::TableLemmas::row_open, crate::proofs::TableLemmas::rows_end, crate::proofs::TableLemmas::records_fail))]
+fn write_records<R: BufRead, W: Write, E: Write>(
+    alloc: Global,
+    source: &Source<'_>,
+    source_leaves: Option<&[Leaf<'_>]>,
+    description: &BorrowedOutput<'_>,
+    leaves: Option<&[Leaf<'_>]>,
+    otherwise: Otherwise,
+    count: usize,
+    first_line: u64,
+    reader: &mut R,
+    output: &mut W,
+    errors: &mut E,
+) -> Result<Tally, RunError>
+    requires source { AreLeavesIn source.now source_leaves }
+    requires written { AreLeavesOf description.now leaves }
+    ensures runs { IfOk result (RunsRecordsOver otherwise source.now description.now count
+        (R.remaining reader.old) (W.contents output.old) (W.contents output.new)) }
+    ensures ends { IfErr result (EndsOnlyAsAsked otherwise) }
+{
+    let mut tally = Tally::at_end(false);
+    let mut line = first_line;
+    let mut row = Vec::new(alloc);
+    let mut text = Vec::new(alloc);
+    let mut room = line_room(alloc, description)?;
+    'records: for _ in 0..u64::MAX {
+        match read_record(reader, &mut row)? {
+            RecordRead::Record(lines) => {
+                let one = tally_record(
+                    alloc,
+                    source,
+                    source_leaves,
+                    description,
+                    leaves,
+                    otherwise,
+                    count,
+                    line,
+                    &row,
+                    &mut text,
+                    &mut room,
+                    output,
+                    errors,
+                )?;
+                tally = tally.and(one);
+                line = line.saturating_add(lines);
+            }
+            RecordRead::Open => {
+                let one = tally_open(alloc, otherwise, line, &row, output, errors)?;
+                tally = tally.and(one);
+            }
+            RecordRead::End => return Ok(tally),
+            RecordRead::Failed => return Ok(tally.and(Tally::at_end(true))),
+        }
+    }
+    Ok(tally.and(Tally::at_end(true)))
+}
+
+// What a record adds to a tally.
+#[tactic(auto, using(crate::proofs::TableLemmas::of_cell))]
+fn tally_record<W: Write, E: Write>(
+    alloc: Global,
+    source: &Source<'_>,
+    source_leaves: Option<&[Leaf<'_>]>,
+    description: &BorrowedOutput<'_>,
+    leaves: Option<&[Leaf<'_>]>,
+    otherwise: Otherwise,
+    count: usize,
+    line: u64,
+    row: &[u8],
+    text: &mut Vec<u8>,
+    room: &mut [u8],
+    output: &mut W,
+    errors: &mut E,
+) -> Result<Tally, RunError>
+    requires source { AreLeavesIn source.now source_leaves }
+    requires written { AreLeavesOf description.now leaves }
+    requires closed { is_open row.now ≡ false }
+    ensures one { IfOk result (IsRecord otherwise source.now description.now count row.now
+        (W.contents output.old) (W.contents output.new)) }
+    ensures ends { IfErr result (EndsOnlyAsAsked otherwise) }
+{
+    if without_newline(row).is_empty() {
+        send(row, output)?;
+        return Ok(Tally::at_end(false));
+    }
+    match cell_after(count, row) {
+        Some(cell) => {
+            text_in(cell.field, text)?;
+            tally_one(
+                alloc,
+                source,
+                source_leaves,
+                description,
+                leaves,
+                otherwise,
+                Entry {
+                    line: Some(line),
+                    text: text.as_slice(),
+                    frame: Frame::Field(cell),
+                },
+                room,
+                output,
+                errors,
+            )
+        }
+        None => {
+            let message = no_field_message(alloc, line)?;
+            tell(errors, message.as_bytes());
+            replace_record(otherwise, row, output)?;
+            Ok(Tally::refused())
+        }
+    }
+}
+
+// What is left, whose last quotes don't end, adds to a tally.
+fn tally_open<W: Write, E: Write>(
+    alloc: Global,
+    otherwise: Otherwise,
+    line: u64,
+    row: &[u8],
+    output: &mut W,
+    errors: &mut E,
+) -> Result<Tally, RunError>
+    ensures replaced { OnOk result (ReplacesRecord otherwise row.now (W.contents output.old)
+        (W.contents output.new)) }
+    ensures tally { IfOk result (λ tally. tally ≡ refused) }
+    ensures ends { IfErr result (EndsOnlyAsAsked otherwise) }
+{
+    let message = open_message(alloc, line)?;
+    tell(errors, message.as_bytes());
+    replace_record(otherwise, row, output)?;
+    Ok(Tally::refused())
+}
+
+// Writes what stands in place of a record that has no such field.
+fn replace_record<W: Write>(
+    otherwise: Otherwise,
+    row: &[u8],
+    output: &mut W,
+) -> Result<(), RunError>
+    ensures replaced { OnOk result (ReplacesRecord otherwise row.now (W.contents output.old)
+        (W.contents output.new)) }
+    ensures ends { IfErr result (EndsOnlyAsAsked otherwise) }
+{
+    match otherwise {
+        Otherwise::Nothing => Ok(()),
+        Otherwise::Keep | Otherwise::Empty => send(row, output),
+        Otherwise::Fail => Err(RunError::Refused),
+    }
+}
