@@ -218,7 +218,8 @@ def rust_arm(row, key):
 
 def reason_enum():
     match = {key: "".join(rust_arm(row, key) for row in reasons()) for key in ("name", "sentence", "cure")}
-    told = {"name": "Its name, as `zone-name`.", "sentence": "What is told of it, without a capital and without a full stop.",
+    told = {"name": "Its name, as `zone-name`.",
+            "sentence": "Why a part has no text of version 3, as a sentence without a capital and a full stop.",
             "cure": "What to do, in a sentence."}
     functions = "\n".join(
         f"    /// {told[key]}\n    pub fn {key}(self) -> &'static str\n        ensures {{ result.now ≡ spec.{key} self }}\n"
@@ -271,7 +272,8 @@ def bound_arm(row, key):
 
 def bound_reasons():
     """The reasons in the crate for Rust."""
-    told = {"name": "Its name, as `zone-name`.", "sentence": "What is told of it, without a capital and without a full stop.",
+    told = {"name": "Its name, as `zone-name`.",
+            "sentence": "Why a part has no text of version 3, as a sentence without a capital and a full stop.",
             "cure": "What to do, in a sentence."}
     functions = "".join(
         f"\n    /// {told[key]}\n    #[must_use]\n    pub fn {key}(self) -> &'static str {{\n        match self {{\n"

@@ -161,7 +161,7 @@ impl Reason {
         }
     }
 
-    /// What is told of it, without a capital and without a full stop.
+    /// Why a part has no text of version 3, as a sentence without a capital and a full stop.
     #[must_use]
     pub fn sentence(self) -> &'static str {
         match self {
