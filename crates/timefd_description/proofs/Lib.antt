@@ -1,0 +1,3 @@
+pub mod ModernLemmas
+pub mod ParsedLemmas
+pub mod CompositeLemmas

@@ -1,0 +1,71 @@
+-- What is answered of a text.
+use Rattle.std.proofs.Common.{◌≡◌, ◌<◌, Ok, Err, List, [], length, refl, ap, subst, arith}
+use Rattle.timefd_borrowed_fault.specs.declared.borrowed_parse_error.BorrowedParseError.{BorrowedParseError}
+use Rattle.timefd_borrowed_fault.specs.declared.borrowed_parse_error.BorrowedParseError.TheVariants.{Memory}
+use Rattle.std.specs.declared.alloc.AllocError.{AllocError}
+use Rattle.timefd_borrowed_fault.specs.BorrowedFaults.{IsLent, IsLentOf, IsMemory}
+use Rattle.timefd_component.specs.Tree.{Text, Tree}
+use Rattle.timefd_fault.specs.Faults.{Fault}
+use Rattle.timefd_items.specs.declared.format_description_v3.FormatDescriptionV3.{FormatDescriptionV3}
+use Rattle.timefd_language.specs.Grammar.{nesting_limit}
+use Rattle.timefd_language.specs.Strftime.{SpellsStrftime, no_directives}
+use Rattle.timefd_parse.proofs.ParseLemmas.{one}
+use Rattle.timefd_parse.specs.Language.{FaultIn, SpellsIn}
+use Rattle.timefd_parse.specs.declared.language.Language.{Language}
+use Rattle.timefd_parse.specs.declared.language.Language.TheVariants.{Version, Strftime}
+use Rattle.timefd_strftime.proofs.DirectiveLemmas.{one as strftime_one}
+use Rattle.timefd_description.specs.Parsed.{AreNodes, IsParsed}
+
+pub accepted : (language : Language) (text : Text) (list : List Tree) (d : FormatDescriptionV3)
+    → SpellsIn language nesting_limit text list → AreNodes list d → IsParsed language text (Ok d)
+accepted (Version v) text list d spells is = record {
+  found = (list, spells, is);
+  fault = tt;
+  spelled = λ other s. subst (λ l. AreNodes l d) ((one v nesting_limit text).one_list list other spells s) is;
+  refused = λ f h. (one v nesting_limit text).not_both list f spells h;
+  empty = λ e. refl;
+}
+accepted Strftime text list d spells is = record {
+  found = (list, spells, is);
+  fault = tt;
+  spelled = λ other s. subst (λ l. AreNodes l d) ((strftime_one text).one_list list other spells s) is;
+  refused = λ f h. (strftime_one text).not_both list f spells h;
+  empty = λ e. refl;
+}
+
+pub not_read : (language : Language) (text : Text) (e : BorrowedParseError)
+    → IsLentOf (FaultIn language nesting_limit text) e
+    → ((list : List Tree) → SpellsIn language nesting_limit text list → IsMemory e)
+    → ((f : Fault) → FaultIn language nesting_limit text f → IsLent f e) → 0 < length text
+    → IsParsed language text (Err e)
+not_read language text e fault spelled refused some = record {
+  found = tt;
+  fault = fault;
+  spelled = spelled;
+  refused = refused;
+  empty = λ none. absurd (omega (arith, some, ap length none));
+}
+
+-- A text that is spelled has no fault, and memory ran out for it.
+pub no_memory : (language : Language) (text : Text) (list : List Tree) (e : AllocError)
+    → SpellsIn language nesting_limit text list → (text ≡ [] → ⊥)
+    → IsParsed language text (Err (Memory e))
+no_memory (Version v) text list e spells some = record {
+  found = tt;
+  fault = tt;
+  spelled = λ other s. tt;
+  refused = λ f h. absurd ((one v nesting_limit text).not_both list f spells h);
+  empty = λ none. absurd (some none);
+}
+no_memory Strftime text list e spells some = record {
+  found = tt;
+  fault = tt;
+  spelled = λ other s. tt;
+  refused = λ f h. absurd ((strftime_one text).not_both list f spells h);
+  empty = λ none. absurd (some none);
+}
+
+-- the empty text of strftime has no items
+pub no_items : (text : Text) (list : List Tree) → SpellsStrftime text list → text ≡ [] → list ≡ []
+no_items text list spells none =
+    (strftime_one text).one_list list [] spells (no_directives, tt, none, refl)

@@ -1,0 +1,3 @@
+pub mod Modern
+pub mod Parsed
+pub mod Descriptions

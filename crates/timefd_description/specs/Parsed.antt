@@ -1,0 +1,29 @@
+-- What is answered of a text that is read as nodes.
+use Rattle.std.specs.Prelude.{◌≡◌, ℕ, [], List, IfOk, IsOk, MatchResult, Result}
+use Rattle.std.specs.Result.{IfErr}
+use Rattle.timefd_borrowed_fault.specs.declared.borrowed_parse_error.BorrowedParseError.{BorrowedParseError}
+use Rattle.timefd_borrowed_fault.specs.BorrowedFaults.{IsLent, IsLentOf, IsMemory}
+use Rattle.timefd_component.specs.Tree.{Text, Tree, pack}
+use Rattle.timefd_fault.specs.Faults.{Fault}
+use Rattle.timefd_items.specs.Description.{description_tree}
+use Rattle.timefd_items.specs.declared.format_description_v3.FormatDescriptionV3.{FormatDescriptionV3}
+use Rattle.timefd_language.specs.Grammar.{nesting_limit}
+use Rattle.timefd_parse.specs.Language.{FaultIn, SpellsIn}
+use Rattle.timefd_parse.specs.declared.language.Language.{Language}
+
+-- the nodes are these items as one tree
+abbrev pub AreNodes : List Tree → FormatDescriptionV3 → Type 0
+AreNodes list d = description_tree d ≡ pack list
+
+-- What is accepted is spelled so, and what is refused is refused for the fault that the rules assign.
+-- What is spelled is accepted, unless memory runs out, and what has a fault is refused for it.
+pub record IsParsed (language : Language) (text : Text)
+    (r : Result FormatDescriptionV3 BorrowedParseError) : Type 0 where
+  pub found : IfOk r (λ d. (list : List Tree) × SpellsIn language nesting_limit text list
+      × AreNodes list d)
+  pub fault : IfErr r (IsLentOf (FaultIn language nesting_limit text))
+  pub spelled : (list : List Tree) → SpellsIn language nesting_limit text list
+      → MatchResult r (AreNodes list) IsMemory
+  pub refused : (f : Fault) → FaultIn language nesting_limit text f
+      → MatchResult r (λ _. ⊥) (IsLent f)
+  pub empty : text ≡ [] → IsOk r

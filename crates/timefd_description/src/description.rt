@@ -1,0 +1,92 @@
+//! A description of any language.
+
+ghost use Rattle.timefd_description.specs.Descriptions.{tree};
+ghost use Rattle.timefd_component.specs.Reserved.{reserve};
+
+use std::alloc::{AllocError, Global};
+use timefd_items::FormatDescriptionV3;
+use timefd_node_list::View;
+use timefd_parse::{BorrowedParseError, DescriptionVersion, Language};
+
+use crate::strftime::read_strftime;
+use crate::version::read_version;
+
+/// A format description, opened. It borrows its text, and is the same whatever language that is in: a
+/// formatter and a reader see one tree, and no items and tables.
+#[derive(Drop)]
+pub struct Description<'a> {
+    nodes: FormatDescriptionV3<'a>,
+}
+
+impl<'a> Description<'a> {
+    ghost use Rattle.std.specs.Prelude.{◌≡◌, [], IfOk, IsOk, List, MatchResult};
+    ghost use Rattle.std.specs.Result.{IfErr};
+    ghost use Rattle.timefd_borrowed_fault.specs.BorrowedFaults.{IsLent, IsLentOf, IsMemory};
+    ghost use Rattle.timefd_component.specs.Tree.{Tree};
+    ghost use Rattle.timefd_description.specs.Descriptions.{IsOf};
+    ghost use Rattle.timefd_fault.specs.Faults as spec;
+    ghost use Rattle.timefd_language.specs.Grammar.{nesting_limit};
+    ghost use Rattle.timefd_node_list.specs.Views.{view_tree};
+    ghost use Rattle.timefd_parse.specs.Language.{FaultIn, SpellsIn};
+
+    /// Opens a text of a language.
+    ///
+    /// The error is `Invalid` with the fault of the text, or `Memory` where memory ran out. A text that
+    /// has a fault is refused for it even then.
+    pub fn parse(
+        alloc: Global,
+        language: Language,
+        text: &'a str,
+    ) -> Result<Description<'a>, BorrowedParseError<'a>>
+        // What is accepted is spelled so, and what is refused is refused for the fault that the rules
+        // assign.
+        ensures found { IfOk result (λ d. (list : List Tree)
+            × SpellsIn language nesting_limit text.now list × IsOf list d) }
+        ensures fault { IfErr result (IsLentOf (FaultIn language nesting_limit text.now)) }
+
+        // What is spelled is accepted, unless memory runs out, and what has a fault is refused for it.
+        ensures spelled { (list : List Tree) → SpellsIn language nesting_limit text.now list
+            → MatchResult result (IsOf list) IsMemory }
+        ensures refused { (f : spec.Fault) → FaultIn language nesting_limit text.now f
+            → MatchResult result (λ _. ⊥) (IsLent f) }
+
+        // The empty text takes no memory.
+        ensures empty { text.now ≡ [] → IsOk result }
+    {
+        match language {
+            Language::Version(version) => match read_version(alloc, version, text) {
+                Ok(nodes) => Ok(Description { nodes }),
+                Err(error) => Err(error),
+            },
+            Language::Strftime => match read_strftime(alloc, text) {
+                Ok(nodes) => Ok(Description { nodes }),
+                Err(error) => Err(error),
+            },
+        }
+    }
+
+    /// The tree that it is, to look at in place.
+    pub fn view(&self) -> View<'_, 'a>
+        ensures { view_tree result ≡ tree self.now }
+    {
+        self.nodes.view()
+    }
+
+    /// The most bytes that it writes of any moment.
+    pub fn max_bytes_needed(&self) -> usize
+        ensures { result ≡ reserve (tree self.now) }
+    {
+        self.nodes.max_bytes_needed()
+    }
+
+    /// A copy that borrows nothing, so it may outlive the text. An `Err` comes where there is no memory
+    /// left for it.
+    pub fn to_owned(&self, alloc: Global) -> Result<Description<'static>, AllocError>
+        ensures { IfOk result (λ copy. tree copy ≡ tree self.now) }
+    {
+        match self.nodes.to_owned(alloc) {
+            Ok(nodes) => Ok(Description { nodes }),
+            Err(error) => Err(error),
+        }
+    }
+}

@@ -1,0 +1,38 @@
+//! Literals, components and lists, put behind one another as nodes.
+
+ghost use Rattle.std.specs.Prelude.{◌≡◌, ◌∷◌, ◌++◌, ◌≤◌, [], IfOk, IsOk, OnOk, length};
+ghost use Rattle.timefd_component.specs.Tree as spec;
+ghost use Rattle.timefd_component.specs.Tree.{pack};
+ghost use Rattle.timefd_description.specs.Modern.{modern_tree};
+ghost use Rattle.timefd_items.specs.Builder.{built};
+ghost use Rattle.timefd_items.specs.Description.{description_tree};
+ghost use Rattle.timefd_node_list.specs.Nodes.{before, ending};
+
+use std::alloc::AllocError;
+use timefd_items::{DescriptionBuilder, FormatDescriptionV3};
+
+/// All that was built, as one description. An `Err` comes where there is no memory left, or where a
+/// `usize` doesn't count the bytes that it may write.
+pub fn finished(builder: DescriptionBuilder<'_>) -> Result<FormatDescriptionV3<'_>, AllocError>
+    ensures ok { IfOk result (λ d. description_tree d ≡ pack (built builder.entry)) }
+    ensures empty { built builder.entry ≡ [] → IsOk result }
+{
+    if builder.fits(builder.len()) {
+        builder.finish()
+    } else {
+        Err(AllocError)
+    }
+}
+
+/// Makes the last trees, so many, one. An `Err` comes as that of `finished` does.
+pub fn pack_last(builder: &mut DescriptionBuilder<'_>, count: usize) -> Result<(), AllocError>
+    requires { count ≤ length (built builder.old) }
+    ensures { OnOk result (built builder.new ≡ before count (built builder.old)
+        ++ pack (ending count (built builder.old)) ∷ []) }
+{
+    if builder.fits(count) {
+        builder.pack(count)
+    } else {
+        Err(AllocError)
+    }
+}

@@ -1,0 +1,67 @@
+//! Texts of strftime, read as nodes.
+
+ghost use Rattle.std.specs.Prelude.{◌≡◌, ◌∷◌, ◌++◌, ◌<◌, [], List, MatchResult, OnOk, length};
+ghost use Rattle.std.specs.Result.{IfErr};
+ghost use Rattle.timefd_component.specs.Tree.{Tree};
+ghost use Rattle.timefd_description.specs.Modern.{modern_tree};
+ghost use Rattle.timefd_description.specs.Parsed.{IsParsed};
+ghost use Rattle.timefd_items.specs.Builder.{built};
+ghost use Rattle.timefd_language.specs.FaultMeaning.{MemoryOr};
+ghost use Rattle.timefd_language.specs.Strftime.{SpellsStrftime};
+ghost use Rattle.timefd_parse.specs.declared.language.Language.TheVariants.{Strftime};
+ghost use Rattle.timefd_strftime.specs.PieceMeaning.{piece_tree};
+ghost use Rattle.timefd_strftime.specs.StrftimeReading.{IsStrftimeFaultIn};
+
+use crate::composite::add_composite;
+use crate::nodes::finished;
+use std::alloc::{AllocError, Global};
+use timefd_items::{DescriptionBuilder, FormatDescriptionV3};
+use timefd_language::fault::ReadError;
+use timefd_parse::BorrowedParseError;
+use timefd_strftime::{StrftimePiece, next_strftime_piece, strftime_error};
+
+/// Reads a text of strftime.
+pub fn read_strftime<'a>(
+    alloc: Global,
+    text: &'a str,
+) -> Result<FormatDescriptionV3<'a>, BorrowedParseError<'a>>
+    ensures { IsParsed Strftime text.now result }
+{
+    match directives(alloc, text) {
+        Ok(builder) => match finished(builder) {
+            Ok(description) => Ok(description),
+            Err(error) => Err(BorrowedParseError::Memory(error)),
+        },
+        Err(error) => Err(strftime_error(error, text)),
+    }
+}
+
+fn directives<'a>(alloc: Global, text: &'a str) -> Result<DescriptionBuilder<'a>, ReadError<'a>>
+    ensures pieces { MatchResult result (λ builder. (list : List Tree) × SpellsStrftime text.now list
+        × (built builder ≡ list)) (MemoryOr (IsStrftimeFaultIn text.now)) }
+    ensures some { IfErr result (λ _. 0 < length text.now) }
+{
+    let mut builder = DescriptionBuilder::new(alloc);
+    let mut rest = text;
+    'pieces: loop {
+        let Some((piece, after)) = next_strftime_piece(rest)? else {
+            return Ok(builder);
+        };
+        add_piece(&mut builder, piece)?;
+        rest = after;
+    }
+}
+
+fn add_piece<'a>(
+    builder: &mut DescriptionBuilder<'a>,
+    piece: StrftimePiece<'a>,
+) -> Result<(), AllocError>
+    ensures { OnOk result (built builder.new ≡ built builder.old
+        ++ modern_tree (piece_tree piece.entry) ∷ []) }
+{
+    match piece {
+        StrftimePiece::Literal(text) => builder.literal(text),
+        StrftimePiece::Component(component) => builder.component(component),
+        StrftimePiece::Composite(composite) => add_composite(builder, composite),
+    }
+}
