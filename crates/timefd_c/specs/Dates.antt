@@ -21,9 +21,9 @@ use Rattle.timefd_read_moment.specs.declared.part.OffsetPart.{OffsetPart}
 use Rattle.timefd_read_moment.specs.declared.part.InstantPart.{InstantPart}
 use Rattle.timefd_read_moment.specs.declared.part.Part.{Part}
 use Rattle.timefd_read_moment.specs.declared.part.Part.TheVariants as part
-use Rattle.timefd_read_text.specs.Answers.{IsReadAs, fields_in}
-use Rattle.timefd_read_text.specs.declared.error.ReadTextError.{ReadTextError}
-use Rattle.timefd_read_text.specs.declared.error.ReadTextError.TheVariants as fails
+use Rattle.timefd_description.specs.ReadAnswers.{IsReadAs, fields_in}
+use Rattle.timefd_description.specs.declared.read_error.ReadTextError.{ReadTextError}
+use Rattle.timefd_description.specs.declared.read_error.ReadTextError.TheVariants as fails
 
 -- the numbers of why a part does not read
 abbrev pub reason_number : Reason → ℕ

@@ -9,7 +9,7 @@ use timefd_c_nodes::component_node;
 use timefd_moment::Moment;
 use timefd_read_dates::{ReadError, Reason};
 use timefd_read_moment::{DatePart, InstantPart, OffsetPart, Part, TimePart, ValueError};
-use timefd_read_text::ReadTextError;
+use timefd_description::ReadTextError;
 
 /// The status where a part of the date does not read by the description. The value is the byte
 /// index where it begins, and the answer says why it does not read.

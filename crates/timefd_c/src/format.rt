@@ -11,7 +11,7 @@ use crate::numbers::from_number;
 use crate::whole::write_bytes;
 use std::alloc::Global;
 use timefd_c_read::text_of;
-use timefd_format_text::{FormatTextError, format_text};
+use timefd_description::{FormatTextError, format_text};
 use timefd_moment::Moment;
 use timefd_parse::Language;
 

@@ -9,7 +9,7 @@ use crate::numbers::from_number;
 use std::alloc::Global;
 use timefd_c_read::text_of;
 use timefd_parse::Language;
-use timefd_read_text::read_text;
+use timefd_description::read_text;
 
 /// Reads the bytes of a date by the bytes of a description, a text of the language with this number,
 /// and answers the moment that they show: what is known of a date, a time of day and an offset.

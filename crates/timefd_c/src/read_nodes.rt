@@ -10,7 +10,7 @@ ghost use Rattle.timefd_c_format.specs.Parts.{role_in};
 ghost use Rattle.timefd_node_list.specs.LeafMeaning.{leaf_tree};
 ghost use Rattle.timefd_node_list.specs.Views.{view_tree};
 ghost use Rattle.timefd_read_dates.specs.Reads.{fields_of};
-ghost use Rattle.timefd_read_text.specs.Answers.{IsReadAs, fields_in};
+ghost use Rattle.timefd_description.specs.ReadAnswers.{IsReadAs, fields_in};
 
 use crate::answer::NOT_UTF8;
 use crate::date_answer::{DATE_NOT_UTF8, DateAnswer};
@@ -23,7 +23,7 @@ use timefd_moment::Moment;
 use timefd_node_list::{Leaf, View};
 use timefd_read_dates::{NO_FIELDS, fill_leaf_fields, read_fields};
 use timefd_read_moment::moment;
-use timefd_read_text::ReadTextError;
+use timefd_description::ReadTextError;
 
 /// Reads the bytes of a date by nodes, as `timefd_read` writes them, and the bytes of their literals,
 /// and answers the moment that they show.

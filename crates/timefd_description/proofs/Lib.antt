@@ -1,3 +1,5 @@
 pub mod ModernLemmas
 pub mod ParsedLemmas
 pub mod CompositeLemmas
+pub mod FormatLemmas
+pub mod ReadTextLemmas

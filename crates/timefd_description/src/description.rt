@@ -3,13 +3,15 @@
 ghost use Rattle.timefd_description.specs.Descriptions.{tree};
 ghost use Rattle.timefd_component.specs.Reserved.{reserve};
 
-use std::alloc::{AllocError, Global};
-use timefd_items::FormatDescriptionV3;
-use timefd_node_list::View;
-use timefd_parse::{BorrowedParseError, DescriptionVersion, Language};
-
 use crate::strftime::read_strftime;
 use crate::version::read_version;
+use std::alloc::{AllocError, Global};
+use timefd_format::{TextError, format};
+use timefd_items::FormatDescriptionV3;
+use timefd_moment::Moment;
+use timefd_node_list::View;
+use timefd_parse::{BorrowedParseError, Language};
+use timefd_read_dates::{Fields, ReadError, read_fields};
 
 /// A format description, opened. It borrows its text, and is the same whatever language that is in: a
 /// formatter and a reader see one tree, and no items and tables.
@@ -25,9 +27,12 @@ impl<'a> Description<'a> {
     ghost use Rattle.timefd_component.specs.Tree.{Tree};
     ghost use Rattle.timefd_description.specs.Descriptions.{IsOf};
     ghost use Rattle.timefd_fault.specs.Faults as spec;
+    ghost use Rattle.timefd_format.specs.Answers.{IsAnswer};
+    ghost use Rattle.timefd_format.specs.Written.{written};
     ghost use Rattle.timefd_language.specs.Grammar.{nesting_limit};
     ghost use Rattle.timefd_node_list.specs.Views.{view_tree};
     ghost use Rattle.timefd_parse.specs.Language.{FaultIn, SpellsIn};
+    ghost use Rattle.timefd_read_dates.specs.Reads.{fields_of};
 
     /// Opens a text of a language.
     ///
@@ -77,6 +82,22 @@ impl<'a> Description<'a> {
         ensures { result ≡ reserve (tree self.now) }
     {
         self.nodes.max_bytes_needed()
+    }
+
+    /// What it writes of a moment. The error is the first component that shows nothing of it, or that
+    /// memory ran out.
+    pub fn format(&self, alloc: Global, moment: Moment) -> Result<String, TextError>
+        ensures { IsAnswer (written moment (tree self.now)) result }
+    {
+        format(alloc, moment, self.view())
+    }
+
+    /// The fields that a whole text shows by it. The error is the first part that does not read, and the
+    /// byte index where it begins. It takes no memory, and stack as deep as the description is nested.
+    pub fn read(&self, text: &str) -> Result<Fields, ReadError>
+        ensures { result ≡ fields_of (tree self.now) text.now }
+    {
+        read_fields(self.view(), text)
     }
 
     /// A copy that borrows nothing, so it may outlive the text. An `Err` comes where there is no memory

@@ -10,8 +10,8 @@ use Rattle.timefd_language.specs.Grammar.{nesting_limit}
 use Rattle.timefd_moment.specs.declared.moment.Moment.{Moment}
 use Rattle.timefd_parse.specs.declared.language.Language.{Language}
 use Rattle.timefd_parse.specs.Language.{SpellsIn, FaultIn}
-use Rattle.timefd_read_text.specs.Answers.{IsReadAs, IsRefusedFor, fields_in}
-use Rattle.timefd_read_text.specs.declared.error.ReadTextError.{ReadTextError}
+use Rattle.timefd_description.specs.ReadAnswers.{IsReadAs, IsRefusedFor, fields_in}
+use Rattle.timefd_description.specs.declared.read_error.ReadTextError.{ReadTextError}
 use Rattle.timefd_web.specs.Readings.{Reads, Tells}
 
 pub reading : (language : Language) (description text : Text)

@@ -8,8 +8,8 @@ use Rattle.std.specs.declared.vec.Vec.{Vec}
 use Rattle.timefd_borrowed_fault.specs.declared.borrowed_fault.BorrowedFault.{BorrowedFault}
 use Rattle.timefd_component.specs.Tree.{Text}
 use Rattle.timefd_format.specs.declared.unshown.Unshown.{Unshown}
-use Rattle.timefd_format_text.specs.Answers.{IsShownAs}
-use Rattle.timefd_format_text.specs.declared.error.FormatTextError.TheVariants as fails
+use Rattle.timefd_description.specs.Formatted.{IsShownAs}
+use Rattle.timefd_description.specs.declared.format_error.FormatTextError.TheVariants as fails
 use Rattle.timefd_web.specs.Reports.{IsTextOf, IsWritten}
 
 pub shown_text : (x : Result Text Unshown) (bytes : Vec ℕ Global) (lent : Text)

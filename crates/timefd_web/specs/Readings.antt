@@ -14,10 +14,10 @@ use Rattle.timefd_read_dates.specs.declared.fault.Reason.{Reason}
 use Rattle.timefd_read_dates.specs.declared.fault.Reason.TheVariants as for
 use Rattle.timefd_read_moment.specs.Sentences.{sentence}
 use Rattle.timefd_read_moment.specs.declared.error.ValueError.{ValueError}
-use Rattle.timefd_read_text.specs.Answers.{IsReadAs, IsRefusedFor, fields_in}
-use Rattle.timefd_read_text.specs.Sentences.{reason_sentence}
-use Rattle.timefd_read_text.specs.declared.error.ReadTextError.{ReadTextError}
-use Rattle.timefd_read_text.specs.declared.error.ReadTextError.TheVariants as fails
+use Rattle.timefd_description.specs.ReadAnswers.{IsReadAs, IsRefusedFor, fields_in}
+use Rattle.timefd_description.specs.Sentences.{reason_sentence}
+use Rattle.timefd_description.specs.declared.read_error.ReadTextError.{ReadTextError}
+use Rattle.timefd_description.specs.declared.read_error.ReadTextError.TheVariants as fails
 
 -- why a part of the text doesn't read
 abbrev pub sentence_here : Reason → Text

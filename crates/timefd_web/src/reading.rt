@@ -11,7 +11,7 @@ use timefd_moment::Moment;
 use timefd_parse::Language;
 use timefd_read_dates::{ReadError, Reason};
 use timefd_read_moment::ValueError;
-use timefd_read_text::{ReadTextError, read_text, reason_sentence};
+use timefd_description::{ReadTextError, read_text, reason_sentence};
 
 /// The moment that a whole text shows by the text of a description, as an object of JSON, or why it
 /// shows none. An `Err` says that memory ran out, and nothing of the texts.

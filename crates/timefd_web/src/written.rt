@@ -8,7 +8,7 @@ ghost use Rattle.timefd_parse.specs.Language.{SpellsIn};
 ghost use Rattle.timefd_web.specs.Reports.{IsTextOf, IsWritten};
 
 use std::alloc::{AllocError, Global};
-use timefd_format_text::{FormatTextError, format_text};
+use timefd_description::{FormatTextError, format_text};
 use timefd_moment::Moment;
 use timefd_parse::Language;
 

@@ -6,7 +6,7 @@ use Rattle.timefd_drawing.specs.Shown.{safe}
 use Rattle.timefd_format.specs.declared.unshown.Unshown.{Unshown}
 use Rattle.timefd_format.specs.Sentences.{unshown_sentence}
 use Rattle.timefd_read_moment.specs.Sentences.{sentence}
-use Rattle.timefd_read_text.specs.Sentences.{unread_sentence}
+use Rattle.timefd_description.specs.Sentences.{unread_sentence}
 use Rattle.timefd_write.specs.declared.asked.OptionError.{OptionError}
 use Rattle.timefd_write.specs.declared.asked.OptionError.TheVariants as errors
 use Rattle.timefd_write.specs.declared.header.HeaderError.{HeaderError}

@@ -10,8 +10,8 @@ use Rattle.timefd_read_dates.specs.declared.fault.ReadError.{ReadError}
 use Rattle.timefd_read_dates.specs.declared.fields.Fields.{Fields}
 use Rattle.timefd_read_dates.specs.Reads.{fields_of}
 use Rattle.timefd_read_moment.specs.Values.{IsMomentOf}
-use Rattle.timefd_read_text.specs.declared.error.ReadTextError.{ReadTextError}
-use Rattle.timefd_read_text.specs.declared.error.ReadTextError.TheVariants as fails
+use Rattle.timefd_description.specs.declared.read_error.ReadTextError.{ReadTextError}
+use Rattle.timefd_description.specs.declared.read_error.ReadTextError.TheVariants as fails
 
 -- the fields that the whole text shows by a description of these items, or the first fault
 abbrev pub fields_in : List Tree → Text → Result Fields ReadError

@@ -1,7 +1,7 @@
 //! What is told of a part of a text that does not read.
 
 ghost use Rattle.std.specs.Prelude.{◌≡◌, IfOk, string_bytes};
-ghost use Rattle.timefd_read_text.specs.Sentences as spec;
+ghost use Rattle.timefd_description.specs.Sentences as spec;
 
 use std::alloc::{AllocError, Global};
 use timefd_format::component_name;

@@ -1,7 +1,7 @@
 //! Why a text shows nothing by the text of a description.
 
 ghost use Rattle.std.specs.Prelude.{◌≡◌};
-ghost use Rattle.timefd_read_text.specs.Answers as spec;
+ghost use Rattle.timefd_description.specs.ReadAnswers as spec;
 
 use std::alloc::AllocError;
 use timefd_parse::{BorrowedFault, BorrowedParseError};

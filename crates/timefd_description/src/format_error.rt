@@ -3,7 +3,7 @@
 ghost use Rattle.std.specs.Prelude.{◌≡◌};
 ghost use Rattle.timefd_borrowed_fault.specs.BorrowedFaults as lent;
 ghost use Rattle.timefd_fault.specs.Faults as spec;
-ghost use Rattle.timefd_format_text.specs.Answers.{IsFaulty, IsMemory, of_text_error};
+ghost use Rattle.timefd_description.specs.Formatted.{IsFaulty, IsMemory, of_text_error};
 
 use std::alloc::AllocError;
 use timefd_format::{TextError, Unshown};

@@ -8,8 +8,8 @@ use Rattle.timefd_fault.specs.Faults.{Fault}
 use Rattle.timefd_format.specs.declared.text.TextError.{TextError}
 use Rattle.timefd_format.specs.declared.text.TextError.TheVariants as texts
 use Rattle.timefd_format.specs.declared.unshown.Unshown.{Unshown}
-use Rattle.timefd_format_text.specs.declared.error.FormatTextError.{FormatTextError}
-use Rattle.timefd_format_text.specs.declared.error.FormatTextError.TheVariants as fails
+use Rattle.timefd_description.specs.declared.format_error.FormatTextError.{FormatTextError}
+use Rattle.timefd_description.specs.declared.format_error.FormatTextError.TheVariants as fails
 
 abbrev pub of_text_error : TextError → FormatTextError
 of_text_error (texts.Unshown u) = fails.Unshown u
