@@ -6,10 +6,10 @@ ghost use Rattle.timefd_c.specs.Dates.{Answers, IsRead, component_in, date_part_
 use crate::answer::{ACCEPTED, NO_MEMORY, REFUSED};
 use crate::moment::MomentFields;
 use timefd_c_nodes::component_node;
+use timefd_description::ReadTextError;
 use timefd_moment::Moment;
 use timefd_read_dates::{ReadError, Reason};
 use timefd_read_moment::{DatePart, InstantPart, OffsetPart, Part, TimePart, ValueError};
-use timefd_description::ReadTextError;
 
 /// The status where a part of the date does not read by the description. The value is the byte
 /// index where it begins, and the answer says why it does not read.

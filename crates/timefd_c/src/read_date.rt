@@ -8,8 +8,8 @@ use crate::date_answer::{DATE_NOT_UTF8, DateAnswer};
 use crate::numbers::from_number;
 use std::alloc::Global;
 use timefd_c_read::text_of;
-use timefd_parse::Language;
 use timefd_description::read_text;
+use timefd_parse::Language;
 
 /// Reads the bytes of a date by the bytes of a description, a text of the language with this number,
 /// and answers the moment that they show: what is known of a date, a time of day and an offset.

@@ -19,11 +19,11 @@ use std::alloc::Global;
 use timefd_c_format::{are_texts, leaves_of, listed, node_fault};
 use timefd_c_nodes::Node;
 use timefd_c_read::text_of;
+use timefd_description::ReadTextError;
 use timefd_moment::Moment;
 use timefd_node_list::{Leaf, View};
 use timefd_read_dates::{NO_FIELDS, fill_leaf_fields, read_fields};
 use timefd_read_moment::moment;
-use timefd_description::ReadTextError;
 
 /// Reads the bytes of a date by nodes, as `timefd_read` writes them, and the bytes of their literals,
 /// and answers the moment that they show.

@@ -64,8 +64,14 @@ pub list_there : (c : Composite) (items : List BorrowedFormatItem) (old between 
     → item_trees items ≡ composite_list c → between ≡ old ++ modern_list (item_trees items)
     → count ≡ length items → count ≤ length between
 list_there c items old between count is added counts =
-    omega (arith, counts, ap length added, length-append old (modern_list (item_trees items)),
-    length-map (item_trees items) modern_tree, length-map items item_tree)
+    omega (
+      arith,
+      counts,
+      ap length added,
+      length-append old (modern_list (item_trees items)),
+      length-map (item_trees items) modern_tree,
+      length-map items item_tree,
+    )
 
 -- a list that was added, made one
 pub list_packed : {E : Type 0} {T : Type 0} (r : Result T E) (c : Composite) (items : List BorrowedFormatItem)
@@ -75,9 +81,9 @@ pub list_packed : {E : Type 0} {T : Type 0} (r : Result T E) (c : Composite) (it
     → OnOk r (new ≡ old ++ modern_tree (compound (trees (composite_list c))) ∷ [])
 list_packed r c items old between new count is added counts packed =
     let list : between ≡ old ++ modern_list (composite_list c) =
-        added ∙ ap (λ ts. old ++ modern_list ts) is in
+    added ∙ ap (λ ts. old ++ modern_list ts) is in
     let n : count ≡ length (modern_list (composite_list c)) =
-        counts ∙ counted items (composite_list c) is in
+    counts ∙ counted items (composite_list c) is in
     on_ok_weaker r
     (λ e. e ∙ ap (λ ts. before count ts ++ pack (ending count ts) ∷ []) list
     ∙ ap (λ ts. ts ++ pack (ending count (old ++ modern_list (composite_list c))) ∷ [])

@@ -84,8 +84,13 @@ fn pieces<'a>(
     let mut builder = DescriptionBuilder::new(alloc);
     let mut rest = text;
     'pieces: loop {
-        let Some((piece, after)) =
-            next_piece::<false>(&mut nested, version, rest, NESTING_LIMIT, 0)?
+        let Some((piece, after)) = next_piece::<false>(
+            &mut nested,
+            version,
+            rest,
+            NESTING_LIMIT,
+            0,
+        )?
         else {
             return Ok(builder);
         };

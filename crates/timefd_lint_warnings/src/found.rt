@@ -50,7 +50,10 @@ pub fn found_by(
 fn found_of(description: &Description<'_>, style: Style, levels: Levels) -> Levels
     ensures { result ≡ found levels style (leaves (tree description.now)) }
 {
-    levels.found(style, timefd_warnings::Description::Version3(description.view()))
+    levels.found(
+        style,
+        timefd_warnings::Description::Version3(description.view()),
+    )
 }
 
 /// How components are written in a language.

@@ -7,8 +7,8 @@ use crate::upgrade::upgrade;
 use crate::write::{day_alone, write_date, write_date_in};
 use std::alloc::Global;
 use std::io;
-use timefd_format::TextError;
 use timefd_description::{FormatTextError, format_text};
+use timefd_format::TextError;
 use timefd_moment::Moment;
 use timefd_parse::{
     BorrowedOutput, DescriptionVersion, FormatDescriptionV3, Language, ParseError, parse,

@@ -5,13 +5,13 @@ ghost use Rattle.timefd_web.specs.Readings as spec;
 ghost use Rattle.timefd_web.specs.Readings.{Reads, Tells};
 
 use std::alloc::{AllocError, Global};
+use timefd_description::{ReadTextError, read_text, reason_sentence};
 use timefd_drawing::json::{push_number, push_text};
 use timefd_format::component_name;
 use timefd_moment::Moment;
 use timefd_parse::Language;
 use timefd_read_dates::{ReadError, Reason};
 use timefd_read_moment::ValueError;
-use timefd_description::{ReadTextError, read_text, reason_sentence};
 
 /// The moment that a whole text shows by the text of a description, as an object of JSON, or why it
 /// shows none. An `Err` says that memory ran out, and nothing of the texts.

@@ -7,11 +7,11 @@ use crate::header::HeaderError;
 use crate::moment::MomentError;
 use std::alloc::{AllocError, Global};
 use std::io::Write;
+use timefd_description::unread_sentence;
 use timefd_diagnosis::Diagnostic;
 use timefd_drawing::shown::safe;
 use timefd_drawing::{Format, Origin, Style, drawn};
 use timefd_format::Unshown;
-use timefd_description::unread_sentence;
 
 /// How a run tells what is wrong with descriptions.
 #[derive(Clone, Copy)]

@@ -17,7 +17,7 @@ returns-in_err-piece-clause-pieces c =
 pub returns-in_default-clause-pieces : goal.returns-in_default-clause-pieces
 returns-in_default-clause-pieces c =
     let spells = all_read _ _ _ c.pieces.invariant.3
-        (subst (IsNext c.pieces.rest.now) c.in_default.is c.in_ok-piece.ensures) in (
+    (subst (IsNext c.pieces.rest.now) c.in_default.is c.in_ok-piece.ensures) in (
       c.pieces.invariant.2,
       spells,
       c.pieces.invariant.4 ∙ list_modern c.pieces.invariant.2
