@@ -235,7 +235,7 @@ timefd_answer timefd_v2_to_v3(const uint8_t *text, size_t len, uint8_t *buffer, 
    bytes always suffice. Literals side by side become one in conversions from version 1, and in those from strftime, where what a
    letter stands for comes in place of it, part by part.
 
-   From version 3 it wants 192 KiB of stack: a text that is nested 127 deep takes some 150 of them. */
+   From version 3 it wants 192 KiB of stack: a text that is nested 127 deep takes up to 155 of them. */
 timefd_answer timefd_convert(uint32_t from, uint32_t to, const uint8_t *text, size_t len, uint8_t *buffer, size_t room);
 
 /* The dialects: languages and libraries whose formats are converted to version 3. None has the number of a language. */
@@ -505,8 +505,8 @@ timefd_format_answer timefd_format(uint32_t kind, const uint8_t *text, size_t le
    writes it by the text that they were read of. It takes no memory, and no more stack for a deeper nesting. The only statuses are
    TIMEFD_ACCEPTED, TIMEFD_UNSHOWN, TIMEFD_OUT_OF_RANGE and TIMEFD_NO_DESCRIPTION.
 
-   Of a node of members it looks at `count`, and neither at `start` nor at `bytes`; nor at a number that the node's component
-   doesn't have. Where the text would have more than SIZE_MAX bytes, the value is SIZE_MAX. What is written is UTF-8 where the
+   Of a node of members it looks at `count`, which is 1 of an optional, and neither at `start` nor at `bytes`; nor at a number that
+   the node's component doesn't have. Where the text would have more than SIZE_MAX bytes, the value is SIZE_MAX. What is written is UTF-8 where the
    literals are. */
 timefd_format_answer timefd_format_nodes(const timefd_node *nodes, size_t node_count, const uint8_t *literals,
                                          size_t literal_count, const timefd_moment *moment, uint8_t *buffer, size_t room);
@@ -576,8 +576,8 @@ typedef struct timefd_date_answer {
    a fault is refused for it, whatever the date is that is UTF-8, and timefd_diagnose reports the whole fault. TIMEFD_NO_MEMORY
    may come of a description in any language.
 
-   It takes 15 KiB of stack for each level that a description of version 3 is nested, so that it wants 2 MiB where one is nested
-   127 deep; one that is nested five deep keeps within the 112 KiB. */
+   It takes 2 KiB of stack for each level that a description of version 3 is nested, so that it wants 256 KiB where one is nested
+   127 deep; one that is nested forty deep keeps within the 112 KiB. */
 timefd_date_answer timefd_read_date(uint32_t kind, const uint8_t *text, size_t len, const uint8_t *date, size_t date_len);
 
 /* Reads the `date_len` bytes at `date` by nodes that timefd_read wrote, or by others of that form, and the bytes of their literals, as
@@ -585,8 +585,8 @@ timefd_date_answer timefd_read_date(uint32_t kind, const uint8_t *text, size_t l
    TIMEFD_ACCEPTED, TIMEFD_NO_MEMORY, TIMEFD_NO_DESCRIPTION, TIMEFD_UNREAD, TIMEFD_CONTRADICTION, TIMEFD_MISSING,
    TIMEFD_DATE_NOT_UTF8, and TIMEFD_NOT_UTF8 where a literal isn't UTF-8 by itself.
 
-   Of a node of members it looks at `count`, and neither at `start` nor at `bytes`; nor at a number that the node's component
-   doesn't have. It takes memory for a list of them, and 15 KiB of stack for each level that the nodes are nested. */
+   Of a node of members it looks at `count`, which is 1 of an optional, and neither at `start` nor at `bytes`; nor at a number that
+   the node's component doesn't have. It takes memory for a list of them, and 2 KiB of stack for each level that the nodes are nested. */
 timefd_date_answer timefd_read_nodes(const timefd_node *nodes, size_t node_count, const uint8_t *literals, size_t literal_count,
                                      const uint8_t *date, size_t date_len);
 

@@ -471,6 +471,10 @@ static const struct wrong WRONGS[] = {
     {{DAY, {.what = TIMEFD_FIRST, .count = 2}}, 2, 1},
     {{{.what = TIMEFD_OPTIONAL, .format = TIMEFD_TRUE}}, 1, 0},
     {{DAY, {.what = TIMEFD_OPTIONAL}}, 2, 1},
+    {{DAY, {.what = TIMEFD_OPTIONAL, .format = TIMEFD_TRUE, .count = SIZE_MAX}}, 2, 1},
+    {{DAY, {.what = TIMEFD_OPTIONAL, .format = TIMEFD_TRUE, .count = 0}}, 2, 1},
+    {{DAY, DAY, {.what = TIMEFD_OPTIONAL, .format = TIMEFD_FALSE, .count = 2}}, 3, 2},
+    {{{.what = TIMEFD_LITERAL, .count = 1}, {.what = TIMEFD_OPTIONAL, .format = TIMEFD_TRUE, .count = SIZE_MAX}}, 2, 1},
     {{{.what = TIMEFD_LITERAL, .start = 1, .count = 3}}, 1, 0},
     {{{.what = TIMEFD_LITERAL, .start = SIZE_MAX, .count = 3}}, 1, 0},
 };

@@ -1,186 +1,262 @@
-/* Calls the library on a thread with a stack of 128 KiB, a common default, over texts nested as deep as they may be, and deeper;
-   and timefd_convert, which wants more, on one of 208 KiB, and timefd_read_date and timefd_read_nodes on one of 2 MiB. A stack that is too small ends the process by a signal. */
+/* Calls the library over texts of each family nested as deep as they may be, and deeper, and measures how much stack each call
+   takes: no more than timefd.h names, and for each level no more than stands here. */
+#define _GNU_SOURCE
 #include "../examples/timefd.h"
 
 #include <pthread.h>
 #include <stdio.h>
 #include <stdlib.h>
 #include <string.h>
+#include <sys/mman.h>
 
-enum { STACK = 128 * 1024, CONVERTING = 208 * 1024, READING = 2048 * 1024, DEEPEST = 127, DEEPER = 20000, BUFFER = 256 };
+enum { DEEPEST = 127, DEEPER = 20000, SHORT = 512, BUFFER = 8192, NODES = 2048, STACK = 2048 * 1024, GUARD = 64 * 1024, UNTOUCHED = 0xA5 };
 
-typedef struct text {
-    char *bytes;
+/* What nests: so many fronts, the inside, so many backs; and likewise a date that is read by it to its end. */
+struct family {
+    const char *name;
+    const char *front, *inside, *back;
+    const char *date_front, *date_inside;
+    uint32_t read; /* the status of that date: a day alone is no date */
+};
+
+static const struct family FAMILIES[] = {
+    {"optional", "[optional [", "[day padding:none]", "]]", "", "x", TIMEFD_UNREAD},
+    {"optional in text", "[optional [a", "[day]", "b]]", "a", "23", TIMEFD_UNREAD},
+    {"first of one", "[first [", "x", "]]", "", "x", TIMEFD_ACCEPTED},
+    {"first of a day", "[first [", "[day]", "]]", "", "23", TIMEFD_MISSING},
+    {"first in text", "[first [a", "[day]", "]]", "a", "23", TIMEFD_MISSING},
+    {"first of three", "[first [a] [b", "c", "] [d]]", "b", "c", TIMEFD_ACCEPTED},
+    {"first in front", "[first [", "[day]", "] [a] [b] [c]]", "", "23", TIMEFD_MISSING},
+    {"first at the end", "[first [a] [b] [c] [", "[day]", "]]", "", "23", TIMEFD_MISSING},
+};
+
+enum { FAMILY_COUNT = sizeof FAMILIES / sizeof *FAMILIES };
+
+/* A text, its nodes, and a date. */
+struct given {
+    const struct family *family;
+    size_t depth;
+    int closed;
+    char *text;
     size_t len;
-} text;
+    char *date;
+    size_t date_len;
+    timefd_node nodes[NODES];
+    uint8_t literals[BUFFER];
+    timefd_read_answer read;
+};
 
+static const timefd_moment MOMENT = {.known = TIMEFD_HAS_DATE, .year = 2026, .month = 11, .day = 23};
+static struct given given;
+static uint8_t buffer[BUFFER];
 static int failed;
 
-/* So many descriptions of a literal and an alternative, each inside the one before, around a day; reading takes the most stack
-   by it. */
-static text alternatives(size_t depth) {
-    static const char inside[] = "[day]";
-    text made = {malloc(depth * 11 + sizeof inside), 0};
-    if (made.bytes == NULL)
+static char *repeated(const char *front, const char *inside, const char *back, size_t depth, size_t *len) {
+    char *made = malloc(depth * (strlen(front) + strlen(back)) + strlen(inside) + 1), *end = made;
+    if (made == NULL)
         exit(2);
-    for (size_t at = 0; at < depth; at++, made.len += 9)
-        memcpy(made.bytes + made.len, "[first [a", 9);
-    memcpy(made.bytes + made.len, inside, sizeof inside - 1);
-    made.len += sizeof inside - 1;
-    for (size_t at = 0; at < depth; at++, made.len += 2)
-        memcpy(made.bytes + made.len, "]]", 2);
+    for (size_t at = 0; at < depth; at++)
+        end = stpcpy(end, front);
+    end = stpcpy(end, inside);
+    for (size_t at = 0; at < depth; at++)
+        end = stpcpy(end, back);
+    *len = (size_t)(end - made);
     return made;
 }
 
-/* So many nested descriptions around a component with a modifier; the closing brackets only where asked. */
-static text nested(size_t depth, int closed) {
-    static const char inside[] = "[day padding:none]";
-    text made = {malloc(depth * 13 + sizeof inside), 0};
-    if (made.bytes == NULL)
-        exit(2);
-    for (size_t at = 0; at < depth; at++, made.len += 11)
-        memcpy(made.bytes + made.len, "[optional [", 11);
-    memcpy(made.bytes + made.len, inside, sizeof inside - 1);
-    made.len += sizeof inside - 1;
-    for (size_t at = 0; closed && at < depth; at++, made.len += 2)
-        memcpy(made.bytes + made.len, "]]", 2);
-    return made;
+static const uint8_t *text(void) {
+    return (const uint8_t *)given.text;
 }
 
-static void expect(const char *what, uint32_t kind, uint32_t expected, timefd_answer answer) {
-    if (answer.status != expected) {
-        printf("stack: %s of kind %u answered status %u, not %u\n", what, kind, answer.status, expected);
+/* Takes a text so deep for that of the calls; its closing brackets only where asked. */
+static void give(const struct family *family, size_t depth, int closed) {
+    free(given.text);
+    free(given.date);
+    given.family = family;
+    given.depth = depth;
+    given.closed = closed;
+    given.text = repeated(family->front, family->inside, closed ? family->back : "", depth, &given.len);
+    given.date = repeated(family->date_front, family->date_inside, "", depth, &given.date_len);
+    given.read = timefd_read(TIMEFD_VERSION_3, text(), given.len, given.nodes, NODES, given.literals, BUFFER);
+    if (given.read.status == TIMEFD_ACCEPTED && !given.read.written)
+        exit(2);
+}
+
+static void expect(const char *what, uint32_t kind, uint32_t expected, uint32_t status) {
+    if (status != expected) {
+        printf("stack: %s of kind %u, %s, %zu deep, answered status %u, not %u\n", what, kind, given.family->name, given.depth, status,
+               expected);
         failed = 1;
     }
 }
 
+static uint32_t accepted(uint32_t kind) {
+    return kind == TIMEFD_VERSION_3 && given.closed && given.depth <= DEEPEST ? TIMEFD_ACCEPTED : TIMEFD_REFUSED;
+}
+
+#define EACH_VERSION(kind) uint32_t kind = TIMEFD_VERSION_1; kind <= TIMEFD_VERSION_3; kind++
+
+static void *judge(void *unused) {
+    for (EACH_VERSION(kind))
+        expect("judge", kind, accepted(kind), timefd_judge(kind, text(), given.len).status);
+    return unused;
+}
+
+static void *check(void *unused) {
+    for (EACH_VERSION(kind))
+        expect("check", kind, accepted(kind), timefd_check(kind, text(), given.len, buffer, BUFFER).status);
+    return unused;
+}
+
+static void *diagnose(void *unused) {
+    for (EACH_VERSION(kind))
+        expect("diagnose", kind, accepted(kind),
+               timefd_diagnose(kind, text(), given.len, buffer, BUFFER / 2, buffer + BUFFER / 2, BUFFER / 2).answer.status);
+    return unused;
+}
+
+static void *warnings(void *unused) {
+    for (EACH_VERSION(kind))
+        expect("warnings", kind, accepted(kind), timefd_warnings(kind, text(), given.len, NULL, 0).status);
+    return unused;
+}
+
+static void *read_texts(void *unused) {
+    for (EACH_VERSION(kind)) {
+        expect("read", kind, accepted(kind), timefd_read(kind, text(), given.len, NULL, 0, NULL, 0).status);
+        expect("read_within", kind, accepted(kind), timefd_read_within(kind, UINT32_MAX, text(), given.len, NULL, 0, NULL, 0).status);
+    }
+    return unused;
+}
+
+static void *format(void *unused) {
+    for (EACH_VERSION(kind))
+        expect("format", kind, accepted(kind), timefd_format(kind, text(), given.len, &MOMENT, buffer, BUFFER).status);
+    return unused;
+}
+
 /* What was read of a text writes what the text writes. */
-static void call_nodes(uint32_t kind, const uint8_t *bytes, size_t len, timefd_read_answer read, const timefd_moment *moment) {
-    uint8_t buffer[BUFFER] = {0};
-    timefd_node *nodes = calloc(read.nodes + 1, sizeof *nodes);
-    uint8_t *literals = calloc(read.literals + 1, 1);
-    if (!nodes || !literals)
-        exit(2);
-    timefd_read(kind, bytes, len, nodes, read.nodes, literals, read.literals);
-    timefd_format_answer format = timefd_format_nodes(nodes, read.nodes, literals, read.literals, moment, buffer, BUFFER);
-    expect("format_nodes", kind, TIMEFD_ACCEPTED, (timefd_answer){.status = format.status});
-    free(nodes);
-    free(literals);
-}
-
-static void call_each(text given, uint32_t in_three) {
-    const uint8_t *bytes = (const uint8_t *)given.bytes;
-    uint8_t buffer[BUFFER] = {0};
-    timefd_moment moment = {.known = TIMEFD_HAS_DATE, .year = 2026, .month = 11, .day = 23};
-    for (uint32_t kind = TIMEFD_VERSION_1; kind <= TIMEFD_VERSION_3; kind++) {
-        uint32_t expected = kind == TIMEFD_VERSION_3 ? in_three : TIMEFD_REFUSED;
-        expect("judge", kind, expected, timefd_judge(kind, bytes, given.len));
-        expect("check", kind, expected, timefd_check(kind, bytes, given.len, buffer, BUFFER));
-        timefd_diagnosis diagnosis = timefd_diagnose(kind, bytes, given.len, buffer, BUFFER / 2, buffer + BUFFER / 2, BUFFER / 2);
-        expect("diagnose", kind, expected, diagnosis.answer);
-        timefd_warnings_answer warnings = timefd_warnings(kind, bytes, given.len, NULL, 0);
-        expect("warnings", kind, expected, (timefd_answer){.status = warnings.status});
-        timefd_read_answer read = timefd_read(kind, bytes, given.len, NULL, 0, NULL, 0);
-        expect("read", kind, expected, (timefd_answer){.status = read.status});
-        read = timefd_read_within(kind, UINT32_MAX, bytes, given.len, NULL, 0, NULL, 0);
-        expect("read_within", kind, expected, (timefd_answer){.status = read.status});
-        timefd_format_answer format = timefd_format(kind, bytes, given.len, &moment, buffer, BUFFER);
-        expect("format", kind, expected, (timefd_answer){.status = format.status});
-        if (read.status == TIMEFD_ACCEPTED)
-            call_nodes(kind, bytes, given.len, read, &moment);
-    }
-    expect("v1_to_v2", TIMEFD_VERSION_1, TIMEFD_REFUSED, timefd_v1_to_v2(bytes, given.len, buffer, BUFFER));
-    expect("v2_to_v3", TIMEFD_VERSION_2, TIMEFD_REFUSED, timefd_v2_to_v3(bytes, given.len, buffer, BUFFER));
-    free(given.bytes);
-}
-
-/* Long formats of other languages, which nest nothing. */
-static void convert_formats(void) {
-    uint8_t format[2 * BUFFER], buffer[BUFFER] = {0};
-    memset(format, '-', sizeof format);
-    for (uint32_t dialect = TIMEFD_PYTHON; dialect <= TIMEFD_MOMENT; dialect++) {
-        timefd_convert_answer answer = timefd_convert_format(dialect, format, sizeof format, buffer, BUFFER);
-        expect("convert_format", dialect, TIMEFD_ACCEPTED, (timefd_answer){.status = answer.status});
-    }
-}
-
-static void convert_each(text given, uint32_t in_three) {
-    uint8_t buffer[BUFFER] = {0};
-    for (uint32_t kind = TIMEFD_VERSION_1; kind <= TIMEFD_VERSION_3; kind++) {
-        uint32_t expected = kind == TIMEFD_VERSION_3 ? in_three : TIMEFD_REFUSED;
-        expect("convert", kind, expected,
-               timefd_convert(kind, TIMEFD_VERSION_3, (const uint8_t *)given.bytes, given.len, buffer, BUFFER));
-    }
-    free(given.bytes);
-}
-
-/* The status of a date that is read by the nodes of a text. */
-static uint32_t read_by_nodes(uint32_t kind, text given, const uint8_t *date, size_t len) {
-    const uint8_t *bytes = (const uint8_t *)given.bytes;
-    timefd_read_answer read = timefd_read(kind, bytes, given.len, NULL, 0, NULL, 0);
-    timefd_node *nodes = calloc(read.nodes + 1, sizeof *nodes);
-    uint8_t *literals = calloc(read.literals + 1, 1);
-    if (!nodes || !literals)
-        exit(2);
-    timefd_read(kind, bytes, given.len, nodes, read.nodes, literals, read.literals);
-    uint32_t status = timefd_read_nodes(nodes, read.nodes, literals, read.literals, date, len).status;
-    free(nodes);
-    free(literals);
-    return status;
-}
-
-/* A date of as many letters as a description is nested deep, and a day, which alone is no date. */
-static void read_each(text given, uint32_t in_three) {
-    uint8_t date[DEEPEST + 2];
-    memset(date, 'a', DEEPEST);
-    memcpy(date + DEEPEST, "23", 2);
-    for (uint32_t kind = TIMEFD_VERSION_1; kind <= TIMEFD_VERSION_3; kind++) {
-        uint32_t expected = kind == TIMEFD_VERSION_3 ? in_three : TIMEFD_REFUSED;
-        timefd_date_answer answer = timefd_read_date(kind, (const uint8_t *)given.bytes, given.len, date, sizeof date);
-        expect("read_date", kind, expected, (timefd_answer){.status = answer.status});
-        if (expected == TIMEFD_MISSING)
-            expect("read_nodes", kind, expected, (timefd_answer){.status = read_by_nodes(kind, given, date, sizeof date)});
-    }
-    free(given.bytes);
-}
-
-static void *run(void *unused) {
-    call_each(nested(DEEPEST, 1), TIMEFD_ACCEPTED);
-    call_each(nested(DEEPEST, 0), TIMEFD_REFUSED);
-    call_each(nested(DEEPER, 1), TIMEFD_REFUSED);
-    convert_formats();
+static void *format_nodes(void *unused) {
+    if (given.read.status == TIMEFD_ACCEPTED)
+        expect("format_nodes", TIMEFD_VERSION_3, TIMEFD_ACCEPTED,
+               timefd_format_nodes(given.nodes, given.read.nodes, given.literals, given.read.literals, &MOMENT, buffer, BUFFER).status);
     return unused;
 }
 
-static void *run_conversions(void *unused) {
-    convert_each(nested(DEEPEST, 1), TIMEFD_ACCEPTED);
-    convert_each(nested(DEEPEST, 0), TIMEFD_REFUSED);
-    convert_each(nested(DEEPER, 1), TIMEFD_REFUSED);
+static void *convert_old(void *unused) {
+    expect("v1_to_v2", TIMEFD_VERSION_1, TIMEFD_REFUSED, timefd_v1_to_v2(text(), given.len, buffer, BUFFER).status);
+    expect("v2_to_v3", TIMEFD_VERSION_2, TIMEFD_REFUSED, timefd_v2_to_v3(text(), given.len, buffer, BUFFER).status);
     return unused;
 }
 
-static void *run_readings(void *unused) {
-    read_each(alternatives(DEEPEST), TIMEFD_MISSING);
-    read_each(nested(DEEPEST, 1), TIMEFD_UNREAD);
-    read_each(nested(DEEPEST, 0), TIMEFD_REFUSED);
-    read_each(alternatives(DEEPER), TIMEFD_REFUSED);
+/* Formats of other languages nest nothing: a short one is as good as a long one. */
+static void *convert_formats(void *unused) {
+    for (uint32_t dialect = TIMEFD_PYTHON; dialect <= TIMEFD_MOMENT; dialect++)
+        timefd_convert_format(dialect, text(), given.len < SHORT ? given.len : SHORT, buffer, BUFFER);
     return unused;
 }
 
-/* Whether the function could be run to its end on a thread with so much stack. */
-static int runs(void *(*function)(void *), size_t stack) {
+static void *convert(void *unused) {
+    for (EACH_VERSION(kind))
+        expect("convert", kind, accepted(kind), timefd_convert(kind, TIMEFD_VERSION_3, text(), given.len, buffer, BUFFER).status);
+    return unused;
+}
+
+static void *read_date(void *unused) {
+    const uint8_t *date = (const uint8_t *)given.date;
+    for (EACH_VERSION(kind))
+        expect("read_date", kind, accepted(kind) == TIMEFD_ACCEPTED ? given.family->read : TIMEFD_REFUSED,
+               timefd_read_date(kind, text(), given.len, date, given.date_len).status);
+    return unused;
+}
+
+static void *read_nodes(void *unused) {
+    const uint8_t *date = (const uint8_t *)given.date;
+    if (given.read.status == TIMEFD_ACCEPTED)
+        expect("read_nodes", TIMEFD_VERSION_3, given.family->read,
+               timefd_read_nodes(given.nodes, given.read.nodes, given.literals, given.read.literals, date, given.date_len).status);
+    return unused;
+}
+
+/* A call, the stack that it has by timefd.h, and how much of it a level may take at most. */
+static const struct {
+    const char *name;
+    void *(*function)(void *);
+    size_t stack;
+    size_t level;
+} CALLS[] = {
+    {"judge", judge, 112 * 1024, 512},
+    {"check", check, 112 * 1024, 512},
+    {"diagnose", diagnose, 112 * 1024, 512},
+    {"warnings", warnings, 112 * 1024, 512},
+    {"read", read_texts, 112 * 1024, 512},
+    {"format", format, 112 * 1024, 512},
+    {"format_nodes", format_nodes, 112 * 1024, 0},
+    {"v1_to_v2", convert_old, 112 * 1024, 512},
+    {"convert_format", convert_formats, 112 * 1024, 0},
+    {"convert", convert, 192 * 1024, 1200},
+    {"read_date", read_date, 256 * 1024, 1980},
+    {"read_nodes", read_nodes, 256 * 1024, 1980},
+};
+
+enum { CALL_COUNT = sizeof CALLS / sizeof *CALLS };
+
+/* Runs a call on a thread of its own, and answers how much of its stack was touched. */
+static size_t taken(void *(*function)(void *)) {
     pthread_attr_t attributes;
     pthread_t thread;
-    return pthread_attr_init(&attributes) == 0 && pthread_attr_setstacksize(&attributes, stack) == 0 &&
-           pthread_create(&thread, &attributes, function, NULL) == 0 && pthread_join(thread, NULL) == 0;
+    size_t left = 0;
+    uint8_t *memory = mmap(NULL, GUARD + STACK, PROT_READ | PROT_WRITE, MAP_PRIVATE | MAP_ANONYMOUS, -1, 0);
+    if (memory == MAP_FAILED || mprotect(memory, GUARD, PROT_NONE) != 0)
+        exit(2);
+    memset(memory + GUARD, UNTOUCHED, STACK);
+    if (pthread_attr_init(&attributes) != 0 || pthread_attr_setstack(&attributes, memory + GUARD, STACK) != 0 ||
+        pthread_create(&thread, &attributes, function, NULL) != 0 || pthread_join(thread, NULL) != 0)
+        exit(2);
+    while (left < STACK && memory[GUARD + left] == UNTOUCHED)
+        left++;
+    munmap(memory, GUARD + STACK);
+    return STACK - left;
+}
+
+/* What a call takes over a text so deep. */
+static size_t taken_by(size_t call, const struct family *family, size_t depth, int closed) {
+    give(family, depth, closed);
+    size_t touched = taken(CALLS[call].function);
+    if (touched > CALLS[call].stack) {
+        printf("stack: %s takes %zu bytes of stack over %s, %zu deep, not at most %zu\n", CALLS[call].name, touched, family->name, depth,
+               CALLS[call].stack);
+        failed = 1;
+    }
+    return touched;
+}
+
+/* What each level of a family's text takes. */
+static size_t measure(size_t call, const struct family *family) {
+    size_t shallow = taken_by(call, family, 1, 1), deep = taken_by(call, family, DEEPEST, 1);
+    size_t level = deep < shallow ? 0 : (deep - shallow) / (DEEPEST - 1);
+    if (level > CALLS[call].level) {
+        printf("stack: %s takes %zu bytes for each level of %s, not at most %zu\n", CALLS[call].name, level, family->name,
+               CALLS[call].level);
+        failed = 1;
+    }
+    taken_by(call, family, DEEPEST, 0);
+    taken_by(call, family, DEEPER, 1);
+    return level;
 }
 
 int main(void) {
-    if (!runs(run, STACK) || !runs(run_conversions, CONVERTING) || !runs(run_readings, READING))
-        return 2;
-    if (!failed)
-        printf("stack: texts nested %d deep and deeper were read on a stack of %d bytes, converted on one of %d, and dates read by them "
-               "on one of %d\n",
-               DEEPEST, STACK, CONVERTING, READING);
+    printf("stack: bytes a level, %d deep, of %d families:", DEEPEST, FAMILY_COUNT);
+    for (size_t call = 0; call < CALL_COUNT; call++) {
+        size_t most = 0;
+        for (size_t at = 0; at < FAMILY_COUNT; at++) {
+            size_t level = measure(call, &FAMILIES[at]);
+            most = level > most ? level : most;
+        }
+        printf(" %s %zu", CALLS[call].name, most);
+    }
+    printf("\n");
+    free(given.text);
+    free(given.date);
     return failed;
 }

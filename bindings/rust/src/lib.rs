@@ -40,7 +40,7 @@
 //! ```
 //!
 //! Calls may come from any thread. Reading a text that is nested as deep as it may be, 127 deep,
-//! takes some 53 KiB of stack, and reading a date by it up to 2 MiB.
+//! takes some 53 KiB of stack, and reading a date by it up to 256 KiB.
 
 #![no_std]
 

@@ -14,7 +14,7 @@ use crate::version::Language;
 
 /// Reads a text by a description of a language. All of it is read, and each component takes as much
 /// as it can. What is known of the moment is what was read; with a Unix timestamp all three parts
-/// are. It takes 15 KiB of stack for each level that the description is nested.
+/// are. It takes 2 KiB of stack for each level that the description is nested.
 ///
 /// # Errors
 ///

@@ -8,7 +8,7 @@ use Rattle.timefd_component.specs.Tree.{Text, Tree, component, literal, compound
 use Rattle.timefd_node_list.specs.Nodes.{Role, text, shown, together, perhaps, either, arity, Part, made, before, ending, grown}
 use Rattle.timefd_node_list.proofs.NodeLemmas.{before-one_more, before_zero, length-before}
 use Rattle.timefd_c_nodes.specs.declared.node.Node.{Node}
-use Rattle.timefd_c_nodes.specs.Decoding.{component_of, flag_of, grown_with, read_on, read_nodes, with_component, with_members, with_optional}
+use Rattle.timefd_c_nodes.specs.Decoding.{component_of, format_of, grown_with, read_on, read_nodes, with_component, with_members, with_optional}
 use Rattle.timefd_c_format.specs.Nodes.{count_behind, fault_behind, fault_from, node_fault, node_trees, trees_of}
 use Rattle.timefd_c_format.specs.Parts.{by_kind, part_role, perhaps_role, role, role_in, shown_role}
 use Rattle.timefd_c_format.specs.declared.part.Kind.TheVariants as kind
@@ -72,7 +72,7 @@ pub whole_role : (l : Text) (n : Node) (ts : List Tree) (r : Role) → role_in l
 whole_role l n ts r is fits =
     more_by ts (n.what == 1) (n.what == 2) (n.what == 3) (n.what == 4) (n.what == 5)
     (nat_lt (length l) (n.start + n.count))
-    (take n.count (drop n.start l)) (component_of n) n.count (flag_of n.format) r fits is
+    (take n.count (drop n.start l)) (component_of n) n.count (format_of n) r fits is
 
 pub record Opened (count : ℕ) (o : Option Role) (rest : ℕ → Option ℕ) : Type 0 where
   pub role : Role

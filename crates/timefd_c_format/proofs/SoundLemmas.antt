@@ -11,7 +11,7 @@ use Rattle.timefd_component.specs.Tree.{Text, Tree, component, literal, compound
 use Rattle.timefd_node_list.specs.Nodes.{Role, text, shown, together, perhaps, either, arity, before, ending, grown}
 use Rattle.timefd_node_list.specs.Views.{walked, walked_all}
 use Rattle.timefd_c_nodes.specs.declared.node.Node.{Node}
-use Rattle.timefd_c_nodes.specs.Decoding.{component_of, flag_of, grown_with, read_on, with_component, with_members, with_optional}
+use Rattle.timefd_c_nodes.specs.Decoding.{component_of, format_of, grown_with, read_on, with_component, with_members, with_optional}
 use Rattle.timefd_c_nodes.specs.Encoding.{component_table, literals_of, node_for, nodes_from, own_text}
 use Rattle.timefd_c_nodes.proofs.DecodeLemmas.{nodes_from-append, trees_back}
 use Rattle.timefd_c_nodes.proofs.WriteLemmas.{literals_of-append}
@@ -76,7 +76,7 @@ found_by ts us false false false false true far bytes co k fl f h = record {
 }
 found_by ts us false false false false false far bytes co k fl f h = absurd cc
 
-told : (a b : ℕ) → (a == b) ≡ true → a ≡ b
+pub told : (a b : ℕ) → (a == b) ≡ true → a ≡ b
 told a b e = by (eqb_tells a b) e
   where
     by : ((eqb a b ≡ true) × (a ≡ b)) ⊎ ((eqb a b ≡ false) × (a ≢ b)) → (a == b) ≡ true → a ≡ b
@@ -88,7 +88,7 @@ found : (l : Text) (n : Node) (ts us : List Tree) → IsPart l n → grown_with 
 found l n ts us p h =
     found_by ts us (n.what == 1) (n.what == 2) (n.what == 3) (n.what == 4) (n.what == 5)
     (nat_lt (length l) (n.start + n.count))
-    (take n.count (drop n.start l)) (component_of n) n.count (flag_of n.format)
+    (take n.count (drop n.start l)) (component_of n) n.count (format_of n)
     (λ e. le-ltb (length l) (n.start + n.count) (p.inside (told n.what 1 e))) h
 
 same_trees : (ts us : List Tree) → Some ts ≡ Some us → ts ≡ us

@@ -4,7 +4,7 @@ use Rattle.timefd_component.specs.declared.component.Component.{Component}
 use Rattle.timefd_component.specs.Tree.{Text}
 use Rattle.timefd_node_list.specs.Nodes.{Role, text, shown, together, perhaps, either}
 use Rattle.timefd_c_nodes.specs.declared.node.Node.{Node}
-use Rattle.timefd_c_nodes.specs.Decoding.{component_of, flag_of}
+use Rattle.timefd_c_nodes.specs.Decoding.{component_of, format_of}
 use Rattle.timefd_c_format.specs.declared.part.Kind.{Kind}
 use Rattle.timefd_c_format.specs.declared.part.Kind.TheVariants as kind
 use Rattle.timefd_c_format.specs.declared.part.Part.{Part}
@@ -59,4 +59,4 @@ by_kind (Some kind.First) l c n o = Some (either n)
 abbrev pub role_in : Text → Node → Option Role
 role_in literals n =
     by_kind (kind_of n.what) (literal_role n.start n.count literals) (component_role n) n.count
-    (perhaps_role (flag_of n.format))
+    (perhaps_role (format_of n))

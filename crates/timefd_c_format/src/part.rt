@@ -2,7 +2,7 @@
 
 ghost use Rattle.std.specs.Prelude.{◌≡◌};
 ghost use Rattle.timefd_c_format.specs.Parts as spec;
-ghost use Rattle.timefd_c_nodes.specs.Decoding.{flag_of};
+ghost use Rattle.timefd_c_nodes.specs.Decoding as decoded;
 ghost use Rattle.timefd_node_list.specs.Leaves.{unwritten};
 ghost use Rattle.timefd_node_list.specs.Nodes.{arity};
 
@@ -44,7 +44,7 @@ pub(crate) fn part_of<'l>(node: &Node, literals: &'l [u8]) -> Option<Part<'l>>
         Kind::Literal => literal_of(node.start, node.count, literals),
         Kind::Component => shown_of(node),
         Kind::Compound => Some(Part::Compound(node.count)),
-        Kind::Optional => optional_of(node.format),
+        Kind::Optional => optional_of(node),
         Kind::First => Some(Part::First(node.count)),
     }
 }
@@ -74,10 +74,13 @@ fn literal_of<'l>(start: usize, count: usize, literals: &'l [u8]) -> Option<Part
 }
 
 #[inline(always)]
-fn optional_of<'l>(format: u8) -> Option<Part<'l>>
-    ensures { spec.part_role result ≡ spec.perhaps_role (flag_of format) }
+fn optional_of<'l>(node: &Node) -> Option<Part<'l>>
+    ensures { spec.part_role result ≡ spec.perhaps_role (decoded.format_of node.now) }
 {
-    Some(Part::Optional(flag_of(format)?))
+    if node.count != 1 {
+        return None;
+    }
+    Some(Part::Optional(flag_of(node.format)?))
 }
 
 #[inline(always)]

@@ -144,6 +144,10 @@ component_of n =
     (trailing_input_of n.trailing_input)
     else None
 
+-- whether a formatter writes what is optional: the flag of a node that says so, which has one member
+abbrev pub format_of : Node → Option Bool
+format_of n = if n.count == 1 then flag_of n.format else None
+
 -- the trees so far, with the last ones, so many, become one, where they are there
 abbrev pub with_members : ℕ → (List Tree → Tree) → List Tree → Option (List Tree)
 with_members count make ts =
@@ -165,7 +169,7 @@ with_node what literals n ts =
     if what == LITERAL then Some (ts ++ literal (take n.count (drop n.start literals)) ∷ [])
     else if what == COMPONENT then with_component (component_of n) ts
     else if what == COMPOUND then with_members n.count (λ us. compound (trees us)) ts
-    else if what == OPTIONAL then with_optional (flag_of n.format) ts
+    else if what == OPTIONAL then with_optional (format_of n) ts
     else if what == FIRST then with_members n.count (λ us. first (trees us)) ts
     else None
 

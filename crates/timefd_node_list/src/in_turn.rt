@@ -6,12 +6,13 @@ ghost use Rattle.timefd_node_list.specs.Views.{AreMarks, AreMarks-prop, IsMark, 
 use crate::members::{Mark, Members};
 use crate::view::View;
 
-/// How many marks are kept: each halves what is left, and a `usize` counts the members.
-const MARKS: usize = 64;
+/// How many marks are kept: each halves what is left, so that a million members want no more. They stand on the stack
+/// of whoever walks members within members.
+const MARKS: usize = 20;
 
 /// Members in turn, the first one first. They are found from the last one back, so the places that
 /// were come by are kept, each half as far away as the one before it: all of n members take n log n
-/// steps. It takes no memory but its own.
+/// steps, and of more than a million, as many as a millionth of them for each. It takes no memory but its own.
 #[derive(Clone, Copy)]
 pub struct InTurn<'v, 'a> {
     // Those that are left.
@@ -19,8 +20,8 @@ pub struct InTurn<'v, 'a> {
     // Where some of them begin, the next one last.
     marks: [Mark; MARKS],
     len: usize,
-    ghost size: { length marks ≡ 64 },
-    ghost room: { len ≤ 64 },
+    ghost size: { length marks ≡ 20 },
+    ghost room: { len ≤ 20 },
     ghost marked: { AreMarks (member_trees members) marks } by { AreMarks-prop (member_trees members) marks },
 }
 

@@ -53,6 +53,7 @@ impl<'v, 'a> Members<'v, 'a> {
     }
 
     /// Each in turn, the first one first.
+    #[inline(never)]
     pub fn in_turn(self) -> InTurn<'v, 'a>
         ensures { turn_trees result ≡ member_trees self.entry }
     {

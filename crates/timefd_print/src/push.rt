@@ -12,6 +12,7 @@ use timefd_node_list::{Members, Shape, View};
 
 /// Appends what is printed of a description.
 #[cycle(push)]
+#[inline(never)]
 pub fn push(alloc: Global, text: &mut String, view: View<'_, '_>) -> Result<(), AllocError>
     ensures { OnOk result (string_bytes text.new ≡ string_bytes text.old ++ spec.printed
         (view_tree view.entry)) }
@@ -27,6 +28,7 @@ pub fn push(alloc: Global, text: &mut String, view: View<'_, '_>) -> Result<(), 
 
 /// Appends what is printed of members in turn.
 #[cycle(push)]
+#[inline(never)]
 fn push_all(alloc: Global, text: &mut String, members: Members<'_, '_>) -> Result<(), AllocError>
     ensures { OnOk result (string_bytes text.new ≡ string_bytes text.old ++ spec.printed_all
         (trees (member_trees members.entry))) }
@@ -38,6 +40,7 @@ fn push_all(alloc: Global, text: &mut String, members: Members<'_, '_>) -> Resul
 }
 
 #[cycle(push)]
+#[inline(never)]
 fn push_optional(
     alloc: Global,
     text: &mut String,
@@ -64,6 +67,7 @@ fn optional_front(format: bool) -> &'static str
 }
 
 #[cycle(push)]
+#[inline(never)]
 fn push_first(
     alloc: Global,
     text: &mut String,
@@ -73,14 +77,31 @@ fn push_first(
         (first (trees (member_trees alternatives.entry)))) }
 {
     text.push_str("[first")?;
+    push_alternatives(alloc, text, alternatives)?;
+    text.push_str("]")
+}
+
+/// Appends each alternative behind a space. It is a call of its own, as is each that walks members: so the
+/// walk stands on the stack once for each level.
+#[cycle(push)]
+#[inline(never)]
+fn push_alternatives(
+    alloc: Global,
+    text: &mut String,
+    alternatives: Members<'_, '_>,
+) -> Result<(), AllocError>
+    ensures { OnOk result (string_bytes text.new ≡ string_bytes text.old ++ spec.nested_all
+        (trees (member_trees alternatives.entry))) }
+{
     'alternatives: for alternative in alternatives.in_turn() {
         push_nested(alloc, text, alternative)?;
     }
-    text.push_str("]")
+    Ok(())
 }
 
 /// Appends a nested description behind a space.
 #[cycle(push)]
+#[inline(always)]
 fn push_nested(alloc: Global, text: &mut String, view: View<'_, '_>) -> Result<(), AllocError>
     ensures { OnOk result (string_bytes text.new ≡ string_bytes text.old ++ spec.nested
         (spec.printed (view_tree view.entry))) }

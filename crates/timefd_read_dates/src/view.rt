@@ -14,6 +14,7 @@ use timefd_node_list::{Members, Shape, View};
 /// Reads a description at the front of what is left, and answers what is left behind it. Where it does
 /// not read, the fields of the members in front of the fault may have been read.
 #[cycle(view)]
+#[inline(always)]
 pub(crate) fn read<'t>(
     view: View<'_, '_>,
     rest: &'t [u8],
@@ -53,6 +54,7 @@ fn read_optional<'t>(
 
 /// Reads members in turn.
 #[cycle(view)]
+#[inline(never)]
 fn read_all<'t>(
     members: Members<'_, '_>,
     rest: &'t [u8],

@@ -1,4 +1,4 @@
-use Rattle.std.proofs.Common.{◌≡◌, ◌≤◌, ◌+◌, ◌*◌, ◌++◌, codes, string_bytes}
+use Rattle.std.proofs.Common.{◌≡◌, ◌≤◌, ◌+◌, ◌*◌, ◌++◌, string_bytes}
 use Rattle.timefd_component.specs.Reserved.{tree_count, trees_count}
 use Rattle.timefd_component.specs.Tree.{trees}
 use Rattle.timefd_node_list.specs.Turns.{turn_trees}
@@ -14,13 +14,12 @@ invariant-push_all-members l =
     × (string_bytes l.text ++ printed_all (trees (turn_trees l.member-iterator))
     ≡ string_bytes l.fn.text ++ printed_all (trees (member_trees l.fn.members)))
 
-abbrev pub invariant-push_first-alternatives : goal.invariant-push_first-alternatives
-invariant-push_first-alternatives l =
+abbrev pub invariant-push_alternatives-alternatives : goal.invariant-push_alternatives-alternatives
+invariant-push_alternatives-alternatives l =
     (trees_count (trees (turn_trees l.alternative-iterator))
     ≤ trees_count (trees (member_trees l.fn.alternatives)))
     × (string_bytes l.text ++ nested_all (trees (turn_trees l.alternative-iterator))
-    ≡ string_bytes l.fn.text ++ codes "[first" ++ nested_all
-    (trees (member_trees l.fn.alternatives)))
+    ≡ string_bytes l.fn.text ++ nested_all (trees (member_trees l.fn.alternatives)))
 
 abbrev pub decreases-push : goal.decreases-push
 decreases-push l = 4 * tree_count (view_tree l.view)
@@ -32,7 +31,10 @@ abbrev pub decreases-push_optional : goal.decreases-push_optional
 decreases-push_optional l = 4 * tree_count (view_tree l.member) + 2
 
 abbrev pub decreases-push_first : goal.decreases-push_first
-decreases-push_first l = 4 * trees_count (trees (member_trees l.alternatives)) + 2
+decreases-push_first l = 4 * trees_count (trees (member_trees l.alternatives)) + 3
+
+abbrev pub decreases-push_alternatives : goal.decreases-push_alternatives
+decreases-push_alternatives l = 4 * trees_count (trees (member_trees l.alternatives)) + 2
 
 abbrev pub decreases-push_nested : goal.decreases-push_nested
 decreases-push_nested l = 4 * tree_count (view_tree l.view) + 1
