@@ -255,8 +255,7 @@ fn bracket<'a, const BUILDS: bool>(
         return Ok((component_piece::<BUILDS>(component), rest));
     }
     let start = inside.len() + 1;
-    let strict = version.is_strict();
-    let (head, behind) = judged_head(strict, inside)?;
+    let (head, behind) = judged_head(version, inside)?;
     let remaining = behind.len();
     let mut count = 0;
     let mut rest = behind;
@@ -275,7 +274,7 @@ fn bracket<'a, const BUILDS: bool>(
                     remaining,
                     count,
                 };
-                let piece = verdict::<BUILDS>(builder, strict, &head, nested, span)?;
+                let piece = verdict::<BUILDS>(builder, version, &head, nested, span)?;
                 return Ok((piece, after));
             }
             _ => return Err(unclosed(start)),
