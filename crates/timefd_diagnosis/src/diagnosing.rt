@@ -2,18 +2,18 @@
 
 ghost use Rattle.std.specs.Prelude.{◌≡◌, List, None, IfOk, IfSome};
 ghost use Rattle.timefd_component.specs.Tree.{Tree};
-ghost use Rattle.timefd_borrowed_fault.specs.BorrowedFaults.{lent_fault};
-ghost use Rattle.timefd_borrowed_fault.specs.Placed.{IsPlaced};
+ghost use Rattle.timefd_fault.specs.BorrowedFaults.{lent_fault};
+ghost use Rattle.timefd_fault.specs.Placed.{IsPlaced};
 ghost use Rattle.timefd_fault.specs.Faults.{fault_of};
 ghost use Rattle.timefd_language.specs.Grammar.{nesting_limit};
 ghost use Rattle.timefd_parse.specs.Language.{SpellsIn, FaultIn};
 ghost use Rattle.timefd_diagnosis.specs.Diagnoses.{IsDiagnosis, IsOfFault};
 
-use crate::code::Code;
 use crate::diagnostic::Diagnostic;
 use crate::help::help_against;
 use crate::span::span_of;
 use std::alloc::{AllocError, Global};
+use timefd_fault::Code;
 use timefd_parse::{
     BorrowedFault, BorrowedParseError, Language, NESTING_LIMIT, ParseError, amount_all_borrowed,
 };

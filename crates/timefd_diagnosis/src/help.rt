@@ -3,15 +3,15 @@
 ghost use Rattle.std.specs.Prelude.{◌≡◌, IfOk, MatchOption, option_map};
 ghost use Rattle.timefd_language.specs.Bytes.{is_version_three};
 ghost use Rattle.std.specs.Str.{IsCharBoundary};
-ghost use Rattle.timefd_borrowed_fault.specs.BorrowedFaults.{lent_fault};
-ghost use Rattle.timefd_borrowed_fault.specs.Placed.{IsPlaced};
+ghost use Rattle.timefd_fault.specs.BorrowedFaults.{lent_fault};
+ghost use Rattle.timefd_fault.specs.Placed.{IsPlaced};
 ghost use Rattle.timefd_diagnosis.specs.Helps.{HasNoModifierPlace, IsHelpFor, IsModifierPlace, IsWordsHelp, nearest_in};
 
-use crate::code::Code;
 use crate::cure::{advice, strftime_advice};
 use crate::nearest::nearest;
 use crate::place::{Place, place_behind};
 use std::alloc::{AllocError, Global};
+use timefd_fault::Code;
 use timefd_parse::{BorrowedFault, DescriptionVersion, Language, Rule};
 
 /// What helps against a fault.

@@ -2,10 +2,10 @@
 
 ghost use Rattle.std.specs.Prelude.{◌≡◌, ◌≤◌, chars, length};
 ghost use Rattle.std.specs.List.{prefix_len};
-ghost use Rattle.timefd_borrowed_fault.specs.BorrowedFaults.{lent_fault};
-ghost use Rattle.timefd_borrowed_fault.specs.Placed.{IsPlaced};
+ghost use Rattle.timefd_fault.specs.BorrowedFaults.{lent_fault};
+ghost use Rattle.timefd_fault.specs.Placed.{IsPlaced};
 ghost use Rattle.timefd_language.specs.Cut.{class_test};
-ghost use Rattle.timefd_language.specs.FaultMeaning.{rule_kind};
+ghost use Rattle.timefd_fault.specs.RuleKinds.{rule_kind};
 ghost use Rattle.timefd_diagnosis.specs.Spans as spec;
 
 use timefd_language::text::{Class, cut};

@@ -8,8 +8,8 @@ ghost use Rattle.timefd_parse.specs.Heads.{ReadsHead};
 
 use crate::modifier::read_modifier;
 use crate::modifiers::Modifiers;
+use timefd_fault::{Fault, Rule};
 use timefd_language::description_version::DescriptionVersion;
-use timefd_language::fault::{Fault, Rule};
 use timefd_language::name::{Name, name_of};
 use timefd_language::text::{Class, cut};
 

@@ -18,11 +18,11 @@ use crate::fast::words::after_word;
 use crate::head::{Head, read_head};
 use crate::modifiers::Modifiers;
 use crate::places::Places;
+use timefd_fault::{Fault, Rule};
 use timefd_items::Component;
 use timefd_language::combination::refusals;
 use timefd_language::component::component_of;
 use timefd_language::description_version::DescriptionVersion;
-use timefd_language::fault::{Fault, Rule};
 use timefd_language::name::{ComponentName, Name};
 use timefd_language::text::{Start, start_of};
 

@@ -10,8 +10,8 @@ ghost use Rattle.timefd_language.specs.Values.{key_in};
 
 use crate::modifier::Modifier;
 use crate::places::Places;
+use timefd_fault::{Fault, Rule};
 use timefd_language::description_version::DescriptionVersion;
-use timefd_language::fault::{Fault, Rule};
 use timefd_language::key::{Key, key_of};
 use timefd_language::name::Name;
 use timefd_language::setting::{Setting, Settings};

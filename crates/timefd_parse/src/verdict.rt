@@ -11,15 +11,15 @@ ghost use Rattle.timefd_language.specs.Verdict as rules;
 ghost use Rattle.timefd_language.specs.Verdict.{PlacedDescription};
 ghost use Rattle.timefd_parse.specs.Checked.{ShowsFault};
 ghost use Rattle.timefd_parse.specs.HeadVerdicts.{IsVerdict, placing};
-ghost use Rattle.timefd_language.specs.Invalid.{IsInvalid};
+ghost use Rattle.timefd_fault.specs.ReadErrors.{IsInvalid};
 ghost use Rattle.timefd_parse.specs.Pieces.{IsBuilt};
 ghost use Rattle.timefd_parse.specs.Judged.{ShowsNested, Judged, packed};
 
 use crate::head_verdict::{HeadVerdict, JudgedHead};
 use crate::piece::{Piece, component_piece};
+use timefd_fault::{Fault, ReadError, Rule};
 use timefd_items::DescriptionBuilder;
 use timefd_language::description_version::DescriptionVersion;
-use timefd_language::fault::{Fault, ReadError, Rule};
 
 /// The nested descriptions of a bracket.
 #[derive(Clone, Copy)]

@@ -1,6 +1,6 @@
 use Rattle.std.proofs.Common.{subst, sym}
-use Rattle.timefd_language.specs.FaultMeaning.{rule_kind}
-use Rattle.timefd_language.specs.declared.fault.Rule.{Rule}
+use Rattle.timefd_fault.specs.RuleKinds.{rule_kind}
+use Rattle.timefd_fault.specs.declared.rule.Rule.{Rule}
 use Rattle.timefd_diagnosis.specs.declared.help.Help.TheVariants.{Advice}
 use Rattle.timefd_diagnosis.specs.Helps as spec
 use Rattle.timefd_diagnosis.proofs.help.version_help.Goals as goal
