@@ -45,7 +45,7 @@ def types(file, after, before, rows):
 
 TABLES = [
     *(imported(file, ALL) for file in (
-        "component/specs/ComponentEquality", "words/specs/Words", "borrowed_fault/proofs/ShortWords",
+        "component/specs/ComponentEquality", "words/specs/Words", "language/proofs/ShortWords",
         "c_nodes/proofs/ComponentLemmas", "lift/proofs/ComponentHeads",
     )),
     *(imported(file, MODERN) for file in ("c_nodes/specs/Encoding", "c_nodes/specs/Decoding")),

@@ -129,7 +129,7 @@ def by_rule():
 def by_length():
     lines = []
     for it in sorted(NAMES, key=lambda it: (len(it.name), it.variant)):
-        pattern = f"{len(it.name)} if names(ComponentName::{it.variant}, strict, word)"
+        pattern = f"{len(it.name)} if names(ComponentName::{it.variant}, version, word)"
         lines += arm(8, pattern, f"Some(ComponentName::{it.variant})")
     return lines
 

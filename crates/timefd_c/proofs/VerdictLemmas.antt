@@ -1,9 +1,9 @@
 -- What a verdict says, its answer says.
 use Rattle.std.proofs.Common.{ℕ, ◌≡◌, ◌≢◌, List, [], Option, Some, None, IsFalse, IsSome, IsUtf8, refl, subst, arith}
 use Rattle.timefd_fault.specs.Faults.{Fault}
-use Rattle.timefd_borrowed_fault.specs.BorrowedFaults.{HasShortWords, lent_fault}
-use Rattle.timefd_borrowed_fault.specs.declared.borrowed_fault.BorrowedFault.{BorrowedFault}
-use Rattle.timefd_language.specs.FaultMeaning.{rule_kind}
+use Rattle.timefd_fault.specs.BorrowedFaults.{HasShortWords, lent_fault}
+use Rattle.timefd_fault.specs.declared.borrowed_fault.BorrowedFault.{BorrowedFault}
+use Rattle.timefd_fault.specs.RuleKinds.{rule_kind}
 use Rattle.timefd_language.specs.Grammar.{nesting_limit}
 use Rattle.timefd_parse.proofs.AmountLemmas.{short_in}
 use Rattle.timefd_component.specs.Tree.{Text, Tree}

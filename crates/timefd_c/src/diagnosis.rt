@@ -1,8 +1,8 @@
 //! What is answered to C of a text whose fault is told whole.
 
 ghost use Rattle.std.specs.Prelude.{◌≡◌, option_map};
-ghost use Rattle.timefd_borrowed_fault.specs.BorrowedFaults.{lent_fault};
-ghost use Rattle.timefd_borrowed_fault.specs.Placed.{IsPlaced};
+ghost use Rattle.timefd_fault.specs.BorrowedFaults.{lent_fault};
+ghost use Rattle.timefd_fault.specs.Placed.{IsPlaced};
 ghost use Rattle.timefd_c.specs.Diagnoses as spec;
 ghost use Rattle.timefd_c.specs.Diagnoses.{IsDiagnosed, IsWordTold, no_fault};
 

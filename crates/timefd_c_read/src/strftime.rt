@@ -4,7 +4,7 @@ ghost use Rattle.std.specs.Prelude.{◌≡◌, ◌<◌, List, None, IfSome, Matc
 ghost use Rattle.std.specs.Result.{IfErr};
 ghost use Rattle.timefd_component.specs.Reserved.{reserve};
 ghost use Rattle.timefd_component.specs.Tree.{Tree, compound, trees};
-ghost use Rattle.timefd_language.specs.FaultMeaning.{MemoryOr};
+ghost use Rattle.timefd_fault.specs.ReadErrors.{MemoryOr};
 ghost use Rattle.timefd_language.specs.Strftime.{SpellsStrftime};
 ghost use Rattle.timefd_node_list.specs.Views.{walked};
 ghost use Rattle.timefd_c_nodes.specs.Writing.{IsPast, IsWritten};
@@ -18,7 +18,7 @@ use crate::leaf::write_component;
 use crate::progress::{NOTHING, Progress, one_more};
 use crate::report::{Report, has_room, report_of};
 use timefd_c_nodes::{Node, Place, Written, put_literal, write_compound};
-use timefd_language::fault::ReadError;
+use timefd_fault::read_error::ReadError;
 use timefd_parse::{BorrowedParseError, Language};
 use timefd_strftime::{
     Composite, StrftimePiece, StrftimeTables, next_strftime_piece, strftime_error,

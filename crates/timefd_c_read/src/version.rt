@@ -4,7 +4,7 @@ ghost use Rattle.std.specs.Prelude.{◌≡◌, ◌<◌, [], List, IsFalse, Match
 ghost use Rattle.std.specs.Result.{IfErr};
 ghost use Rattle.timefd_component.specs.Tree.{Tree};
 ghost use Rattle.timefd_language.specs.Bytes.{is_version_three};
-ghost use Rattle.timefd_language.specs.FaultMeaning.{MemoryOr};
+ghost use Rattle.timefd_fault.specs.ReadErrors.{MemoryOr};
 ghost use Rattle.timefd_parse.specs.Read.{IsFaultIn, PiecesToEnd};
 ghost use Rattle.timefd_c_read.specs.Progress.{HasWritten};
 ghost use Rattle.timefd_c_read.specs.Reports.{IsRead};
@@ -14,8 +14,8 @@ use crate::progress::{NOTHING, Progress, one_more};
 use crate::report::{Report, has_room, report_of};
 use std::alloc::Global;
 use timefd_c_nodes::Node;
+use timefd_fault::read_error::ReadError;
 use timefd_items::DescriptionBuilder;
-use timefd_language::fault::ReadError;
 use timefd_parse::{BorrowedParseError, DescriptionVersion, Language, error_of, next_piece};
 
 /// Reads a text of version 1 or 2, in which a nested description is a fault: one of its own where more

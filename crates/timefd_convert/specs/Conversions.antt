@@ -3,7 +3,7 @@ use Rattle.std.specs.Prelude.{ℕ, ◌≡◌, ◌≤◌, ◌*◌, [], Option, So
 use Rattle.std.specs.Result.{IfErr}
 use Rattle.std.specs.declared.string.String.{String}
 use Rattle.std.specs.declared.alloc.Global.{Global}
-use Rattle.timefd_borrowed_fault.specs.Placed.{HasPlacedFault}
+use Rattle.timefd_fault.specs.Placed.{HasPlacedFault}
 use Rattle.timefd_component.specs.Tree.{Text}
 use Rattle.timefd_convert.specs.declared.conversion.Conversion.{Conversion}
 use Rattle.timefd_convert.specs.declared.conversion.Conversion.TheVariants.{OneToTwo, OneToThree, TwoToThree, ThreeToThree, StrftimeToThree}
@@ -12,9 +12,9 @@ use Rattle.timefd_convert.specs.declared.converting.ConvertError.TheVariants.{Un
 use Rattle.timefd_convert.specs.Answers.{HasItemsOver, HasStrftimeItems, IsNormalOf, IsPrintedOf, IsWrittenOver, KeepsTree}
 use Rattle.timefd_fault.specs.Faults.{Fault}
 use Rattle.timefd_language.specs.declared.description_version.DescriptionVersion.TheVariants.{One, Two, Three}
-use Rattle.timefd_language.specs.declared.parse_error.ParseError.{ParseError}
+use Rattle.timefd_fault.specs.declared.parse_error.ParseError.{ParseError}
 use Rattle.timefd_language.specs.Grammar.{nesting_limit}
-use Rattle.timefd_language.specs.Told.{IsFaultOrMemory}
+use Rattle.timefd_fault.specs.Told.{IsFaultOrMemory}
 use Rattle.timefd_lift.specs.Answers.{HasItemsOf, IsRewritten, IsTextOrMemory}
 use Rattle.timefd_lift.specs.Modernized.{IsWrittenOf, KeepsItemsOf}
 use Rattle.timefd_parse.specs.declared.language.Language.{Language}

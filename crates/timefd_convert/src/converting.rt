@@ -2,13 +2,13 @@
 
 ghost use Rattle.std.specs.Prelude.{◌≡◌, [], IfOk, IsOk, MatchResult, length, string_bytes};
 ghost use Rattle.std.specs.Result.{IfErr};
-ghost use Rattle.timefd_borrowed_fault.specs.BorrowedFaults.{HasShortFault, IsLent, IsLentOf, IsMemory};
-ghost use Rattle.timefd_borrowed_fault.specs.Placed.{HasPlacedFault, IsPlaced};
+ghost use Rattle.timefd_fault.specs.BorrowedFaults.{HasShortFault, IsLent, IsLentOf, IsMemory};
+ghost use Rattle.timefd_fault.specs.Placed.{HasPlacedFault, IsPlaced};
 ghost use Rattle.timefd_component.specs.Tree.{Text};
 ghost use Rattle.timefd_convert.specs.Conversions.{ConvertsIf, FitsIn, IsConversion, KeepsItems, conversion_between, language_of};
 ghost use Rattle.timefd_fault.specs.Faults as spec;
 ghost use Rattle.timefd_language.specs.Grammar.{nesting_limit};
-ghost use Rattle.timefd_language.specs.Told.{IsFaultOrMemory};
+ghost use Rattle.timefd_fault.specs.Told.{IsFaultOrMemory};
 ghost use Rattle.timefd_lift.specs.Answers.{IsTextOrMemory};
 ghost use Rattle.timefd_parse.specs.Language.{FaultIn, IsAssignedIn};
 

@@ -2,14 +2,14 @@
 
 ghost use Rattle.std.specs.Prelude.{◌≡◌, [], IfOk, IsOk, MatchResult, string_bytes};
 ghost use Rattle.std.specs.Result.{IfErr};
-ghost use Rattle.timefd_borrowed_fault.specs.BorrowedFaults.{HasShortFault, IsLent, IsLentOf, IsMemory};
-ghost use Rattle.timefd_borrowed_fault.specs.Placed.{HasPlacedFault, IsPlaced};
+ghost use Rattle.timefd_fault.specs.BorrowedFaults.{HasShortFault, IsLent, IsLentOf, IsMemory};
+ghost use Rattle.timefd_fault.specs.Placed.{HasPlacedFault, IsPlaced};
 ghost use Rattle.timefd_convert.specs.Answers.{HasItemsOver, IsWrittenOver};
 ghost use Rattle.timefd_fault.specs.Faults as spec;
 ghost use Rattle.timefd_language.specs.Broken.{FaultOf};
 ghost use Rattle.timefd_language.specs.Grammar.{Pieces, nesting_limit};
 ghost use Rattle.timefd_language.specs.Rewritten.{rewritten};
-ghost use Rattle.timefd_language.specs.Told.{IsFaultOrMemory, MemoryAlone};
+ghost use Rattle.timefd_fault.specs.Told.{IsFaultOrMemory, MemoryAlone};
 ghost use Rattle.timefd_language.specs.declared.description_version.DescriptionVersion.TheVariants.{One};
 ghost use Rattle.timefd_lift.specs.Answers.{IsSpelledBy};
 ghost use Rattle.timefd_lift.specs.Modernized.{IsWrittenOf};

@@ -2,14 +2,14 @@
 
 ghost use Rattle.std.specs.Prelude.{◌≡◌, [], List, IfOk, IsOk, MatchResult, string_bytes};
 ghost use Rattle.std.specs.Result.{IfErr};
-ghost use Rattle.timefd_borrowed_fault.specs.BorrowedFaults.{HasShortFault, IsLent, IsLentOf, IsMemory};
-ghost use Rattle.timefd_borrowed_fault.specs.Placed.{HasPlacedFault, IsPlaced};
+ghost use Rattle.timefd_fault.specs.BorrowedFaults.{HasShortFault, IsLent, IsLentOf, IsMemory};
+ghost use Rattle.timefd_fault.specs.Placed.{HasPlacedFault, IsPlaced};
 ghost use Rattle.timefd_component.specs.Tree.{Tree, pack};
 ghost use Rattle.timefd_convert.specs.Answers.{IsNormalOf, KeepsTree};
 ghost use Rattle.timefd_fault.specs.Faults as spec;
 ghost use Rattle.timefd_language.specs.Broken.{FaultOf};
 ghost use Rattle.timefd_language.specs.Grammar.{Spells, nesting_limit};
-ghost use Rattle.timefd_language.specs.Told.{IsFaultOrMemory};
+ghost use Rattle.timefd_fault.specs.Told.{IsFaultOrMemory};
 ghost use Rattle.timefd_language.specs.declared.description_version.DescriptionVersion.TheVariants.{Three};
 ghost use Rattle.timefd_lift.specs.Answers.{IsTextOrMemory};
 ghost use Rattle.timefd_parse.specs.Answers.{IsAssigned};

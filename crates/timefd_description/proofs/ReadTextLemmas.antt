@@ -5,9 +5,9 @@ use Rattle.std.specs.declared.vec.Vec.{Vec}
 use Rattle.std.specs.Prelude.{length}
 use Rattle.std.specs.Result.{IfErr}
 use Rattle.timefd_component.specs.Tree.{Text, Tree, compound, trees, pack}
-use Rattle.timefd_borrowed_fault.specs.declared.borrowed_parse_error.BorrowedParseError.{BorrowedParseError}
-use Rattle.timefd_borrowed_fault.specs.declared.borrowed_parse_error.BorrowedParseError.TheVariants as parses
-use Rattle.timefd_borrowed_fault.specs.BorrowedFaults as lent
+use Rattle.timefd_fault.specs.declared.borrowed_parse_error.BorrowedParseError.{BorrowedParseError}
+use Rattle.timefd_fault.specs.declared.borrowed_parse_error.BorrowedParseError.TheVariants as parses
+use Rattle.timefd_fault.specs.BorrowedFaults as lent
 use Rattle.timefd_fault.specs.Faults.{Fault}
 use Rattle.timefd_format_item.specs.declared.borrowed_format_item.BorrowedFormatItem.{BorrowedFormatItem}
 use Rattle.timefd_format_item.specs.Meaning.{item_tree, item_trees}

@@ -6,7 +6,7 @@ ghost use Rattle.timefd_component.specs.Tree.{Tree};
 ghost use Rattle.timefd_description.specs.Modern.{modern_tree};
 ghost use Rattle.timefd_description.specs.Parsed.{IsParsed};
 ghost use Rattle.timefd_items.specs.Builder.{built};
-ghost use Rattle.timefd_language.specs.FaultMeaning.{MemoryOr};
+ghost use Rattle.timefd_fault.specs.ReadErrors.{MemoryOr};
 ghost use Rattle.timefd_language.specs.Strftime.{SpellsStrftime};
 ghost use Rattle.timefd_parse.specs.declared.language.Language.TheVariants.{Strftime};
 ghost use Rattle.timefd_strftime.specs.PieceMeaning.{piece_tree};
@@ -16,7 +16,7 @@ use crate::composite::add_composite;
 use crate::nodes::finished;
 use std::alloc::{AllocError, Global};
 use timefd_items::{DescriptionBuilder, FormatDescriptionV3};
-use timefd_language::fault::ReadError;
+use timefd_fault::read_error::ReadError;
 use timefd_parse::BorrowedParseError;
 use timefd_strftime::{StrftimePiece, next_strftime_piece, strftime_error};
 

@@ -1,6 +1,5 @@
 pub mod NearestLemmas
 pub mod PlaceLemmas
-pub mod CodeLemmas
 pub mod WordLemmas
 pub mod TableLemmas
 pub mod AlignLemmas

@@ -12,7 +12,7 @@ use Rattle.timefd_language.specs.declared.name.ComponentName.{ComponentName}
 use Rattle.timefd_language.specs.declared.name.Name.{Name}
 use Rattle.timefd_language.specs.declared.setting.Settings.{Settings}
 use Rattle.timefd_language.specs.Bytes.{colon, left, same, named, is_version_three, is_white, is_key_byte, is_word_byte, ZeroOrMore, OneOrMore}
-use Rattle.timefd_language.specs.Fault.{expected_white, expected_nested, expected_alternative, optional_item, first_item}
+use Rattle.timefd_fault.specs.Words.{expected_white, expected_nested, expected_alternative, optional_item, first_item}
 use Rattle.timefd_language.specs.Grammar.{Nested, bracket_verdict, nested_text, parts_from}
 use Rattle.timefd_language.specs.Head.{Head, IsHead, Modifier, IsModifier, AreModifiers, Placed, placed, placed_at, placed_from, name_index, modifier_text, modifiers_text, head_text}
 use Rattle.timefd_language.specs.Values.{Key, format, key_in}

@@ -12,13 +12,13 @@ use Rattle.timefd_language.specs.Strftime.{percent}
 use Rattle.timefd_parse.specs.declared.language.Language.{Language}
 use Rattle.timefd_parse.specs.declared.language.Language.TheVariants.{Version, Strftime}
 use Rattle.timefd_parse.specs.Language.{SpellsIn}
-use Rattle.timefd_diagnosis.specs.declared.code.Code.{Code}
-use Rattle.timefd_diagnosis.specs.declared.code.Code.TheVariants.{UnclosedBracket, UnknownName, InvalidModifier, MissingName, MissingModifier, InvalidEscape, UnescapedBracket, MissingSpace, MissingDescription, MissingAlternative, NestedTooDeep, SeveralDescriptions, OptionalItem, FirstItem, UnsupportedFlag, UnsupportedLetter, NestedInComponent, DuplicateModifier, RefusedModifier}
+use Rattle.timefd_fault.specs.declared.code.Code.{Code}
+use Rattle.timefd_fault.specs.declared.code.Code.TheVariants.{UnclosedBracket, UnknownName, InvalidModifier, MissingName, MissingModifier, InvalidEscape, UnescapedBracket, MissingSpace, MissingDescription, MissingAlternative, NestedTooDeep, SeveralDescriptions, OptionalItem, FirstItem, UnsupportedFlag, UnsupportedLetter, NestedInComponent, DuplicateModifier, RefusedModifier}
 use Rattle.timefd_diagnosis.specs.declared.diagnostic.Diagnostic.{Diagnostic}
 use Rattle.timefd_diagnosis.specs.declared.further.Sides.{Sides}
 use Rattle.timefd_diagnosis.specs.declared.further.Mark.{Mark}
 use Rattle.timefd_diagnosis.specs.declared.further.Mark.TheVariants.{Bracket, Backslash, Closing, Percent}
-use Rattle.timefd_diagnosis.specs.Codes.{code_of}
+use Rattle.timefd_fault.specs.Codes.{code_of}
 use Rattle.timefd_diagnosis.specs.Diagnoses.{IsDiagnosed}
 
 -- What is left out begins with this.

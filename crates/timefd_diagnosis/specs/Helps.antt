@@ -7,13 +7,13 @@ use Rattle.timefd_language.specs.declared.description_version.DescriptionVersion
 use Rattle.timefd_language.specs.Bytes.{is_version_three}
 use Rattle.timefd_parse.specs.declared.language.Language.{Language}
 use Rattle.timefd_parse.specs.declared.language.Language.TheVariants.{Version, Strftime}
-use Rattle.timefd_diagnosis.specs.declared.code.Code.TheVariants.{InvalidModifier}
+use Rattle.timefd_fault.specs.declared.code.Code.TheVariants.{InvalidModifier}
 use Rattle.timefd_diagnosis.specs.declared.help.Help.{Help}
 use Rattle.timefd_diagnosis.specs.declared.help.Help.TheVariants.{Words, LeaveOut, Advice}
 use Rattle.timefd_diagnosis.specs.declared.place.Place.{Place}
 use Rattle.timefd_diagnosis.specs.declared.place.Place.TheVariants as places
 use Rattle.timefd_diagnosis.specs.Advice.{advice, strftime_advice}
-use Rattle.timefd_diagnosis.specs.Codes.{code_of}
+use Rattle.timefd_fault.specs.Codes.{code_of}
 use Rattle.timefd_diagnosis.specs.Nearest.{IsNearest}
 use Rattle.timefd_diagnosis.specs.Places.{IsPlaceIn, words_at}
 use Rattle.timefd_diagnosis.specs.Words.{texts}

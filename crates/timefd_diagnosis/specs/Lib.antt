@@ -4,7 +4,6 @@ pub mod Edits
 pub mod Nearest
 pub mod Few
 pub mod Places
-pub mod Codes
 pub mod Advice
 pub mod Helps
 pub mod Diagnoses

@@ -3,7 +3,7 @@
 ghost use Rattle.std.specs.Prelude.{◌≡◌};
 ghost use Rattle.timefd_diagnosis.specs.Advice as spec;
 
-use crate::code::Code;
+use timefd_fault::Code;
 use timefd_parse::DescriptionVersion;
 
 /// What helps against a fault of a version.

@@ -2,11 +2,11 @@
 
 ghost use Rattle.std.specs.Prelude.{◌≡◌};
 ghost use Rattle.timefd_fault.specs.Faults.{fault_of};
-ghost use Rattle.timefd_diagnosis.specs.Codes as spec;
+ghost use Rattle.timefd_fault.specs.Codes as spec;
 
-use crate::code::Code;
 use crate::help::Help;
 use crate::span::Span;
+use timefd_fault::Code;
 use timefd_parse::InvalidFormatDescription;
 
 /// Why a text is refused, and where.

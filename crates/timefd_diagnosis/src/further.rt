@@ -1,16 +1,16 @@
 //! What is wrong with a text besides its first fault.
 
 ghost use Rattle.std.specs.Prelude.{◌≡◌, ◌<◌, IfOk, option_map, string_bytes};
-ghost use Rattle.timefd_borrowed_fault.specs.Placed.{IsPlaced};
+ghost use Rattle.timefd_fault.specs.Placed.{IsPlaced};
 ghost use Rattle.timefd_fault.specs.Faults.{fault_of};
 ghost use Rattle.std.specs.Str.{IsCharBoundary};
 ghost use Rattle.timefd_diagnosis.specs.Further.{AreFurther, sides_of};
 ghost use Rattle.timefd_diagnosis.specs.Further as spec;
 
-use crate::code::Code;
 use crate::diagnosing::diagnose;
 use crate::diagnostic::Diagnostic;
 use std::alloc::{AllocError, Global};
+use timefd_fault::Code;
 use timefd_language::text::{Class, cut};
 use timefd_parse::Language;
 

@@ -1,16 +1,17 @@
 //! What to write in place of what is at fault.
 
 ghost use Rattle.std.specs.Prelude.{◌≡◌, IfOk, MatchOption, option_map};
+ghost use Rattle.timefd_language.specs.Bytes.{is_version_three};
 ghost use Rattle.std.specs.Str.{IsCharBoundary};
-ghost use Rattle.timefd_borrowed_fault.specs.BorrowedFaults.{lent_fault};
-ghost use Rattle.timefd_borrowed_fault.specs.Placed.{IsPlaced};
+ghost use Rattle.timefd_fault.specs.BorrowedFaults.{lent_fault};
+ghost use Rattle.timefd_fault.specs.Placed.{IsPlaced};
 ghost use Rattle.timefd_diagnosis.specs.Helps.{HasNoModifierPlace, IsHelpFor, IsModifierPlace, IsWordsHelp, nearest_in};
 
-use crate::code::Code;
 use crate::cure::{advice, strftime_advice};
 use crate::nearest::nearest;
 use crate::place::{Place, place_behind};
 use std::alloc::{AllocError, Global};
+use timefd_fault::Code;
 use timefd_parse::{BorrowedFault, DescriptionVersion, Language, Rule};
 
 /// What helps against a fault.
@@ -69,10 +70,10 @@ fn version_help(
     ensures { IfOk result (IsHelpFor (Language.Version version) text.now (lent_fault fault.entry)) }
 {
     match fault.rule {
-        Rule::UnknownName(name) => words_help(alloc, version.is_strict(), Place::Name, name),
+        Rule::UnknownName(name) => words_help(alloc, version, Place::Name, name),
         Rule::InvalidModifier(value) => {
-            match modifier_place(version.is_strict(), text, fault.index, value) {
-                Some(place) => words_help(alloc, version.is_strict(), place, value),
+            match modifier_place(version, text, fault.index, value) {
+                Some(place) => words_help(alloc, version, place, value),
                 None => Ok(Help::Advice(advice(version, Code::InvalidModifier))),
             }
         }
@@ -96,11 +97,16 @@ fn version_help(
     }
 }
 
-fn words_help(alloc: Global, strict: bool, place: Place, word: &str) -> Result<Help, AllocError>
-    ensures { IfOk result (IsWordsHelp strict place word.now) }
+fn words_help(
+    alloc: Global,
+    version: DescriptionVersion,
+    place: Place,
+    word: &str,
+) -> Result<Help, AllocError>
+    ensures { IfOk result (IsWordsHelp (is_version_three version) place word.now) }
 {
     let lowered = word.to_ascii_lowercase(alloc)?;
-    let allowed = place.words(strict);
+    let allowed = place.words(version);
     Ok(Help::Words {
         place,
         allowed,
@@ -109,11 +115,17 @@ fn words_help(alloc: Global, strict: bool, place: Place, word: &str) -> Result<H
 }
 
 // What a modifier's word that stands at this index was to be.
-fn modifier_place(strict: bool, text: &str, index: usize, word: &str) -> Option<Place>
+fn modifier_place(
+    version: DescriptionVersion,
+    text: &str,
+    index: usize,
+    word: &str,
+) -> Option<Place>
     requires { IsCharBoundary text.now index }
-    ensures { MatchOption result (HasNoModifierPlace strict text.now index word.now)
-        (IsModifierPlace strict text.now index word.now) }
+    ensures { MatchOption result (HasNoModifierPlace (is_version_three version) text.now index
+        word.now)
+        (IsModifierPlace (is_version_three version) text.now index word.now) }
 {
     let (front, _) = text.split_at(index);
-    place_behind(strict, front, word)
+    place_behind(version, front, word)
 }

@@ -2,7 +2,6 @@
 //! a stable name, and what helps.
 #![tactic(auto)]
 
-mod code;
 mod cure;
 mod diagnosing;
 mod diagnostic;
@@ -15,9 +14,9 @@ pub mod place;
 mod span;
 pub mod words;
 
-pub use code::{Code, all_are_there, names_differ};
 pub use diagnosing::diagnose;
 pub use diagnostic::{Diagnostic, code_of};
 pub use further::{MOST_FURTHER, further_faults};
 pub use help::{Help, help_against};
 pub use span::{Extent, Span, span_of};
+pub use timefd_fault::{Code, all_are_there, names_differ};

@@ -1,7 +1,7 @@
 //! What stands where a fault is: a name, a key or a value.
 
 ghost use Rattle.std.specs.Prelude.{◌≡◌, IfSome, MatchOption};
-ghost use Rattle.timefd_language.specs.Bytes.{is_word_byte, StopsBefore, ZeroOrMore};
+ghost use Rattle.timefd_language.specs.Bytes.{StopsBefore, ZeroOrMore, is_version_three, is_word_byte};
 ghost use Rattle.timefd_diagnosis.specs.Places as spec;
 ghost use Rattle.timefd_diagnosis.specs.Places.{is_inside, IsBehindAll, IsLastBracket, IsNamedHead, IsPlaceAt, IsPlaceBehind, NamesHead};
 ghost use Rattle.timefd_diagnosis.specs.Words.{texts};
@@ -11,7 +11,7 @@ use crate::words::{keys, names, values};
 use timefd_language::key::{Key, key_of};
 use timefd_language::name::{Name, name_of};
 use timefd_language::text::{Class, cut};
-use timefd_parse::{bracket_name, first_modifier};
+use timefd_parse::{DescriptionVersion, bracket_name, first_modifier};
 
 /// What a word at fault was to be.
 #[derive(Clone, Copy)]
@@ -26,11 +26,11 @@ pub enum Place {
 
 impl Place {
     /// The words that are allowed there.
-    pub fn words(self, strict: bool) -> &'static [&'static str]
-        ensures { texts result.now ≡ spec.words_at strict self }
+    pub fn words(self, version: DescriptionVersion) -> &'static [&'static str]
+        ensures { texts result.now ≡ spec.words_at (is_version_three version) self }
     {
         match self {
-            Place::Name => names(strict),
+            Place::Name => names(version),
             Place::Key(name) => keys(name),
             Place::Value(key) => values(key),
         }
@@ -40,11 +40,11 @@ impl Place {
 /// What a modifier's word was to be that stands behind this text: a key, or the value of one. Where
 /// the word is empty, a colon stands there, and is taken for that of a key without a value.
 /// `None` where that can't be told, as no name or no key stands there.
-pub fn place_behind(strict: bool, front: &str, word: &str) -> Option<Place>
-    ensures place { IsPlaceBehind strict front.now word.now result }
+pub fn place_behind(version: DescriptionVersion, front: &str, word: &str) -> Option<Place>
+    ensures place { IsPlaceBehind (is_version_three version) front.now word.now result }
 {
     let (name, between) = head_in(front)?;
-    place_at(strict, name, between, word)
+    place_at(version, name, between, word)
 }
 
 // The name of the bracket that a text ends in, and what stands behind its modifiers.
@@ -80,12 +80,13 @@ fn behind_modifiers(text: &str) -> &str
 }
 
 // What a word was to be that stands behind a head with this name, and behind this.
-fn place_at(strict: bool, name: &str, between: &str, word: &str) -> Option<Place>
+fn place_at(version: DescriptionVersion, name: &str, between: &str, word: &str) -> Option<Place>
     ensures { MatchOption result
-        ((place : Place) → ¬ IsPlaceAt strict name.now between.now word.now place)
-        (IsPlaceAt strict name.now between.now word.now) }
+        ((place : Place) → ¬ IsPlaceAt (is_version_three version) name.now between.now word.now
+        place)
+        (IsPlaceAt (is_version_three version) name.now between.now word.now) }
 {
-    let named = name_of(strict, name)?;
+    let named = name_of(version, name)?;
     let (white, rest) = cut(between, Class::White);
     let (key, after) = cut(rest, Class::Key);
     if white.is_empty() {
@@ -95,7 +96,7 @@ fn place_at(strict: bool, name: &str, between: &str, word: &str) -> Option<Place
         return Some(Place::Key(named));
     }
     if after == colon_before(word) {
-        Some(Place::Value(key_of(named, strict, key)?))
+        Some(Place::Value(key_of(named, version, key)?))
     } else {
         None
     }

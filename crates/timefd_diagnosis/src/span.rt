@@ -2,10 +2,10 @@
 
 ghost use Rattle.std.specs.Prelude.{◌≡◌, ◌≤◌, chars, length};
 ghost use Rattle.std.specs.List.{prefix_len};
-ghost use Rattle.timefd_borrowed_fault.specs.BorrowedFaults.{lent_fault};
-ghost use Rattle.timefd_borrowed_fault.specs.Placed.{IsPlaced};
+ghost use Rattle.timefd_fault.specs.BorrowedFaults.{lent_fault};
+ghost use Rattle.timefd_fault.specs.Placed.{IsPlaced};
 ghost use Rattle.timefd_language.specs.Cut.{class_test};
-ghost use Rattle.timefd_language.specs.FaultMeaning.{rule_kind};
+ghost use Rattle.timefd_fault.specs.RuleKinds.{rule_kind};
 ghost use Rattle.timefd_diagnosis.specs.Spans as spec;
 
 use timefd_language::text::{Class, cut};
@@ -37,6 +37,7 @@ pub fn span_of(language: Language, text: &str, fault: BorrowedFault<'_>) -> Span
     requires { IsPlaced text.now (lent_fault fault) }
     ensures start { result.start ≡ fault.entry.index }
     ensures end { result.end ≡ spec.end_of language text.now (lent_fault fault.entry) }
+    ensures within { spec.IsWithin text.now result }
 {
     let start = fault.index;
     let (_, rest) = text.split_at(start);

@@ -1,16 +1,18 @@
 //! The words that a bracket may hold: names, keys and values.
 
 ghost use Rattle.std.specs.Prelude.{◌≡◌, map};
+ghost use Rattle.timefd_language.specs.Bytes.{is_version_three};
 ghost use Rattle.timefd_diagnosis.specs.Words as spec;
 ghost use Rattle.timefd_diagnosis.specs.Words.{texts};
 
 use timefd_language::key::Key;
 use timefd_language::name::{ComponentName, Name};
+use timefd_parse::DescriptionVersion;
 
 /// The names of brackets that version 3 accepts, or those that versions 1 and 2 accept: all but the
 /// first two.
-pub fn names(strict: bool) -> &'static [&'static str]
-    ensures { texts result.now ≡ spec.names strict }
+pub fn names(version: DescriptionVersion) -> &'static [&'static str]
+    ensures { texts result.now ≡ spec.names (is_version_three version) }
 {
     let all: &'static [&'static str] = &[
         "optional",
@@ -33,7 +35,7 @@ pub fn names(strict: bool) -> &'static [&'static str]
         "week_number",
         "year",
     ];
-    if strict { all } else { &all[2..] }
+    if version.is_strict() { all } else { &all[2..] }
 }
 
 /// The keys that a bracket of a name takes.

@@ -5,7 +5,7 @@ use Rattle.unicode_width.specs.Width.{str_width}
 use Rattle.timefd_component.specs.Tree.{Text}
 use Rattle.timefd_fault.specs.Faults.{fault_of}
 use Rattle.timefd_fault.specs.Sentences.{error_sentence}
-use Rattle.timefd_diagnosis.specs.Codes.{code_of, name_of}
+use Rattle.timefd_fault.specs.Codes.{code_of, name_of}
 use Rattle.timefd_diagnosis.specs.declared.diagnostic.Diagnostic.{Diagnostic}
 use Rattle.timefd_diagnosis.specs.Helps.{nearest_in}
 use Rattle.timefd_drawing.specs.declared.draw.Format.{Format}

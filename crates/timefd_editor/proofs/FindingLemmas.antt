@@ -3,7 +3,7 @@ use Rattle.std.proofs.Common.{ℕ, ◌≡◌, Bool, true, false, Option, Some, L
 use Rattle.std.specs.Prelude.{IfSome, IsUtf8, OnOk, Result, Ok, Err}
 use Rattle.timefd_component.specs.Tree.{Text, Tree}
 use Rattle.timefd_diagnosis.specs.declared.diagnostic.Diagnostic.{Diagnostic}
-use Rattle.timefd_diagnosis.specs.Codes.{code_of, name_of}
+use Rattle.timefd_fault.specs.Codes.{code_of, name_of}
 use Rattle.timefd_diagnosis.specs.Diagnoses.{IsDiagnosis}
 use Rattle.timefd_diagnosis.specs.Further.{AreFurther, most_further, without}
 use Rattle.timefd_drawing.specs.Sentence.{told_sentence}

@@ -2,7 +2,7 @@
 use Rattle.std.specs.Prelude.{◌≡◌, Bool, true, false, List, [], ◌++◌, Option}
 use Rattle.timefd_component.specs.Tree.{Text}
 use Rattle.timefd_diagnosis.specs.declared.diagnostic.Diagnostic.{Diagnostic}
-use Rattle.timefd_diagnosis.specs.Codes.{code_of, name_of}
+use Rattle.timefd_fault.specs.Codes.{code_of, name_of}
 use Rattle.timefd_drawing.specs.Sentence.{told_sentence}
 use Rattle.timefd_editor.specs.declared.finding.Finding.{Finding}
 use Rattle.timefd_editor.specs.declared.finding.Severity.TheVariants.{Error}

@@ -8,7 +8,7 @@ use Rattle.timefd_fault.specs.Faults.{Fault, fault}
 use Rattle.timefd_language.specs.declared.description_version.DescriptionVersion.{DescriptionVersion}
 use Rattle.timefd_language.specs.declared.description_version.DescriptionVersion.TheVariants.{One, Two, Three}
 use Rattle.timefd_language.specs.Bytes.{right, same, is_white, is_version_three, ZeroOrMore}
-use Rattle.timefd_language.specs.Fault.{expected_nested, expected_alternative, many_nested, optional_item, first_item}
+use Rattle.timefd_fault.specs.Words.{expected_nested, expected_alternative, many_nested, optional_item, first_item}
 use Rattle.timefd_language.specs.Grammar.{Pieces, no_pieces, run, escape, closing, bracket, Nested, no_nested, nested, ArePieces, AreNested, Spells, bracket_verdict, items, nested_text, parts_from, spelling}
 use Rattle.timefd_language.specs.Head.{Head, IsHead, head_text, placed}
 use Rattle.timefd_language.specs.Letters.{Flag, letters, item_of}

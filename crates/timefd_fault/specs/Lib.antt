@@ -1,4 +1,13 @@
 pub mod Faults
+pub mod Words
+pub mod RuleKinds
+pub mod Codes
 pub mod Sentences
+pub mod ReadErrors
+pub mod Told
+pub mod Excerpts
+pub mod Parts
+pub mod BorrowedFaults
+pub mod Placed
 pub mod Equality
 pub mod Laws

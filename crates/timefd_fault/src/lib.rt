@@ -1,8 +1,30 @@
-//! The faults of a text that is no format description, each with its place, and their sentences.
-//! Users take them from `timefd_items`.
+//! The faults of a text that is no format description: the rule that is broken, its place, its stable
+//! code, and its sentence, which can be written into a buffer of the caller's without memory. Users
+//! take them from `timefd_items` and `timefd_parse`.
 #![tactic(auto)]
 
+// What is told of a text: an error that owns what it quotes, and one that borrows it.
+pub mod borrowed_fault;
+pub mod borrowed_parse_error;
 mod invalid_format_description;
-pub mod laws;
+pub mod parse_error;
 
+// The rules, their codes, and what the readers answer.
+pub mod code;
+pub mod read_error;
+pub mod rule;
+
+// Sentences in a buffer that may be short.
+mod digits;
+pub mod excerpt;
+pub mod laws;
+mod sentence;
+
+pub use borrowed_fault::BorrowedFault;
+pub use borrowed_parse_error::BorrowedParseError;
+pub use code::{Code, all_are_there, names_differ};
+pub use excerpt::Excerpt;
 pub use invalid_format_description::InvalidFormatDescription;
+pub use parse_error::ParseError;
+pub use read_error::{Fault, ReadError};
+pub use rule::{FaultKind, Rule};

@@ -34,3 +34,5 @@ pub mod PlacesWithin
 pub mod VerdictPlaces
 pub mod PlacesBetween
 pub mod DistinctLemmas
+pub mod ShortWords
+pub mod PlacedLemmas

@@ -6,7 +6,7 @@ use Rattle.timefd_language.specs.declared.description_version.DescriptionVersion
 use Rattle.timefd_component.specs.Tree.{Text, Tree, literal, joined, before_joined}
 use Rattle.timefd_language.specs.Bytes.{left, right, backslash, is_special, is_run_byte, same, ZeroOrMore, OneOrMore}
 use Rattle.timefd_fault.specs.Faults.{Fault, fault}
-use Rattle.timefd_language.specs.Fault.{optional_item, first_item}
+use Rattle.timefd_fault.specs.Words.{optional_item, first_item}
 use Rattle.timefd_language.specs.Head.{Head, placed, head_text}
 use Rattle.timefd_language.specs.Values.{format}
 use Rattle.timefd_language.specs.Verdict.{PlacedDescription, ◌or◌, unless, bad_modifiers, touching, too_many, any_modifier, optional_verdict, first_verdict, verdict}

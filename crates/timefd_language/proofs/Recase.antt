@@ -6,7 +6,7 @@ use Rattle.timefd_language.specs.declared.description_version.DescriptionVersion
 use Rattle.timefd_component.specs.Tree.{Text, Tree, literal, optional, first, trees}
 use Rattle.timefd_language.specs.Bytes.{lowered, equal, same, is_word_byte, is_key_byte, is_version_three, plus, colon, right, ZeroOrMore, OneOrMore}
 use Rattle.timefd_fault.specs.Faults.{Fault, Kind, fault}
-use Rattle.timefd_language.specs.Fault.{expected_nested, first_item}
+use Rattle.timefd_fault.specs.Words.{expected_nested, first_item}
 use Rattle.timefd_language.specs.Head.{Modifier, Head, AreModifiers, IsHead, Placed, placed_at, placed_from, placed, name_index, modifier_text, head_text}
 use Rattle.timefd_language.specs.declared.setting.Setting.{Setting}
 use Rattle.timefd_language.specs.declared.setting.Settings.{Settings}

@@ -5,7 +5,7 @@ use Rattle.timefd_component.specs.Tree.{Tree, optional, first, trees, pack}
 use Rattle.timefd_component.specs.declared.component.Component.{Component}
 use Rattle.timefd_fault.specs.Faults.{Kind, Fault, fault}
 use Rattle.timefd_language.specs.Bytes.{same}
-use Rattle.timefd_language.specs.Fault.{expected_nested, expected_alternative, optional_item, first_item}
+use Rattle.timefd_fault.specs.Words.{expected_nested, expected_alternative, optional_item, first_item}
 use Rattle.timefd_language.specs.Values.{Key, format}
 use Rattle.timefd_language.specs.Names.{Row, row_of}
 use Rattle.timefd_language.specs.Combinations.{Refusal, refusals}

@@ -1,6 +1,6 @@
--- The words of faults, and how a fault of a part becomes one of the whole.
-use Rattle.std.specs.Prelude.{ℕ, ◌+◌, codes, []}
-use Rattle.timefd_fault.specs.Faults.{Kind, Fault, fault, unclosed_bracket, expected, not_supported}
+-- How a fault of a part becomes one of the whole.
+use Rattle.std.specs.Prelude.{ℕ, ◌+◌}
+use Rattle.timefd_fault.specs.Faults.{Kind, Fault, fault, unclosed_bracket}
 
 -- the fault of a text that begins k bytes further on
 abbrev pub raised : Fault → ℕ → Fault
@@ -10,35 +10,3 @@ raised f k = record { kind = f.kind; index = f.index + k }
 abbrev pub enclosed : Kind → ℕ → ℕ → Fault
 enclosed unclosed_bracket index k = fault unclosed_bracket 0
 enclosed kind index k = fault kind (index + k)
-
-abbrev pub expected_escape : Kind
-expected_escape = expected (codes "valid escape sequence")
-
-abbrev pub expected_closing_escape : Kind
-expected_closing_escape = expected (codes "right bracket to be escaped")
-
-abbrev pub expected_white : Kind
-expected_white = expected (codes "whitespace before nested format description")
-
-abbrev pub expected_nested : Kind
-expected_nested = expected (codes "nested format description")
-
-abbrev pub expected_alternative : Kind
-expected_alternative = expected (codes "at least one nested format description")
-
-abbrev pub too_highly_nested : Kind
-too_highly_nested = not_supported (codes "highly-nested format description") []
-
-abbrev pub many_nested : Kind
-many_nested = not_supported (codes "more than one nested format description")
-    (codes "`optional` components")
-
-abbrev pub optional_item : Kind
-optional_item = not_supported (codes "optional item") (codes "runtime-parsed format descriptions")
-
-abbrev pub first_item : Kind
-first_item = not_supported (codes "'first' item") (codes "runtime-parsed format descriptions")
-
--- the context is `time`'s, and makes a sentence with "in on"
-abbrev pub nested_here : Kind
-nested_here = not_supported (codes "nested format descriptions") (codes "on this component")

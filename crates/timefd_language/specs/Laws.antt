@@ -8,7 +8,8 @@ use Rattle.timefd_language.specs.Bytes.{is_version_three}
 use Rattle.timefd_language.specs.Recased.{Recased}
 use Rattle.timefd_language.specs.Relaxed.{IsFlat, AreStandard, relaxed}
 use Rattle.timefd_fault.specs.Faults.{Fault}
-use Rattle.timefd_language.specs.Fault.{raised, too_highly_nested}
+use Rattle.timefd_language.specs.Fault.{raised}
+use Rattle.timefd_fault.specs.Words.{too_highly_nested}
 use Rattle.timefd_language.specs.Grammar.{Pieces, ArePieces, spelling, items, Spells}
 use Rattle.timefd_language.specs.Broken.{FaultOf}
 use Rattle.timefd_language.specs.Rewritten.{rewritten}

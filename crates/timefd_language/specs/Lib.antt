@@ -20,9 +20,7 @@ pub mod Recased
 pub mod Relaxed
 pub mod Cut
 pub mod FaultMeaning
-pub mod Invalid
 pub mod Laws
-pub mod Told
 pub mod Settled
 pub mod Places
 pub mod Distinct

@@ -1,9 +1,11 @@
 -- The texts of strftime.
-use Rattle.std.specs.Prelude.{ℕ, ◌≡◌, ◌+◌, Bool, not, ◌==◌, ◌||◌, nat_lt, codes, if◌then◌else◌, List, [], ◌∷◌, ◌++◌, length, Some, None, IsTrue, IsFalse, ⊤}
+use Rattle.std.specs.Prelude.{ℕ, ◌≡◌, ◌+◌, Bool, not, ◌==◌, ◌||◌, nat_lt, if◌then◌else◌, List, [], ◌∷◌, ◌++◌, length, Some, None, IsTrue, IsFalse, ⊤}
 use Rattle.timefd_component.specs.Tree.{Text, Tree, literal}
-use Rattle.timefd_fault.specs.Faults.{Kind, Fault, fault, not_supported, invalid_name}
+use Rattle.timefd_fault.specs.Faults.{Kind, Fault, fault, invalid_name}
+use Rattle.timefd_fault.specs.Words.{unsupported_flag, unsupported_letter}
 use Rattle.timefd_language.specs.Bytes.{OneOrMore}
-use Rattle.timefd_language.specs.Fault.{raised, expected_escape}
+use Rattle.timefd_language.specs.Fault.{raised}
+use Rattle.timefd_fault.specs.Words.{expected_escape}
 use Rattle.timefd_language.specs.Letters.{Flag, unflagged, flagged, item_of}
 
 abbrev pub percent : ℕ
@@ -82,8 +84,8 @@ name_of b = if nat_lt b 128 then b ∷ [] else 0xef ∷ 0xbf ∷ 0xbd ∷ []
 
 abbrev pub unknown_kind : ℕ → Kind
 unknown_kind b =
-    if b == 79 then not_supported (codes "modifier") []
-    else if b == 90 then not_supported (codes "component") []
+    if b == 79 then unsupported_flag
+    else if b == 90 then unsupported_letter
     else invalid_name (name_of b)
 
 abbrev pub ill_fault : IllDirective → Fault

@@ -1,10 +1,12 @@
 //! The keys of modifiers.
 
 ghost use Rattle.std.specs.Prelude.{◌≡◌, map, option_map};
+ghost use Rattle.timefd_language.specs.Bytes.{is_version_three};
 ghost use Rattle.timefd_language.specs.Names.{row_for};
 ghost use Rattle.timefd_language.specs.Values.{key_in};
 ghost use Rattle.timefd_language.specs.Lookup.{key_for, keys_for};
 
+use crate::description_version::DescriptionVersion;
 use crate::name::{ComponentName, Name};
 use crate::same::same;
 
@@ -120,11 +122,12 @@ fn component_keys(name: ComponentName) -> &'static [Key]
 
 /// The key that a word is, in a bracket of this name.
 #[inline(always)]
-pub fn key_of(name: Name, strict: bool, word: &str) -> Option<Key>
-    ensures { option_map key_for result ≡ key_in strict word.now (keys_for name) }
+pub fn key_of(name: Name, version: DescriptionVersion, word: &str) -> Option<Key>
+    ensures { option_map key_for result ≡ key_in (is_version_three version) word.now (keys_for
+        name) }
 {
     for key in keys(name) {
-        if same(strict, key.spelling(), word) {
+        if same(version, key.spelling(), word) {
             return Some(*key);
         }
     }

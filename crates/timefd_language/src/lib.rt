@@ -7,11 +7,9 @@
 pub mod combination;
 pub mod component;
 pub mod description_version;
-pub mod fault;
 pub mod key;
 pub mod laws;
 pub mod name;
-pub mod parse_error;
 pub mod same;
 pub mod search;
 pub mod setting;
@@ -19,5 +17,3 @@ pub mod text;
 pub mod value;
 
 pub use description_version::DescriptionVersion;
-pub use fault::{Fault, FaultKind, ReadError, Rule};
-pub use parse_error::ParseError;

@@ -1,10 +1,12 @@
 //! The names that stand at the head of a bracket.
 
 ghost use Rattle.std.specs.Prelude.{◌≡◌, option_map};
+ghost use Rattle.timefd_language.specs.Bytes.{is_version_three};
 ghost use Rattle.timefd_language.specs.Bytes as spec;
 ghost use Rattle.timefd_language.specs.Names.{row_for, row_of};
 ghost use Rattle.timefd_language.specs.Lookup.{IsNameOf};
 
+use crate::description_version::DescriptionVersion;
 use crate::same::same;
 
 /// The name of a component.
@@ -69,40 +71,44 @@ pub enum Name {
 }
 
 /// What a word names.
-pub fn name_of(strict: bool, word: &str) -> Option<Name>
-    ensures { IsNameOf strict word.now result }
+pub fn name_of(version: DescriptionVersion, word: &str) -> Option<Name>
+    ensures { IsNameOf (is_version_three version) word.now result }
 {
-    if same(strict, "optional", word) {
+    if same(version, "optional", word) {
         Some(Name::Optional)
-    } else if same(strict, "first", word) {
+    } else if same(version, "first", word) {
         Some(Name::First)
     } else {
-        Some(Name::Component(component_name_of(strict, word)?))
+        Some(Name::Component(component_name_of(version, word)?))
     }
 }
 
 /// Of the names only those of the word's length are compared.
-fn component_name_of(strict: bool, word: &str) -> Option<ComponentName>
-    ensures { option_map row_for result ≡ row_of strict word.now }
+fn component_name_of(version: DescriptionVersion, word: &str) -> Option<ComponentName>
+    ensures { option_map row_for result ≡ row_of (is_version_three version) word.now }
 {
     match word.len() {
-        3 if names(ComponentName::Day, strict, word) => Some(ComponentName::Day),
-        3 if names(ComponentName::End, strict, word) => Some(ComponentName::End),
-        4 if names(ComponentName::Hour, strict, word) => Some(ComponentName::Hour),
-        4 if names(ComponentName::Year, strict, word) => Some(ComponentName::Year),
-        5 if names(ComponentName::Month, strict, word) => Some(ComponentName::Month),
-        6 if names(ComponentName::Ignore, strict, word) => Some(ComponentName::Ignore),
-        6 if names(ComponentName::Minute, strict, word) => Some(ComponentName::Minute),
-        6 if names(ComponentName::Period, strict, word) => Some(ComponentName::Period),
-        6 if names(ComponentName::Second, strict, word) => Some(ComponentName::Second),
-        7 if names(ComponentName::Ordinal, strict, word) => Some(ComponentName::Ordinal),
-        7 if names(ComponentName::Weekday, strict, word) => Some(ComponentName::Weekday),
-        9 if names(ComponentName::Subsecond, strict, word) => Some(ComponentName::Subsecond),
-        11 if names(ComponentName::OffsetHour, strict, word) => Some(ComponentName::OffsetHour),
-        11 if names(ComponentName::WeekNumber, strict, word) => Some(ComponentName::WeekNumber),
-        13 if names(ComponentName::OffsetMinute, strict, word) => Some(ComponentName::OffsetMinute),
-        13 if names(ComponentName::OffsetSecond, strict, word) => Some(ComponentName::OffsetSecond),
-        14 if names(ComponentName::UnixTimestamp, strict, word) => Some(
+        3 if names(ComponentName::Day, version, word) => Some(ComponentName::Day),
+        3 if names(ComponentName::End, version, word) => Some(ComponentName::End),
+        4 if names(ComponentName::Hour, version, word) => Some(ComponentName::Hour),
+        4 if names(ComponentName::Year, version, word) => Some(ComponentName::Year),
+        5 if names(ComponentName::Month, version, word) => Some(ComponentName::Month),
+        6 if names(ComponentName::Ignore, version, word) => Some(ComponentName::Ignore),
+        6 if names(ComponentName::Minute, version, word) => Some(ComponentName::Minute),
+        6 if names(ComponentName::Period, version, word) => Some(ComponentName::Period),
+        6 if names(ComponentName::Second, version, word) => Some(ComponentName::Second),
+        7 if names(ComponentName::Ordinal, version, word) => Some(ComponentName::Ordinal),
+        7 if names(ComponentName::Weekday, version, word) => Some(ComponentName::Weekday),
+        9 if names(ComponentName::Subsecond, version, word) => Some(ComponentName::Subsecond),
+        11 if names(ComponentName::OffsetHour, version, word) => Some(ComponentName::OffsetHour),
+        11 if names(ComponentName::WeekNumber, version, word) => Some(ComponentName::WeekNumber),
+        13 if names(ComponentName::OffsetMinute, version, word) => Some(
+            ComponentName::OffsetMinute,
+        ),
+        13 if names(ComponentName::OffsetSecond, version, word) => Some(
+            ComponentName::OffsetSecond,
+        ),
+        14 if names(ComponentName::UnixTimestamp, version, word) => Some(
             ComponentName::UnixTimestamp,
         ),
         _ => None,
@@ -111,8 +117,8 @@ fn component_name_of(strict: bool, word: &str) -> Option<ComponentName>
 
 /// Whether a word names this component.
 #[inline]
-fn names(name: ComponentName, strict: bool, word: &str) -> bool
-    ensures { result ≡ spec.same strict (row_for name).name word.now }
+fn names(name: ComponentName, version: DescriptionVersion, word: &str) -> bool
+    ensures { result ≡ spec.same (is_version_three version) (row_for name).name word.now }
 {
-    same(strict, name.spelling(), word)
+    same(version, name.spelling(), word)
 }

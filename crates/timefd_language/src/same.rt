@@ -1,12 +1,15 @@
 //! How the words of a head are compared.
 
 ghost use Rattle.std.specs.Prelude.{◌≡◌, length};
+ghost use Rattle.timefd_language.specs.Bytes.{is_version_three};
 ghost use Rattle.timefd_language.specs.Bytes as spec;
+
+use crate::description_version::DescriptionVersion;
 
 /// Whether two words are the same: strictly, byte for byte, and else without regard to ASCII case.
 #[inline(always)]
-pub fn same(strict: bool, word: &str, text: &str) -> bool
-    ensures { result ≡ spec.same strict word.now text.now }
+pub fn same(version: DescriptionVersion, word: &str, text: &str) -> bool
+    ensures { result ≡ spec.same (is_version_three version) word.now text.now }
 {
     if word.len() != text.len() {
         return false;
@@ -14,7 +17,7 @@ pub fn same(strict: bool, word: &str, text: &str) -> bool
     if equal(word.as_bytes(), text.as_bytes()) {
         return true;
     }
-    if strict {
+    if version.is_strict() {
         return false;
     }
     word.eq_ignore_ascii_case(text)

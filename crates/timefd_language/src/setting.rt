@@ -1,8 +1,10 @@
 //! What the modifiers of a component set.
 
 ghost use Rattle.std.specs.Prelude.{◌≡◌};
+ghost use Rattle.timefd_language.specs.Bytes.{is_version_three};
 ghost use Rattle.timefd_language.specs.Settings as spec;
 
+use crate::description_version::DescriptionVersion;
 use std::num::NonZero;
 use timefd_modifier::{
     MonthRepr, Padding, SubsecondDigits, TrailingInput, UnixTimestampPrecision, WeekNumberRepr,
@@ -59,8 +61,8 @@ pub struct Settings {
 impl Settings {
     /// What holds where no modifier stands. The range of years depends on the version.
     #[inline(always)]
-    pub fn new(strict: bool) -> Self
-        ensures { result ≡ spec.defaults strict }
+    pub fn new(version: DescriptionVersion) -> Self
+        ensures { result ≡ spec.defaults (is_version_three version) }
     {
         Settings {
             padding: Padding::Zero,
@@ -77,7 +79,7 @@ impl Settings {
             one_indexed: true,
             week_number_repr: WeekNumberRepr::Iso,
             year_repr: YearRepr::Full,
-            range: default_range(strict),
+            range: default_range(version),
             iso_week_based: false,
             format: true,
         }
@@ -111,10 +113,10 @@ impl Settings {
 }
 
 #[inline(always)]
-fn default_range(strict: bool) -> YearRange
-    ensures { result ≡ spec.default_range strict }
+fn default_range(version: DescriptionVersion) -> YearRange
+    ensures { result ≡ spec.default_range (is_version_three version) }
 {
-    if strict {
+    if version.is_strict() {
         YearRange::Standard
     } else {
         YearRange::Extended

@@ -1,12 +1,13 @@
 //! The words of modifiers, and what they set.
 
 ghost use Rattle.std.specs.Prelude.{◌≡◌, Bool, option_map, map};
-ghost use Rattle.timefd_language.specs.Bytes.{named};
+ghost use Rattle.timefd_language.specs.Bytes.{is_version_three, named};
 ghost use Rattle.timefd_language.specs.Values as spec;
 ghost use Rattle.timefd_language.specs.Values.{setting_in, sets_of, ◌sets◌};
 ghost use Rattle.timefd_language.specs.Lookup.{key_for};
 ghost use Rattle.timefd_language.specs.declared.setting.Setting.{Setting};
 
+use crate::description_version::DescriptionVersion;
 use crate::key::Key;
 use crate::same::same;
 use crate::setting::Setting;
@@ -18,51 +19,53 @@ use timefd_modifier::{
 
 /// What a word sets a key to.
 #[inline(always)]
-pub fn setting_of(key: Key, strict: bool, word: &str) -> Option<Setting>
-    ensures { result ≡ setting_in strict (key_for key).values word.now }
+pub fn setting_of(key: Key, version: DescriptionVersion, word: &str) -> Option<Setting>
+    ensures { result ≡ setting_in (is_version_three version) (key_for key).values word.now }
 {
     let setting = match key {
-        Key::Padding => Setting::Padding(padding_of(strict, word)?),
-        Key::TrailingInput => Setting::TrailingInput(trailing_input_of(strict, word)?),
-        Key::HourRepr => Setting::Is12HourClock(is_12_hour_clock_of(strict, word)?),
+        Key::Padding => Setting::Padding(padding_of(version, word)?),
+        Key::TrailingInput => Setting::TrailingInput(trailing_input_of(version, word)?),
+        Key::HourRepr => Setting::Is12HourClock(is_12_hour_clock_of(version, word)?),
         Key::Count => Setting::Count(count_of(word)?),
-        Key::MonthRepr => Setting::MonthRepr(month_repr_of(strict, word)?),
-        Key::CaseSensitive => Setting::CaseSensitive(bool_of(strict, word)?),
-        Key::Sign => Setting::SignIsMandatory(sign_is_mandatory_of(strict, word)?),
-        Key::Case => Setting::IsUppercase(is_uppercase_of(strict, word)?),
+        Key::MonthRepr => Setting::MonthRepr(month_repr_of(version, word)?),
+        Key::CaseSensitive => Setting::CaseSensitive(bool_of(version, word)?),
+        Key::Sign => Setting::SignIsMandatory(sign_is_mandatory_of(version, word)?),
+        Key::Case => Setting::IsUppercase(is_uppercase_of(version, word)?),
         Key::Digits => Setting::Digits(digits_of(word)?),
-        Key::Precision => Setting::Precision(precision_of(strict, word)?),
-        Key::WeekdayRepr => Setting::WeekdayRepr(weekday_repr_of(strict, word)?),
-        Key::OneIndexed => Setting::OneIndexed(bool_of(strict, word)?),
-        Key::WeekNumberRepr => Setting::WeekNumberRepr(week_number_repr_of(strict, word)?),
-        Key::YearRepr => Setting::YearRepr(year_repr_of(strict, word)?),
-        Key::Range => Setting::Range(range_of(strict, word)?),
-        Key::Base => Setting::IsoWeekBased(is_iso_week_based_of(strict, word)?),
-        Key::Format => Setting::Format(bool_of(strict, word)?),
+        Key::Precision => Setting::Precision(precision_of(version, word)?),
+        Key::WeekdayRepr => Setting::WeekdayRepr(weekday_repr_of(version, word)?),
+        Key::OneIndexed => Setting::OneIndexed(bool_of(version, word)?),
+        Key::WeekNumberRepr => Setting::WeekNumberRepr(week_number_repr_of(version, word)?),
+        Key::YearRepr => Setting::YearRepr(year_repr_of(version, word)?),
+        Key::Range => Setting::Range(range_of(version, word)?),
+        Key::Base => Setting::IsoWeekBased(is_iso_week_based_of(version, word)?),
+        Key::Format => Setting::Format(bool_of(version, word)?),
     };
     Some(setting)
 }
 
 /// What a word stands for among these.
 #[inline(always)]
-fn value_of<T: Copy>(strict: bool, word: &str, values: &[(&str, T)]) -> Option<T>
-    ensures { (set : T → Setting) → option_map set result ≡ sets_of (named (λ v. v.word) strict
+fn value_of<T: Copy>(version: DescriptionVersion, word: &str, values: &[(&str, T)]) -> Option<T>
+    ensures { (set : T → Setting) → option_map set result ≡ sets_of (named (λ v. v.word)
+        (is_version_three version)
         word.now (map (λ x. x.0.now sets set x.1) values.now)) }
 {
     for (name, value) in values {
-        if same(strict, name, word) {
+        if same(version, name, word) {
             return Some(*value);
         }
     }
     None
 }
 
-fn trailing_input_of(strict: bool, word: &str) -> Option<TrailingInput>
-    ensures { option_map Setting.TrailingInput result ≡ setting_in strict spec.trailing_input.values
+fn trailing_input_of(version: DescriptionVersion, word: &str) -> Option<TrailingInput>
+    ensures { option_map Setting.TrailingInput result ≡ setting_in (is_version_three version)
+        spec.trailing_input.values
         word.now }
 {
     value_of(
-        strict,
+        version,
         word,
         &[
             ("prohibit", TrailingInput::Prohibit),
@@ -71,31 +74,35 @@ fn trailing_input_of(strict: bool, word: &str) -> Option<TrailingInput>
     )
 }
 
-fn is_12_hour_clock_of(strict: bool, word: &str) -> Option<bool>
-    ensures { option_map Setting.Is12HourClock result ≡ setting_in strict spec.hour_repr.values
+fn is_12_hour_clock_of(version: DescriptionVersion, word: &str) -> Option<bool>
+    ensures { option_map Setting.Is12HourClock result ≡ setting_in (is_version_three version)
+        spec.hour_repr.values
         word.now }
 {
-    value_of(strict, word, &[("24", false), ("12", true)])
+    value_of(version, word, &[("24", false), ("12", true)])
 }
 
-fn sign_is_mandatory_of(strict: bool, word: &str) -> Option<bool>
-    ensures { option_map Setting.SignIsMandatory result ≡ setting_in strict spec.sign.values
+fn sign_is_mandatory_of(version: DescriptionVersion, word: &str) -> Option<bool>
+    ensures { option_map Setting.SignIsMandatory result ≡ setting_in (is_version_three version)
+        spec.sign.values
         word.now }
 {
-    value_of(strict, word, &[("automatic", false), ("mandatory", true)])
+    value_of(version, word, &[("automatic", false), ("mandatory", true)])
 }
 
-fn is_uppercase_of(strict: bool, word: &str) -> Option<bool>
-    ensures { option_map Setting.IsUppercase result ≡ setting_in strict spec.case.values word.now }
+fn is_uppercase_of(version: DescriptionVersion, word: &str) -> Option<bool>
+    ensures { option_map Setting.IsUppercase result ≡ setting_in (is_version_three version)
+        spec.case.values word.now }
 {
-    value_of(strict, word, &[("upper", true), ("lower", false)])
+    value_of(version, word, &[("upper", true), ("lower", false)])
 }
 
-fn range_of(strict: bool, word: &str) -> Option<YearRange>
-    ensures { option_map Setting.Range result ≡ setting_in strict spec.range.values word.now }
+fn range_of(version: DescriptionVersion, word: &str) -> Option<YearRange>
+    ensures { option_map Setting.Range result ≡ setting_in (is_version_three version)
+        spec.range.values word.now }
 {
     value_of(
-        strict,
+        version,
         word,
         &[
             ("standard", YearRange::Standard),
@@ -104,28 +111,33 @@ fn range_of(strict: bool, word: &str) -> Option<YearRange>
     )
 }
 
-fn is_iso_week_based_of(strict: bool, word: &str) -> Option<bool>
-    ensures { option_map Setting.IsoWeekBased result ≡ setting_in strict spec.base.values word.now }
+fn is_iso_week_based_of(version: DescriptionVersion, word: &str) -> Option<bool>
+    ensures { option_map Setting.IsoWeekBased result ≡ setting_in (is_version_three version)
+        spec.base.values word.now }
 {
-    value_of(strict, word, &[("calendar", false), ("iso_week", true)])
+    value_of(version, word, &[("calendar", false), ("iso_week", true)])
 }
 
-fn bool_of(strict: bool, word: &str) -> Option<bool>
-    ensures case_sensitive { option_map Setting.CaseSensitive result ≡ setting_in strict
+fn bool_of(version: DescriptionVersion, word: &str) -> Option<bool>
+    ensures case_sensitive { option_map Setting.CaseSensitive result ≡ setting_in
+        (is_version_three version)
         spec.case_sensitive.values word.now }
-    ensures one_indexed { option_map Setting.OneIndexed result ≡ setting_in strict
+    ensures one_indexed { option_map Setting.OneIndexed result ≡ setting_in
+        (is_version_three version)
         spec.one_indexed.values word.now }
-    ensures format { option_map Setting.Format result ≡ setting_in strict spec.format.values
+    ensures format { option_map Setting.Format result ≡ setting_in (is_version_three version)
+        spec.format.values
         word.now }
 {
-    value_of(strict, word, &[("true", true), ("false", false)])
+    value_of(version, word, &[("true", true), ("false", false)])
 }
 
-fn padding_of(strict: bool, word: &str) -> Option<Padding>
-    ensures { option_map Setting.Padding result ≡ setting_in strict spec.padding.values word.now }
+fn padding_of(version: DescriptionVersion, word: &str) -> Option<Padding>
+    ensures { option_map Setting.Padding result ≡ setting_in (is_version_three version)
+        spec.padding.values word.now }
 {
     value_of(
-        strict,
+        version,
         word,
         &[
             ("zero", Padding::Zero),
@@ -135,12 +147,13 @@ fn padding_of(strict: bool, word: &str) -> Option<Padding>
     )
 }
 
-fn month_repr_of(strict: bool, word: &str) -> Option<MonthRepr>
-    ensures { option_map Setting.MonthRepr result ≡ setting_in strict spec.month_repr.values
+fn month_repr_of(version: DescriptionVersion, word: &str) -> Option<MonthRepr>
+    ensures { option_map Setting.MonthRepr result ≡ setting_in (is_version_three version)
+        spec.month_repr.values
         word.now }
 {
     value_of(
-        strict,
+        version,
         word,
         &[
             ("numerical", MonthRepr::Numerical),
@@ -150,12 +163,12 @@ fn month_repr_of(strict: bool, word: &str) -> Option<MonthRepr>
     )
 }
 
-fn week_number_repr_of(strict: bool, word: &str) -> Option<WeekNumberRepr>
-    ensures { option_map Setting.WeekNumberRepr result ≡ setting_in strict
+fn week_number_repr_of(version: DescriptionVersion, word: &str) -> Option<WeekNumberRepr>
+    ensures { option_map Setting.WeekNumberRepr result ≡ setting_in (is_version_three version)
         spec.week_number_repr.values word.now }
 {
     value_of(
-        strict,
+        version,
         word,
         &[
             ("iso", WeekNumberRepr::Iso),
@@ -165,11 +178,12 @@ fn week_number_repr_of(strict: bool, word: &str) -> Option<WeekNumberRepr>
     )
 }
 
-fn year_repr_of(strict: bool, word: &str) -> Option<YearRepr>
-    ensures { option_map Setting.YearRepr result ≡ setting_in strict spec.year_repr.values word.now }
+fn year_repr_of(version: DescriptionVersion, word: &str) -> Option<YearRepr>
+    ensures { option_map Setting.YearRepr result ≡ setting_in (is_version_three version)
+        spec.year_repr.values word.now }
 {
     value_of(
-        strict,
+        version,
         word,
         &[
             ("full", YearRepr::Full),
@@ -179,12 +193,13 @@ fn year_repr_of(strict: bool, word: &str) -> Option<YearRepr>
     )
 }
 
-fn weekday_repr_of(strict: bool, word: &str) -> Option<WeekdayRepr>
-    ensures { option_map Setting.WeekdayRepr result ≡ setting_in strict spec.weekday_repr.values
+fn weekday_repr_of(version: DescriptionVersion, word: &str) -> Option<WeekdayRepr>
+    ensures { option_map Setting.WeekdayRepr result ≡ setting_in (is_version_three version)
+        spec.weekday_repr.values
         word.now }
 {
     value_of(
-        strict,
+        version,
         word,
         &[
             ("long", WeekdayRepr::Long),
@@ -195,11 +210,12 @@ fn weekday_repr_of(strict: bool, word: &str) -> Option<WeekdayRepr>
     )
 }
 
-fn precision_of(strict: bool, word: &str) -> Option<UnixTimestampPrecision>
-    ensures { option_map Setting.Precision result ≡ setting_in strict spec.precision.values word.now }
+fn precision_of(version: DescriptionVersion, word: &str) -> Option<UnixTimestampPrecision>
+    ensures { option_map Setting.Precision result ≡ setting_in (is_version_three version)
+        spec.precision.values word.now }
 {
     value_of(
-        strict,
+        version,
         word,
         &[
             ("second", UnixTimestampPrecision::Second),

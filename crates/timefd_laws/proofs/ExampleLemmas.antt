@@ -5,7 +5,7 @@ use Rattle.timefd_component.specs.Tree.{Text, Tree, component}
 use Rattle.timefd_fault.specs.Faults.{Fault, unclosed_bracket, invalid_name, invalid_modifier, missing_name, missing_modifier}
 use Rattle.timefd_language.specs.declared.description_version.DescriptionVersion.{DescriptionVersion}
 use Rattle.timefd_language.specs.declared.description_version.DescriptionVersion.TheVariants.{One, Two, Three}
-use Rattle.timefd_language.specs.Fault.{expected_white, nested_here}
+use Rattle.timefd_fault.specs.Words.{expected_white, nested_here}
 use Rattle.timefd_language.specs.Values.{not_zero}
 use Rattle.timefd_language.specs.Grammar.{Spells, nesting_limit}
 use Rattle.timefd_language.specs.Broken.{FaultOf}

@@ -5,7 +5,7 @@ use Rattle.timefd_fault.specs.Faults.{Fault, fault, invalid_modifier, duplicate_
 use Rattle.timefd_language.specs.declared.description_version.DescriptionVersion.{DescriptionVersion}
 use Rattle.timefd_language.specs.declared.name.Name.{Name}
 use Rattle.timefd_language.specs.Bytes.{same, is_version_three}
-use Rattle.timefd_language.specs.Fault.{expected_white, expected_nested, expected_alternative, optional_item, first_item}
+use Rattle.timefd_fault.specs.Words.{expected_white, expected_nested, expected_alternative, optional_item, first_item}
 use Rattle.timefd_language.specs.Head.{Head, Modifier, Placed, placed_at, placed_from, placed, modifier_text, modifiers_text, name_index, head_text}
 use Rattle.timefd_language.specs.Values.{Key, setting_in}
 use Rattle.timefd_language.specs.Names.{row_for, row_of}

@@ -6,7 +6,7 @@ use Rattle.timefd_language.specs.declared.description_version.DescriptionVersion
 use Rattle.timefd_language.specs.declared.description_version.DescriptionVersion.TheVariants.{Three}
 use Rattle.timefd_language.specs.declared.name.Name.{Name}
 use Rattle.timefd_language.specs.Bytes.{is_version_three}
-use Rattle.timefd_language.specs.Fault.{expected_white, expected_nested, expected_alternative, optional_item, first_item}
+use Rattle.timefd_fault.specs.Words.{expected_white, expected_nested, expected_alternative, optional_item, first_item}
 use Rattle.timefd_language.specs.Head.{Head, placed, placed_from, name_index, head_text}
 use Rattle.timefd_language.specs.Verdict.{PlacedDescription, ◌or◌, refuse, unless, too_many, nested_wanted, any_modifier, is_formatted, only}
 use Rattle.timefd_language.specs.Grammar.{Nested, no_nested, nested, items, spelling, nested_text, parts_from, bracket_verdict}

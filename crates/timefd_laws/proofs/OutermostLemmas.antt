@@ -9,7 +9,8 @@ use Rattle.timefd_language.specs.declared.description_version.DescriptionVersion
 use Rattle.timefd_language.specs.declared.name.ComponentName.{ComponentName}
 use Rattle.timefd_language.specs.declared.setting.Settings.{Settings}
 use Rattle.timefd_language.specs.Bytes.{left, equal, same, is_version_three}
-use Rattle.timefd_language.specs.Fault.{enclosed, expected_nested, expected_alternative, optional_item, first_item}
+use Rattle.timefd_language.specs.Fault.{enclosed}
+use Rattle.timefd_fault.specs.Words.{expected_nested, expected_alternative, optional_item, first_item}
 use Rattle.timefd_language.specs.Head.{Head, Placed, placed, modifiers_text, head_text}
 use Rattle.timefd_language.specs.Values.{Key, key_in, setting_in, format}
 use Rattle.timefd_language.specs.Names.{Row, row_for, rows, row_of, component_names, ignored}

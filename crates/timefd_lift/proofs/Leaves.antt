@@ -8,7 +8,7 @@ use Rattle.timefd_fault.specs.Faults.{Kind, Fault, fault}
 use Rattle.timefd_component.specs.Modern.{modern}
 use Rattle.timefd_component.proofs.ModernLemmas.{IsReplacement, month_replaced, weekday_replaced, week_replaced, hour_replaced, timestamp_replaced, year_replaced}
 use Rattle.timefd_language.specs.Bytes.{same}
-use Rattle.timefd_language.specs.Fault.{expected_nested, optional_item, first_item}
+use Rattle.timefd_fault.specs.Words.{expected_nested, optional_item, first_item}
 use Rattle.timefd_language.specs.Head.{Head, Placed, placed}
 use Rattle.timefd_language.specs.declared.setting.Setting.{Setting}
 use Rattle.timefd_language.specs.declared.setting.Settings.{Settings}

@@ -5,10 +5,10 @@ use Rattle.std.specs.Prelude.{IfOk}
 use Rattle.std.specs.Result.{OnOk}
 use Rattle.std.specs.declared.alloc.Global.{Global}
 use Rattle.std.specs.declared.vec.Vec.{Vec}
-use Rattle.timefd_diagnosis.specs.declared.code.Code.{Code}
+use Rattle.timefd_fault.specs.declared.code.Code.{Code}
 use Rattle.timefd_lint.specs.Logs.{IsHead, WritesLog, joined, program}
 use Rattle.std.proofs.lemmas.List.{append_assoc}
-use Rattle.timefd_diagnosis.specs.Codes as faults
+use Rattle.timefd_fault.specs.Codes as faults
 use Rattle.timefd_editor.specs.Each.{Adds, AreOf}
 use Rattle.timefd_component.specs.Tree.{Text}
 use Rattle.timefd_lint.specs.declared.error_code.ErrorCode.{ErrorCode}

@@ -1,8 +1,8 @@
 -- The rules of a log: one for each code that a result may have.
 use Rattle.std.specs.Prelude.{◌≡◌, List, [], ◌∷◌, ◌++◌, codes}
 use Rattle.timefd_component.specs.Tree.{Text}
-use Rattle.timefd_diagnosis.specs.declared.code.Code.{Code}
-use Rattle.timefd_diagnosis.specs.Codes as faults
+use Rattle.timefd_fault.specs.declared.code.Code.{Code}
+use Rattle.timefd_fault.specs.Codes as faults
 use Rattle.timefd_drawing.specs.Json.{quoted}
 use Rattle.timefd_editor.specs.Each.{AreOf}
 use Rattle.timefd_lint.specs.declared.error_code.ErrorCode.{ErrorCode}

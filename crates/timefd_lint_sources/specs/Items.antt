@@ -4,10 +4,10 @@
 use Rattle.std.specs.Prelude.{ℕ, zero, suc, ◌≡◌, ◌+◌, ◌-◌, ◌⊎◌, Bool, true, false, not, ◌&&◌, List, [], ◌∷◌, ◌++◌, codes, length, Option, None, Some, if◌then◌else◌, IsUtf8, IsTrue}
 use Rattle.std.specs.List.{flat_map, repeat}
 use Rattle.timefd_component.specs.Tree.{Text}
-use Rattle.timefd_diagnosis.specs.declared.code.Code.{Code}
-use Rattle.timefd_diagnosis.specs.declared.code.Code.TheVariants.{UnclosedBracket, UnknownName, InvalidModifier, MissingName, MissingModifier, InvalidEscape, UnescapedBracket, MissingSpace, MissingDescription, MissingAlternative, NestedTooDeep, SeveralDescriptions, OptionalItem, FirstItem, UnsupportedFlag, UnsupportedLetter, NestedInComponent, DuplicateModifier, RefusedModifier}
+use Rattle.timefd_fault.specs.declared.code.Code.{Code}
+use Rattle.timefd_fault.specs.declared.code.Code.TheVariants.{UnclosedBracket, UnknownName, InvalidModifier, MissingName, MissingModifier, InvalidEscape, UnescapedBracket, MissingSpace, MissingDescription, MissingAlternative, NestedTooDeep, SeveralDescriptions, OptionalItem, FirstItem, UnsupportedFlag, UnsupportedLetter, NestedInComponent, DuplicateModifier, RefusedModifier}
 use Rattle.timefd_diagnosis.specs.declared.diagnostic.Diagnostic.{Diagnostic}
-use Rattle.timefd_diagnosis.specs.Codes.{code_of}
+use Rattle.timefd_fault.specs.Codes.{code_of}
 use Rattle.timefd_diagnosis.specs.Further.{AreDiagnosed}
 use Rattle.timefd_fault.specs.Faults.{Fault, fault_of}
 use Rattle.timefd_language.specs.Bytes.{right, is_white, ZeroOrMore}

@@ -1,7 +1,7 @@
 //! What is wrong with a description besides its first fault.
 
 ghost use Rattle.std.specs.Prelude.{◌≡◌, ◌++◌, List, IfOk, OnOk};
-ghost use Rattle.timefd_borrowed_fault.specs.Placed.{IsPlaced};
+ghost use Rattle.timefd_fault.specs.Placed.{IsPlaced};
 ghost use Rattle.timefd_diagnosis.specs.declared.diagnostic.Diagnostic as diagnostics;
 ghost use Rattle.timefd_diagnosis.specs.Further.{AreFurther, most_further, without};
 ghost use Rattle.std.specs.List.{flat_map};

@@ -4,7 +4,7 @@
 ghost use Rattle.std.specs.Prelude.{◌≡◌, ◌++◌, Bool, IfOk, IfSome, None, Some, length, string_bytes, true};
 ghost use Rattle.std.specs.Str.{IsCharBoundary};
 ghost use Rattle.timefd_component.specs.Tree.{Text};
-ghost use Rattle.timefd_diagnosis.specs.Codes as codes;
+ghost use Rattle.timefd_fault.specs.Codes as codes;
 ghost use Rattle.timefd_fault.specs.Faults.{Fault};
 ghost use Rattle.timefd_language.specs.Grammar.{nesting_limit};
 ghost use Rattle.timefd_parse.specs.Language.{FaultIn};

@@ -6,18 +6,18 @@ use Rattle.timefd_component.specs.Tree.{Text, Tree}
 use Rattle.timefd_language.specs.declared.description_version.DescriptionVersion.{DescriptionVersion}
 use Rattle.timefd_language.specs.declared.description_version.DescriptionVersion.TheVariants.{One, Two, Three}
 use Rattle.timefd_parse.specs.declared.language.Language.TheVariants.{Version, Strftime}
-use Rattle.timefd_language.specs.declared.parse_error.ParseError.{ParseError}
-use Rattle.timefd_language.specs.declared.parse_error.ParseError.TheVariants as told
+use Rattle.timefd_fault.specs.declared.parse_error.ParseError.{ParseError}
+use Rattle.timefd_fault.specs.declared.parse_error.ParseError.TheVariants as told
 use Rattle.timefd_language.specs.Broken.{FaultOf}
 use Rattle.timefd_language.specs.Strftime.{StrftimeFaultOf}
-use Rattle.timefd_borrowed_fault.specs.declared.borrowed_parse_error.BorrowedParseError.{BorrowedParseError}
-use Rattle.timefd_borrowed_fault.specs.declared.borrowed_parse_error.BorrowedParseError.TheVariants.{Invalid, Memory}
-use Rattle.timefd_borrowed_fault.specs.BorrowedFaults.{HasShortWords, IsLentOf, IsOwned}
-use Rattle.timefd_borrowed_fault.specs.Placed.{IsPlaced}
-use Rattle.timefd_borrowed_fault.proofs.PlacedLemmas.{is_placed, is_strftime_placed}
-use Rattle.timefd_borrowed_fault.proofs.ShortWords.{short_fault, short_strftime_fault}
+use Rattle.timefd_fault.specs.declared.borrowed_parse_error.BorrowedParseError.{BorrowedParseError}
+use Rattle.timefd_fault.specs.declared.borrowed_parse_error.BorrowedParseError.TheVariants.{Invalid, Memory}
+use Rattle.timefd_fault.specs.BorrowedFaults.{HasShortWords, IsLentOf, IsOwned}
+use Rattle.timefd_fault.specs.Placed.{IsPlaced}
+use Rattle.timefd_language.proofs.PlacedLemmas.{is_placed, is_strftime_placed}
+use Rattle.timefd_language.proofs.ShortWords.{short_fault, short_strftime_fault}
 use Rattle.timefd_fault.specs.Faults.{Fault}
-use Rattle.timefd_borrowed_fault.proofs.OwnedLemmas.{owned_of}
+use Rattle.timefd_fault.proofs.OwnedLemmas.{owned_of}
 use Rattle.timefd_parse.specs.declared.language.Language.{Language}
 use Rattle.timefd_parse.specs.Language.{amount, takes_memory, FaultIn, IsAssignedIn}
 

@@ -8,15 +8,16 @@ use Rattle.timefd_parse.specs.declared.modifier.Modifier as code
 use Rattle.timefd_parse.specs.declared.modifiers.Modifiers as code_modifiers
 use Rattle.timefd_parse.specs.declared.head.Head as code_head
 use Rattle.timefd_language.specs.declared.name.Name.{Name}
-use Rattle.timefd_language.specs.declared.fault.Fault as code_fault
-use Rattle.timefd_language.specs.declared.fault.Rule.TheVariants as broken
+use Rattle.timefd_fault.specs.declared.read_error.Fault as code_fault
+use Rattle.timefd_fault.specs.declared.rule.Rule.TheVariants as broken
 use Rattle.timefd_language.specs.Bytes.{left, is_white, is_word_byte, OneOrMore, StopsBefore}
 use Rattle.timefd_language.specs.Head.{Modifier, IsModifier, AreModifiers, modifier_text, modifiers_text, Head, IsHead, Placed, placed_at, placed_from}
 use Rattle.timefd_language.specs.Broken.{Misfit, no_colon, no_key, no_value, misfit_fault, nameless, ill_modified, name_wanted_index, BeginsNoEscape}
 use Rattle.timefd_language.specs.Cut.{IsCut}
 use Rattle.timefd_language.specs.Lookup.{IsNameOf}
 use Rattle.timefd_parse.specs.Checked.{Checks}
-use Rattle.timefd_language.specs.FaultMeaning.{IsFault, IsFaultAt}
+use Rattle.timefd_fault.specs.ReadErrors.{IsFault}
+use Rattle.timefd_language.specs.FaultMeaning.{IsFaultAt}
 use Rattle.timefd_parse.specs.ReadModifiers.{IsPlaced, IsWord, IsNoWord, BeginsWithWord}
 use Rattle.timefd_parse.specs.Heads.{BeginsWithHead}
 use Rattle.timefd_parse.proofs.ModifierLemmas.{empty, one_or_more}

@@ -9,24 +9,24 @@ use Rattle.timefd_component.specs.Tree.{Text, Tree, pack}
 use Rattle.timefd_format_item.specs.declared.borrowed_format_item.BorrowedFormatItem.{BorrowedFormatItem}
 use Rattle.timefd_language.specs.declared.description_version.DescriptionVersion.{DescriptionVersion}
 use Rattle.timefd_language.specs.declared.description_version.DescriptionVersion.TheVariants.{One, Two, Three}
-use Rattle.timefd_language.specs.declared.fault.Fault as code_fault
-use Rattle.timefd_language.specs.declared.fault.ReadError.{ReadError}
-use Rattle.timefd_language.specs.declared.fault.ReadError.TheVariants as errors
+use Rattle.timefd_fault.specs.declared.read_error.Fault as code_fault
+use Rattle.timefd_fault.specs.declared.read_error.ReadError.{ReadError}
+use Rattle.timefd_fault.specs.declared.read_error.ReadError.TheVariants as errors
 use Rattle.timefd_parse.specs.declared.language.Language.TheVariants.{Version}
 use Rattle.timefd_parse.specs.declared.parsing.BorrowedOutput.TheVariants.{Items}
-use Rattle.timefd_language.specs.declared.parse_error.ParseError.{ParseError}
-use Rattle.timefd_language.specs.declared.parse_error.ParseError.TheVariants as told
-use Rattle.timefd_borrowed_fault.specs.declared.borrowed_parse_error.BorrowedParseError.{BorrowedParseError}
-use Rattle.timefd_borrowed_fault.specs.BorrowedFaults.{IsLent, IsLentOf, IsMemory, IsOwned, IsRefusal, Lends}
-use Rattle.timefd_borrowed_fault.proofs.LentLemmas as lent
-use Rattle.timefd_borrowed_fault.proofs.LentLemmas.{Assigned}
-use Rattle.timefd_borrowed_fault.proofs.OwnedLemmas.{owned_of}
+use Rattle.timefd_fault.specs.declared.parse_error.ParseError.{ParseError}
+use Rattle.timefd_fault.specs.declared.parse_error.ParseError.TheVariants as told
+use Rattle.timefd_fault.specs.declared.borrowed_parse_error.BorrowedParseError.{BorrowedParseError}
+use Rattle.timefd_fault.specs.BorrowedFaults.{IsLent, IsLentOf, IsMemory, IsOwned, IsRefusal, Lends}
+use Rattle.timefd_fault.proofs.LentLemmas as lent
+use Rattle.timefd_fault.proofs.LentLemmas.{Assigned}
+use Rattle.timefd_fault.proofs.OwnedLemmas.{owned_of}
 use Rattle.timefd_language.specs.Bytes.{is_version_three}
 use Rattle.timefd_language.specs.Fault.{raised}
 use Rattle.timefd_language.specs.Grammar.{Spells, no_pieces, spelling}
 use Rattle.timefd_language.specs.Broken.{FaultOf, broken_text, broken_fault}
-use Rattle.timefd_language.specs.FaultMeaning.{MemoryOr}
-use Rattle.timefd_language.specs.Invalid.{IsInvalid}
+use Rattle.timefd_fault.specs.ReadErrors.{MemoryOr}
+use Rattle.timefd_fault.specs.ReadErrors.{IsInvalid}
 use Rattle.timefd_parse.specs.Read.{IsFaultIn, PiecesToEnd}
 use Rattle.timefd_language.specs.Strings.{AreItems}
 use Rattle.timefd_parse.specs.Answers.{IsOutput, IsAssigned}

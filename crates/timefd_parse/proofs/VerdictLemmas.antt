@@ -8,7 +8,7 @@ use Rattle.timefd_node_list.proofs.NodeLemmas.{before-append, ending-append}
 use Rattle.timefd_parse.specs.declared.piece.Piece.TheVariants.{Compound}
 use Rattle.timefd_parse.specs.declared.verdict.Nested as code_nested
 use Rattle.timefd_language.specs.Bytes.{same}
-use Rattle.timefd_language.specs.Fault.{expected_nested, expected_alternative, many_nested, optional_item, first_item}
+use Rattle.timefd_fault.specs.Words.{expected_nested, expected_alternative, many_nested, optional_item, first_item}
 use Rattle.timefd_language.specs.Head.{Head, Placed, placed}
 use Rattle.timefd_language.specs.Values.{format}
 use Rattle.timefd_parse.specs.Places.{place}

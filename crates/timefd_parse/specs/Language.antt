@@ -1,8 +1,8 @@
 -- The languages, and what a text is in each.
 use Rattle.std.specs.Prelude.{ℕ, ◌≡◌, Bool, true, false, [], List, length, IfOk, IsFalse, IsOk, MatchResult, Result, ⊤}
 use Rattle.std.specs.Result.{IfErr}
-use Rattle.timefd_borrowed_fault.specs.declared.borrowed_parse_error.BorrowedParseError.{BorrowedParseError}
-use Rattle.timefd_borrowed_fault.specs.BorrowedFaults.{IsLent, IsLentOf, IsMemory, IsRefusal}
+use Rattle.timefd_fault.specs.declared.borrowed_parse_error.BorrowedParseError.{BorrowedParseError}
+use Rattle.timefd_fault.specs.BorrowedFaults.{IsLent, IsLentOf, IsMemory, IsRefusal}
 use Rattle.timefd_language.specs.Bytes.{is_version_three}
 use Rattle.timefd_language.specs.declared.description_version.DescriptionVersion.{DescriptionVersion}
 use Rattle.timefd_component.specs.Tree.{Text, Tree, pack}
@@ -11,8 +11,8 @@ use Rattle.timefd_component.specs.Reserved.{reserve}
 use Rattle.timefd_language.specs.declared.description_version.DescriptionVersion.TheVariants.{One, Two, Three}
 use Rattle.timefd_parse.specs.declared.language.Language.{Language}
 use Rattle.timefd_parse.specs.declared.language.Language.TheVariants.{Version, Strftime}
-use Rattle.timefd_language.specs.declared.parse_error.ParseError.{ParseError}
-use Rattle.timefd_language.specs.declared.parse_error.ParseError.TheVariants.{Invalid, Memory}
+use Rattle.timefd_fault.specs.declared.parse_error.ParseError.{ParseError}
+use Rattle.timefd_fault.specs.declared.parse_error.ParseError.TheVariants.{Invalid, Memory}
 use Rattle.timefd_language.specs.Grammar.{Spells}
 use Rattle.timefd_language.specs.Broken.{FaultOf}
 use Rattle.timefd_language.specs.Strftime.{SpellsStrftime, StrftimeFaultOf}

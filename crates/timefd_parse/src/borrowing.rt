@@ -11,18 +11,18 @@ ghost use Rattle.timefd_language.specs.Bytes.{is_version_three};
 ghost use Rattle.timefd_language.specs.Grammar.{Spells, nesting_limit};
 ghost use Rattle.timefd_language.specs.Broken.{FaultOf};
 ghost use Rattle.timefd_language.specs.Strings.{AreItems};
-ghost use Rattle.timefd_borrowed_fault.specs.BorrowedFaults.{HasShortFault, IsLent, IsLentOf, IsMemory};
-ghost use Rattle.timefd_borrowed_fault.specs.Placed.{IsPlaced};
+ghost use Rattle.timefd_fault.specs.BorrowedFaults.{HasShortFault, IsLent, IsLentOf, IsMemory};
+ghost use Rattle.timefd_fault.specs.Placed.{IsPlaced};
 ghost use Rattle.timefd_parse.specs.Answers.{IsOutput, ReservesAtMost, HasStrings};
 
 use crate::counting::error_of;
 use crate::parsing::BorrowedOutput;
 use crate::read::{items, members, node_room};
 use std::alloc::{AllocError, Global};
-use timefd_borrowed_fault::BorrowedParseError;
+use timefd_fault::BorrowedParseError;
+use timefd_fault::read_error::ReadError;
 use timefd_items::{BorrowedFormatItem, DescriptionBuilder, FormatDescriptionV3};
 use timefd_language::description_version::DescriptionVersion;
-use timefd_language::fault::ReadError;
 
 /// Reads a text of a version as `parse_borrowed_within` does, with a fault that borrows what it
 /// quotes. This call is this port's own.

@@ -8,7 +8,8 @@ ghost use Rattle.timefd_parse.specs.Heads.{ReadsHead};
 
 use crate::modifier::read_modifier;
 use crate::modifiers::Modifiers;
-use timefd_language::fault::{Fault, Rule};
+use timefd_fault::{Fault, Rule};
+use timefd_language::description_version::DescriptionVersion;
 use timefd_language::name::{Name, name_of};
 use timefd_language::text::{Class, cut};
 
@@ -27,12 +28,13 @@ pub struct Head<'a> {
 /// The head of the bracket that has this inside, and the rest; its modifiers are added to these, of
 /// which there are none yet.
 pub fn read_head<'a>(
-    strict: bool,
+    version: DescriptionVersion,
     inside: &'a str,
     modifiers: &mut Modifiers<'a>,
 ) -> Result<(Head<'a>, &'a str), Fault<'a>>
-    requires { (name : Option Name) (total : ℕ) → Checks strict name total modifiers.old [] }
-    ensures { ReadsHead strict inside.now modifiers.new result }
+    requires { (name : Option Name) (total : ℕ) → Checks (is_version_three version) name total
+        modifiers.old [] }
+    ensures { ReadsHead (is_version_three version) inside.now modifiers.new result }
 {
     let (white, named) = cut(inside, Class::White);
     let (word, after_word) = cut(named, Class::Word);
@@ -47,7 +49,7 @@ pub fn read_head<'a>(
             remaining,
         });
     }
-    let name = name_of(strict, word);
+    let name = name_of(version, word);
     let mut rest = after_word;
     'modifiers: loop {
         let (white, after) = cut(rest, Class::White);
@@ -60,7 +62,7 @@ pub fn read_head<'a>(
             };
             return Ok((head, after));
         };
-        modifiers.take(strict, name, modifier);
+        modifiers.take(version, name, modifier);
         rest = after_modifier;
     }
 }

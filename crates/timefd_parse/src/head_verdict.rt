@@ -1,6 +1,7 @@
 //! What the head of a bracket is by itself, whatever is nested behind it.
 
 ghost use Rattle.std.specs.Prelude.{ℕ, ◌≡◌, Some, IfOk, IsTrue, List, MatchOption, ⊤};
+ghost use Rattle.timefd_language.specs.Bytes.{is_version_three};
 ghost use Rattle.timefd_component.specs.Modern.{modern};
 ghost use Rattle.timefd_language.specs.Head as spec;
 ghost use Rattle.timefd_language.specs.Head.{Placed};
@@ -17,10 +18,11 @@ use crate::fast::words::after_word;
 use crate::head::{Head, read_head};
 use crate::modifiers::Modifiers;
 use crate::places::Places;
+use timefd_fault::{Fault, Rule};
 use timefd_items::Component;
 use timefd_language::combination::refusals;
 use timefd_language::component::component_of;
-use timefd_language::fault::{Fault, Rule};
+use timefd_language::description_version::DescriptionVersion;
 use timefd_language::name::{ComponentName, Name};
 use timefd_language::text::{Start, start_of};
 
@@ -49,18 +51,18 @@ pub struct JudgedHead<'a> {
 /// The head of the bracket that has this inside, and the rest.
 #[inline(never)]
 pub fn judged_head<'a>(
-    strict: bool,
+    version: DescriptionVersion,
     inside: &'a str,
 ) -> Result<(JudgedHead<'a>, &'a str), Fault<'a>>
-    ensures { ReadsJudgedHead strict inside.now result }
+    ensures { ReadsJudgedHead (is_version_three version) inside.now result }
 {
-    if let Some(plain) = plain_head(strict, inside) {
+    if let Some(plain) = plain_head(version, inside) {
         return Ok(plain);
     }
-    let mut modifiers = Modifiers::new(strict);
-    let (head, rest) = read_head(strict, inside, &mut modifiers)?;
+    let mut modifiers = Modifiers::new(version);
+    let (head, rest) = read_head(version, inside, &mut modifiers)?;
     let judged = JudgedHead {
-        verdict: head_verdict(strict, &head, &modifiers),
+        verdict: head_verdict(version, &head, &modifiers),
         nests: nests(head.name),
         spaced: !head.white.is_empty(),
     };
@@ -69,12 +71,13 @@ pub fn judged_head<'a>(
 
 /// The head of a bracket that begins with `optional [` or `first [`, and the text from that `[` on.
 #[inline(always)]
-fn plain_head<'a>(strict: bool, inside: &'a str) -> Option<(JudgedHead<'a>, &'a str)>
-    ensures { MatchOption result ⊤ (λ x. BeginsJudged strict inside.now x.0 x.1.now) }
+fn plain_head<'a>(version: DescriptionVersion, inside: &'a str) -> Option<(JudgedHead<'a>, &'a str)>
+    ensures { MatchOption result ⊤ (λ x. BeginsJudged (is_version_three version) inside.now x.0
+        x.1.now) }
 {
     match inside.as_bytes() {
-        [b'o', b'p', ..] => plainly(strict, inside, "optional ", HeadVerdict::Optional(true)),
-        [b'f', ..] => plainly(strict, inside, "first ", HeadVerdict::First),
+        [b'o', b'p', ..] => plainly(version, inside, "optional ", HeadVerdict::Optional(true)),
+        [b'f', ..] => plainly(version, inside, "first ", HeadVerdict::First),
         _ => None,
     }
 }
@@ -82,13 +85,14 @@ fn plain_head<'a>(strict: bool, inside: &'a str) -> Option<(JudgedHead<'a>, &'a 
 /// The same of one of the words with a space behind it, whose verdict this is.
 #[inline(always)]
 fn plainly<'a>(
-    strict: bool,
+    version: DescriptionVersion,
     inside: &'a str,
     word: &str,
     verdict: HeadVerdict<'a>,
 ) -> Option<(JudgedHead<'a>, &'a str)>
     requires { IsPlain word.now verdict }
-    ensures { MatchOption result ⊤ (λ x. BeginsJudged strict inside.now x.0 x.1.now) }
+    ensures { MatchOption result ⊤ (λ x. BeginsJudged (is_version_three version) inside.now x.0
+        x.1.now) }
 {
     let rest = after_word(inside, word)?;
     let Start::Opening(_) = start_of(rest) else {
@@ -113,9 +117,14 @@ fn nests(name: Option<Name>) -> bool
 }
 
 /// What a head is.
-fn head_verdict<'a>(strict: bool, head: &Head<'a>, modifiers: &Modifiers<'a>) -> HeadVerdict<'a>
-    ensures { (total : ℕ) (h : spec.Head) → ShowsHead strict total head.now modifiers.now h
-        → IsVerdict strict total h (judging.nests head.now.name) result }
+fn head_verdict<'a>(
+    version: DescriptionVersion,
+    head: &Head<'a>,
+    modifiers: &Modifiers<'a>,
+) -> HeadVerdict<'a>
+    ensures { (total : ℕ) (h : spec.Head) → ShowsHead (is_version_three version) total head.now
+        modifiers.now h
+        → IsVerdict (is_version_three version) total h (judging.nests head.now.name) result }
 {
     let Some(name) = head.name else {
         return HeadVerdict::Refused(Fault {
@@ -124,7 +133,7 @@ fn head_verdict<'a>(strict: bool, head: &Head<'a>, modifiers: &Modifiers<'a>) ->
         });
     };
     match name {
-        Name::Component(name) => match component(strict, head, modifiers, name) {
+        Name::Component(name) => match component(version, head, modifiers, name) {
             Ok(component) => HeadVerdict::Component(component),
             Err(fault) => HeadVerdict::Refused(fault),
         },
@@ -141,14 +150,15 @@ fn head_verdict<'a>(strict: bool, head: &Head<'a>, modifiers: &Modifiers<'a>) ->
 
 /// The first key that version 3 refuses with the component.
 pub fn combination_fault(
-    strict: bool,
+    version: DescriptionVersion,
     component: Component,
     places: &Places,
 ) -> Option<Fault<'static>>
-    ensures { (total : ℕ) (ps : List Placed) → (IsTrue strict → ShowsPlaces total places.now ps)
-        → ShowsFault total result (rules.combination strict component ps) }
+    ensures { (total : ℕ) (ps : List Placed) → (IsTrue (is_version_three version) → ShowsPlaces
+        total places.now ps)
+        → ShowsFault total result (rules.combination (is_version_three version) component ps) }
 {
-    if !strict {
+    if !version.is_strict() {
         return None;
     }
     'refusals: for refusal in refusals(component) {
@@ -162,14 +172,16 @@ pub fn combination_fault(
 
 /// The component of a bracket named for one.
 fn component<'a>(
-    strict: bool,
+    version: DescriptionVersion,
     head: &Head<'a>,
     modifiers: &Modifiers<'a>,
     name: ComponentName,
 ) -> Result<Component, Fault<'a>>
-    ensures tree { (total : ℕ) (h : spec.Head) → ShowsHead strict total head.now modifiers.now h
+    ensures tree { (total : ℕ) (h : spec.Head) → ShowsHead (is_version_three version) total
+        head.now modifiers.now h
         → head.now.name ≡ Some (spec_name.Name.Component name)
-        → JudgedComponent total result (rules.component_verdict strict h (Some (row_for name))) }
+        → JudgedComponent total result (rules.component_verdict (is_version_three version) h (Some
+        (row_for name))) }
     ensures modern { IfOk result (λ c. modern c ≡ c) }
 {
     if let Some(fault) = modifiers.fault {
@@ -181,7 +193,7 @@ fn component<'a>(
             remaining: head.remaining,
         });
     };
-    match combination_fault(strict, component, &modifiers.places) {
+    match combination_fault(version, component, &modifiers.places) {
         Some(fault) => Err(fault),
         None => Ok(component),
     }

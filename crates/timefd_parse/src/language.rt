@@ -4,18 +4,18 @@ ghost use Rattle.std.specs.Prelude.{◌≡◌, ◌≤◌, [], List, IfOk, IsFals
 ghost use Rattle.std.specs.Result.{IfErr};
 ghost use Rattle.timefd_component.specs.Tree.{Tree};
 ghost use Rattle.timefd_fault.specs.Faults as spec;
-ghost use Rattle.timefd_borrowed_fault.specs.BorrowedFaults.{HasShortFault, IsLent, IsLentOf, IsMemory, IsRefusal};
-ghost use Rattle.timefd_borrowed_fault.specs.Placed.{HasPlacedFault, IsPlaced};
-ghost use Rattle.timefd_language.specs.Told.{IsFaultOrMemory, MemoryAlone};
+ghost use Rattle.timefd_fault.specs.BorrowedFaults.{HasShortFault, IsLent, IsLentOf, IsMemory, IsRefusal};
+ghost use Rattle.timefd_fault.specs.Placed.{HasPlacedFault, IsPlaced};
+ghost use Rattle.timefd_fault.specs.Told.{IsFaultOrMemory, MemoryAlone};
 ghost use Rattle.timefd_language.specs.Bytes.{is_version_three};
 ghost use Rattle.timefd_language.specs.Grammar.{nesting_limit};
 ghost use Rattle.timefd_parse.specs.Language.{SpellsIn, FaultIn, amount, takes_memory, IsAmount, IsAssignedIn};
 
 use crate::counting::{count_bytes, count_items};
 use std::alloc::Global;
-use timefd_borrowed_fault::BorrowedParseError;
+use timefd_fault::BorrowedParseError;
+use timefd_fault::parse_error::ParseError;
 use timefd_language::description_version::DescriptionVersion;
-use timefd_language::parse_error::ParseError;
 use timefd_strftime::count_strftime;
 
 /// The language of a text. `time` has a call for each; this type is this port's own.

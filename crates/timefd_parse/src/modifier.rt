@@ -2,7 +2,7 @@
 
 ghost use Rattle.timefd_parse.specs.ReadModifiers.{ReadsModifier};
 
-use timefd_language::fault::{Fault, Rule};
+use timefd_fault::{Fault, Rule};
 use timefd_language::text::{Class, behind_colon, cut};
 
 /// A key and its value. A place is given by how many bytes of the text remain.

@@ -1,6 +1,7 @@
 //! What the modifiers of a head come to, read one at a time.
 
 ghost use Rattle.std.specs.Prelude.{ℕ, ◌≡◌, ◌++◌, ◌∷◌, [], List, Option, option_map};
+ghost use Rattle.timefd_language.specs.Bytes.{is_version_three};
 ghost use Rattle.timefd_parse.specs.Checked.{keys_of};
 ghost use Rattle.timefd_language.specs.Head.{Placed};
 ghost use Rattle.timefd_language.specs.Lookup.{key_for};
@@ -9,7 +10,8 @@ ghost use Rattle.timefd_language.specs.Values.{key_in};
 
 use crate::modifier::Modifier;
 use crate::places::Places;
-use timefd_language::fault::{Fault, Rule};
+use timefd_fault::{Fault, Rule};
+use timefd_language::description_version::DescriptionVersion;
 use timefd_language::key::{Key, key_of};
 use timefd_language::name::Name;
 use timefd_language::setting::{Setting, Settings};
@@ -28,11 +30,12 @@ impl<'a> Modifiers<'a> {
 
     /// No modifiers.
     #[inline(always)]
-    pub fn new(strict: bool) -> Modifiers<'a>
-        ensures { (name : Option Name) (total : ℕ) → Checks strict name total result [] }
+    pub fn new(version: DescriptionVersion) -> Modifiers<'a>
+        ensures { (name : Option Name) (total : ℕ) → Checks (is_version_three version) name total
+            result [] }
     {
         Modifiers {
-            settings: Settings::new(strict),
+            settings: Settings::new(version),
             places: Places::new(),
             fault: None,
         }
@@ -40,14 +43,16 @@ impl<'a> Modifiers<'a> {
 
     /// Takes the next modifier of a bracket with this name.
     #[inline(never)]
-    pub fn take(&mut self, strict: bool, name: Option<Name>, modifier: Modifier<'a>)
-        ensures { (total : ℕ) (ps : List Placed) (p : Placed) → Checks strict name total self.old ps
-            → IsPlaced total modifier.entry p → Checks strict name total self.new (ps ++ p ∷ []) }
+    pub fn take(&mut self, version: DescriptionVersion, name: Option<Name>, modifier: Modifier<'a>)
+        ensures { (total : ℕ) (ps : List Placed) (p : Placed) → Checks (is_version_three version)
+            name total self.old ps
+            → IsPlaced total modifier.entry p → Checks (is_version_three version) name total
+            self.new (ps ++ p ∷ []) }
     {
         if self.fault.is_some() {
             return;
         }
-        match self.check(strict, name, modifier) {
+        match self.check(version, name, modifier) {
             Ok((key, setting)) => {
                 self.settings.set(setting);
                 self.places.set(key, modifier.key_remaining);
@@ -59,27 +64,28 @@ impl<'a> Modifiers<'a> {
     /// What a modifier sets, behind those that were taken.
     fn check(
         &self,
-        strict: bool,
+        version: DescriptionVersion,
         name: Option<Name>,
         modifier: Modifier<'a>,
     ) -> Result<(Key, Setting), Fault<'a>>
-        ensures { (total : ℕ) (ps : List Placed) (p : Placed) → Checks strict name total self.now ps
+        ensures { (total : ℕ) (ps : List Placed) (p : Placed) → Checks (is_version_three version)
+            name total self.now ps
             → self.now.fault ≡ None → IsPlaced total modifier.entry p
-            → ChecksOne strict name total result ps p }
+            → ChecksOne (is_version_three version) name total result ps p }
     {
-        let Some(key) = known_key(strict, name, modifier.key) else {
+        let Some(key) = known_key(version, name, modifier.key) else {
             return Err(Fault {
                 rule: Rule::InvalidModifier(modifier.key),
                 remaining: modifier.key_remaining,
             });
         };
-        if strict && self.places.of(key).is_some() {
+        if version.is_strict() && self.places.of(key).is_some() {
             return Err(Fault {
                 rule: Rule::DuplicateModifier(key.spelling()),
                 remaining: modifier.key_remaining,
             });
         }
-        match setting_of(key, strict, modifier.value) {
+        match setting_of(key, version, modifier.value) {
             Some(setting) => Ok((key, setting)),
             None => Err(Fault {
                 rule: Rule::InvalidModifier(modifier.value),
@@ -90,8 +96,8 @@ impl<'a> Modifiers<'a> {
 }
 
 /// The key of the name that a word is; an unknown name has none.
-fn known_key(strict: bool, name: Option<Name>, word: &str) -> Option<Key>
-    ensures { option_map key_for result ≡ key_in strict word.now (keys_of name) }
+fn known_key(version: DescriptionVersion, name: Option<Name>, word: &str) -> Option<Key>
+    ensures { option_map key_for result ≡ key_in (is_version_three version) word.now (keys_of name) }
 {
-    key_of(name?, strict, word)
+    key_of(name?, version, word)
 }

@@ -10,17 +10,17 @@ ghost use Rattle.timefd_language.specs.declared.description_version.DescriptionV
 ghost use Rattle.timefd_language.specs.Bytes.{is_version_three};
 ghost use Rattle.timefd_language.specs.Grammar.{Spells, nesting_limit};
 ghost use Rattle.timefd_language.specs.Broken.{FaultOf};
-ghost use Rattle.timefd_borrowed_fault.specs.Placed.{HasPlacedFault};
+ghost use Rattle.timefd_fault.specs.Placed.{HasPlacedFault};
 ghost use Rattle.timefd_parse.specs.Answers.{IsOutput, IsAssigned, ReservesAtMost, HasStrings};
-ghost use Rattle.timefd_language.specs.Told.{IsFaultOrMemory, MemoryAlone, Tells};
-ghost use Rattle.timefd_language.specs.FaultMeaning.{IsFault, MemoryOr};
+ghost use Rattle.timefd_fault.specs.Told.{IsFaultOrMemory, MemoryAlone, Tells};
+ghost use Rattle.timefd_fault.specs.ReadErrors.{IsFault, MemoryOr};
 ghost use Rattle.timefd_language.specs.Strings.{AreItems};
 
 use crate::borrowing::{parse_all_borrowed, parse_items};
 use std::alloc::Global;
+use timefd_fault::parse_error::ParseError;
 use timefd_items::{BorrowedFormatItem, FormatDescriptionV3};
 use timefd_language::description_version::DescriptionVersion;
-use timefd_language::parse_error::ParseError;
 
 /// How many nested descriptions may stand around one another, at most.
 pub const NESTING_LIMIT: u8 = 127;

@@ -7,9 +7,9 @@ ghost use Rattle.timefd_language.specs.declared.description_version.DescriptionV
 ghost use Rattle.timefd_language.specs.Broken.{BeginsNoEscape};
 ghost use Rattle.timefd_language.specs.Bytes.{is_version_three};
 ghost use Rattle.timefd_parse.specs.Read.{BeginsRun, BeginsClosing, LeadsOn, ReadsEscape, ReadsPiece, ReadsNext, ReadsMembers, ReadsNested, ReadsItems, IsEnclosed};
-ghost use Rattle.timefd_language.specs.Fault.{too_highly_nested};
-ghost use Rattle.timefd_language.specs.Invalid.{IsInvalid};
-ghost use Rattle.timefd_language.specs.FaultMeaning.{IsFault, MemoryOr};
+ghost use Rattle.timefd_fault.specs.Words.{too_highly_nested};
+ghost use Rattle.timefd_fault.specs.ReadErrors.{IsInvalid};
+ghost use Rattle.timefd_fault.specs.ReadErrors.{IsFault, MemoryOr};
 ghost use Rattle.timefd_items.specs.Builder.{built};
 ghost use Rattle.timefd_fault.specs.Faults.{fault, unclosed_bracket};
 ghost use Rattle.timefd_component.specs.Tree.{literal};
@@ -21,9 +21,9 @@ use crate::head_verdict::judged_head;
 use crate::piece::{Piece, component_piece};
 use crate::verdict::{Nested, Span, verdict};
 use std::alloc::Global;
+use timefd_fault::{Fault, ReadError, Rule};
 use timefd_items::{BorrowedFormatItem, DescriptionBuilder};
 use timefd_language::description_version::DescriptionVersion;
-use timefd_language::fault::{Fault, ReadError, Rule};
 use timefd_language::text::{Class, Start, cut, cut_run, escaped, start_of};
 
 /// The run that a text begins with.
@@ -255,8 +255,7 @@ fn bracket<'a, const BUILDS: bool>(
         return Ok((component_piece::<BUILDS>(component), rest));
     }
     let start = inside.len() + 1;
-    let strict = version.is_strict();
-    let (head, behind) = judged_head(strict, inside)?;
+    let (head, behind) = judged_head(version, inside)?;
     let remaining = behind.len();
     let mut count = 0;
     let mut rest = behind;
@@ -275,7 +274,7 @@ fn bracket<'a, const BUILDS: bool>(
                     remaining,
                     count,
                 };
-                let piece = verdict::<BUILDS>(builder, strict, &head, nested, span)?;
+                let piece = verdict::<BUILDS>(builder, version, &head, nested, span)?;
                 return Ok((piece, after));
             }
             _ => return Err(unclosed(start)),

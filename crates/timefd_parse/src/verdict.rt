@@ -1,6 +1,7 @@
 //! What a closed bracket is, or the fault of the first rule that it breaks.
 
 ghost use Rattle.std.specs.Prelude.{ℕ, ◌≡◌, ◌+◌, ◌≤◌, ◌∷◌, [], List, None, length, IfErr, IsFalse, IsTrue};
+ghost use Rattle.timefd_language.specs.Bytes.{is_version_three};
 ghost use Rattle.timefd_items.specs.Builder.{built};
 ghost use Rattle.timefd_component.specs.Tree.{Tree};
 ghost use Rattle.timefd_language.specs.Head as spec;
@@ -10,14 +11,15 @@ ghost use Rattle.timefd_language.specs.Verdict as rules;
 ghost use Rattle.timefd_language.specs.Verdict.{PlacedDescription};
 ghost use Rattle.timefd_parse.specs.Checked.{ShowsFault};
 ghost use Rattle.timefd_parse.specs.HeadVerdicts.{IsVerdict, placing};
-ghost use Rattle.timefd_language.specs.Invalid.{IsInvalid};
+ghost use Rattle.timefd_fault.specs.ReadErrors.{IsInvalid};
 ghost use Rattle.timefd_parse.specs.Pieces.{IsBuilt};
 ghost use Rattle.timefd_parse.specs.Judged.{ShowsNested, Judged, packed};
 
 use crate::head_verdict::{HeadVerdict, JudgedHead};
 use crate::piece::{Piece, component_piece};
+use timefd_fault::{Fault, ReadError, Rule};
 use timefd_items::DescriptionBuilder;
-use timefd_language::fault::{Fault, ReadError, Rule};
+use timefd_language::description_version::DescriptionVersion;
 
 /// The nested descriptions of a bracket.
 #[derive(Clone, Copy)]
@@ -39,19 +41,19 @@ pub struct Span {
 /// The optional description of a bracket named `optional`.
 fn optional<'a, const BUILDS: bool>(
     builder: &mut DescriptionBuilder<'a>,
-    strict: bool,
+    version: DescriptionVersion,
     formatted: bool,
     nested: Nested,
     span: Span,
 ) -> Result<Piece<'a>, ReadError<'a>>
     requires { IsTrue BUILDS → nested.count ≤ length (built builder.old) }
     ensures tree { (place : ℕ) (h : spec.Head) (parts : List PlacedDescription) (base : List Tree)
-        → rules.bad_modifiers strict (format ∷ []) [] (placed h) ≡ None
-        → formatted ≡ rules.is_formatted strict (placed h)
+        → rules.bad_modifiers (is_version_three version) (format ∷ []) [] (placed h) ≡ None
+        → formatted ≡ rules.is_formatted (is_version_three version) (placed h)
         → ShowsNested span.start nested parts → place + span.end ≡ span.start
         → IsBuilt BUILDS base (built builder.old) (packed parts)
-        → Judged span.start strict BUILDS base (built builder.new) result
-        (rules.optional_verdict strict h parts place) }
+        → Judged span.start (is_version_three version) BUILDS base (built builder.new) result
+        (rules.optional_verdict (is_version_three version) h parts place) }
     ensures invalid { IsFalse BUILDS → IfErr result IsInvalid }
 {
     if nested.count == 0 {
@@ -66,7 +68,7 @@ fn optional<'a, const BUILDS: bool>(
             remaining: nested.remaining,
         }));
     }
-    if !strict {
+    if !version.is_strict() {
         return Err(ReadError::Invalid(Fault {
             rule: Rule::OptionalItem,
             remaining: span.start,
@@ -82,20 +84,20 @@ fn optional<'a, const BUILDS: bool>(
 /// The alternatives of a bracket named `first`.
 fn first<'a, const BUILDS: bool>(
     builder: &mut DescriptionBuilder<'a>,
-    strict: bool,
+    version: DescriptionVersion,
     nested: Nested,
     span: Span,
 ) -> Result<Piece<'a>, ReadError<'a>>
     requires { IsTrue BUILDS → nested.count ≤ length (built builder.old) }
     ensures tree { (place : ℕ) (h : spec.Head) (parts : List PlacedDescription) (base : List Tree)
-        → rules.bad_modifiers strict [] [] (placed h) ≡ None
+        → rules.bad_modifiers (is_version_three version) [] [] (placed h) ≡ None
         → ShowsNested span.start nested parts → place + span.end ≡ span.start
         → IsBuilt BUILDS base (built builder.old) (packed parts)
-        → Judged span.start strict BUILDS base (built builder.new) result
-        (rules.first_verdict strict h parts place) }
+        → Judged span.start (is_version_three version) BUILDS base (built builder.new) result
+        (rules.first_verdict (is_version_three version) h parts place) }
     ensures invalid { IsFalse BUILDS → IfErr result IsInvalid }
 {
-    if !strict {
+    if !version.is_strict() {
         return Err(ReadError::Invalid(Fault {
             rule: Rule::FirstItem,
             remaining: span.start,
@@ -140,18 +142,18 @@ fn placing_fault(nests: bool, nested: Nested, span: Span) -> Option<Fault<'stati
 /// What a bracket is. A reader that builds makes one tree of its nested descriptions.
 pub fn verdict<'a, const BUILDS: bool>(
     builder: &mut DescriptionBuilder<'a>,
-    strict: bool,
+    version: DescriptionVersion,
     head: &JudgedHead<'a>,
     nested: Nested,
     span: Span,
 ) -> Result<Piece<'a>, ReadError<'a>>
     requires { IsTrue BUILDS → nested.count ≤ length (built builder.old) }
     ensures tree { (place : ℕ) (h : spec.Head) (parts : List PlacedDescription) (base : List Tree)
-        → IsVerdict strict span.start h head.now.nests head.now.verdict
+        → IsVerdict (is_version_three version) span.start h head.now.nests head.now.verdict
         → ShowsNested span.start nested parts
         → place + span.end ≡ span.start → IsBuilt BUILDS base (built builder.old) (packed parts)
-        → Judged span.start strict BUILDS base (built builder.new) result
-        (rules.verdict strict h parts place) }
+        → Judged span.start (is_version_three version) BUILDS base (built builder.new) result
+        (rules.verdict (is_version_three version) h parts place) }
     ensures invalid { IsFalse BUILDS → IfErr result IsInvalid }
 {
     if let Some(fault) = placing_fault(head.nests, nested, span) {
@@ -160,9 +162,9 @@ pub fn verdict<'a, const BUILDS: bool>(
     match head.verdict {
         HeadVerdict::Component(component) => Ok(component_piece::<BUILDS>(component)),
         HeadVerdict::Optional(formatted) => optional::<BUILDS>(
-            builder, strict, formatted, nested, span,
+            builder, version, formatted, nested, span,
         ),
-        HeadVerdict::First => first::<BUILDS>(builder, strict, nested, span),
+        HeadVerdict::First => first::<BUILDS>(builder, version, nested, span),
         HeadVerdict::Refused(fault) => Err(ReadError::Invalid(fault)),
     }
 }

@@ -10,7 +10,7 @@ use Rattle.timefd_component.specs.Tree.{Text, Tree, component, literal, compound
 use Rattle.timefd_fault.specs.Faults.{fault}
 use Rattle.timefd_language.specs.declared.description_version.DescriptionVersion.TheVariants.{Three}
 use Rattle.timefd_language.specs.Bytes.{same, is_run_byte, OneOrMore}
-use Rattle.timefd_language.specs.Fault.{expected_nested, expected_alternative}
+use Rattle.timefd_fault.specs.Words.{expected_nested, expected_alternative}
 use Rattle.timefd_language.specs.Head.{Head, head_text, placed}
 use Rattle.timefd_language.specs.Names.{row_of}
 use Rattle.timefd_language.specs.Values.{format}

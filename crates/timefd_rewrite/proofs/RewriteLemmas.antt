@@ -14,8 +14,8 @@ use denote.Ref.{Bor}
 use Rattle.timefd_component.specs.Tree.{Text}
 use Rattle.timefd_fault.specs.Faults.{fault_of}
 use Rattle.timefd_fault.specs.declared.invalid_format_description.InvalidFormatDescription.{InvalidFormatDescription}
-use Rattle.timefd_language.specs.declared.parse_error.ParseError.{ParseError}
-use Rattle.timefd_language.specs.declared.parse_error.ParseError.TheVariants.{Invalid}
+use Rattle.timefd_fault.specs.declared.parse_error.ParseError.{ParseError}
+use Rattle.timefd_fault.specs.declared.parse_error.ParseError.TheVariants.{Invalid}
 use Rattle.timefd_rewrite.specs.declared.counts.Counts.{Counts}
 use Rattle.timefd_rewrite.specs.declared.counts.Outcome.{Outcome}
 use Rattle.timefd_rewrite.specs.declared.counts.Outcome.TheVariants.{PassedOver, Same, Rewritten, Refused, NotText, NotALine}

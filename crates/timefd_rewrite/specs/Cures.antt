@@ -5,11 +5,11 @@ use Rattle.timefd_component.specs.Tree.{Text}
 use Rattle.timefd_fault.specs.Faults.{fault_of}
 use Rattle.timefd_parse.specs.declared.language.Language.{Language}
 use Rattle.timefd_parse.specs.declared.language.Language.TheVariants.{Version, Strftime}
-use Rattle.timefd_diagnosis.specs.declared.code.Code.{Code}
-use Rattle.timefd_diagnosis.specs.declared.code.Code.TheVariants.{UnclosedBracket, UnknownName, InvalidModifier, MissingName, MissingModifier, InvalidEscape, UnescapedBracket, MissingSpace, MissingDescription, MissingAlternative, NestedTooDeep, SeveralDescriptions, OptionalItem, FirstItem, UnsupportedFlag, UnsupportedLetter, NestedInComponent, DuplicateModifier, RefusedModifier}
+use Rattle.timefd_fault.specs.declared.code.Code.{Code}
+use Rattle.timefd_fault.specs.declared.code.Code.TheVariants.{UnclosedBracket, UnknownName, InvalidModifier, MissingName, MissingModifier, InvalidEscape, UnescapedBracket, MissingSpace, MissingDescription, MissingAlternative, NestedTooDeep, SeveralDescriptions, OptionalItem, FirstItem, UnsupportedFlag, UnsupportedLetter, NestedInComponent, DuplicateModifier, RefusedModifier}
 use Rattle.timefd_diagnosis.specs.declared.diagnostic.Diagnostic.{Diagnostic}
 use Rattle.timefd_diagnosis.specs.declared.help.Help.{Help}
-use Rattle.timefd_diagnosis.specs.Codes.{code_of}
+use Rattle.timefd_fault.specs.Codes.{code_of}
 use Rattle.timefd_diagnosis.specs.Helps.{nearest_in}
 use Rattle.timefd_rewrite.specs.declared.fixes.Fixes.{Fixes}
 use Rattle.timefd_rewrite.specs.declared.fixes.Fixes.TheVariants.{Sure, All}

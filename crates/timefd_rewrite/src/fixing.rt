@@ -5,7 +5,7 @@ ghost use Rattle.std.specs.Result.{IfErr};
 ghost use Rattle.timefd_component.specs.Tree.{Tree};
 ghost use Rattle.timefd_fault.specs.Faults.{Fault};
 ghost use Rattle.timefd_language.specs.Grammar.{nesting_limit};
-ghost use Rattle.timefd_language.specs.Told.{MemoryAlone};
+ghost use Rattle.timefd_fault.specs.Told.{MemoryAlone};
 ghost use Rattle.timefd_parse.specs.Language.{FaultIn, IsAssignedIn, SpellsIn};
 ghost use Rattle.timefd_rewrite.specs.Chains.{IsFixed, IsLeftOf, IsMended, IsUnmendedOf};
 

@@ -4,8 +4,8 @@ use Rattle.std.specs.Prelude.{IsUtf8, Option, None, Some}
 use Rattle.timefd_component.specs.Tree.{Text}
 use Rattle.timefd_fault.specs.declared.invalid_format_description.InvalidFormatDescription.{InvalidFormatDescription}
 use Rattle.timefd_fault.specs.Faults.{Fault, fault_of}
-use Rattle.timefd_language.specs.declared.parse_error.ParseError.{ParseError}
-use Rattle.timefd_language.specs.declared.parse_error.ParseError.TheVariants.{Invalid}
+use Rattle.timefd_fault.specs.declared.parse_error.ParseError.{ParseError}
+use Rattle.timefd_fault.specs.declared.parse_error.ParseError.TheVariants.{Invalid}
 use Rattle.timefd_rewrite.specs.declared.layout.Layout.{Layout}
 use Rattle.timefd_rewrite.specs.Layouts.{IsConverted, IsRefusal, IsRefusedFor}
 use Rattle.timefd_rewrite.proofs.RewriteLemmas.{refused_for}

@@ -18,21 +18,23 @@ use Rattle.timefd_strftime.specs.LetterMeaning.{IsLetter, flag_padding, letter_t
 use Rattle.timefd_strftime.specs.PieceMeaning.{piece_tree}
 use Rattle.timefd_language.specs.Strftime.{percent, is_flag, is_plain, flag_text, Directives, no_directives, plain, directive, directives_text, directive_items, IsBehind, AreDirectives, SpellsStrftime, cut_short, unknown, cut_index, ill_text, unknown_kind, ill_fault, StrftimeFaultOf}
 use Rattle.timefd_language.specs.Laws.{HasOneStrftimeAnswer}
-use Rattle.timefd_language.specs.declared.fault.Fault as code_fault
-use Rattle.timefd_language.specs.declared.fault.ReadError.{ReadError}
-use Rattle.timefd_language.specs.declared.fault.ReadError.TheVariants as errors
-use Rattle.timefd_language.specs.declared.parse_error.ParseError.{ParseError}
-use Rattle.timefd_language.specs.declared.parse_error.ParseError.TheVariants as told
-use Rattle.timefd_borrowed_fault.specs.declared.borrowed_fault.BorrowedFault.{BorrowedFault}
-use Rattle.timefd_borrowed_fault.specs.declared.borrowed_parse_error.BorrowedParseError.{BorrowedParseError}
-use Rattle.timefd_borrowed_fault.specs.BorrowedFaults.{lent_fault, IsLent, IsLentOf, IsMemory, IsOwned, Lends}
-use Rattle.timefd_borrowed_fault.proofs.LentLemmas.{Assigned, lent_none, lent_of, lent_one}
-use Rattle.timefd_language.specs.Invalid.{IsInvalid}
-use Rattle.timefd_borrowed_fault.proofs.OwnedLemmas.{owned_of}
-use Rattle.timefd_language.specs.Fault.{raised, expected_escape}
+use Rattle.timefd_fault.specs.declared.read_error.Fault as code_fault
+use Rattle.timefd_fault.specs.declared.read_error.ReadError.{ReadError}
+use Rattle.timefd_fault.specs.declared.read_error.ReadError.TheVariants as errors
+use Rattle.timefd_fault.specs.declared.parse_error.ParseError.{ParseError}
+use Rattle.timefd_fault.specs.declared.parse_error.ParseError.TheVariants as told
+use Rattle.timefd_fault.specs.declared.borrowed_fault.BorrowedFault.{BorrowedFault}
+use Rattle.timefd_fault.specs.declared.borrowed_parse_error.BorrowedParseError.{BorrowedParseError}
+use Rattle.timefd_fault.specs.BorrowedFaults.{lent_fault, IsLent, IsLentOf, IsMemory, IsOwned, Lends}
+use Rattle.timefd_fault.proofs.LentLemmas.{Assigned, lent_none, lent_of, lent_one}
+use Rattle.timefd_fault.specs.ReadErrors.{IsInvalid}
+use Rattle.timefd_fault.proofs.OwnedLemmas.{owned_of}
+use Rattle.timefd_language.specs.Fault.{raised}
+use Rattle.timefd_fault.specs.Words.{expected_escape}
 use Rattle.timefd_language.specs.Cut.{IsCut}
 use Rattle.timefd_strftime.specs.StrftimeReading.{MayFollow, BeginsWithFlag, BeginsWithPiece, Leads, LeadsTo, HasItems, IsStrftimeFaultAt, IsStrftimeFaultIn, IsRestOf}
-use Rattle.timefd_language.specs.FaultMeaning.{rule_kind, IsFault, MemoryOr}
+use Rattle.timefd_fault.specs.RuleKinds.{rule_kind}
+use Rattle.timefd_fault.specs.ReadErrors.{IsFault, MemoryOr}
 use Rattle.timefd_strftime.specs.StrftimeAnswers.{IsStrftimeFault}
 use Rattle.timefd_language.proofs.StrftimeReader.{directive_regrouped, begins_no_plain, strftime_one_answer_law}
 

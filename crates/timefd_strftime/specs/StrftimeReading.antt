@@ -7,12 +7,12 @@ use Rattle.timefd_component.specs.Tree.{Text, Tree}
 use Rattle.timefd_strftime.specs.declared.piece.StrftimePiece.{StrftimePiece}
 use Rattle.timefd_strftime.specs.declared.text.PieceStart.{PieceStart}
 use Rattle.timefd_strftime.specs.declared.text.PieceStart.TheVariants.{End, Directive, Literal}
-use Rattle.timefd_language.specs.declared.fault.Fault.{Fault}
+use Rattle.timefd_fault.specs.declared.read_error.Fault.{Fault}
 use Rattle.timefd_language.specs.Bytes.{StopsBefore}
 use Rattle.timefd_language.specs.Letters.{Flag, unflagged, flagged}
 use Rattle.timefd_strftime.specs.LetterMeaning.{flag_padding}
 use Rattle.timefd_strftime.specs.PieceMeaning.{piece_tree}
-use Rattle.timefd_language.specs.FaultMeaning.{IsFault}
+use Rattle.timefd_fault.specs.ReadErrors.{IsFault}
 use Rattle.timefd_language.specs.Strftime.{percent, is_flag, is_plain, flag_text, IsFlag, Directives, AreDirectives, directives_text, directive_items, SpellsStrftime, IllDirective, ill_text, ill_fault, IsIll}
 
 -- Steps.

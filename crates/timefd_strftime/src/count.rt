@@ -5,16 +5,16 @@ ghost use Rattle.std.specs.Result.{IfErr};
 ghost use Rattle.timefd_component.specs.Tree.{Tree};
 ghost use Rattle.timefd_strftime.specs.declared.text.PieceStart.TheVariants.{Literal};
 ghost use Rattle.timefd_language.specs.Strftime.{SpellsStrftime, StrftimeFaultOf, percent};
-ghost use Rattle.timefd_language.specs.FaultMeaning.{rule_kind};
-ghost use Rattle.timefd_borrowed_fault.specs.BorrowedFaults.{HasShortWords, lent_fault};
-ghost use Rattle.timefd_borrowed_fault.specs.Placed.{IsPlaced};
+ghost use Rattle.timefd_fault.specs.RuleKinds.{rule_kind};
+ghost use Rattle.timefd_fault.specs.BorrowedFaults.{HasShortWords, lent_fault};
+ghost use Rattle.timefd_fault.specs.Placed.{IsPlaced};
 ghost use Rattle.timefd_strftime.specs.StrftimeReading.{BeginsPiece, HasItems, IsStrftimeFaultAt, IsStrftimeFaultIn, LeadsTo};
 
 use crate::directive::{cut_short, unknown};
 use crate::letter::letter_of;
 use crate::text::{PieceStart, cut_flag, piece_start_of};
-use timefd_borrowed_fault::BorrowedFault;
-use timefd_language::fault::Fault;
+use timefd_fault::BorrowedFault;
+use timefd_fault::read_error::Fault;
 use timefd_language::text::{Class, cut, tail};
 
 /// How many items a text of strftime has. It takes no memory, and is this port's own.

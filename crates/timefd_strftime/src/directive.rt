@@ -4,15 +4,15 @@ ghost use Rattle.std.specs.Prelude.{◌≡◌, ◌+◌, ◌<◌, ◌∷◌, leng
 ghost use Rattle.timefd_strftime.specs.LetterMeaning.{flag_padding, letter_tree};
 ghost use Rattle.timefd_strftime.specs.PieceMeaning.{piece_tree};
 ghost use Rattle.timefd_language.specs.Letters.{Flag};
-ghost use Rattle.timefd_language.specs.Fault.{expected_escape};
-ghost use Rattle.timefd_language.specs.FaultMeaning.{rule_kind};
+ghost use Rattle.timefd_fault.specs.Words.{expected_escape};
+ghost use Rattle.timefd_fault.specs.RuleKinds.{rule_kind};
 ghost use Rattle.timefd_language.specs.Strftime.{cut_index, flag_text, percent, unknown_kind};
 ghost use Rattle.timefd_strftime.specs.StrftimeReading.{ReadsDirective};
 
 use crate::letter::{Letter, letter_of, padded};
 use crate::piece::StrftimePiece;
 use crate::text::cut_flag;
-use timefd_language::fault::{Fault, Rule};
+use timefd_fault::{Fault, Rule};
 use timefd_language::text::tail;
 use timefd_modifier::Padding;
 

@@ -2,14 +2,14 @@
 
 ghost use Rattle.std.specs.Prelude.{◌≡◌, [], IfOk, MatchOption, MatchResult};
 ghost use Rattle.std.specs.Result.{IfErr};
-ghost use Rattle.timefd_borrowed_fault.specs.BorrowedFaults.{lent_fault};
+ghost use Rattle.timefd_fault.specs.BorrowedFaults.{lent_fault};
 ghost use Rattle.timefd_language.specs.Strftime.{StrftimeFaultOf};
 ghost use Rattle.timefd_strftime.specs.StrftimeReading.{IsStrftimeFaultAt, LeadsTo};
 
 use crate::count::{behind_directive, behind_run};
 use crate::text::{PieceStart, piece_start_of};
-use timefd_borrowed_fault::BorrowedFault;
-use timefd_language::fault::Fault;
+use timefd_fault::BorrowedFault;
+use timefd_fault::read_error::Fault;
 
 /// What follows the first run or directive of a text of strftime; `None` of the empty text. It takes
 /// no memory, and is for `first_piece` of `timefd_parse`.

@@ -17,5 +17,5 @@ pub use letter::Composite;
 pub use parsing::{parse_strftime_all_borrowed, parse_strftime_borrowed, strftime_error};
 pub use piece::{StrftimePiece, next_strftime_piece};
 pub use tables::StrftimeTables;
+pub use timefd_fault::ParseError;
 pub use timefd_format_item::BorrowedFormatItem;
-pub use timefd_language::ParseError;

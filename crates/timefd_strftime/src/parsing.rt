@@ -5,12 +5,12 @@ ghost use Rattle.std.specs.Result.{IfErr};
 ghost use Rattle.timefd_fault.specs.Faults as spec;
 ghost use Rattle.timefd_format_item.specs.Meaning.{item_trees};
 ghost use Rattle.timefd_component.specs.Tree.{Tree};
-ghost use Rattle.timefd_borrowed_fault.specs.BorrowedFaults.{HasShortFault, IsLent, IsLentOf, IsMemory};
-ghost use Rattle.timefd_borrowed_fault.specs.Placed.{HasPlacedFault, IsPlaced};
-ghost use Rattle.timefd_language.specs.Told.{IsFaultOrMemory, MemoryAlone};
+ghost use Rattle.timefd_fault.specs.BorrowedFaults.{HasShortFault, IsLent, IsLentOf, IsMemory};
+ghost use Rattle.timefd_fault.specs.Placed.{HasPlacedFault, IsPlaced};
+ghost use Rattle.timefd_fault.specs.Told.{IsFaultOrMemory, MemoryAlone};
 ghost use Rattle.timefd_language.specs.Strftime.{SpellsStrftime, StrftimeFaultOf};
 ghost use Rattle.timefd_strftime.specs.StrftimeAnswers.{IsStrftimeFault};
-ghost use Rattle.timefd_language.specs.FaultMeaning.{MemoryOr};
+ghost use Rattle.timefd_fault.specs.ReadErrors.{MemoryOr};
 ghost use Rattle.timefd_strftime.specs.StrftimeReading.{IsStrftimeFaultIn};
 ghost use Rattle.timefd_language.specs.Strings.{are_of_strings};
 
@@ -18,10 +18,10 @@ use crate::count::count_strftime;
 use crate::piece::next_strftime_piece;
 use crate::tables::StrftimeTables;
 use std::alloc::{AllocError, Global};
-use timefd_borrowed_fault::borrowed_parse_error::{BorrowedParseError, lent};
+use timefd_fault::borrowed_parse_error::{BorrowedParseError, lent};
+use timefd_fault::parse_error::ParseError;
+use timefd_fault::read_error::ReadError;
 use timefd_format_item::BorrowedFormatItem;
-use timefd_language::fault::ReadError;
-use timefd_language::parse_error::ParseError;
 
 /// Reads a text of strftime: `time`'s `parse_strftime_borrowed`. The items of composite letters borrow
 /// the tables' lists.

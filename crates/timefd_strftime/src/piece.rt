@@ -11,8 +11,8 @@ use crate::letter::Composite;
 use crate::tables::StrftimeTables;
 use crate::text::{PieceStart, piece_start_of};
 use timefd_component::Component;
+use timefd_fault::read_error::Fault;
 use timefd_format_item::BorrowedFormatItem;
-use timefd_language::fault::Fault;
 use timefd_language::text::{Class, cut};
 
 /// A run, or what a directive stands for.

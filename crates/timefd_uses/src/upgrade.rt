@@ -6,7 +6,7 @@ ghost use Rattle.timefd_component.specs.Tree.{Tree};
 ghost use Rattle.timefd_fault.specs.Faults.{Fault};
 ghost use Rattle.timefd_language.specs.Broken.{FaultOf};
 ghost use Rattle.timefd_language.specs.Grammar.{Spells, nesting_limit};
-ghost use Rattle.timefd_language.specs.Told.{IsFaultOrMemory};
+ghost use Rattle.timefd_fault.specs.Told.{IsFaultOrMemory};
 ghost use Rattle.timefd_language.specs.declared.description_version.DescriptionVersion.TheVariants.{One, Two};
 ghost use Rattle.timefd_lift.specs.Answers.{HasItemsOf};
 ghost use Rattle.timefd_parse.specs.Answers.{IsAssigned};

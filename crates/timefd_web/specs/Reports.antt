@@ -2,7 +2,7 @@
 use Rattle.std.specs.Prelude.{◌≡◌, ◌⊎◌, List, Option, Some, None, Result, Ok, Err, IsUtf8, string_bytes, ⊤}
 use Rattle.std.specs.declared.alloc.Global.{Global}
 use Rattle.std.specs.declared.string.String.{String}
-use Rattle.timefd_borrowed_fault.specs.Placed.{IsPlaced}
+use Rattle.timefd_fault.specs.Placed.{IsPlaced}
 use Rattle.timefd_component.specs.Reserved.{reserve_all}
 use Rattle.timefd_component.specs.Tree.{Text, Tree, trees}
 use Rattle.timefd_convert.specs.Answers.{IsNormalOf, IsPrintedOf}

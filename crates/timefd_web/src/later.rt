@@ -5,7 +5,7 @@ ghost use Rattle.timefd_component.specs.Tree.{Tree};
 ghost use Rattle.timefd_convert.specs.Answers.{IsNormalOf, IsPrintedOf};
 ghost use Rattle.timefd_language.specs.Grammar.{Spells, nesting_limit};
 ghost use Rattle.timefd_language.specs.Strftime.{SpellsStrftime};
-ghost use Rattle.timefd_language.specs.Told.{MemoryAlone};
+ghost use Rattle.timefd_fault.specs.Told.{MemoryAlone};
 ghost use Rattle.timefd_language.specs.declared.description_version.DescriptionVersion.TheVariants.{One, Two, Three};
 ghost use Rattle.timefd_lift.specs.Modernized.{IsWrittenOf};
 ghost use Rattle.timefd_parse.specs.Language.{SpellsIn};

@@ -2,6 +2,7 @@
 //! space before each.
 
 ghost use Rattle.std.specs.Prelude.{◌≡◌, IsFalse, IsTrue, MatchOption, ⊤};
+ghost use Rattle.timefd_language.specs.Bytes.{is_version_three};
 ghost use Rattle.timefd_language.specs.Settings.{defaults};
 ghost use Rattle.timefd_parse.specs.Places.{no_places};
 ghost use Rattle.timefd_parse.specs.Quick.{IsModified, IsNoted, TakesModifiers};
@@ -25,13 +26,12 @@ use timefd_language::text::behind_colon;
 pub fn with_modifiers(version: DescriptionVersion, inside: &str) -> Option<(Component, &str)>
     ensures { MatchOption result ⊤ (λ x. IsBare version inside.now x.0 x.1.now) }
 {
-    let strict = version.is_strict();
     let (name, text) = name_in(inside)?;
-    let mut settings = Settings::new(strict);
+    let mut settings = Settings::new(version);
     let mut places = Places::new();
-    let rest = take(strict, name, text, &mut settings, &mut places)?;
+    let rest = take(version, name, text, &mut settings, &mut places)?;
     let component = component_of(name, settings)?;
-    if combination_fault(strict, component, &places).is_some() {
+    if combination_fault(version, component, &places).is_some() {
         return None;
     }
     Some((component, rest))
@@ -41,15 +41,16 @@ pub fn with_modifiers(version: DescriptionVersion, inside: &str) -> Option<(Comp
 /// follows that.
 #[inline(always)]
 fn take<'a>(
-    strict: bool,
+    version: DescriptionVersion,
     name: ComponentName,
     text: &'a str,
     settings: &mut Settings,
     places: &mut Places,
 ) -> Option<&'a str>
-    requires settings { settings.old ≡ defaults strict }
+    requires settings { settings.old ≡ defaults (is_version_three version) }
     requires places { places.old ≡ no_places }
-    ensures { MatchOption result ⊤ (λ rest. TakesModifiers strict name text.now settings.new
+    ensures { MatchOption result ⊤ (λ rest. TakesModifiers (is_version_three version) name text.now
+        settings.new
         places.new rest.now) }
 {
     let mut rest = text;
@@ -59,7 +60,7 @@ fn take<'a>(
         }
         let word = after_word(rest, " ")?;
         let (key, setting, after) = modifier(name, word)?;
-        if repeated(strict, places, key, word.len()) {
+        if repeated(version, places, key, word.len()) {
             return None;
         }
         settings.set(setting);
@@ -70,10 +71,11 @@ fn take<'a>(
 /// Whether the key stands in these places, where version 3 is read, which refuses that; if not, its place
 /// is noted. The other versions ask for no places.
 #[inline(always)]
-fn repeated(strict: bool, places: &mut Places, key: Key, remaining: usize) -> bool
-    ensures { IsFalse result → IsTrue strict → IsNoted places.old key remaining places.new }
+fn repeated(version: DescriptionVersion, places: &mut Places, key: Key, remaining: usize) -> bool
+    ensures { IsFalse result → IsTrue (is_version_three version) → IsNoted places.old key remaining
+        places.new }
 {
-    if !strict {
+    if !version.is_strict() {
         return false;
     }
     if places.of(key).is_some() {

@@ -1,5 +1,5 @@
 use Rattle.std.proofs.Common.{◌≡◌, IsUtf8, false, true, subst, sym}
-use Rattle.timefd_borrowed_fault.specs.BorrowedFaults.{lent_fault, IsLent, IsLentOf, IsMemory}
+use Rattle.timefd_fault.specs.BorrowedFaults.{lent_fault, IsLent, IsLentOf, IsMemory}
 use Rattle.timefd_language.specs.Grammar.{nesting_limit}
 use Rattle.timefd_parse.specs.declared.language.Language.TheVariants.{Strftime}
 use Rattle.timefd_parse.specs.Language.{FaultIn}

@@ -1,6 +1,6 @@
 use Rattle.std.proofs.Common.{subst, sym}
-use Rattle.timefd_language.specs.FaultMeaning.{rule_kind}
-use Rattle.timefd_language.specs.declared.fault.Rule.{Rule}
+use Rattle.timefd_fault.specs.RuleKinds.{rule_kind}
+use Rattle.timefd_fault.specs.declared.rule.Rule.{Rule}
 use Rattle.timefd_diagnosis.specs.declared.help.Help.TheVariants.{Advice}
 use Rattle.timefd_diagnosis.specs.Helps as spec
 use Rattle.timefd_diagnosis.proofs.help.version_help.Goals as goal
@@ -9,8 +9,4 @@ pub returns-in-None : goal.returns-in-None
 returns-in-None c =
     subst (λ (k : Rule). spec.IsVersionHelp c.args.version c.args.text.now c.args.fault.index
     (rule_kind k) (Advice c.advice.result))
-    (sym c.in-InvalidModifier.is) (
-      subst (λ s. spec.HasNoModifierPlace s c.args.text.now c.args.fault.index
-          c.in-InvalidModifier.value.now) c.is_strict-in-InvalidModifier.ensures c.in-None.ensures,
-      c.advice.ensures,
-    )
+    (sym c.in-InvalidModifier.is) (c.in-None.ensures, c.advice.ensures)

@@ -2,7 +2,7 @@ use Rattle.std.proofs.Common.{◌∙◌, [], ◌∷◌, IsTrue, ap, subst, sym}
 use Rattle.timefd_component.specs.Tree.{compound}
 use Rattle.timefd_format_item.specs.Meaning.{item_trees}
 use Rattle.timefd_language.specs.Strings.{are_of_strings}
-use Rattle.timefd_language.specs.Told.{MemoryAlone}
+use Rattle.timefd_fault.specs.Told.{MemoryAlone}
 use Rattle.timefd_explain.proofs.members.push_members.Goals as goal
 
 pub push_composite-requires : goal.push_composite-requires

@@ -1,7 +1,7 @@
 use Rattle.std.proofs.Common.{◌∙◌, ◌∷◌, [], IfOk, IsTrue, ap, subst, sym}
 use Rattle.timefd_format_item.specs.Meaning.{item_trees}
 use Rattle.timefd_language.specs.Strings.{are_of_strings}
-use Rattle.timefd_language.specs.Told.{MemoryAlone}
+use Rattle.timefd_fault.specs.Told.{MemoryAlone}
 use Rattle.timefd_parse.specs.Answers.{HasStrings}
 use Rattle.timefd_explain.specs.Shown.{ShowsOne}
 use Rattle.timefd_explain.proofs.ShownLemmas.{description_of, items_of}

@@ -1,6 +1,7 @@
 use Rattle.std.proofs.Common.{refl, arith}
 use Rattle.timefd_language.specs.declared.name.ComponentName.{ComponentName}
 use Rattle.timefd_language.proofs.Named.{unnamed, second_named, unlisted}
+use Rattle.timefd_language.specs.Bytes.{is_version_three}
 use Rattle.timefd_language.proofs.name.component_name_of.Goals as goal
 
 pub returns-in-11-2 : goal.returns-in-11-2
@@ -51,7 +52,7 @@ returns-in_default-9 c = unnamed _ _ 14 c.in-14.is (c.if-names-17.ensures, tt)
 -- another length
 pub returns-in_default-10 : goal.returns-in_default-10
 returns-in_default-10 c =
-    unlisted c.args.strict c.args.word.now
+    unlisted (is_version_three c.args.version) c.args.word.now
     (λ e. omega arith)
     (λ e. omega arith)
     (λ e. omega arith)

@@ -1,6 +1,6 @@
 use Rattle.std.proofs.Common.{Some, ap, refl, sym, true≢false, ◌∙◌}
-use Rattle.timefd_borrowed_fault.specs.BorrowedFaults.{lent_fault}
-use Rattle.timefd_diagnosis.specs.Codes.{code_of}
+use Rattle.timefd_fault.specs.BorrowedFaults.{lent_fault}
+use Rattle.timefd_fault.specs.Codes.{code_of}
 use Rattle.timefd_fault.specs.Faults.{Fault}
 use Rattle.timefd_language.specs.Grammar.{nesting_limit}
 use Rattle.timefd_parse.specs.Language.{FaultIn}

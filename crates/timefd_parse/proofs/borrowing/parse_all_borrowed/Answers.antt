@@ -1,10 +1,10 @@
 use Rattle.std.proofs.Common.{List, refl, sym, subst}
 use Rattle.timefd_fault.specs.Faults.{Fault}
 use Rattle.timefd_component.specs.Tree.{Tree}
-use Rattle.timefd_borrowed_fault.specs.BorrowedFaults.{IsLent, IsMemory}
-use Rattle.timefd_borrowed_fault.specs.Placed.{IsPlaced}
-use Rattle.timefd_borrowed_fault.proofs.PlacedLemmas.{is_placed, lent_more}
-use Rattle.timefd_borrowed_fault.proofs.ShortWords.{short_fault, short_lent}
+use Rattle.timefd_fault.specs.BorrowedFaults.{IsLent, IsMemory}
+use Rattle.timefd_fault.specs.Placed.{IsPlaced}
+use Rattle.timefd_language.proofs.PlacedLemmas.{is_placed, lent_more}
+use Rattle.timefd_language.proofs.ShortWords.{short_fault, short_lent}
 use Rattle.timefd_language.specs.declared.description_version.DescriptionVersion.TheVariants.{Three}
 use Rattle.timefd_language.specs.Broken.{FaultOf}
 use Rattle.timefd_language.specs.Grammar.{Spells}

@@ -1,11 +1,12 @@
 use Rattle.std.proofs.Common.{length, IsUtf8}
 use Rattle.timefd_parse.proofs.HeadLemmas.{ModifiersBefore}
+use Rattle.timefd_language.specs.Bytes.{is_version_three}
 use Rattle.timefd_parse.proofs.head.read_head.Given as goal
 
 abbrev pub invariant-modifiers : goal.invariant-modifiers
 invariant-modifiers l = record {
   text : IsUtf8 l.rest;
-  before : ModifiersBefore l.strict l.name l.initial.rest l.modifiers l.rest;
+  before : ModifiersBefore (is_version_three l.version) l.name l.initial.rest l.modifiers l.rest;
 }
 
 abbrev pub decreases-modifiers : goal.decreases-modifiers

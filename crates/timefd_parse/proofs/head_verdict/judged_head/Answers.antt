@@ -1,5 +1,5 @@
 use Rattle.std.proofs.Common.{◌∷◌, length, not, ap, sym, subst}
-use Rattle.timefd_language.specs.Bytes.{left}
+use Rattle.timefd_language.specs.Bytes.{left, is_version_three}
 use Rattle.timefd_parse.specs.HeadVerdicts.{IsVerdict}
 use Rattle.timefd_parse.proofs.head_verdict.judged_head.Goals as goal
 
@@ -13,7 +13,7 @@ returns c =
           white = c.in_ok-head.head.white.now;
           is = e.0.1.is;
           verdict = subst
-              (λ n. IsVerdict c.args.strict (length text) e.0.0 n c.head_verdict.result)
+              (λ n. IsVerdict (is_version_three c.args.version) (length text) e.0.0 n c.head_verdict.result)
               (sym c.nests.ensures) (c.head_verdict.ensures (length text) e.0.0 e.0.1.shows);
           whole = e.0.1.whole;
           all_white = e.0.1.all_white;

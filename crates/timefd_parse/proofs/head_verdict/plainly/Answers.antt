@@ -1,7 +1,8 @@
 use Rattle.timefd_parse.proofs.HeadVerdictLemmas as lemmas
+use Rattle.timefd_language.specs.Bytes.{is_version_three}
 use Rattle.timefd_parse.proofs.head_verdict.plainly.Goals as goal
 
 pub returns : goal.returns
 returns c =
-    lemmas.plainly c.args.strict c.args.inside.now c.args.word.now _ _ c.args.verdict c.requires
+    lemmas.plainly (is_version_three c.args.version) c.args.inside.now c.args.word.now _ _ c.args.verdict c.requires
     c.in_ok-rest.ensures c.in-Opening.ensures

@@ -1,11 +1,11 @@
 use Rattle.std.proofs.Common.{◌≡◌, List, IfOk, IfErr, IsFalse, MatchResult, sym, subst}
 use Rattle.timefd_fault.specs.Faults.{Fault}
 use Rattle.timefd_component.specs.Tree.{Tree}
-use Rattle.timefd_borrowed_fault.specs.BorrowedFaults.{HasShortFault, IsLent, IsLentOf, IsMemory}
+use Rattle.timefd_fault.specs.BorrowedFaults.{HasShortFault, IsLent, IsLentOf, IsMemory}
 use Rattle.timefd_parse.specs.Language.{SpellsIn, FaultIn, amount, takes_memory}
-use Rattle.timefd_borrowed_fault.specs.Placed.{IsPlaced}
-use Rattle.timefd_borrowed_fault.proofs.PlacedLemmas.{lent_more}
-use Rattle.timefd_borrowed_fault.proofs.ShortWords.{short_lent}
+use Rattle.timefd_fault.specs.Placed.{IsPlaced}
+use Rattle.timefd_language.proofs.PlacedLemmas.{lent_more}
+use Rattle.timefd_language.proofs.ShortWords.{short_lent}
 use Rattle.timefd_parse.proofs.AmountLemmas.{builds_nothing, if_err_more, placed_in, short_in}
 use Rattle.timefd_parse.proofs.language.amount_all_borrowed.Goals as goal
 

@@ -3,11 +3,10 @@ use Rattle.std.proofs.lemmas.Result.{err_from_is_err_and}
 use Rattle.timefd_items.specs.Builder.{built}
 use Rattle.timefd_component.specs.Tree.{pack}
 use Rattle.timefd_language.specs.Bytes.{left, is_version_three}
-use Rattle.timefd_parse.specs.HeadVerdicts.{BeginsWithJudged}
 use Rattle.timefd_parse.specs.Read.{IsFaultIn, IsNext}
 use Rattle.timefd_parse.proofs.BuildingLemmas.{built_none, built_more, built_there, built_within}
 use Rattle.timefd_parse.proofs.ReadLemmas.{continues_more, members_end, items_fault, memory_or, closing_outside, fault_outside, doubled_leads, opening_leads, utf8_after, cut_shorter}
-use Rattle.timefd_parse.proofs.NestedLemmas.{Accepts, Refuses, bracket_begins, behind_within, no_bracket, no_closing, accepted, refuses, never_closed, at_limit, inner_fails, inner_cut_off, inner_read, nested_shorter, nested_fault, one_more}
+use Rattle.timefd_parse.proofs.NestedLemmas.{bracket_begins, behind_within, no_bracket, no_closing, accepted, refuses, never_closed, at_limit, inner_fails, inner_cut_off, inner_read, nested_shorter, nested_fault, one_more}
 use Rattle.timefd_parse.proofs.read.+read.Goals as goal
 
 pub bracket-returns-in-Some-clause-piece : goal.bracket-returns-in-Some-clause-piece
@@ -19,13 +18,11 @@ bracket-returns-in-Some-clause-piece g t c = (
 
 pub bracket-inner-init : goal.bracket-inner-init
 bracket-inner-init g t c =
-    let e = c.in_ok-head.ensures in
-    let begins = subst (λ s. BeginsWithJudged s (left ∷ c.args.inside.now) c.in_ok-head.head
-    c.in_ok-head.behind.now e.0.0) c.is_strict-strict.ensures e.0.1 in (
+    let e = c.in_ok-head.ensures in (
       e.1,
-      omega (arith, behind_within begins),
+      omega (arith, behind_within e.0.1),
       [],
-      bracket_begins begins,
+      bracket_begins e.0.1,
       refl,
       built_none _ _,
     )
@@ -110,32 +107,15 @@ pub bracket-returns-in_err-piece-in-Closing-clause-piece : goal.bracket-returns-
 bracket-returns-in_err-piece-in-Closing-clause-piece g t c =
     let p = err_from_is_err_and c.from_residual-in_err-piece-in-Closing.result
     c.from_residual-in_err-piece-in-Closing.ensures.1 in
-    let judged = subst
-    (λ s. Refuses s (not (g.row.BUILDS == 0)) (length c.args.inside.now + 1) c.in_ok-head.head
-    (record {
-      spaced = c.in_ok-head.head.spaced;
-      remaining = length c.in_ok-head.behind.now;
-      count = c.inner.count;
-    })
-    (length c.inner.rest.now) (built c.inner.builder) c.in_err-piece-in-Closing.field-0.0)
-    c.is_strict-strict.ensures c.in_err-piece-in-Closing.ensures.tree in
     rw (p.1, p.2) (refuses c.inner.invariant.3 _ _ _ _ c.inner.invariant.4 c.inner.invariant.5 _
-    c.in_err-piece-in-Closing.field-0.0 c.in-Closing.ensures judged)
+    c.in_err-piece-in-Closing.field-0.0 c.in-Closing.ensures
+    c.in_err-piece-in-Closing.ensures.tree)
 
 pub bracket-returns-in-Closing-clause-piece : goal.bracket-returns-in-Closing-clause-piece
 bracket-returns-in-Closing-clause-piece g t c =
-    let judged = subst
-    (λ s. Accepts s (not (g.row.BUILDS == 0)) (length c.args.inside.now + 1) c.in_ok-head.head
-    (record {
-      spaced = c.in_ok-head.head.spaced;
-      remaining = length c.in_ok-head.behind.now;
-      count = c.inner.count;
-    })
-    (length c.inner.rest.now) (built c.inner.builder) (built c.verdict.new.builder)
-    c.in_ok-piece-in-Closing.piece)
-    c.is_strict-strict.ensures c.in_ok-piece-in-Closing.ensures.tree in
     let a = accepted c.inner.invariant.3 _ _ _ _ c.inner.invariant.4 c.inner.invariant.5 _
-    (built c.verdict.new.builder) c.in_ok-piece-in-Closing.piece c.in-Closing.ensures judged in (
+    (built c.verdict.new.builder) c.in_ok-piece-in-Closing.piece c.in-Closing.ensures
+    c.in_ok-piece-in-Closing.ensures.tree in (
       a.0,
       record {
         leads = a.1;

@@ -2,23 +2,24 @@ use Rattle.std.proofs.Common.{◌∙◌, refl, sym, arith}
 use Rattle.std.proofs.lemmas.Bool.{true≢false}
 use Rattle.timefd_items.specs.Builder.{built}
 use Rattle.timefd_fault.specs.Faults.{fault}
-use Rattle.timefd_language.specs.Fault.{first_item, expected_alternative}
+use Rattle.timefd_fault.specs.Words.{first_item, expected_alternative}
 use Rattle.timefd_parse.proofs.BuildingLemmas.{is_off, is_on}
 use Rattle.timefd_parse.proofs.VerdictLemmas.{first_lax, first_empty, first_made, parts_none}
+use Rattle.timefd_language.specs.Bytes.{is_version_three}
 use Rattle.timefd_parse.proofs.verdict.first.Goals as goal
 
-pub returns-then-not-strict-clause-tree : goal.returns-then-not-strict-clause-tree
-returns-then-not-strict-clause-tree g c = λ place h parts base good shows e are. (
+pub returns-then-not-is_strict-clause-tree : goal.returns-then-not-is_strict-clause-tree
+returns-then-not-is_strict-clause-tree g c = λ place h parts base good shows e are. (
   fault first_item 0,
   first_lax _ place h parts good
-      c.if-not-strict.true,
+      (sym c.if-not-is_strict.ensures),
   record { kind = refl; place = omega arith },
 )
 
 pub returns-then-nested-eq0-clause-tree : goal.returns-then-nested-eq0-clause-tree
 returns-then-nested-eq0-clause-tree g c = λ place h parts base good shows e are. (
   fault expected_alternative place,
-  first_empty _ place h parts good c.if-not-strict.false
+  first_empty _ place h parts good (sym c.if-not-is_strict.ensures)
       (parts_none c.args.span.start c.args.nested parts shows c.if-nested-eq0.true),
   record { kind = refl; place = e },
 )
@@ -28,13 +29,13 @@ first-requires g c = c.requires (is_on g.row.BUILDS c.if-not-this.false)
 
 pub returns-clause-tree : goal.returns-clause-tree
 returns-clause-tree g c = λ place h parts base good shows e are.
-    first_made c.args.strict _ c.args.span.start place c.args.nested h parts
+    first_made (is_version_three c.args.version) _ c.args.span.start place c.args.nested h parts
     base (built c.args.builder.now) (built c.first.new.self) good shows
-    c.if-nested-eq0.false c.if-not-strict.false are (λ on. c.in_ok-first.ensures.made)
+    c.if-nested-eq0.false (sym c.if-not-is_strict.ensures) are (λ on. c.in_ok-first.ensures.made)
 
 pub returns-then-not-this-clause-tree : goal.returns-then-not-this-clause-tree
 returns-then-not-this-clause-tree g c = λ place h parts base good shows e are.
-    first_made c.args.strict _ c.args.span.start place c.args.nested h parts
+    first_made (is_version_three c.args.version) _ c.args.span.start place c.args.nested h parts
     base (built c.args.builder.now) (built c.args.builder.now) good shows
-    c.if-nested-eq0.false c.if-not-strict.false are
+    c.if-nested-eq0.false (sym c.if-not-is_strict.ensures) are
     (λ on. absurd (true≢false (sym on ∙ is_off g.row.BUILDS c.if-not-this.true)))

@@ -2,9 +2,10 @@ use Rattle.std.proofs.Common.{◌∙◌, refl, sym, arith}
 use Rattle.std.proofs.lemmas.Bool.{true≢false}
 use Rattle.timefd_items.specs.Builder.{built}
 use Rattle.timefd_fault.specs.Faults.{fault}
-use Rattle.timefd_language.specs.Fault.{expected_nested, optional_item}
+use Rattle.timefd_fault.specs.Words.{expected_nested, optional_item}
 use Rattle.timefd_parse.proofs.BuildingLemmas.{is_off, is_on}
 use Rattle.timefd_parse.proofs.VerdictLemmas.{parts_none, parts_one, parts_many, optional_none, optional_many, optional_lax, optional_made}
+use Rattle.timefd_language.specs.Bytes.{is_version_three}
 use Rattle.timefd_parse.proofs.verdict.optional.Goals as goal
 
 pub returns-then-nested-eq0-clause-tree : goal.returns-then-nested-eq0-clause-tree
@@ -25,13 +26,13 @@ returns-then-nested-gt1-clause-tree g c = λ place h parts base good same shows 
       record { kind = many.2; place = many.3 },
     )
 
-pub returns-then-not-strict-clause-tree : goal.returns-then-not-strict-clause-tree
-returns-then-not-strict-clause-tree g c = λ place h parts base good same shows e are.
+pub returns-then-not-is_strict-clause-tree : goal.returns-then-not-is_strict-clause-tree
+returns-then-not-is_strict-clause-tree g c = λ place h parts base good same shows e are.
     let one = parts_one c.args.span.start c.args.nested parts shows
     (omega (arith, c.if-nested-eq0.false, c.if-nested-gt1.false)) in (
       fault optional_item 0,
       optional_lax _ place h one.0 parts
-          good c.if-not-strict.true one.1,
+          good (sym c.if-not-is_strict.ensures) one.1,
       record { kind = refl; place = omega arith },
     )
 
@@ -41,14 +42,14 @@ optional-requires g c =
 
 pub returns-clause-tree : goal.returns-clause-tree
 returns-clause-tree g c = λ place h parts base good same shows e are.
-    optional_made c.args.strict _ c.args.span.start place c.args.nested c.args.formatted h parts
+    optional_made (is_version_three c.args.version) _ c.args.span.start place c.args.nested c.args.formatted h parts
     base (built c.args.builder.now) (built c.optional.new.self) good same shows
-    (omega (arith, c.if-nested-eq0.false, c.if-nested-gt1.false)) c.if-not-strict.false are
+    (omega (arith, c.if-nested-eq0.false, c.if-nested-gt1.false)) (sym c.if-not-is_strict.ensures) are
     (λ on. c.in_ok-optional.ensures.made)
 
 pub returns-then-not-this-clause-tree : goal.returns-then-not-this-clause-tree
 returns-then-not-this-clause-tree g c = λ place h parts base good same shows e are.
-    optional_made c.args.strict _ c.args.span.start place c.args.nested c.args.formatted h parts
+    optional_made (is_version_three c.args.version) _ c.args.span.start place c.args.nested c.args.formatted h parts
     base (built c.args.builder.now) (built c.args.builder.now) good same shows
-    (omega (arith, c.if-nested-eq0.false, c.if-nested-gt1.false)) c.if-not-strict.false are
+    (omega (arith, c.if-nested-eq0.false, c.if-nested-gt1.false)) (sym c.if-not-is_strict.ensures) are
     (λ on. absurd (true≢false (sym on ∙ is_off g.row.BUILDS c.if-not-this.true)))

@@ -5,23 +5,24 @@ use Rattle.timefd_language.specs.Verdict.{optional_verdict, first_verdict}
 use Rattle.timefd_parse.specs.HeadVerdicts.{IsVerdict}
 use Rattle.timefd_parse.specs.Judged.{Judged, packed}
 use Rattle.timefd_parse.proofs.HeadVerdictLemmas.{misplaced_nested, none_nested, well_placed}
+use Rattle.timefd_language.specs.Bytes.{is_version_three}
 use Rattle.timefd_parse.proofs.verdict.verdict.Goals as goal
 
 pub returns-in-Some-clause-tree : goal.returns-in-Some-clause-tree
 returns-in-Some-clause-tree g c = λ place h parts base is nested e are.
-    misplaced_nested c.args.strict c.args.span.start place h c.args.head.now.nests parts
+    misplaced_nested (is_version_three c.args.version) c.args.span.start place h c.args.head.now.nests parts
     c.args.head.now.verdict c.placing_fault.result _ is (c.placing_fault.ensures parts nested)
     c.in-Some.is
 
 pub returns-in-Component-clause-tree : goal.returns-in-Component-clause-tree
 returns-in-Component-clause-tree g c = λ place h parts base is nested e are.
-    let v = subst (IsVerdict c.args.strict c.args.span.start h c.args.head.now.nests)
+    let v = subst (IsVerdict (is_version_three c.args.version) c.args.span.start h c.args.head.now.nests)
     c.in-Component.is is in
     let placed = c.placing_fault.ensures parts nested in
     let none = none_nested c.args.span.start c.args.head.now.nests parts c.placing_fault.result v.0
     placed c.in_default.is in (
       component c.in-Component.component,
-      well_placed c.args.strict c.args.span.start place h c.args.head.now.nests parts
+      well_placed (is_version_three c.args.version) c.args.span.start place h c.args.head.now.nests parts
           (λ parts place. Ok (component c.in-Component.component)) c.placing_fault.result v.2 placed
           c.in_default.is,
       c.component_piece.ensures _ _ _ v.1
@@ -30,21 +31,21 @@ returns-in-Component-clause-tree g c = λ place h parts base is nested e are.
 
 pub returns-in-Optional-clause-tree : goal.returns-in-Optional-clause-tree
 returns-in-Optional-clause-tree g c = λ place h parts base is nested e are.
-    let v = subst (IsVerdict c.args.strict c.args.span.start h c.args.head.now.nests)
+    let v = subst (IsVerdict (is_version_three c.args.version) c.args.span.start h c.args.head.now.nests)
     c.in-Optional.is is in
-    subst (Judged c.args.span.start c.args.strict (not (g.row.BUILDS == 0)) base (built c.optional.new.builder)
+    subst (Judged c.args.span.start (is_version_three c.args.version) (not (g.row.BUILDS == 0)) base (built c.optional.new.builder)
     c.optional.result)
-    (sym (well_placed c.args.strict c.args.span.start place h c.args.head.now.nests parts
-    (optional_verdict c.args.strict h) c.placing_fault.result v.2
+    (sym (well_placed (is_version_three c.args.version) c.args.span.start place h c.args.head.now.nests parts
+    (optional_verdict (is_version_three c.args.version) h) c.placing_fault.result v.2
     (c.placing_fault.ensures parts nested) c.in_default.is))
     (c.optional.ensures.tree place h parts base v.0 v.1 nested e are)
 
 pub returns-in-First-clause-tree : goal.returns-in-First-clause-tree
 returns-in-First-clause-tree g c = λ place h parts base is nested e are.
-    let v = subst (IsVerdict c.args.strict c.args.span.start h c.args.head.now.nests)
+    let v = subst (IsVerdict (is_version_three c.args.version) c.args.span.start h c.args.head.now.nests)
     c.in-First.is is in
-    subst (Judged c.args.span.start c.args.strict (not (g.row.BUILDS == 0)) base (built c.first.new.builder) c.first.result)
-    (sym (well_placed c.args.strict c.args.span.start place h c.args.head.now.nests parts
-    (first_verdict c.args.strict h) c.placing_fault.result v.1
+    subst (Judged c.args.span.start (is_version_three c.args.version) (not (g.row.BUILDS == 0)) base (built c.first.new.builder) c.first.result)
+    (sym (well_placed (is_version_three c.args.version) c.args.span.start place h c.args.head.now.nests parts
+    (first_verdict (is_version_three c.args.version) h) c.placing_fault.result v.1
     (c.placing_fault.ensures parts nested) c.in_default.is))
     (c.first.ensures.tree place h parts base v.0 nested e are)

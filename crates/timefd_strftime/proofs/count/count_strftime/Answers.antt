@@ -1,6 +1,6 @@
-use Rattle.timefd_borrowed_fault.specs.BorrowedFaults.{lent_fault}
-use Rattle.timefd_borrowed_fault.proofs.PlacedLemmas.{is_strftime_placed}
-use Rattle.timefd_borrowed_fault.proofs.ShortWords.{short_strftime_fault}
+use Rattle.timefd_fault.specs.BorrowedFaults.{lent_fault}
+use Rattle.timefd_language.proofs.PlacedLemmas.{is_strftime_placed}
+use Rattle.timefd_language.proofs.ShortWords.{short_strftime_fault}
 use Rattle.timefd_strftime.proofs.DirectiveLemmas.{lent_strftime_fault}
 use Rattle.timefd_strftime.proofs.count.count_strftime.Goals as goal
 

@@ -1,7 +1,7 @@
 use Rattle.timefd_language.specs.Strftime.{StrftimeFaultOf}
-use Rattle.timefd_borrowed_fault.specs.Placed.{IsPlaced}
-use Rattle.timefd_borrowed_fault.proofs.PlacedLemmas.{is_strftime_placed, lent_more}
-use Rattle.timefd_borrowed_fault.proofs.ShortWords.{short_lent, short_strftime_fault}
+use Rattle.timefd_fault.specs.Placed.{IsPlaced}
+use Rattle.timefd_language.proofs.PlacedLemmas.{is_strftime_placed, lent_more}
+use Rattle.timefd_language.proofs.ShortWords.{short_lent, short_strftime_fault}
 use Rattle.timefd_strftime.proofs.DirectiveLemmas.{one}
 use Rattle.timefd_strftime.proofs.parsing.parse_strftime_all_borrowed.Goals as goal
 

@@ -1,5 +1,5 @@
-use Rattle.timefd_borrowed_fault.proofs.OwnedLemmas.{owned_fault, owned_memory}
-use Rattle.timefd_borrowed_fault.proofs.PlacedLemmas.{owned_placed}
+use Rattle.timefd_fault.proofs.OwnedLemmas.{owned_fault, owned_memory}
+use Rattle.timefd_language.proofs.PlacedLemmas.{owned_placed}
 use Rattle.timefd_strftime.proofs.DirectiveLemmas.{owned_strftime}
 use Rattle.timefd_strftime.proofs.parsing.parse_strftime_borrowed.Goals as goal
 

@@ -1,5 +1,5 @@
 use Rattle.std.proofs.Common.{◌≡◌, IfOk, rules}
-use Rattle.timefd_borrowed_fault.specs.Placed.{IsPlaced}
+use Rattle.timefd_fault.specs.Placed.{IsPlaced}
 use Rattle.timefd_diagnosis.specs.Diagnoses.{IsDiagnosis}
 use Rattle.timefd_fault.specs.Faults.{fault_of}
 use Rattle.timefd_language.specs.Grammar.{nesting_limit}

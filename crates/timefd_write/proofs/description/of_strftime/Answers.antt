@@ -1,5 +1,5 @@
 use Rattle.std.proofs.Common.{subst}
-use Rattle.timefd_language.specs.Told.{MemoryAlone}
+use Rattle.timefd_fault.specs.Told.{MemoryAlone}
 use Rattle.timefd_write.proofs.description.of_strftime.Goals as goal
 
 -- a text that is spelled has no fault

@@ -1,11 +1,12 @@
 use Rattle.timefd_parse.proofs.BareLemmas.{all_taken, none_taken, one_taken}
+use Rattle.timefd_language.specs.Bytes.{is_version_three}
 use Rattle.timefd_parse.proofs.fast.modified.take.Goals as goal
 
 pub modifiers-init : goal.modifiers-init
 modifiers-init c = record {
   text = c.utf8.text;
   before =
-      none_taken c.args.strict c.args.name c.args.text.now _ _ c.requires.settings c.requires.places;
+      none_taken (is_version_three c.args.version) c.args.name c.args.text.now _ _ c.requires.settings c.requires.places;
 }
 
 pub returns-in-Some : goal.returns-in-Some

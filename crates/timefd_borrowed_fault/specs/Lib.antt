@@ -1,4 +1,0 @@
-pub mod Excerpts
-pub mod Parts
-pub mod BorrowedFaults
-pub mod Placed

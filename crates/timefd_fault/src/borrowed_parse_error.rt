@@ -1,0 +1,54 @@
+//! The error of the public calls that borrow its fault.
+
+ghost use Rattle.std.specs.Prelude.{◌≡◌, ◌≤◌};
+ghost use Rattle.timefd_fault.specs.ReadErrors.{MemoryOr};
+ghost use Rattle.timefd_fault.specs.BorrowedFaults.{IsOwned, Lends};
+
+use crate::borrowed_fault::BorrowedFault;
+use crate::parse_error::{ParseError, told};
+use crate::read_error::{Fault, ReadError};
+use std::alloc::{AllocError, Global};
+
+/// Why a text was not read: `ParseError`, which borrows what its fault quotes of the text.
+#[derive(Drop)]
+pub enum BorrowedParseError<'a> {
+    /// The text is no description, for this fault.
+    Invalid(BorrowedFault<'a>),
+    /// Memory ran out. No call answers this of a text that has a fault.
+    Memory(AllocError),
+}
+
+impl<'a> BorrowedParseError<'a> {
+    /// The same with a copy of what the fault quotes, or `Memory` where there is no memory for that.
+    /// A fault that quotes nothing takes none.
+    pub fn into_owned(self, alloc: Global) -> ParseError
+        ensures { IsOwned self.entry result }
+    {
+        match self {
+            BorrowedParseError::Invalid(fault) => owned(alloc, fault),
+            BorrowedParseError::Memory(error) => ParseError::Memory(error),
+        }
+    }
+}
+
+// The error with a copy of this fault.
+fn owned(alloc: Global, fault: BorrowedFault) -> ParseError
+    ensures { IsOwned (BorrowedParseError.Invalid fault.entry) result }
+{
+    let at_the_end = Fault {
+        rule: fault.rule,
+        remaining: 0,
+    };
+    told(alloc, ReadError::Invalid(at_the_end), fault.index)
+}
+
+/// What is lent of an error in a text with so many bytes.
+pub fn lent<'a>(error: ReadError<'a>, len: usize) -> BorrowedParseError<'a>
+    requires { MemoryOr (λ f. f.remaining ≤ len) error }
+    ensures { Lends len error.entry result }
+{
+    match error {
+        ReadError::Invalid(fault) => BorrowedParseError::Invalid(BorrowedFault::of(fault, len)),
+        ReadError::Memory => BorrowedParseError::Memory(AllocError),
+    }
+}

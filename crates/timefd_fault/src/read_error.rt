@@ -1,0 +1,47 @@
+//! Faults inside the readers: they borrow their words and take no memory.
+
+ghost use Rattle.std.specs.Prelude.{◌≡◌};
+ghost use Rattle.timefd_fault.specs.declared.read_error.ReadError.TheVariants.{Invalid, Memory};
+
+use crate::rule::Rule;
+use std::alloc::{AllocError, AllocFailed};
+
+/// A fault, and how many bytes of the text remain from its place on.
+#[derive(Clone, Copy)]
+pub struct Fault<'a> {
+    /// The rule that is broken.
+    pub rule: Rule<'a>,
+    /// How many bytes remain.
+    pub remaining: usize,
+}
+
+/// Why the reader stops.
+#[derive(Drop)]
+pub enum ReadError<'a> {
+    Invalid(Fault<'a>),
+    Memory,
+}
+
+impl<'a> From<Fault<'a>> for ReadError<'a> {
+    ghost from_gives = { λ f e. e ≡ Invalid f };
+
+    fn from(fault: Fault<'a>) -> ReadError<'a> {
+        ReadError::Invalid(fault)
+    }
+}
+
+impl<'a> From<AllocError> for ReadError<'a> {
+    ghost from_gives = { λ _ e. e ≡ Memory };
+
+    fn from(_error: AllocError) -> ReadError<'a> {
+        ReadError::Memory
+    }
+}
+
+impl<'a, T: Drop> From<AllocFailed<T>> for ReadError<'a> {
+    ghost from_gives = { λ _ e. e ≡ Memory };
+
+    fn from(_error: AllocFailed<T>) -> ReadError<'a> {
+        ReadError::Memory
+    }
+}

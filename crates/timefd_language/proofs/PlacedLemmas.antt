@@ -1,0 +1,35 @@
+-- Faults of a text stand in it, between two characters.
+use Rattle.std.proofs.Common.{ℕ, IsUtf8}
+use Rattle.timefd_component.specs.Tree.{Text}
+use Rattle.timefd_fault.specs.Faults.{Fault}
+use Rattle.timefd_language.specs.declared.description_version.DescriptionVersion.{DescriptionVersion}
+use Rattle.timefd_fault.specs.declared.parse_error.ParseError.{ParseError}
+use Rattle.timefd_fault.specs.declared.parse_error.ParseError.TheVariants as told
+use Rattle.timefd_language.specs.Broken.{FaultOf}
+use Rattle.timefd_language.specs.Strftime.{StrftimeFaultOf}
+use Rattle.timefd_language.proofs.PlacesBetween.{placed_between_law, strftime_placed_between_law}
+use Rattle.timefd_fault.specs.declared.borrowed_parse_error.BorrowedParseError.{BorrowedParseError}
+use Rattle.timefd_fault.specs.declared.borrowed_parse_error.BorrowedParseError.TheVariants.{Invalid, Memory}
+use Rattle.timefd_fault.specs.BorrowedFaults.{lent_fault, IsLentOf, IsOwned}
+use Rattle.timefd_fault.specs.Placed.{IsPlaced, HasPlacedFault}
+use Rattle.timefd_fault.proofs.OwnedLemmas.{owned_of}
+
+pub is_placed : (v : DescriptionVersion) (limit : ℕ) (text : Text) → IsUtf8 text → (f : Fault)
+    → FaultOf v limit text f → IsPlaced text f
+is_placed v limit text utf8 f is = placed_between_law v limit text f utf8 is
+
+pub is_strftime_placed : (text : Text) → IsUtf8 text → (f : Fault) → StrftimeFaultOf text f
+    → IsPlaced text f
+is_strftime_placed text utf8 f is = strftime_placed_between_law text f utf8 is
+
+-- what holds of each fault of a kind holds of one that is lent
+pub lent_more : (P Q : Fault → Type 0) → ((f : Fault) → P f → Q f) → (e : BorrowedParseError)
+    → IsLentOf P e → IsLentOf Q e
+lent_more P Q more (Invalid f) is = more (lent_fault f) is
+lent_more P Q more (Memory m) is = tt
+
+-- a copy of the fault has its place
+pub owned_placed : (text : Text) (e : BorrowedParseError) (r : ParseError)
+    → IsLentOf (IsPlaced text) e → IsOwned e r → HasPlacedFault text r
+owned_placed text e (told.Memory m) is owned = tt
+owned_placed text e (told.Invalid x) is owned = owned_of (IsPlaced text) e x is owned
