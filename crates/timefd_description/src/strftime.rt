@@ -15,8 +15,8 @@ ghost use Rattle.timefd_strftime.specs.StrftimeReading.{IsStrftimeFaultIn};
 use crate::composite::add_composite;
 use crate::nodes::finished;
 use std::alloc::{AllocError, Global};
-use timefd_items::{DescriptionBuilder, FormatDescriptionV3};
 use timefd_fault::read_error::ReadError;
+use timefd_items::{DescriptionBuilder, FormatDescriptionV3};
 use timefd_parse::BorrowedParseError;
 use timefd_strftime::{StrftimePiece, next_strftime_piece, strftime_error};
 

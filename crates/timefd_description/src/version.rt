@@ -16,8 +16,8 @@ ghost use Rattle.timefd_parse.specs.declared.language.Language.TheVariants.{Vers
 
 use crate::nodes::finished;
 use std::alloc::{AllocError, Global};
-use timefd_items::{DescriptionBuilder, FormatDescriptionV3};
 use timefd_fault::read_error::ReadError;
+use timefd_items::{DescriptionBuilder, FormatDescriptionV3};
 use timefd_parse::{
     BorrowedOutput, BorrowedParseError, DescriptionVersion, NESTING_LIMIT, Piece, error_of,
     next_piece, parse_all_borrowed,
