@@ -1,6 +1,6 @@
 -- Where a fault ends.
 use Rattle.std.specs.Char.{len_utf8}
-use Rattle.std.specs.Prelude.{ℕ, ◌+◌, List, [], ◌∷◌, chars, length, drop, min}
+use Rattle.std.specs.Prelude.{ℕ, ◌+◌, ◌≤◌, List, [], ◌∷◌, chars, length, drop, min}
 use Rattle.std.specs.List.{prefix_len}
 use Rattle.timefd_component.specs.Tree.{Text}
 use Rattle.timefd_fault.specs.Faults.{Kind, Fault, unclosed_bracket, invalid_name, invalid_modifier, missing_name, missing_modifier, expected, not_supported, duplicate_modifier, invalid_combination}
@@ -8,6 +8,7 @@ use Rattle.timefd_language.specs.Bytes.{is_word_byte, is_key_byte}
 use Rattle.timefd_parse.specs.declared.language.Language.{Language}
 use Rattle.timefd_parse.specs.declared.language.Language.TheVariants.{Version, Strftime}
 use Rattle.timefd_diagnosis.specs.declared.span.Extent.{Extent}
+use Rattle.timefd_diagnosis.specs.declared.span.Span.{Span}
 use Rattle.timefd_diagnosis.specs.declared.span.Extent.TheVariants.{Character, Word, Key, Bytes}
 
 -- a key, a value or a word, or where nothing stands on one side of a colon the colon
@@ -46,3 +47,7 @@ measured (Bytes len) rest = min len (length rest)
 -- the index behind the bytes that are at fault
 abbrev pub end_of : Language → Text → Fault → ℕ
 end_of language text f = f.index + measured (extent_of language f.kind) (drop f.index text)
+
+-- the bytes are some of the text
+abbrev pub IsWithin : Text → Span → Type 0
+IsWithin text span = (span.start ≤ span.end) × (span.end ≤ length text)

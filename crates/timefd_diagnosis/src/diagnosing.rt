@@ -8,6 +8,7 @@ ghost use Rattle.timefd_fault.specs.Faults.{fault_of};
 ghost use Rattle.timefd_language.specs.Grammar.{nesting_limit};
 ghost use Rattle.timefd_parse.specs.Language.{SpellsIn, FaultIn};
 ghost use Rattle.timefd_diagnosis.specs.Diagnoses.{IsDiagnosis, IsOfFault};
+ghost use Rattle.timefd_diagnosis.specs.Spans.{IsWithin};
 
 use crate::diagnostic::Diagnostic;
 use crate::help::help_against;
@@ -32,6 +33,8 @@ pub fn diagnose(
     // The fault's index lies in the text or at its end, between two characters.
     ensures place { IfOk result (λ found. IfSome found (λ d. IsPlaced text.now (fault_of d.fault))) }
     ensures diagnosis { IfOk result (λ found. IfSome found (IsDiagnosis language text.now)) }
+    // The bytes that are at fault are some of the text.
+    ensures span { IfOk result (λ found. IfSome found (λ d. IsWithin text.now d.span)) }
 {
     match amount_all_borrowed(alloc, language, NESTING_LIMIT, text) {
         Ok(_) => Ok(None),
@@ -52,6 +55,7 @@ fn described(
     requires { IsPlaced text.now (lent_fault fault) }
     ensures fault { IfOk result (IsOfFault (lent_fault fault.entry)) }
     ensures diagnosis { IfOk result (IsDiagnosis language text.now) }
+    ensures span { IfOk result (λ d. IsWithin text.now d.span) }
 {
     let code = Code::of(fault.rule);
     let span = span_of(language, text, fault);

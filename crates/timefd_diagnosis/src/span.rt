@@ -37,6 +37,7 @@ pub fn span_of(language: Language, text: &str, fault: BorrowedFault<'_>) -> Span
     requires { IsPlaced text.now (lent_fault fault) }
     ensures start { result.start ≡ fault.entry.index }
     ensures end { result.end ≡ spec.end_of language text.now (lent_fault fault.entry) }
+    ensures within { spec.IsWithin text.now result }
 {
     let start = fault.index;
     let (_, rest) = text.split_at(start);

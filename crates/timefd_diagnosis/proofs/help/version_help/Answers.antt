@@ -9,8 +9,4 @@ pub returns-in-None : goal.returns-in-None
 returns-in-None c =
     subst (λ (k : Rule). spec.IsVersionHelp c.args.version c.args.text.now c.args.fault.index
     (rule_kind k) (Advice c.advice.result))
-    (sym c.in-InvalidModifier.is) (
-      subst (λ s. spec.HasNoModifierPlace s c.args.text.now c.args.fault.index
-          c.in-InvalidModifier.value.now) c.is_strict-in-InvalidModifier.ensures c.in-None.ensures,
-      c.advice.ensures,
-    )
+    (sym c.in-InvalidModifier.is) (c.in-None.ensures, c.advice.ensures)
