@@ -85,10 +85,8 @@ fn push_arrow(out: &mut String, is_colored: bool, margin: &str) -> Result<(), Al
     if !is_colored {
         return push_all(out, &[margin, "--> "]);
     }
-    push_all(
-        out,
-        &[margin, blue(is_colored), "-->", plain(is_colored), " "],
-    )
+    let (blue, plain) = (blue(is_colored), plain(is_colored));
+    write!(out, "{margin}{blue}-->{plain} ")
 }
 
 /// A bar.
@@ -100,7 +98,7 @@ pub fn push_bar_line(out: &mut String, is_colored: bool, margin: &str) -> Result
         return push_all(out, &[margin, " |\n"]);
     }
     let (blue, plain) = (blue(is_colored), plain(is_colored));
-    push_all(out, &[margin, " ", blue, "|", plain, "\n"])
+    write!(out, "{margin} {blue}|{plain}\n")
 }
 
 /// The line of the text, by its three parts.

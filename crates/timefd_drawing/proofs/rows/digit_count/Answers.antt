@@ -1,5 +1,5 @@
 use Rattle.std.proofs.Common.{ℕ, ◌≡◌, ◌∙◌, ◌+◌, ◌<◌, ◌≤◌, ◌/◌, ◌^◌, length, ap, arith, length-append}
-use Rattle.std.proofs.lemmas.Fmt.{decimal_digit, decimal_nonempty, decimal_step, length-decimal-le}
+use Rattle.std.proofs.lemmas.Fmt.{decimal_digit, decimal_step, length-decimal-le}
 use Rattle.std.specs.Fmt.{decimal}
 use Rattle.timefd_drawing.proofs.rows.digit_count.Goals as goal
 
@@ -10,8 +10,8 @@ one_longer n long small = ap length (decimal_step n long small) ∙ length-appen
 pub overflow_add-count : goal.overflow_add-count
 overflow_add-count c =
     let l = c.loop-left in
-    let most : length (decimal l.number) ≤ 20 =
-    length-decimal-le 20 l.number (omega arith) (omega arith) c.ranges.number.fits in
+    let most : length (decimal c.args.number) ≤ 20 =
+    length-decimal-le 20 c.args.number (omega arith) (omega arith) c.ranges.number.fits in
     omega (arith, l.invariant.0, most)
 
 pub loop-left-preserved : goal.loop-left-preserved
