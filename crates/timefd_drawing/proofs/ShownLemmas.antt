@@ -1,5 +1,5 @@
 -- What is shown holds no hidden character.
-use Rattle.std.proofs.Common.{ℕ, ◌≡◌, ◌<◌, ◌≤◌, ◌+◌, ◌-◌, Bool, true, false, nat_le, nat_lt, not, ◌==◌, List, [], ◌∷◌, ◌++◌, map, chars, refl, sym, ap, subst, ◌∙◌, inl, inr, arith, ltb-true, get_or}
+use Rattle.std.proofs.Common.{ℕ, ◌≡◌, ◌<◌, ◌≤◌, ◌+◌, ◌-◌, Bool, true, false, nat_le, nat_lt, not, ◌==◌, List, [], ◌∷◌, ◌++◌, map, chars, length, refl, sym, ap, subst, ◌∙◌, inl, inr, arith, ltb-true, get_or}
 use Rattle.std.proofs.lemmas.Bool.{and_parts, cases_Bool, le-ltb, leb-true}
 use Rattle.std.proofs.lemmas.Bool.Decides.{nat_tests}
 use Rattle.std.proofs.lemmas.List.FromFn.{get_or-range_with_len, length-range_with_len}
@@ -10,7 +10,7 @@ use Rattle.std.specs.Char.{encode_utf8}
 use Rattle.std.specs.List.{list_all, range_with_len}
 use Rattle.std.specs.Str.{IsAscii, NonePass, all_scalars, encode_utf8_all}
 use Rattle.timefd_component.specs.Tree.{Text}
-use Rattle.timefd_drawing.specs.Shown.{NoneIsHidden, is_hidden, is_printable, safe, shown}
+use Rattle.timefd_drawing.specs.Shown.{NoneIsHidden, cut_end, cut_start, is_hidden, is_printable, safe, shown}
 
 -- What holds of the pictures, of the replacement character, and of each character that isn't hidden
 -- holds of what is shown.
@@ -130,3 +130,18 @@ pub shown_as_it_is : (text : Text) → list_all is_printable text ≡ true → s
 shown_as_it_is text are =
     ap (λ cs. encode_utf8_all (map shown cs)) (chars-IsAscii text (all_ascii text are)) ∙
     encoded text are
+
+-- A short text that prints is neither cut nor changed.
+
+uncut : (text : Text) (most : ℕ) → length text ≤ most → list_all is_printable text ≡ true
+    → nat_lt most (length (chars text)) ≡ false
+uncut text most short are =
+    rw (chars-IsAscii text (all_ascii text are)) (le-ltb most (length text) short)
+
+pub plain_start : (text : Text) (most : ℕ) → length text ≤ most → list_all is_printable text ≡ true
+    → safe (cut_start most text) ≡ text
+plain_start text most short are = rw (uncut text most short are) (shown_as_it_is text are)
+
+pub plain_end : (text : Text) (most : ℕ) → length text ≤ most → list_all is_printable text ≡ true
+    → safe (cut_end most text) ≡ text
+plain_end text most short are = rw (uncut text most short are) (shown_as_it_is text are)

@@ -22,6 +22,11 @@ error_line colored code sentence =
     red colored ++ (codes "error[" ++ (code ++ (codes "]" ++ (plain colored ++ (codes ": "
     ++ (sentence ++ codes "\n"))))))
 
+-- what stands before the file
+abbrev pub arrow : Bool → Text → Text
+arrow colored margin =
+    margin ++ (blue colored ++ (codes "-->" ++ (plain colored ++ codes " ")))
+
 -- `--> FILE:LINE:COLUMN`
 abbrev pub place_line : Bool → Text → Text → ℕ → ℕ → Text
 place_line colored margin file line column =
@@ -32,6 +37,11 @@ place_line colored margin file line column =
 abbrev pub bar_line : Bool → Text → Text
 bar_line colored margin =
     margin ++ (codes " " ++ (blue colored ++ (codes "|" ++ (plain colored ++ codes "\n"))))
+
+-- what stands before the text
+abbrev pub numbered : Bool → ℕ → Text
+numbered colored line =
+    blue colored ++ (decimal line ++ (codes " |" ++ (plain colored ++ codes " ")))
 
 -- `LINE | TEXT`
 abbrev pub text_line : Bool → ℕ → Text → Text → Text → Text

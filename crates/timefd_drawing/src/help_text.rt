@@ -20,9 +20,8 @@ pub fn help_text(alloc: Global, help: Help) -> Result<String, AllocError>
             nearest: Some(word),
             ..
         } => {
-            let subject = subject(place);
             let mut text = String::with_capacity(alloc, ROOM)?;
-            write!(text, "the nearest {subject} is `{word}`")?;
+            push_nearest(&mut text, subject(place), word)?;
             Ok(text)
         }
         Help::Words {
@@ -35,6 +34,17 @@ pub fn help_text(alloc: Global, help: Help) -> Result<String, AllocError>
         }
         Help::Advice(advice) => String::from_str(alloc, advice),
     }
+}
+
+fn push_nearest(out: &mut String, subject: &str, word: &str) -> Result<(), AllocError>
+    ensures { OnOk result (string_bytes out.new ≡ string_bytes out.old
+        ++ (codes "the nearest " ++ (subject.now ++ (codes " is `" ++ (word.now ++ codes "`"))))) }
+{
+    out.push_str("the nearest ")?;
+    out.push_str(subject)?;
+    out.push_str(" is `")?;
+    out.push_str(word)?;
+    out.push_str("`")
 }
 
 fn allowed_text(alloc: Global, place: Place, allowed: &[&str]) -> Result<String, AllocError>

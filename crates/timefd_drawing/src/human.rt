@@ -10,9 +10,9 @@ use crate::lines::{
     push_text_line,
 };
 use crate::position::{Line, Origin, line_of, position_of};
-use crate::rows::{carets, spaces};
+use crate::rows::{carets, digit_count, spaces};
 use crate::sentence::shown_sentence;
-use crate::shown::{shown_end, shown_start};
+use crate::shown::{is_shown_as_it_is, shown_end, shown_start};
 use std::alloc::{AllocError, Global};
 use timefd_diagnosis::{Diagnostic, code_of};
 use unicode_width::UnicodeWidthStr;
@@ -53,8 +53,11 @@ pub fn human(
 fn margin(alloc: Global, line: u64) -> Result<String, AllocError>
     ensures { IfOk result (λ margin. string_bytes margin ≡ spec.margin line) }
 {
-    let digits = format!(in alloc; "{line}")?;
-    " ".repeat(alloc, digits.len())
+    let digits = digit_count(line);
+    match spaces(digits) {
+        Some(margin) => String::from_str(alloc, margin),
+        None => " ".repeat(alloc, digits),
+    }
 }
 
 // The line with the span, and carets under the span. Each part is cut where it is long.
@@ -70,6 +73,12 @@ fn push_source(
     ensures { OnOk result (string_bytes out.new ≡ string_bytes out.old
         ++ spec.source is_colored number line.entry.before.now line.entry.at.now line.entry.behind.now) }
 {
+    if is_shown_as_it_is(line.before, MOST_SHOWN)
+        && is_shown_as_it_is(line.at, MOST_SHOWN)
+        && is_shown_as_it_is(line.behind, MOST_SHOWN)
+    {
+        return push_source_of(alloc, out, is_colored, number, margin, line);
+    }
     let before = shown_start(alloc, line.before, MOST_SHOWN)?;
     let at = shown_end(alloc, line.at, MOST_SHOWN)?;
     let behind = shown_end(alloc, line.behind, MOST_SHOWN)?;

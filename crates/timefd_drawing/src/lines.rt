@@ -1,10 +1,10 @@
 //! The lines of a drawing, and the line that editors read.
 
-ghost use Rattle.std.specs.Prelude.{◌≡◌, ◌++◌, IfOk, OnOk, string_bytes};
+ghost use Rattle.std.specs.Prelude.{◌≡◌, ◌++◌, flat_map, IfOk, OnOk, string_bytes};
 ghost use Rattle.timefd_drawing.specs.Lines as spec;
 
 use crate::position::Position;
-use crate::shown::safe;
+use crate::shown::{push_safe, safe};
 use std::alloc::{AllocError, Global};
 
 // Room for the numbers of a line and what stands between its parts.
@@ -31,6 +31,17 @@ fn plain(is_colored: bool) -> &'static str
     if is_colored { "\u{1B}[0m" } else { "" }
 }
 
+// Appends texts one behind another: `write!` takes several times as long.
+fn push_all(out: &mut String, parts: &[&str]) -> Result<(), AllocError>
+    ensures { OnOk result (string_bytes out.new
+        ≡ string_bytes out.old ++ flat_map (λ part. part.now) parts.now) }
+{
+    for part in parts {
+        out.push_str(part)?;
+    }
+    Ok(())
+}
+
 /// The first line: the fault's name, and its sentence.
 pub fn push_error_line(
     out: &mut String,
@@ -42,7 +53,7 @@ pub fn push_error_line(
         ++ spec.error_line is_colored code.now sentence.now) }
 {
     if !is_colored {
-        return write!(out, "error[{code}]: {sentence}\n");
+        return push_all(out, &["error[", code, "]: ", sentence, "\n"]);
     }
     let (red, plain) = (red(is_colored), plain(is_colored));
     write!(out, "{red}error[{code}]{plain}: {sentence}\n")
@@ -60,13 +71,22 @@ pub fn push_place_line(
     ensures { OnOk result (string_bytes out.new ≡ string_bytes out.old
         ++ spec.place_line is_colored margin.now file.now place.line place.column) }
 {
-    let file = safe(alloc, file)?;
+    push_arrow(out, is_colored, margin)?;
+    push_safe(alloc, out, file)?;
     let Position { line, column } = place;
+    write!(out, ":{line}:{column}\n")
+}
+
+// What stands before the file.
+fn push_arrow(out: &mut String, is_colored: bool, margin: &str) -> Result<(), AllocError>
+    ensures { OnOk result (string_bytes out.new ≡ string_bytes out.old
+        ++ spec.arrow is_colored margin.now) }
+{
     if !is_colored {
-        return write!(out, "{margin}--> {file}:{line}:{column}\n");
+        return push_all(out, &[margin, "--> "]);
     }
     let (blue, plain) = (blue(is_colored), plain(is_colored));
-    write!(out, "{margin}{blue}-->{plain} {file}:{line}:{column}\n")
+    write!(out, "{margin}{blue}-->{plain} ")
 }
 
 /// A bar.
@@ -75,7 +95,7 @@ pub fn push_bar_line(out: &mut String, is_colored: bool, margin: &str) -> Result
         ++ spec.bar_line is_colored margin.now) }
 {
     if !is_colored {
-        return write!(out, "{margin} |\n");
+        return push_all(out, &[margin, " |\n"]);
     }
     let (blue, plain) = (blue(is_colored), plain(is_colored));
     write!(out, "{margin} {blue}|{plain}\n")
@@ -93,11 +113,20 @@ pub fn push_text_line(
     ensures { OnOk result (string_bytes out.new ≡ string_bytes out.old
         ++ spec.text_line is_colored number before.now at.now behind.now) }
 {
+    push_number(out, is_colored, number)?;
+    push_all(out, &[before, at, behind, "\n"])
+}
+
+// What stands before the text.
+fn push_number(out: &mut String, is_colored: bool, number: u64) -> Result<(), AllocError>
+    ensures { OnOk result (string_bytes out.new ≡ string_bytes out.old
+        ++ spec.numbered is_colored number) }
+{
     if !is_colored {
-        return write!(out, "{number} | {before}{at}{behind}\n");
+        return write!(out, "{number} | ");
     }
     let (blue, plain) = (blue(is_colored), plain(is_colored));
-    write!(out, "{blue}{number} |{plain} {before}{at}{behind}\n")
+    write!(out, "{blue}{number} |{plain} ")
 }
 
 /// A bar, and carets behind an indent.
@@ -112,7 +141,7 @@ pub fn push_caret_line(
         ++ spec.caret_line is_colored margin.now indent.now carets.now) }
 {
     if !is_colored {
-        return write!(out, "{margin} | {indent}{carets}\n");
+        return push_all(out, &[margin, " | ", indent, carets, "\n"]);
     }
     let (red, blue, plain) = (red(is_colored), blue(is_colored), plain(is_colored));
     write!(
@@ -132,7 +161,7 @@ fn push_help_line(
         ++ spec.help_line is_colored margin.now help.now) }
 {
     if !is_colored {
-        return write!(out, "{margin} = help: {help}\n");
+        return push_all(out, &[margin, " = help: ", help, "\n"]);
     }
     let (blue, plain) = (blue(is_colored), plain(is_colored));
     write!(out, "{margin} {blue}={plain} help: {help}\n")

@@ -1,6 +1,6 @@
 //! Rows of one character, which take no memory.
 
-ghost use Rattle.std.specs.Prelude.{◌≡◌, codes, IfSome};
+ghost use Rattle.std.specs.Prelude.{◌≡◌, codes, decimal, length, IfSome};
 ghost use Rattle.std.specs.List.{repeat};
 
 /// So many spaces, where a constant has as many.
@@ -17,6 +17,19 @@ pub fn carets(count: usize) -> Option<&'static str>
     ensures { IfSome result (λ row. row.now ≡ repeat count (codes "^")) }
 {
     CARETS.get(..count)
+}
+
+/// How many digits a number has.
+pub fn digit_count(number: u64) -> usize
+    ensures { result ≡ length (decimal number) }
+{
+    let mut left = number;
+    let mut count = 1;
+    while left >= 10 {
+        left /= 10;
+        count += 1;
+    }
+    count
 }
 
 const SPACES: &str =

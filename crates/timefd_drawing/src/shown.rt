@@ -1,6 +1,6 @@
 //! Texts as a terminal may show them.
 
-ghost use Rattle.std.specs.Prelude.{◌≡◌, ◌<◌, ◌-◌, ◌^◌, ◌++◌, chars, drop, false, IfOk, length, OnOk, string_bytes, take};
+ghost use Rattle.std.specs.Prelude.{◌≡◌, ◌<◌, ◌-◌, ◌^◌, ◌++◌, chars, drop, false, true, IfOk, length, OnOk, string_bytes, take};
 ghost use Rattle.std.specs.List.{list_all};
 ghost use Rattle.std.specs.Str.{encode_utf8_all};
 ghost use Rattle.timefd_drawing.specs.Shown as spec;
@@ -94,12 +94,25 @@ pub fn push_safe(alloc: Global, out: &mut String, text: &str) -> Result<(), Allo
     out.push_str(&shown)
 }
 
+/// Whether a text is shown as it is: it has no more bytes than these, and a terminal shows each so.
+#[tactic(auto, using(crate::proofs::ShownLemmas::plain_start, crate::proofs::ShownLemmas::plain_end))]
+pub fn is_shown_as_it_is(text: &str, most: usize) -> bool
+    ensures start { result ≡ true → spec.safe (spec.cut_start most text.now) ≡ text.now }
+    ensures end { result ≡ true → spec.safe (spec.cut_end most text.now) ≡ text.now }
+{
+    text.len() <= most && are_printable(text.as_bytes())
+}
+
 /// The columns that a text takes in a terminal once it is made safe.
+#[tactic(auto, using(crate::proofs::ShownLemmas::shown_as_it_is))]
 pub fn columns(alloc: Global, text: &str) -> Result<usize, AllocError>
     ensures value { IfOk result (λ columns.
         columns ≡ str_width false (chars (spec.safe text.now))) }
     ensures bound { IfOk result (λ columns. columns < 2 ^ 64 - 1) }
 {
+    if are_printable(text.as_bytes()) {
+        return Ok(text.width());
+    }
     let text = safe(alloc, text)?;
     Ok(text.width())
 }
