@@ -180,6 +180,17 @@ def rust_match(name, part, about, others):
             f"    match byte {{\n{arms}        _ => {others},\n    }}\n}}\n\n")
 
 
+def rust_keys(name):
+    """The bytes that find rows."""
+    kept = {'"': '\\"', "\\": "\\\\", "\n": "\\n", "\r": "\\r"}
+    keys = [key for part in parts_of(name).values() for key in part]
+    listed = "".join(f"\\x{key[0]:X}" if key[0] > 127 else kept.get(chr(key[0]), chr(key[0])) for key in keys)
+    unfolded = ", ".join(f"crate::specs::{camel(name)}::{it}" for it in definitions(name))
+    return (f"/// The bytes that find rows.\n#[tactic(auto, unfolding({unfolded}))]\n"
+            f"pub fn {name}_keys() -> &'static [u8]\n    ensures {{ result.now ≡ keys_of {name}_groups }}\n{{\n    KEYS\n}}\n\n"
+            f'const KEYS: &[u8] = b"{listed}";\n\n')
+
+
 def rust_table(name):
     groups, parts = groups_of(name), parts_of(name)
     reason = "use crate::reason::Reason;\n" if any("why" in row for rows in groups.values() for row in rows.values()) else ""
@@ -188,10 +199,10 @@ def rust_table(name):
     if "marked" in parts:
         matches += rust_match(name, "marked", "Those of the directives with a flag, a digit or another mark there", "&[]")
     return (f"//! The rows of {TITLES[name]}. `tables/write` writes them.\n\n"
-            "ghost use Rattle.std.specs.Prelude.{◌≡◌};\nghost use Rattle.timefd_dialect.specs.Groups.{rows_at};\n"
+            "ghost use Rattle.std.specs.Prelude.{◌≡◌};\nghost use Rattle.timefd_dialect.specs.Groups.{keys_of, rows_at};\n"
             f"ghost use Rattle.timefd_dialect.specs.{camel(name)}.{{{', '.join(definitions(name))}}};\n"
             "ghost use Rattle.timefd_dialect.specs.Rows.{entries};\n\n"
-            f"{reason}use crate::row::{{NotBefore, Range, Row, Verdict, row}};\n\n{matches}{constants}")
+            f"{reason}use crate::row::{{NotBefore, Range, Row, Verdict, row}};\n\n{matches}{rust_keys(name)}{constants}")
 
 
 def definitions(name):
@@ -233,18 +244,23 @@ def specified_table(name):
 
 
 def rust_rows():
-    """The function that answers the rows that a byte finds in each table."""
-    arms = "".join(f"            Dialect::{camel(name)} => {name}_rows(byte),\n" for name in NAMES)
-    uses = "".join(f"use crate::tables::{name}::{name}_rows;\n" for name in sorted(NAMES))
+    """The functions that answer the rows that a byte finds in each table, and these bytes."""
+    rows = "".join(f"            Dialect::{camel(name)} => {name}_rows(byte),\n" for name in NAMES)
+    keys = "".join(f"            Dialect::{camel(name)} => {name}_keys(),\n" for name in NAMES)
+    uses = "".join(f"use crate::tables::{name}::{{{name}_keys, {name}_rows}};\n" for name in sorted(NAMES))
     return ("//! The rows of each dialect. `tables/write` writes this file.\n\nghost use Rattle.std.specs.Prelude.{◌≡◌};\n"
-            "ghost use Rattle.timefd_dialect.specs.Groups.{rows_at};\n"
+            "ghost use Rattle.timefd_dialect.specs.Groups.{keys_of, rows_at};\n"
             "ghost use Rattle.timefd_dialect.specs.Rows.{entries};\n"
             "ghost use Rattle.timefd_dialect.specs.Tables.{groups_of};\n\n"
             f"use crate::dialect::Dialect;\nuse crate::row::Row;\n{uses}\nimpl Dialect {{\n"
             "    /// The rows that this byte finds, the longest first.\n"
             "    pub fn rows_at(self, byte: u8) -> &'static [Row]\n"
             "        ensures { entries result.now ≡ rows_at byte (groups_of self) }\n    {\n"
-            f"        match self {{\n{arms}        }}\n    }}\n}}\n")
+            f"        match self {{\n{rows}        }}\n    }}\n\n"
+            "    /// The bytes that find rows.\n"
+            "    pub fn keys(self) -> &'static [u8]\n"
+            "        ensures { result.now ≡ keys_of (groups_of self) }\n    {\n"
+            f"        match self {{\n{keys}        }}\n    }}\n}}\n")
 
 
 def specified_tables():

@@ -9,3 +9,5 @@ pub mod ItemLemmas
 pub mod LawLemmas
 pub mod AnswerLemmas
 pub mod ExistsLemmas
+pub mod SpotLemmas
+pub mod WritingLemmas

@@ -155,7 +155,7 @@ fn push_verdict<'a>(answer: &mut String, row: &Row, text: &'a str) -> Result<Ste
 }
 
 /// What follows a row that stands at the front.
-fn after_row<'a>(row: &Row, text: &'a str) -> &'a str
+pub fn after_row<'a>(row: &Row, text: &'a str) -> &'a str
     requires { stands (entry_of row.now) text.now ≡ true }
     ensures rest { result.now ≡ drop (length row.now.text.now) text.now }
     ensures whole { text.now ≡ row.now.text.now ++ result.now }

@@ -1,7 +1,9 @@
 //! The answer to a row.
 
 use std::alloc::{AllocError, Global};
-use timefd_dialect::{Converted, Dialect, DialectError, Refusal, to_version_three};
+use timefd_dialect::{
+    Converted, Dialect, DialectError, Found, Refusal, to_version_three, traps,
+};
 
 /// What stands beside a line.
 pub fn answer(alloc: Global, line: &str) -> Result<String, AllocError> {
@@ -11,10 +13,20 @@ pub fn answer(alloc: Global, line: &str) -> Result<String, AllocError> {
     let Some((name, format)) = line.split_once('\t') else {
         return String::from_str(alloc, "a row is the name of a dialect, a tab and a format");
     };
-    match Dialect::named(name) {
-        Some(dialect) => answer_of(alloc, dialect, format),
-        None => format!(in alloc; "`{name}` is no dialect"),
+    match name.split_once(' ') {
+        Some((name, "traps")) => match Dialect::named(name) {
+            Some(dialect) => traps_of(alloc, dialect, format),
+            None => no_dialect(alloc, name),
+        },
+        _ => match Dialect::named(name) {
+            Some(dialect) => answer_of(alloc, dialect, format),
+            None => no_dialect(alloc, name),
+        },
     }
+}
+
+fn no_dialect(alloc: Global, name: &str) -> Result<String, AllocError> {
+    format!(in alloc; "`{name}` is no dialect")
 }
 
 fn answer_of(alloc: Global, dialect: Dialect, format: &str) -> Result<String, AllocError> {
@@ -39,4 +51,25 @@ fn told(alloc: Global, converted: &Converted) -> Result<String, AllocError> {
 
 fn refused(alloc: Global, refusal: Refusal) -> Result<String, AllocError> {
     format!(in alloc; "{} at byte {}", refusal.reason.name(), refusal.index)
+}
+
+/// The traps of a format, each with the indices of its directive.
+fn traps_of(alloc: Global, dialect: Dialect, format: &str) -> Result<String, AllocError> {
+    let found = traps(alloc, dialect, format)?;
+    if found.is_empty() {
+        return String::from_str(alloc, "no trap");
+    }
+    let mut text = String::new(alloc);
+    for trap in found.iter() {
+        push_found(alloc, &mut text, *trap)?;
+    }
+    Ok(text)
+}
+
+fn push_found(alloc: Global, text: &mut String, found: Found) -> Result<(), AllocError> {
+    if !text.is_empty() {
+        text.push_str("; ")?;
+    }
+    let one = format!(in alloc; "{} {}..{}", found.trap.name(), found.start, found.end)?;
+    text.push_str(one.as_str())
 }

@@ -1,7 +1,7 @@
 //! The rows of C. `tables/write` writes them.
 
 ghost use Rattle.std.specs.Prelude.{◌≡◌};
-ghost use Rattle.timefd_dialect.specs.Groups.{rows_at};
+ghost use Rattle.timefd_dialect.specs.Groups.{keys_of, rows_at};
 ghost use Rattle.timefd_dialect.specs.C.{c_groups, c_marked};
 ghost use Rattle.timefd_dialect.specs.Rows.{entries};
 
@@ -95,6 +95,16 @@ fn marked_rows(byte: u8) -> &'static [Row]
         _ => &[],
     }
 }
+
+/// The bytes that find rows.
+#[tactic(auto, unfolding(crate::specs::C::c_groups, crate::specs::C::c_marked))]
+pub fn c_keys() -> &'static [u8]
+    ensures { result.now ≡ keys_of c_groups }
+{
+    KEYS
+}
+
+const KEYS: &[u8] = b"deHkIljmMSUVWygCYGuwaAbBhpPcDFrRTxXntzsEOZvfNLQqiJKo%-_0^#+123456789";
 
 const SMALL_D: &[Row] = &[row!("%d" => "[day]")];
 

@@ -1,7 +1,7 @@
 //! The rows of chrono. `tables/write` writes them.
 
 ghost use Rattle.std.specs.Prelude.{◌≡◌};
-ghost use Rattle.timefd_dialect.specs.Groups.{rows_at};
+ghost use Rattle.timefd_dialect.specs.Groups.{keys_of, rows_at};
 ghost use Rattle.timefd_dialect.specs.Chrono.{chrono_groups};
 ghost use Rattle.timefd_dialect.specs.Rows.{entries};
 
@@ -70,6 +70,16 @@ pub fn chrono_rows(byte: u8) -> &'static [Row]
         _ => &[],
     }
 }
+
+/// The bytes that find rows.
+#[tactic(auto, unfolding(crate::specs::Chrono::chrono_groups))]
+pub fn chrono_keys() -> &'static [u8]
+    ensures { result.now ≡ keys_of chrono_groups }
+{
+    KEYS
+}
+
+const KEYS: &[u8] = b"deHkIljmMSUVWygCYGuwaAbBhpPcDFrRTxX%ntfvs-369.0z:+_Z#";
 
 const SMALL_D: &[Row] = &[row!("%d" => "[day]")];
 

@@ -1,7 +1,7 @@
 //! The rows of GNU date. `tables/write` writes them.
 
 ghost use Rattle.std.specs.Prelude.{◌≡◌};
-ghost use Rattle.timefd_dialect.specs.Groups.{rows_at};
+ghost use Rattle.timefd_dialect.specs.Groups.{keys_of, rows_at};
 ghost use Rattle.timefd_dialect.specs.Gnu.{gnu_groups, gnu_marked};
 ghost use Rattle.timefd_dialect.specs.Rows.{entries};
 
@@ -87,6 +87,16 @@ fn marked_rows(byte: u8) -> &'static [Row]
         _ => &[],
     }
 }
+
+/// The bytes that find rows.
+#[tactic(auto, unfolding(crate::specs::Gnu::gnu_groups, crate::specs::Gnu::gnu_marked))]
+pub fn gnu_keys() -> &'static [u8]
+    ensures { result.now ≡ keys_of gnu_groups }
+{
+    KEYS
+}
+
+const KEYS: &[u8] = b"deHkIljmMSUVWygCYGuwaAbBhpPcDFrRTxXntzsNZqEO%:-0123456789_^#";
 
 const SMALL_D: &[Row] = &[row!("%d" => "[day]")];
 

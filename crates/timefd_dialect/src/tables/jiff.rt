@@ -1,7 +1,7 @@
 //! The rows of jiff. `tables/write` writes them.
 
 ghost use Rattle.std.specs.Prelude.{◌≡◌};
-ghost use Rattle.timefd_dialect.specs.Groups.{rows_at};
+ghost use Rattle.timefd_dialect.specs.Groups.{keys_of, rows_at};
 ghost use Rattle.timefd_dialect.specs.Jiff.{jiff_groups, jiff_marked};
 ghost use Rattle.timefd_dialect.specs.Rows.{entries};
 
@@ -88,6 +88,16 @@ fn marked_rows(byte: u8) -> &'static [Row]
         _ => &[],
     }
 }
+
+/// The bytes that find rows.
+#[tactic(auto, unfolding(crate::specs::Jiff::jiff_groups, crate::specs::Jiff::jiff_marked))]
+pub fn jiff_keys() -> &'static [u8]
+    ensures { result.now ≡ keys_of jiff_groups }
+{
+    KEYS
+}
+
+const KEYS: &[u8] = b"deHkIljmMSUVWygCYGuwaAbBhpPDFRTntfcrxXNszZQq%123456789.:^#-_0";
 
 const SMALL_D: &[Row] = &[row!("%d" => "[day]")];
 

@@ -1,7 +1,7 @@
 //! The rows of moment. `tables/write` writes them.
 
 ghost use Rattle.std.specs.Prelude.{◌≡◌};
-ghost use Rattle.timefd_dialect.specs.Groups.{rows_at};
+ghost use Rattle.timefd_dialect.specs.Groups.{keys_of, rows_at};
 ghost use Rattle.timefd_dialect.specs.Moment.{moment_groups};
 ghost use Rattle.timefd_dialect.specs.Rows.{entries};
 
@@ -48,6 +48,16 @@ pub fn moment_rows(byte: u8) -> &'static [Row]
         _ => &[],
     }
 }
+
+/// The bytes that find rows.
+#[tactic(auto, unfolding(crate::specs::Moment::moment_groups))]
+pub fn moment_keys() -> &'static [u8]
+    ensures { result.now ≡ keys_of moment_groups }
+{
+    KEYS
+}
+
+const KEYS: &[u8] = b"MDdEewgWQyYGNAaHhmskSXxZzLl\\\n\r\xE2";
 
 const CAPITAL_M: &[Row] = &[
     row!("MMMM" => "[month repr:long]"),

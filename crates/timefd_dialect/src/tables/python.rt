@@ -1,7 +1,7 @@
 //! The rows of Python. `tables/write` writes them.
 
 ghost use Rattle.std.specs.Prelude.{◌≡◌};
-ghost use Rattle.timefd_dialect.specs.Groups.{rows_at};
+ghost use Rattle.timefd_dialect.specs.Groups.{keys_of, rows_at};
 ghost use Rattle.timefd_dialect.specs.Python.{python_groups};
 ghost use Rattle.timefd_dialect.specs.Rows.{entries};
 
@@ -67,6 +67,16 @@ pub fn python_rows(byte: u8) -> &'static [Row]
         _ => &[],
     }
 }
+
+/// The bytes that find rows.
+#[tactic(auto, unfolding(crate::specs::Python::python_groups))]
+pub fn python_keys() -> &'static [u8]
+    ensures { result.now ≡ keys_of python_groups }
+{
+    KEYS
+}
+
+const KEYS: &[u8] = b"dHIjmMSUVWyYGuwaAbBpcxX%fz:ZeklgChPDFrRTnt-_0s^#EO";
 
 const SMALL_D: &[Row] = &[row!("%d" => "[day]")];
 

@@ -1,7 +1,7 @@
 //! The rows of Ruby. `tables/write` writes them.
 
 ghost use Rattle.std.specs.Prelude.{◌≡◌};
-ghost use Rattle.timefd_dialect.specs.Groups.{rows_at};
+ghost use Rattle.timefd_dialect.specs.Groups.{keys_of, rows_at};
 ghost use Rattle.timefd_dialect.specs.Ruby.{ruby_groups, ruby_marked};
 ghost use Rattle.timefd_dialect.specs.Rows.{entries};
 
@@ -90,6 +90,16 @@ fn marked_rows(byte: u8) -> &'static [Row]
         _ => &[],
     }
 }
+
+/// The bytes that find rows.
+#[tactic(auto, unfolding(crate::specs::Ruby::ruby_groups, crate::specs::Ruby::ruby_marked))]
+pub fn ruby_keys() -> &'static [u8]
+    ensures { result.now ≡ keys_of ruby_groups }
+{
+    KEYS
+}
+
+const KEYS: &[u8] = b"deHkIljmMSUVWygCYGuwaAbBhpPcDFrRTxXntzsLNZvQEO%:1234567890-_^#+";
 
 const SMALL_D: &[Row] = &[row!("%d" => "[day]")];
 
