@@ -85,6 +85,9 @@ def groups_of(name):
     for text, row in sorted(rows_of(name).items(), key=lambda it: -len(it[0].encode())):
         groups.setdefault(key_of(name, text), {})[text] = row
     order = list(dict.fromkeys(key_of(name, text) for text in rows_of(name)))
+    if load(name)["kind"] == "percent":
+        # A locale's own forms come last: of directives that mean the same the first is written.
+        order.sort(key=lambda key: key in (b"c", b"x", b"X"))
     return {key: groups[key] for key in order if key}
 
 
@@ -122,13 +125,13 @@ def rust_row(text, row):
 
 def byte_literal(key):
     kept = {"'": "\\'", "\\": "\\\\", "\n": "\\n", "\r": "\\r"}
-    return str(key[0]) if key[0] > 127 else f"b'{kept.get(chr(key[0]), chr(key[0]))}'"
+    return str(key[0]) if key[0] >= 0x80 else f"b'{kept.get(chr(key[0]), chr(key[0]))}'"
 
 
 def constant_name(key):
     """The name of the rows that a byte finds, as `SMALL_D`, `HYPHEN`, `DIGIT_ZERO`."""
     named = {"\n": "LINE_FEED", "\r": "CARRIAGE_RETURN", "-": "HYPHEN", "_": "UNDERSCORE", "^": "CARET", "#": "HASH", ".": "DOT"}
-    if key[0] > 127:
+    if key[0] >= 0x80:
         return "LINE_SEPARATOR"
     name = named.get(chr(key[0])) or unicodedata.name(chr(key[0]))
     return name.replace("LATIN ", "").replace("LETTER ", "").replace(" ", "_")
@@ -184,7 +187,7 @@ def rust_keys(name):
     """The bytes that find rows."""
     kept = {'"': '\\"', "\\": "\\\\", "\n": "\\n", "\r": "\\r"}
     keys = [key for part in parts_of(name).values() for key in part]
-    listed = "".join(f"\\x{key[0]:X}" if key[0] > 127 else kept.get(chr(key[0]), chr(key[0])) for key in keys)
+    listed = "".join(f"\\x{key[0]:X}" if key[0] >= 0x80 else kept.get(chr(key[0]), chr(key[0])) for key in keys)
     unfolded = ", ".join(f"crate::specs::{camel(name)}::{it}" for it in definitions(name))
     return (f"/// The bytes that find rows.\n#[tactic(auto, unfolding({unfolded}))]\n"
             f"pub fn {name}_keys() -> &'static [u8]\n    ensures {{ result.now ≡ keys_of {name}_groups }}\n{{\n    KEYS\n}}\n\n"
@@ -278,6 +281,10 @@ def specified_tables():
             "rows_of dialect = all_rows (groups_of dialect) ++ unknown_rows (leading_of dialect)\n")
 
 
+# The reasons of what the dialect itself doesn't know.
+UNKNOWN = ("flag", "unknown-directive")
+
+
 def reasons():
     return load("reasons")["reason"]
 
@@ -295,6 +302,12 @@ def reason_enum():
     functions = "\n".join(
         f"    /// {told[key]}\n    pub fn {key}(self) -> &'static str\n        ensures {{ result.now ≡ spec.{key} self }}\n"
         f"    {{\n        match self {{\n{match[key]}        }}\n    }}\n" for key in match)
+    functions += ("\n    /// Whether the dialect has no such directive, or no such flag of it.\n    pub fn is_unknown(self) -> bool\n"
+                  "        ensures { result ≡ spec.is_unknown self }\n    {\n        match self {\n            "
+                  + " | ".join(f"Reason::{camel(row['name'])}" for row in reasons() if row["name"] in UNKNOWN)
+                  + " => true,\n            "
+                  + "\n            | ".join(f"Reason::{camel(row['name'])}" for row in reasons() if row["name"] not in UNKNOWN)
+                  + " => false,\n        }\n    }\n")
     return ("//! Why a part of a format has no text of version 3. `tables/write` writes them.\n\n"
             "ghost use Rattle.std.specs.Prelude.{◌≡◌};\nghost use Rattle.timefd_dialect.specs.Reasons as spec;\n\n"
             "/// Why a part of a format has no text of version 3.\n#[derive(Clone, Copy)]\npub enum Reason {\n"
@@ -303,13 +316,15 @@ def reason_enum():
 
 def specified_reasons():
     names = [camel(row["name"]) for row in reasons()]
-    text = ("-- What is told of each reason.\nuse Rattle.std.specs.Prelude.{codes}\n"
+    text = ("-- What is told of each reason.\nuse Rattle.std.specs.Prelude.{Bool, true, false, codes}\n"
             "use Rattle.timefd_component.specs.Tree.{Text}\n"
             "use Rattle.timefd_dialect.specs.declared.reason.Reason.{Reason}\n"
             f"use Rattle.timefd_dialect.specs.declared.reason.Reason.TheVariants.{{{', '.join(names)}}}\n")
     for key in ("name", "sentence", "cure"):
         text += f"\nabbrev pub {key} : Reason → Text\n" + "".join(
             f"{key} {camel(row['name'])} = {codes(row[key])}\n" for row in reasons())
+    text += "\n-- the dialect has no such directive, or no such flag of it\nabbrev pub is_unknown : Reason → Bool\n" + "".join(
+        f"is_unknown {camel(row['name'])} = {'true' if row['name'] in UNKNOWN else 'false'}\n" for row in reasons())
     return text
 
 

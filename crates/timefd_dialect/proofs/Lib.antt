@@ -10,4 +10,5 @@ pub mod LawLemmas
 pub mod AnswerLemmas
 pub mod ExistsLemmas
 pub mod SpotLemmas
+pub mod BackLemmas
 pub mod WritingLemmas

@@ -61,9 +61,9 @@ none_from text best (row ∷ rows) e =
     elim (cases_Bool (writes row text)) [
       | inl is ↦ absurd (found (best_of best row) (subst (λ t. cond t (Some (best_of best row)) best ≡ None) is more.0))
       | inr not ↦ (
-          subst (λ t. cond t (Some (best_of best row)) best ≡ None) not more.0,
-          rw not more.1,
-        )
+        subst (λ t. cond t (Some (best_of best row)) best ≡ None) not more.0,
+        rw not more.1,
+      )
     ]
   where
     found : (row : Entry) → ¬ (Some row ≡ None)

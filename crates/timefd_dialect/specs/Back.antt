@@ -1,5 +1,5 @@
 -- Texts of version 3 as formats.
-use Rattle.std.specs.Prelude.{ℕ, ◌≡◌, Bool, true, false, not, ◌&&◌, nat_lt, eqb, if◌then◌else◌, ◌||◌, ◌==◌, List, [], ◌∷◌, ◌++◌, length, ⊤, string_bytes, Option, Some, None}
+use Rattle.std.specs.Prelude.{ℕ, ◌≡◌, ◌+◌, Bool, true, false, not, ◌&&◌, nat_lt, eqb, if◌then◌else◌, List, [], ◌∷◌, ◌++◌, length, ⊤, string_bytes, Option, Some, None}
 use Rattle.std.specs.List.{starts_with}
 use Rattle.timefd_component.specs.Tree.{Text}
 use Rattle.timefd_dialect.specs.declared.back.FormatError.{FormatError}
@@ -18,29 +18,24 @@ IsFormatOf dialect description answer =
     (ps : List Piece) × Means dialect (string_bytes answer.text) ps × (description ≡ text_of ps)
     × (answer.limits ≡ limits_from all_limits ps)
 
-abbrev pub meaning_writes : Meaning → Text → Bool
-meaning_writes (written own range) text = nat_lt 0 (length own) && starts_with eqb text own
-meaning_writes (refused reason) text = false
+-- the text of a row; none where it is refused
+abbrev pub own_text : Meaning → Text
+own_text (written own range) = own
+own_text (refused reason) = []
 
 -- the text of the row stands at the front of a description
 abbrev pub writes : Entry → Text → Bool
-writes row text = meaning_writes row.meaning text
+writes row text =
+    nat_lt 0 (length (own_text row.meaning)) && starts_with eqb text (own_text row.meaning)
 
 abbrev pub none_writes : List Entry → Text → Bool
 none_writes [] text = true
 none_writes (row ∷ rows) text = not (writes row text) && none_writes rows text
 
--- Which row is taken: the one with the longest text, and of those the shortest directive.
-
-abbrev pub meaning_len : Meaning → ℕ
-meaning_len (written own range) = length own
-meaning_len (refused reason) = 0
+-- Which row is taken: the one with the longest text, and of those the first.
 
 abbrev pub is_better : Entry → Entry → Bool
-is_better row best =
-    nat_lt (meaning_len best.meaning) (meaning_len row.meaning)
-    || ((meaning_len best.meaning == meaning_len row.meaning)
-    && nat_lt (length row.text) (length best.text))
+is_better row best = nat_lt (length (own_text best.meaning)) (length (own_text row.meaning))
 
 abbrev pub best_of : Option Entry → Entry → Entry
 best_of None row = row

@@ -5,9 +5,9 @@ use Rattle.std.specs.Str.{bytes_eq}
 use Rattle.timefd_component.specs.Tree.{Text}
 use Rattle.timefd_dialect.specs.declared.dialect.Dialect.{Dialect}
 use Rattle.timefd_dialect.specs.declared.dialect.Dialect.TheVariants.{Python, C, Gnu, Chrono, Jiff, Ruby, Java, Go, Moment}
-use Rattle.timefd_dialect.specs.declared.reason.Reason.{Reason}
 use Rattle.timefd_dialect.specs.declared.role.Role.{Role}
 use Rattle.timefd_dialect.specs.declared.role.Role.TheVariants.{Other, Year, YearOfTwoDigits, WeekYear, Month, Day, DayOfYear, HourOf24, HourOf12, Period, Minute, Second, TwoLetterWeekday, WeekdayFromZero, Panic}
+use Rattle.timefd_dialect.specs.Reasons.{is_unknown}
 use Rattle.timefd_dialect.specs.Rows.{Entry, Meaning, written, refused}
 
 abbrev pub first_of : Text → ℕ
@@ -73,9 +73,9 @@ go_role text =
     if bytes_eq text (codes "2006") || bytes_eq text (codes "_2006") then Year
     else if bytes_eq text (codes "06") then YearOfTwoDigits
     else if ((bytes_eq text (codes "01") || bytes_eq text (codes "1"))
-        || bytes_eq text (codes "Jan")) || bytes_eq text (codes "January") then Month
+    || bytes_eq text (codes "Jan")) || bytes_eq text (codes "January") then Month
     else if (bytes_eq text (codes "02") || bytes_eq text (codes "2"))
-        || bytes_eq text (codes "_2") then Day
+    || bytes_eq text (codes "_2") then Day
     else if bytes_eq text (codes "002") || bytes_eq text (codes "__2") then DayOfYear
     else if bytes_eq text (codes "15") then HourOf24
     else if bytes_eq text (codes "03") || bytes_eq text (codes "3") then HourOf12
@@ -83,12 +83,6 @@ go_role text =
     else if bytes_eq text (codes "04") || bytes_eq text (codes "4") then Minute
     else if bytes_eq text (codes "05") || bytes_eq text (codes "5") then Second
     else Other
-
--- chrono has no such directive, or no such flag of it
-abbrev pub is_unknown : Reason → Bool
-is_unknown Reason.Flag = true
-is_unknown Reason.UnknownDirective = true
-is_unknown reason = false
 
 abbrev pub is_panic : Meaning → Bool
 is_panic (written text range) = false

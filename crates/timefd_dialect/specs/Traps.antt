@@ -1,5 +1,5 @@
 -- What in a format often means something else than its writer believes.
-use Rattle.std.specs.Prelude.{ℕ, ◌≡◌, ◌<◌, ◌-◌, ◌==◌, Bool, true, false, not, if◌then◌else◌, List, [], ◌∷◌, ◌++◌, drop, length, Option, Some, None}
+use Rattle.std.specs.Prelude.{ℕ, ◌≡◌, ◌<◌, ◌+◌, ◌-◌, ◌==◌, Bool, true, false, not, if◌then◌else◌, List, [], ◌∷◌, ◌++◌, drop, length, Option, Some, None}
 use Rattle.timefd_component.specs.Tree.{Text}
 use Rattle.timefd_dialect.specs.declared.dialect.Dialect.{Dialect}
 use Rattle.timefd_dialect.specs.declared.dialect.Quoting.{Quoting}
@@ -89,7 +89,7 @@ with_role Month p = record { month = true; period = p.period; year = p.year }
 with_role Period p = record { month = p.month; period = true; year = p.year }
 with_role Year p = record { month = p.month; period = p.period; year = true }
 with_role WeekYear p = record { month = p.month; period = p.period; year = true }
-with_role other p = p
+with_role _ p = p
 
 abbrev pub present_from : Present → List Spot → Present
 present_from p [] = p
@@ -104,7 +104,7 @@ beside_of Day = Beside.Day
 beside_of HourOf24 = Beside.Hour
 beside_of HourOf12 = Beside.Hour
 beside_of Minute = Beside.Minute
-beside_of other = Beside.Other
+beside_of _ = Beside.Other
 
 abbrev pub first_beside : List Spot → Beside
 first_beside [] = Beside.Other
@@ -118,14 +118,14 @@ abbrev pub minute_trap : Beside → Beside → Option Trap
 minute_trap Beside.Day after = Some Trap.MinuteBesideDay
 minute_trap Beside.Hour after = None
 minute_trap Beside.Minute Beside.Day = Some Trap.MinuteBesideDay
-minute_trap Beside.Minute other = None
+minute_trap Beside.Minute _ = None
 minute_trap Beside.Other Beside.Day = Some Trap.MinuteBesideDay
-minute_trap Beside.Other other = None
+minute_trap Beside.Other _ = None
 
 -- a minute follows
 abbrev pub second_trap : Beside → Option Trap
 second_trap Beside.Minute = Some Trap.SecondBeforeMinute
-second_trap other = None
+second_trap _ = None
 
 -- the trap that a directive is, by those before and after it and by all
 abbrev pub trap_of : Present → Beside → Role → Beside → Option Trap

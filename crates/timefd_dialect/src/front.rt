@@ -168,7 +168,7 @@ pub fn after_row<'a>(row: &Row, text: &'a str) -> &'a str
 }
 
 /// What follows a literal, if the text begins with it.
-fn after_literal<'a>(text: &'a str, literal: &str) -> Option<&'a str>
+pub fn after_literal<'a>(text: &'a str, literal: &str) -> Option<&'a str>
     ensures rest { MatchOption result ((rest : Text) → ¬ (text.now ≡ literal.now ++ rest))
         (λ rest. text.now ≡ literal.now ++ rest.now) }
     ensures utf8 { IfSome result (λ rest. IsUtf8 rest.now) }

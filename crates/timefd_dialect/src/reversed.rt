@@ -1,6 +1,6 @@
 //! The format that a text of version 3 asks for: a row for each bracket, and literals quoted.
 
-ghost use Rattle.std.specs.Prelude.{◌≡◌, ◌<◌, IfOk, IfSome, length};
+ghost use Rattle.std.specs.Prelude.{◌≡◌, ◌<◌, IfOk, length, true};
 ghost use Rattle.std.specs.Result.{IfErr};
 ghost use Rattle.timefd_dialect.specs.Back as spec;
 ghost use Rattle.timefd_dialect.specs.BackSteps.{IsAfter};
@@ -9,19 +9,16 @@ ghost use Rattle.timefd_dialect.specs.Rows.{entry_of};
 use crate::back::FormatError;
 use crate::character::first_char;
 use crate::dialect::{Dialect, Leading, Quoting};
+use crate::front::after_literal;
 use crate::plain::cut_plain;
 use crate::quote::begins_with;
-use crate::row::{Row, Verdict};
-use crate::writing::row_writing;
+use crate::row::Row;
+use crate::writing::{row_writing, written_of};
 use std::alloc::{AllocError, Global};
 use timefd_language::text::tail;
 
 /// The format that a text of version 3 asks for. What it means is for the caller to look at.
-pub fn format_of(
-    alloc: Global,
-    dialect: Dialect,
-    description: &str,
-) -> Result<String, FormatError>
+pub fn format_of(alloc: Global, dialect: Dialect, description: &str) -> Result<String, FormatError>
     ensures fault { IfErr result (spec.IsLackIn dialect description.now) }
 {
     let mut format = String::new(alloc);
@@ -45,12 +42,9 @@ fn after_written<'a>(row: &Row, text: &'a str) -> &'a str
     requires { spec.writes (entry_of row.now) text.now ≡ true }
     ensures { IsAfter text.now result }
 {
-    match row.verdict {
-        Verdict::Written(written, _) => match text.strip_prefix(written) {
-            Some(rest) => rest,
-            None => unreachable!(),
-        },
-        Verdict::Refused(_) => unreachable!(),
+    match after_literal(text, written_of(row.verdict)) {
+        Some(rest) => rest,
+        None => unreachable!(),
     }
 }
 

@@ -5,7 +5,6 @@ ghost use Rattle.timefd_dialect.specs.Roles as spec;
 ghost use Rattle.timefd_dialect.specs.Rows.{entry_of, meaning_of};
 
 use crate::dialect::Dialect;
-use crate::reason::Reason;
 use crate::row::{Row, Verdict};
 
 /// What a directive says of a moment.
@@ -70,48 +69,7 @@ fn is_panic(verdict: Verdict) -> bool
 {
     match verdict {
         Verdict::Written(_, _) => false,
-        Verdict::Refused(reason) => is_unknown(reason),
-    }
-}
-
-fn is_unknown(reason: Reason) -> bool
-    ensures { result ≡ spec.is_unknown reason }
-{
-    match reason {
-        Reason::Flag | Reason::UnknownDirective => true,
-        Reason::Backslash
-        | Reason::Capitals
-        | Reason::DatetimeOnly
-        | Reason::DayPeriod
-        | Reason::Era
-        | Reason::FractionWidth
-        | Reason::GmtOffset
-        | Reason::HourFrom0Or24
-        | Reason::JulianDay
-        | Reason::LocalTime
-        | Reason::LocalWeek
-        | Reason::Locale
-        | Reason::NarrowName
-        | Reason::OptionalPart
-        | Reason::OrdinalSuffix
-        | Reason::PadLetter
-        | Reason::Platform
-        | Reason::Quarter
-        | Reason::ReadingOnly
-        | Reason::Reserved
-        | Reason::TooManyLetters
-        | Reason::TwoLetterName
-        | Reason::UnclosedQuote
-        | Reason::UnitOfDay
-        | Reason::UnknownLetter
-        | Reason::Unsupported
-        | Reason::VariableFraction
-        | Reason::VariableOffset
-        | Reason::VariableWidth
-        | Reason::WeekOfMonth
-        | Reason::Width
-        | Reason::ZForUtc
-        | Reason::ZoneName => false,
+        Verdict::Refused(reason) => reason.is_unknown(),
     }
 }
 

@@ -70,11 +70,7 @@ fn push_spot(
 }
 
 /// The part at the front of a text. What is quoted there is written over the buffer.
-fn part_at<'a>(
-    quoted: &mut String,
-    dialect: Dialect,
-    text: &'a str,
-) -> Result<Part<'a>, AllocError>
+fn part_at<'a>(quoted: &mut String, dialect: Dialect, text: &'a str) -> Result<Part<'a>, AllocError>
     requires { 0 < length text.now }
     ensures { IfOk result (IsPart (spec.said_at dialect text.now) text.now) }
 {

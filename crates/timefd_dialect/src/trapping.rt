@@ -171,12 +171,7 @@ fn trap_of(present: Present, before: Beside, role: Role, after: Beside) -> Optio
     ensures { result ≡ spec.trap_of present before role after }
 {
     match role {
-        Role::Other
-        | Role::Year
-        | Role::Month
-        | Role::Day
-        | Role::HourOf24
-        | Role::Period => None,
+        Role::Other | Role::Year | Role::Month | Role::Day | Role::HourOf24 | Role::Period => None,
         Role::YearOfTwoDigits => where_it_is(!present.year, Trap::YearWithoutCentury),
         Role::WeekYear => where_it_is(present.month, Trap::WeekYearBesideMonth),
         Role::DayOfYear => where_it_is(present.month, Trap::DayOfYearBesideMonth),

@@ -8,8 +8,7 @@ ghost use Rattle.timefd_dialect.specs.Tables.{groups_of};
 use crate::dialect::Dialect;
 use crate::row::{Row, Verdict};
 
-/// The row whose text is the longest at the front of a description, and of those the one with the
-/// shortest directive.
+/// The row whose text is the longest at the front of a description, and of those the first.
 pub fn row_writing(dialect: Dialect, text: &str) -> Option<&'static Row>
     ensures { MatchOption result (spec.Lacks dialect text.now)
         (λ row. spec.writes (entry_of row.now) text.now ≡ true) }
@@ -29,12 +28,8 @@ fn best_at(dialect: Dialect, keys: &[u8], text: &str) -> Option<&'static Row>
 }
 
 /// The best of one and these rows.
-fn best_from(
-    best: Option<&'static Row>,
-    rows: &'static [Row],
-    text: &str,
-) -> Option<&'static Row>
-    ensures { found_entry result ≡ spec.best_from (found_entry best) (entries rows.now) text.now }
+fn best_from(best: Option<&'static Row>, rows: &'static [Row], text: &str) -> Option<&'static Row>
+    ensures { found_entry result ≡ spec.best_from (found_entry best.entry) (entries rows.now) text.now }
 {
     let mut best = best;
     'rows: for at in 0..rows.len() {
@@ -45,7 +40,7 @@ fn best_from(
 
 /// The row, if its text stands at the front of the description and it is better than the best so far.
 fn best_with(best: Option<&'static Row>, row: &'static Row, text: &str) -> Option<&'static Row>
-    ensures { found_entry result ≡ spec.best_with (found_entry best) (entry_of row.now) text.now }
+    ensures { found_entry result ≡ spec.best_with (found_entry best.entry) (entry_of row.now) text.now }
 {
     if !writes(row, text) {
         return best;
@@ -60,21 +55,20 @@ fn best_with(best: Option<&'static Row>, row: &'static Row, text: &str) -> Optio
     }
 }
 
-/// Whether the row's text is longer, or as long and its directive shorter.
+/// Whether the row's text is longer.
 fn is_better(row: &Row, best: &Row) -> bool
     ensures { result ≡ spec.is_better (entry_of row.now) (entry_of best.now) }
 {
-    let len = written_len(row.verdict);
-    let best_len = written_len(best.verdict);
-    best_len < len || best_len == len && row.text.len() < best.text.len()
+    written_of(best.verdict).len() < written_of(row.verdict).len()
 }
 
-fn written_len(verdict: Verdict) -> usize
-    ensures { result ≡ spec.meaning_len (meaning_of verdict) }
+/// The text of a row; none where it is refused.
+pub fn written_of(verdict: Verdict) -> &'static str
+    ensures { result.now ≡ spec.own_text (meaning_of verdict) }
 {
     match verdict {
-        Verdict::Written(written, _) => written.len(),
-        Verdict::Refused(_) => 0,
+        Verdict::Written(written, _) => written,
+        Verdict::Refused(_) => "",
     }
 }
 
@@ -82,10 +76,6 @@ fn written_len(verdict: Verdict) -> usize
 fn writes(row: &Row, text: &str) -> bool
     ensures { result ≡ spec.writes (entry_of row.now) text.now }
 {
-    match row.verdict {
-        Verdict::Written(written, _) => {
-            !written.is_empty() && text.as_bytes().starts_with(written.as_bytes())
-        }
-        Verdict::Refused(_) => false,
-    }
+    let written = written_of(row.verdict).as_bytes();
+    0 < written.len() && text.as_bytes().starts_with(written)
 }

@@ -2,7 +2,8 @@
 
 use std::alloc::{AllocError, Global};
 use timefd_dialect::{
-    Converted, Dialect, DialectError, Found, Refusal, to_version_three, traps,
+    Converted, Dialect, DialectError, FormatError, Found, Refusal, from_version_three,
+    to_version_three, traps,
 };
 
 /// What stands beside a line.
@@ -13,20 +14,28 @@ pub fn answer(alloc: Global, line: &str) -> Result<String, AllocError> {
     let Some((name, format)) = line.split_once('\t') else {
         return String::from_str(alloc, "a row is the name of a dialect, a tab and a format");
     };
-    match name.split_once(' ') {
-        Some((name, "traps")) => match Dialect::named(name) {
-            Some(dialect) => traps_of(alloc, dialect, format),
-            None => no_dialect(alloc, name),
-        },
-        _ => match Dialect::named(name) {
-            Some(dialect) => answer_of(alloc, dialect, format),
-            None => no_dialect(alloc, name),
-        },
+    let (name, asked) = match name.split_once(' ') {
+        Some((name, word)) => (name, Some(word)),
+        None => (name, None),
+    };
+    match Dialect::named(name) {
+        Some(dialect) => answer_to(alloc, dialect, asked, format),
+        None => format!(in alloc; "`{name}` is no dialect"),
     }
 }
 
-fn no_dialect(alloc: Global, name: &str) -> Result<String, AllocError> {
-    format!(in alloc; "`{name}` is no dialect")
+fn answer_to(
+    alloc: Global,
+    dialect: Dialect,
+    asked: Option<&str>,
+    text: &str,
+) -> Result<String, AllocError> {
+    match asked {
+        None => answer_of(alloc, dialect, text),
+        Some("back") => format_of(alloc, dialect, text),
+        Some("traps") => traps_of(alloc, dialect, text),
+        Some(word) => format!(in alloc; "`{word}` is not asked of a dialect"),
+    }
 }
 
 fn answer_of(alloc: Global, dialect: Dialect, format: &str) -> Result<String, AllocError> {
@@ -72,4 +81,14 @@ fn push_found(alloc: Global, text: &mut String, found: Found) -> Result<(), Allo
     }
     let one = format!(in alloc; "{} {}..{}", found.trap.name(), found.start, found.end)?;
     text.push_str(one.as_str())
+}
+
+/// The format of a text of version 3.
+fn format_of(alloc: Global, dialect: Dialect, text: &str) -> Result<String, AllocError> {
+    match from_version_three(alloc, dialect, text) {
+        Ok(converted) => told(alloc, &converted),
+        Err(FormatError::Lacking(index)) => format!(in alloc; "lacking at byte {index}"),
+        Err(FormatError::Merged) => String::from_str(alloc, "merged"),
+        Err(FormatError::Memory(error)) => Err(error),
+    }
 }

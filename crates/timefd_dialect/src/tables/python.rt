@@ -34,9 +34,6 @@ pub fn python_rows(byte: u8) -> &'static [Row]
         b'b' => SMALL_B,
         b'B' => CAPITAL_B,
         b'p' => SMALL_P,
-        b'c' => SMALL_C,
-        b'x' => SMALL_X,
-        b'X' => CAPITAL_X,
         b'%' => PERCENT_SIGN,
         b'f' => SMALL_F,
         b'z' => SMALL_Z,
@@ -64,6 +61,9 @@ pub fn python_rows(byte: u8) -> &'static [Row]
         b'#' => HASH,
         b'E' => CAPITAL_E,
         b'O' => CAPITAL_O,
+        b'c' => SMALL_C,
+        b'x' => SMALL_X,
+        b'X' => CAPITAL_X,
         _ => &[],
     }
 }
@@ -76,7 +76,7 @@ pub fn python_keys() -> &'static [u8]
     KEYS
 }
 
-const KEYS: &[u8] = b"dHIjmMSUVWyYGuwaAbBpcxX%fz:ZeklgChPDFrRTnt-_0s^#EO";
+const KEYS: &[u8] = b"dHIjmMSUVWyYGuwaAbBp%fz:ZeklgChPDFrRTnt-_0s^#EOcxX";
 
 const SMALL_D: &[Row] = &[row!("%d" => "[day]")];
 
@@ -117,15 +117,6 @@ const SMALL_B: &[Row] = &[row!("%b" => "[month repr:short]")];
 const CAPITAL_B: &[Row] = &[row!("%B" => "[month repr:long]")];
 
 const SMALL_P: &[Row] = &[row!("%p" => "[period]")];
-
-const SMALL_C: &[Row] = &[
-    row!("%c" => "[weekday repr:short] [month repr:short] [day padding:space] \
-        [hour]:[minute]:[second] [year]" within YearsFrom1000),
-];
-
-const SMALL_X: &[Row] = &[row!("%x" => "[month]/[day]/[year repr:last_two]")];
-
-const CAPITAL_X: &[Row] = &[row!("%X" => "[hour]:[minute]:[second]")];
 
 const PERCENT_SIGN: &[Row] = &[row!("%%" => "%")];
 
@@ -278,3 +269,12 @@ const CAPITAL_O: &[Row] = &[
     row!("%OW" => "[week_number repr:monday]"),
     row!("%Oy" => "[year repr:last_two]"),
 ];
+
+const SMALL_C: &[Row] = &[
+    row!("%c" => "[weekday repr:short] [month repr:short] [day padding:space] \
+        [hour]:[minute]:[second] [year]" within YearsFrom1000),
+];
+
+const SMALL_X: &[Row] = &[row!("%x" => "[month]/[day]/[year repr:last_two]")];
+
+const CAPITAL_X: &[Row] = &[row!("%X" => "[hour]:[minute]:[second]")];
