@@ -51,6 +51,14 @@ def of_percent(table):
     return rows
 
 
+def of_escapes(escape, rows, reserved):
+    """The rows of an escape before a directive or a character of ASCII, which stand for themselves then. Before others it is refused."""
+    printable = string.ascii_letters + string.digits + string.punctuation + " "
+    escaped = [text for text in rows if text not in reserved] + [c for c in printable if c not in rows and c not in (escape, "[")]
+    written = {escape + text: {"v3": f"\\{text}" if text == "]" else text} for text in escaped}
+    return written | {escape: {"why": "backslash"}}
+
+
 def of_runs(table):
     """The rows of a dialect of bare letters: what it doesn't know of a letter is a row."""
     rows = {row["text"]: dict(row) for row in table["row"]}
@@ -62,7 +70,7 @@ def of_runs(table):
     for letter in table.get("optional", ""):
         rows.setdefault(letter, {"why": "optional-part"})
     if "escape" in table:
-        rows.setdefault(table["escape"], {"why": "backslash"})
+        rows |= of_escapes(table["escape"], rows, table.get("reserved", ""))
     for letter in table.get("reserved", ""):
         rows.setdefault(letter, {"why": "reserved"})
     return rows
