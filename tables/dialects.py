@@ -51,6 +51,14 @@ def of_percent(table):
     return rows
 
 
+def of_escapes(escape, rows, reserved):
+    """The rows of an escape before a directive or a character of ASCII, which stand for themselves then. Before others it is refused."""
+    printable = string.ascii_letters + string.digits + string.punctuation + " "
+    escaped = [text for text in rows if text not in reserved] + [c for c in printable if c not in rows and c not in (escape, "[")]
+    written = {escape + text: {"v3": f"\\{text}" if text == "]" else text} for text in escaped}
+    return written | {escape: {"why": "backslash"}}
+
+
 def of_runs(table):
     """The rows of a dialect of bare letters: what it doesn't know of a letter is a row."""
     rows = {row["text"]: dict(row) for row in table["row"]}
@@ -62,7 +70,7 @@ def of_runs(table):
     for letter in table.get("optional", ""):
         rows.setdefault(letter, {"why": "optional-part"})
     if "escape" in table:
-        rows.setdefault(table["escape"], {"why": "backslash"})
+        rows |= of_escapes(table["escape"], rows, table.get("reserved", ""))
     for letter in table.get("reserved", ""):
         rows.setdefault(letter, {"why": "reserved"})
     return rows
@@ -85,6 +93,9 @@ def groups_of(name):
     for text, row in sorted(rows_of(name).items(), key=lambda it: -len(it[0].encode())):
         groups.setdefault(key_of(name, text), {})[text] = row
     order = list(dict.fromkeys(key_of(name, text) for text in rows_of(name)))
+    if load(name)["kind"] == "percent":
+        # A locale's own forms come last: of directives that mean the same the first is written.
+        order.sort(key=lambda key: key in (b"c", b"x", b"X"))
     return {key: groups[key] for key in order if key}
 
 
@@ -122,13 +133,13 @@ def rust_row(text, row):
 
 def byte_literal(key):
     kept = {"'": "\\'", "\\": "\\\\", "\n": "\\n", "\r": "\\r"}
-    return str(key[0]) if key[0] > 127 else f"b'{kept.get(chr(key[0]), chr(key[0]))}'"
+    return str(key[0]) if key[0] >= 0x80 else f"b'{kept.get(chr(key[0]), chr(key[0]))}'"
 
 
 def constant_name(key):
     """The name of the rows that a byte finds, as `SMALL_D`, `HYPHEN`, `DIGIT_ZERO`."""
     named = {"\n": "LINE_FEED", "\r": "CARRIAGE_RETURN", "-": "HYPHEN", "_": "UNDERSCORE", "^": "CARET", "#": "HASH", ".": "DOT"}
-    if key[0] > 127:
+    if key[0] >= 0x80:
         return "LINE_SEPARATOR"
     name = named.get(chr(key[0])) or unicodedata.name(chr(key[0]))
     return name.replace("LATIN ", "").replace("LETTER ", "").replace(" ", "_")
@@ -180,6 +191,17 @@ def rust_match(name, part, about, others):
             f"    match byte {{\n{arms}        _ => {others},\n    }}\n}}\n\n")
 
 
+def rust_keys(name):
+    """The bytes that find rows."""
+    kept = {'"': '\\"', "\\": "\\\\", "\n": "\\n", "\r": "\\r"}
+    keys = [key for part in parts_of(name).values() for key in part]
+    listed = "".join(f"\\x{key[0]:X}" if key[0] >= 0x80 else kept.get(chr(key[0]), chr(key[0])) for key in keys)
+    unfolded = ", ".join(f"crate::specs::{camel(name)}::{it}" for it in definitions(name))
+    return (f"/// The bytes that find rows.\n#[tactic(auto, unfolding({unfolded}))]\n"
+            f"pub fn {name}_keys() -> &'static [u8]\n    ensures {{ result.now ≡ keys_of {name}_groups }}\n{{\n    KEYS\n}}\n\n"
+            f'const KEYS: &[u8] = b"{listed}";\n\n')
+
+
 def rust_table(name):
     groups, parts = groups_of(name), parts_of(name)
     reason = "use crate::reason::Reason;\n" if any("why" in row for rows in groups.values() for row in rows.values()) else ""
@@ -188,10 +210,10 @@ def rust_table(name):
     if "marked" in parts:
         matches += rust_match(name, "marked", "Those of the directives with a flag, a digit or another mark there", "&[]")
     return (f"//! The rows of {TITLES[name]}. `tables/write` writes them.\n\n"
-            "ghost use Rattle.std.specs.Prelude.{◌≡◌};\nghost use Rattle.timefd_dialect.specs.Groups.{rows_at};\n"
+            "ghost use Rattle.std.specs.Prelude.{◌≡◌};\nghost use Rattle.timefd_dialect.specs.Groups.{keys_of, rows_at};\n"
             f"ghost use Rattle.timefd_dialect.specs.{camel(name)}.{{{', '.join(definitions(name))}}};\n"
             "ghost use Rattle.timefd_dialect.specs.Rows.{entries};\n\n"
-            f"{reason}use crate::row::{{NotBefore, Range, Row, Verdict, row}};\n\n{matches}{constants}")
+            f"{reason}use crate::row::{{NotBefore, Range, Row, Verdict, row}};\n\n{matches}{rust_keys(name)}{constants}")
 
 
 def definitions(name):
@@ -233,18 +255,23 @@ def specified_table(name):
 
 
 def rust_rows():
-    """The function that answers the rows that a byte finds in each table."""
-    arms = "".join(f"            Dialect::{camel(name)} => {name}_rows(byte),\n" for name in NAMES)
-    uses = "".join(f"use crate::tables::{name}::{name}_rows;\n" for name in sorted(NAMES))
+    """The functions that answer the rows that a byte finds in each table, and these bytes."""
+    rows = "".join(f"            Dialect::{camel(name)} => {name}_rows(byte),\n" for name in NAMES)
+    keys = "".join(f"            Dialect::{camel(name)} => {name}_keys(),\n" for name in NAMES)
+    uses = "".join(f"use crate::tables::{name}::{{{name}_keys, {name}_rows}};\n" for name in sorted(NAMES))
     return ("//! The rows of each dialect. `tables/write` writes this file.\n\nghost use Rattle.std.specs.Prelude.{◌≡◌};\n"
-            "ghost use Rattle.timefd_dialect.specs.Groups.{rows_at};\n"
+            "ghost use Rattle.timefd_dialect.specs.Groups.{keys_of, rows_at};\n"
             "ghost use Rattle.timefd_dialect.specs.Rows.{entries};\n"
             "ghost use Rattle.timefd_dialect.specs.Tables.{groups_of};\n\n"
             f"use crate::dialect::Dialect;\nuse crate::row::Row;\n{uses}\nimpl Dialect {{\n"
             "    /// The rows that this byte finds, the longest first.\n"
             "    pub fn rows_at(self, byte: u8) -> &'static [Row]\n"
             "        ensures { entries result.now ≡ rows_at byte (groups_of self) }\n    {\n"
-            f"        match self {{\n{arms}        }}\n    }}\n}}\n")
+            f"        match self {{\n{rows}        }}\n    }}\n\n"
+            "    /// The bytes that find rows.\n"
+            "    pub fn keys(self) -> &'static [u8]\n"
+            "        ensures { result.now ≡ keys_of (groups_of self) }\n    {\n"
+            f"        match self {{\n{keys}        }}\n    }}\n}}\n")
 
 
 def specified_tables():
@@ -260,6 +287,10 @@ def specified_tables():
             f"abbrev pub groups_of : Dialect → List Group\n{rows}\n"
             "abbrev pub rows_of : Dialect → List Entry\n"
             "rows_of dialect = all_rows (groups_of dialect) ++ unknown_rows (leading_of dialect)\n")
+
+
+# The reasons of what the dialect itself doesn't know.
+UNKNOWN = ("flag", "unknown-directive")
 
 
 def reasons():
@@ -279,6 +310,12 @@ def reason_enum():
     functions = "\n".join(
         f"    /// {told[key]}\n    pub fn {key}(self) -> &'static str\n        ensures {{ result.now ≡ spec.{key} self }}\n"
         f"    {{\n        match self {{\n{match[key]}        }}\n    }}\n" for key in match)
+    functions += ("\n    /// Whether the dialect has no such directive, or no such flag of it.\n    pub fn is_unknown(self) -> bool\n"
+                  "        ensures { result ≡ spec.is_unknown self }\n    {\n        match self {\n            "
+                  + " | ".join(f"Reason::{camel(row['name'])}" for row in reasons() if row["name"] in UNKNOWN)
+                  + " => true,\n            "
+                  + "\n            | ".join(f"Reason::{camel(row['name'])}" for row in reasons() if row["name"] not in UNKNOWN)
+                  + " => false,\n        }\n    }\n")
     return ("//! Why a part of a format has no text of version 3. `tables/write` writes them.\n\n"
             "ghost use Rattle.std.specs.Prelude.{◌≡◌};\nghost use Rattle.timefd_dialect.specs.Reasons as spec;\n\n"
             "/// Why a part of a format has no text of version 3.\n#[derive(Clone, Copy)]\npub enum Reason {\n"
@@ -287,13 +324,15 @@ def reason_enum():
 
 def specified_reasons():
     names = [camel(row["name"]) for row in reasons()]
-    text = ("-- What is told of each reason.\nuse Rattle.std.specs.Prelude.{codes}\n"
+    text = ("-- What is told of each reason.\nuse Rattle.std.specs.Prelude.{Bool, true, false, codes}\n"
             "use Rattle.timefd_component.specs.Tree.{Text}\n"
             "use Rattle.timefd_dialect.specs.declared.reason.Reason.{Reason}\n"
             f"use Rattle.timefd_dialect.specs.declared.reason.Reason.TheVariants.{{{', '.join(names)}}}\n")
     for key in ("name", "sentence", "cure"):
         text += f"\nabbrev pub {key} : Reason → Text\n" + "".join(
             f"{key} {camel(row['name'])} = {codes(row[key])}\n" for row in reasons())
+    text += "\n-- the dialect has no such directive, or no such flag of it\nabbrev pub is_unknown : Reason → Bool\n" + "".join(
+        f"is_unknown {camel(row['name'])} = {'true' if row['name'] in UNKNOWN else 'false'}\n" for row in reasons())
     return text
 
 

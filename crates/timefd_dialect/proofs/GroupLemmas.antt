@@ -87,11 +87,11 @@ stands_key leading k row text is e =
 
 -- Where the text has another byte, no row of a group stands.
 
-abbrev is_key : ℕ → Option ℕ → Bool
+abbrev pub is_key : ℕ → Option ℕ → Bool
 is_key k None = false
 is_key k (Some b) = b == k
 
-abbrev has_key : Leading → ℕ → Entry → Bool
+abbrev pub has_key : Leading → ℕ → Entry → Bool
 has_key leading k row = is_key k (key_of leading row.text)
 
 key_is : (k : ℕ) (key : Option ℕ) → is_key k key ≡ true → key ≡ Some k
@@ -118,7 +118,7 @@ longest_more best [] b text = refl
 longest_more best (row ∷ a) b text = longest_more (better best row text) a b text
 
 -- each row has the byte that finds it, and no byte finds two groups
-abbrev are_keyed : Leading → List Group → Bool
+abbrev pub are_keyed : Leading → List Group → Bool
 are_keyed leading [] = true
 are_keyed leading (g ∷ gs) =
     all_pass (has_key leading g.key) g.rows && is_apart g.key gs && are_keyed leading gs
@@ -143,12 +143,12 @@ apart_misses b (g ∷ gs) e =
     let p = and_parts (not (b == g.key)) _ e in
     (other_key b g.key p.0, apart_misses b gs p.1)
 
-record Parts (leading : Leading) (g : Group) (gs : List Group) : Type 0 where
-  rows : all_pass (has_key leading g.key) g.rows ≡ true
-  apart : is_apart g.key gs ≡ true
-  more : are_keyed leading gs ≡ true
+pub record Parts (leading : Leading) (g : Group) (gs : List Group) : Type 0 where
+  pub rows : all_pass (has_key leading g.key) g.rows ≡ true
+  pub apart : is_apart g.key gs ≡ true
+  pub more : are_keyed leading gs ≡ true
 
-parts : (leading : Leading) (g : Group) (gs : List Group) → are_keyed leading (g ∷ gs) ≡ true
+pub parts : (leading : Leading) (g : Group) (gs : List Group) → are_keyed leading (g ∷ gs) ≡ true
     → Parts leading g gs
 parts leading g gs e =
     let p = and_parts (all_pass (has_key leading g.key) g.rows && is_apart g.key gs) _ e in
@@ -242,7 +242,7 @@ first_of_both (row ∷ a) b text = elim (cases_Bool (stands row text)) [
 
 -- Each table is as the search wants it.
 
-all_keyed : (dialect : Dialect) → are_keyed (leading_of dialect) (groups_of dialect) ≡ true
+pub all_keyed : (dialect : Dialect) → are_keyed (leading_of dialect) (groups_of dialect) ≡ true
 unfolding python_groups c_groups c_marked gnu_groups gnu_marked chrono_groups jiff_groups jiff_marked ruby_groups ruby_marked java_groups go_groups moment_groups
 all_keyed Python = refl
 all_keyed C = refl

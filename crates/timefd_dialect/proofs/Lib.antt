@@ -9,3 +9,6 @@ pub mod ItemLemmas
 pub mod LawLemmas
 pub mod AnswerLemmas
 pub mod ExistsLemmas
+pub mod SpotLemmas
+pub mod BackLemmas
+pub mod WritingLemmas

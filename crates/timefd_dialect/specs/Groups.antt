@@ -15,6 +15,10 @@ abbrev pub all_rows : List Group → List Entry
 all_rows [] = []
 all_rows (g ∷ gs) = g.rows ++ all_rows gs
 
+abbrev pub keys_of : List Group → List ℕ
+keys_of [] = []
+keys_of (g ∷ gs) = g.key ∷ keys_of gs
+
 -- those that a byte finds
 abbrev pub rows_at : ℕ → List Group → List Entry
 rows_at b [] = []

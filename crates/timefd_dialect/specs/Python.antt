@@ -27,9 +27,6 @@ python_groups =
     ∷ under 98 (codes "%b" means codes "[month repr:short]" ∷ [])
     ∷ under 66 (codes "%B" means codes "[month repr:long]" ∷ [])
     ∷ under 112 (codes "%p" means codes "[period]" ∷ [])
-    ∷ under 99 (within YearsFrom1000 (codes "%c") (codes "[weekday repr:short] [month repr:short] [day padding:space] [hour]:[minute]:[second] [year]") ∷ [])
-    ∷ under 120 (codes "%x" means codes "[month]/[day]/[year repr:last_two]" ∷ [])
-    ∷ under 88 (codes "%X" means codes "[hour]:[minute]:[second]" ∷ [])
     ∷ under 37 (codes "%%" means codes "%" ∷ [])
     ∷ under 102 (codes "%f" means codes "[subsecond digits:6]" ∷ [])
     ∷ under 122 (within WholeMinutes (codes "%z") (codes "[offset_hour sign:mandatory][offset_minute]") ∷ [])
@@ -144,4 +141,7 @@ python_groups =
     ∷ codes "%OW" means codes "[week_number repr:monday]"
     ∷ codes "%Oy" means codes "[year repr:last_two]"
     ∷ [])
+    ∷ under 99 (within YearsFrom1000 (codes "%c") (codes "[weekday repr:short] [month repr:short] [day padding:space] [hour]:[minute]:[second] [year]") ∷ [])
+    ∷ under 120 (codes "%x" means codes "[month]/[day]/[year repr:last_two]" ∷ [])
+    ∷ under 88 (codes "%X" means codes "[hour]:[minute]:[second]" ∷ [])
     ∷ []

@@ -1,5 +1,5 @@
 -- What is told of each reason.
-use Rattle.std.specs.Prelude.{codes}
+use Rattle.std.specs.Prelude.{Bool, true, false, codes}
 use Rattle.timefd_component.specs.Tree.{Text}
 use Rattle.timefd_dialect.specs.declared.reason.Reason.{Reason}
 use Rattle.timefd_dialect.specs.declared.reason.Reason.TheVariants.{Backslash, Capitals, DatetimeOnly, DayPeriod, Era, Flag, FractionWidth, GmtOffset, HourFrom0Or24, JulianDay, LocalTime, LocalWeek, Locale, NarrowName, OptionalPart, OrdinalSuffix, PadLetter, Platform, Quarter, ReadingOnly, Reserved, TooManyLetters, TwoLetterName, UnclosedQuote, UnitOfDay, UnknownDirective, UnknownLetter, Unsupported, VariableFraction, VariableOffset, VariableWidth, WeekOfMonth, Width, ZForUtc, ZoneName}
@@ -114,3 +114,41 @@ cure WeekOfMonth = codes "Write the day of the month."
 cure Width = codes "Leave the width out, and write what it fills as a literal, like `0[day]` for `%3d`."
 cure ZForUtc = codes "Write the offset in digits, or `Z` as a literal where each moment is one of UTC."
 cure ZoneName = codes "Write the offset, or the name as a literal."
+
+-- the dialect has no such directive, or no such flag of it
+abbrev pub is_unknown : Reason → Bool
+is_unknown Backslash = false
+is_unknown Capitals = false
+is_unknown DatetimeOnly = false
+is_unknown DayPeriod = false
+is_unknown Era = false
+is_unknown Flag = true
+is_unknown FractionWidth = false
+is_unknown GmtOffset = false
+is_unknown HourFrom0Or24 = false
+is_unknown JulianDay = false
+is_unknown LocalTime = false
+is_unknown LocalWeek = false
+is_unknown Locale = false
+is_unknown NarrowName = false
+is_unknown OptionalPart = false
+is_unknown OrdinalSuffix = false
+is_unknown PadLetter = false
+is_unknown Platform = false
+is_unknown Quarter = false
+is_unknown ReadingOnly = false
+is_unknown Reserved = false
+is_unknown TooManyLetters = false
+is_unknown TwoLetterName = false
+is_unknown UnclosedQuote = false
+is_unknown UnitOfDay = false
+is_unknown UnknownDirective = true
+is_unknown UnknownLetter = false
+is_unknown Unsupported = false
+is_unknown VariableFraction = false
+is_unknown VariableOffset = false
+is_unknown VariableWidth = false
+is_unknown WeekOfMonth = false
+is_unknown Width = false
+is_unknown ZForUtc = false
+is_unknown ZoneName = false

@@ -292,14 +292,11 @@ ruby_groups =
     ∷ under 104 (codes "%h" means codes "[month repr:short]" ∷ [])
     ∷ under 112 (codes "%p" means codes "[period]" ∷ [])
     ∷ under 80 (codes "%P" means codes "[period case:lower]" ∷ [])
-    ∷ under 99 (codes "%c" means codes "[weekday repr:short] [month repr:short] [day padding:space] [hour]:[minute]:[second] [year]" ∷ [])
     ∷ under 68 (codes "%D" means codes "[month]/[day]/[year repr:last_two]" ∷ [])
     ∷ under 70 (codes "%F" means codes "[year]-[month]-[day]" ∷ [])
     ∷ under 114 (codes "%r" means codes "[hour repr:12]:[minute]:[second] [period]" ∷ [])
     ∷ under 82 (codes "%R" means codes "[hour]:[minute]" ∷ [])
     ∷ under 84 (codes "%T" means codes "[hour]:[minute]:[second]" ∷ [])
-    ∷ under 120 (codes "%x" means codes "[month]/[day]/[year repr:last_two]" ∷ [])
-    ∷ under 88 (codes "%X" means codes "[hour]:[minute]:[second]" ∷ [])
     ∷ under 110 (codes "%n" means (10 ∷ []) ∷ [])
     ∷ under 116 (codes "%t" means (9 ∷ []) ∷ [])
     ∷ under 122 (codes "%z" means codes "[offset_hour sign:mandatory][offset_minute]" ∷ [])
@@ -332,4 +329,7 @@ ruby_groups =
     ∷ codes "%Ok" means codes "[hour padding:space]"
     ∷ codes "%Ol" means codes "[hour repr:12 padding:space]"
     ∷ [])
+    ∷ under 99 (codes "%c" means codes "[weekday repr:short] [month repr:short] [day padding:space] [hour]:[minute]:[second] [year]" ∷ [])
+    ∷ under 120 (codes "%x" means codes "[month]/[day]/[year repr:last_two]" ∷ [])
+    ∷ under 88 (codes "%X" means codes "[hour]:[minute]:[second]" ∷ [])
     ∷ ruby_marked

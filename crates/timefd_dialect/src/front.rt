@@ -155,7 +155,7 @@ fn push_verdict<'a>(answer: &mut String, row: &Row, text: &'a str) -> Result<Ste
 }
 
 /// What follows a row that stands at the front.
-fn after_row<'a>(row: &Row, text: &'a str) -> &'a str
+pub fn after_row<'a>(row: &Row, text: &'a str) -> &'a str
     requires { stands (entry_of row.now) text.now ≡ true }
     ensures rest { result.now ≡ drop (length row.now.text.now) text.now }
     ensures whole { text.now ≡ row.now.text.now ++ result.now }
@@ -168,7 +168,7 @@ fn after_row<'a>(row: &Row, text: &'a str) -> &'a str
 }
 
 /// What follows a literal, if the text begins with it.
-fn after_literal<'a>(text: &'a str, literal: &str) -> Option<&'a str>
+pub fn after_literal<'a>(text: &'a str, literal: &str) -> Option<&'a str>
     ensures rest { MatchOption result ((rest : Text) → ¬ (text.now ≡ literal.now ++ rest))
         (λ rest. text.now ≡ literal.now ++ rest.now) }
     ensures utf8 { IfSome result (λ rest. IsUtf8 rest.now) }

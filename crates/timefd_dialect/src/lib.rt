@@ -1,6 +1,7 @@
 //! Formats of other languages and libraries, and the texts of version 3 that mean the same.
 #![tactic(auto)]
 
+mod back;
 mod character;
 mod dialect;
 mod error;
@@ -12,12 +13,21 @@ mod plain;
 mod quote;
 mod reading;
 mod reason;
+mod reversed;
+mod role;
 mod row;
 mod rows;
+mod spot;
 mod tables;
+mod trap;
+mod trapping;
+mod writing;
 
+pub use back::{FormatError, from_version_three};
 pub use dialect::Dialect;
 pub use error::{DialectError, Refusal};
 pub use limits::Limits;
 pub use reading::{Converted, to_version_three};
 pub use reason::Reason;
+pub use trap::Trap;
+pub use trapping::{Found, traps};

@@ -13,12 +13,12 @@ use crate::front::{Stop, push_pieces};
 use crate::limits::Limits;
 use std::alloc::Global;
 
-/// A format as a text of version 3.
+/// A format as a text of version 3, or such a text as a format.
 #[derive(Drop)]
 pub struct Converted {
-    /// The text of version 3.
+    /// What it was converted to.
     pub text: String,
-    /// For which moments it writes the same.
+    /// For which moments both write the same.
     pub limits: Limits,
 }
 

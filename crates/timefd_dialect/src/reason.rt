@@ -213,4 +213,46 @@ impl Reason {
             Reason::ZoneName => "Write the offset, or the name as a literal.",
         }
     }
+
+    /// Whether the dialect has no such directive, or no such flag of it.
+    pub fn is_unknown(self) -> bool
+        ensures { result ≡ spec.is_unknown self }
+    {
+        match self {
+            Reason::Flag | Reason::UnknownDirective => true,
+            Reason::Backslash
+            | Reason::Capitals
+            | Reason::DatetimeOnly
+            | Reason::DayPeriod
+            | Reason::Era
+            | Reason::FractionWidth
+            | Reason::GmtOffset
+            | Reason::HourFrom0Or24
+            | Reason::JulianDay
+            | Reason::LocalTime
+            | Reason::LocalWeek
+            | Reason::Locale
+            | Reason::NarrowName
+            | Reason::OptionalPart
+            | Reason::OrdinalSuffix
+            | Reason::PadLetter
+            | Reason::Platform
+            | Reason::Quarter
+            | Reason::ReadingOnly
+            | Reason::Reserved
+            | Reason::TooManyLetters
+            | Reason::TwoLetterName
+            | Reason::UnclosedQuote
+            | Reason::UnitOfDay
+            | Reason::UnknownLetter
+            | Reason::Unsupported
+            | Reason::VariableFraction
+            | Reason::VariableOffset
+            | Reason::VariableWidth
+            | Reason::WeekOfMonth
+            | Reason::Width
+            | Reason::ZForUtc
+            | Reason::ZoneName => false,
+        }
+    }
 }

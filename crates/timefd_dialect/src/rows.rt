@@ -1,21 +1,21 @@
 //! The rows of each dialect. `tables/write` writes this file.
 
 ghost use Rattle.std.specs.Prelude.{◌≡◌};
-ghost use Rattle.timefd_dialect.specs.Groups.{rows_at};
+ghost use Rattle.timefd_dialect.specs.Groups.{keys_of, rows_at};
 ghost use Rattle.timefd_dialect.specs.Rows.{entries};
 ghost use Rattle.timefd_dialect.specs.Tables.{groups_of};
 
 use crate::dialect::Dialect;
 use crate::row::Row;
-use crate::tables::c::c_rows;
-use crate::tables::chrono::chrono_rows;
-use crate::tables::gnu::gnu_rows;
-use crate::tables::go::go_rows;
-use crate::tables::java::java_rows;
-use crate::tables::jiff::jiff_rows;
-use crate::tables::moment::moment_rows;
-use crate::tables::python::python_rows;
-use crate::tables::ruby::ruby_rows;
+use crate::tables::c::{c_keys, c_rows};
+use crate::tables::chrono::{chrono_keys, chrono_rows};
+use crate::tables::gnu::{gnu_keys, gnu_rows};
+use crate::tables::go::{go_keys, go_rows};
+use crate::tables::java::{java_keys, java_rows};
+use crate::tables::jiff::{jiff_keys, jiff_rows};
+use crate::tables::moment::{moment_keys, moment_rows};
+use crate::tables::python::{python_keys, python_rows};
+use crate::tables::ruby::{ruby_keys, ruby_rows};
 
 impl Dialect {
     /// The rows that this byte finds, the longest first.
@@ -32,6 +32,23 @@ impl Dialect {
             Dialect::Java => java_rows(byte),
             Dialect::Go => go_rows(byte),
             Dialect::Moment => moment_rows(byte),
+        }
+    }
+
+    /// The bytes that find rows.
+    pub fn keys(self) -> &'static [u8]
+        ensures { result.now ≡ keys_of (groups_of self) }
+    {
+        match self {
+            Dialect::Python => python_keys(),
+            Dialect::C => c_keys(),
+            Dialect::Gnu => gnu_keys(),
+            Dialect::Chrono => chrono_keys(),
+            Dialect::Jiff => jiff_keys(),
+            Dialect::Ruby => ruby_keys(),
+            Dialect::Java => java_keys(),
+            Dialect::Go => go_keys(),
+            Dialect::Moment => moment_keys(),
         }
     }
 }

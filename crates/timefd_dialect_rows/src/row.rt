@@ -1,7 +1,10 @@
 //! The answer to a row.
 
 use std::alloc::{AllocError, Global};
-use timefd_dialect::{Converted, Dialect, DialectError, Refusal, to_version_three};
+use timefd_dialect::{
+    Converted, Dialect, DialectError, FormatError, Found, Refusal, from_version_three,
+    to_version_three, traps,
+};
 
 /// What stands beside a line.
 pub fn answer(alloc: Global, line: &str) -> Result<String, AllocError> {
@@ -11,9 +14,27 @@ pub fn answer(alloc: Global, line: &str) -> Result<String, AllocError> {
     let Some((name, format)) = line.split_once('\t') else {
         return String::from_str(alloc, "a row is the name of a dialect, a tab and a format");
     };
+    let (name, asked) = match name.split_once(' ') {
+        Some((name, word)) => (name, Some(word)),
+        None => (name, None),
+    };
     match Dialect::named(name) {
-        Some(dialect) => answer_of(alloc, dialect, format),
+        Some(dialect) => answer_to(alloc, dialect, asked, format),
         None => format!(in alloc; "`{name}` is no dialect"),
+    }
+}
+
+fn answer_to(
+    alloc: Global,
+    dialect: Dialect,
+    asked: Option<&str>,
+    text: &str,
+) -> Result<String, AllocError> {
+    match asked {
+        None => answer_of(alloc, dialect, text),
+        Some("back") => format_of(alloc, dialect, text),
+        Some("traps") => traps_of(alloc, dialect, text),
+        Some(word) => format!(in alloc; "`{word}` is not asked of a dialect"),
     }
 }
 
@@ -39,4 +60,35 @@ fn told(alloc: Global, converted: &Converted) -> Result<String, AllocError> {
 
 fn refused(alloc: Global, refusal: Refusal) -> Result<String, AllocError> {
     format!(in alloc; "{} at byte {}", refusal.reason.name(), refusal.index)
+}
+
+/// The traps of a format, each with the indices of its directive.
+fn traps_of(alloc: Global, dialect: Dialect, format: &str) -> Result<String, AllocError> {
+    let found = traps(alloc, dialect, format)?;
+    if found.is_empty() {
+        return String::from_str(alloc, "no trap");
+    }
+    let mut text = String::new(alloc);
+    for trap in found.iter() {
+        push_found(alloc, &mut text, *trap)?;
+    }
+    Ok(text)
+}
+
+fn push_found(alloc: Global, text: &mut String, found: Found) -> Result<(), AllocError> {
+    if !text.is_empty() {
+        text.push_str("; ")?;
+    }
+    let one = format!(in alloc; "{} {}..{}", found.trap.name(), found.start, found.end)?;
+    text.push_str(one.as_str())
+}
+
+/// The format of a text of version 3.
+fn format_of(alloc: Global, dialect: Dialect, text: &str) -> Result<String, AllocError> {
+    match from_version_three(alloc, dialect, text) {
+        Ok(converted) => told(alloc, &converted),
+        Err(FormatError::Lacking(index)) => format!(in alloc; "lacking at byte {index}"),
+        Err(FormatError::Merged) => String::from_str(alloc, "merged"),
+        Err(FormatError::Memory(error)) => Err(error),
+    }
 }

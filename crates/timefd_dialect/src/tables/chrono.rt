@@ -1,7 +1,7 @@
 //! The rows of chrono. `tables/write` writes them.
 
 ghost use Rattle.std.specs.Prelude.{◌≡◌};
-ghost use Rattle.timefd_dialect.specs.Groups.{rows_at};
+ghost use Rattle.timefd_dialect.specs.Groups.{keys_of, rows_at};
 ghost use Rattle.timefd_dialect.specs.Chrono.{chrono_groups};
 ghost use Rattle.timefd_dialect.specs.Rows.{entries};
 
@@ -41,14 +41,11 @@ pub fn chrono_rows(byte: u8) -> &'static [Row]
         b'h' => SMALL_H,
         b'p' => SMALL_P,
         b'P' => CAPITAL_P,
-        b'c' => SMALL_C,
         b'D' => CAPITAL_D,
         b'F' => CAPITAL_F,
         b'r' => SMALL_R,
         b'R' => CAPITAL_R,
         b'T' => CAPITAL_T,
-        b'x' => SMALL_X,
-        b'X' => CAPITAL_X,
         b'%' => PERCENT_SIGN,
         b'n' => SMALL_N,
         b't' => SMALL_T,
@@ -67,9 +64,22 @@ pub fn chrono_rows(byte: u8) -> &'static [Row]
         b'_' => UNDERSCORE,
         b'Z' => CAPITAL_Z,
         b'#' => HASH,
+        b'c' => SMALL_C,
+        b'x' => SMALL_X,
+        b'X' => CAPITAL_X,
         _ => &[],
     }
 }
+
+/// The bytes that find rows.
+#[tactic(auto, unfolding(crate::specs::Chrono::chrono_groups))]
+pub fn chrono_keys() -> &'static [u8]
+    ensures { result.now ≡ keys_of chrono_groups }
+{
+    KEYS
+}
+
+const KEYS: &[u8] = b"deHkIljmMSUVWygCYGuwaAbBhpPDFrRT%ntfvs-369.0z:+_Z#cxX";
 
 const SMALL_D: &[Row] = &[row!("%d" => "[day]")];
 
@@ -125,11 +135,6 @@ const SMALL_P: &[Row] = &[row!("%p" => "[period]")];
 
 const CAPITAL_P: &[Row] = &[row!("%P" => "[period case:lower]")];
 
-const SMALL_C: &[Row] = &[
-    row!("%c" => "[weekday repr:short] [month repr:short] [day padding:space] \
-        [hour]:[minute]:[second] [year]"),
-];
-
 const CAPITAL_D: &[Row] = &[row!("%D" => "[month]/[day]/[year repr:last_two]")];
 
 const CAPITAL_F: &[Row] = &[row!("%F" => "[year]-[month]-[day]")];
@@ -139,10 +144,6 @@ const SMALL_R: &[Row] = &[row!("%r" => "[hour repr:12]:[minute]:[second] [period
 const CAPITAL_R: &[Row] = &[row!("%R" => "[hour]:[minute]")];
 
 const CAPITAL_T: &[Row] = &[row!("%T" => "[hour]:[minute]:[second]")];
-
-const SMALL_X: &[Row] = &[row!("%x" => "[month]/[day]/[year repr:last_two]")];
-
-const CAPITAL_X: &[Row] = &[row!("%X" => "[hour]:[minute]:[second]")];
 
 const PERCENT_SIGN: &[Row] = &[row!("%%" => "%")];
 
@@ -265,3 +266,12 @@ const UNDERSCORE: &[Row] = &[
 const CAPITAL_Z: &[Row] = &[row!("%Z" refused ZoneName)];
 
 const HASH: &[Row] = &[row!("%#z" refused ReadingOnly)];
+
+const SMALL_C: &[Row] = &[
+    row!("%c" => "[weekday repr:short] [month repr:short] [day padding:space] \
+        [hour]:[minute]:[second] [year]"),
+];
+
+const SMALL_X: &[Row] = &[row!("%x" => "[month]/[day]/[year repr:last_two]")];
+
+const CAPITAL_X: &[Row] = &[row!("%X" => "[hour]:[minute]:[second]")];

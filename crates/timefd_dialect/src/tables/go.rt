@@ -1,7 +1,7 @@
 //! The rows of Go. `tables/write` writes them.
 
 ghost use Rattle.std.specs.Prelude.{◌≡◌};
-ghost use Rattle.timefd_dialect.specs.Groups.{rows_at};
+ghost use Rattle.timefd_dialect.specs.Groups.{keys_of, rows_at};
 ghost use Rattle.timefd_dialect.specs.Go.{go_groups};
 ghost use Rattle.timefd_dialect.specs.Rows.{entries};
 
@@ -32,6 +32,16 @@ pub fn go_rows(byte: u8) -> &'static [Row]
         _ => &[],
     }
 }
+
+/// The bytes that find rows.
+#[tactic(auto, unfolding(crate::specs::Go::go_groups))]
+pub fn go_keys() -> &'static [u8]
+    ensures { result.now ≡ keys_of go_groups }
+{
+    KEYS
+}
+
+const KEYS: &[u8] = b"JM102_345Pp-Z.,";
 
 const CAPITAL_J: &[Row] = &[
     row!("January" => "[month repr:long]"),

@@ -1,7 +1,7 @@
 //! The rows of Java. `tables/write` writes them.
 
 ghost use Rattle.std.specs.Prelude.{◌≡◌};
-ghost use Rattle.timefd_dialect.specs.Groups.{rows_at};
+ghost use Rattle.timefd_dialect.specs.Groups.{keys_of, rows_at};
 ghost use Rattle.timefd_dialect.specs.Java.{java_groups};
 ghost use Rattle.timefd_dialect.specs.Rows.{entries};
 
@@ -74,6 +74,16 @@ pub fn java_rows(byte: u8) -> &'static [Row]
         _ => &[],
     }
 }
+
+/// The bytes that find rows.
+#[tactic(auto, unfolding(crate::specs::Java::java_groups))]
+pub fn java_keys() -> &'static [u8]
+    ensures { result.now ≡ keys_of java_groups }
+{
+    KEYS
+}
+
+const KEYS: &[u8] = b"uyMLdDEecaBHhKkmsSnANgYwWFQqGVvzOXxZpbfijlortCIJPRTU[]#{}";
 
 const SMALL_U: &[Row] = &[
     row!("uuuuuuuuuu" refused TooManyLetters),

@@ -1,7 +1,7 @@
 //! The rows of jiff. `tables/write` writes them.
 
 ghost use Rattle.std.specs.Prelude.{◌≡◌};
-ghost use Rattle.timefd_dialect.specs.Groups.{rows_at};
+ghost use Rattle.timefd_dialect.specs.Groups.{keys_of, rows_at};
 ghost use Rattle.timefd_dialect.specs.Jiff.{jiff_groups, jiff_marked};
 ghost use Rattle.timefd_dialect.specs.Rows.{entries};
 
@@ -48,16 +48,16 @@ pub fn jiff_rows(byte: u8) -> &'static [Row]
         b'n' => SMALL_N,
         b't' => SMALL_T,
         b'f' => SMALL_F,
-        b'c' => SMALL_C,
         b'r' => SMALL_R,
-        b'x' => SMALL_X,
-        b'X' => CAPITAL_X,
         b'N' => CAPITAL_N,
         b's' => SMALL_S,
         b'z' => SMALL_Z,
         b'Z' => CAPITAL_Z,
         b'Q' => CAPITAL_Q,
         b'q' => SMALL_Q,
+        b'c' => SMALL_C,
+        b'x' => SMALL_X,
+        b'X' => CAPITAL_X,
         _ => marked_rows(byte),
     }
 }
@@ -88,6 +88,16 @@ fn marked_rows(byte: u8) -> &'static [Row]
         _ => &[],
     }
 }
+
+/// The bytes that find rows.
+#[tactic(auto, unfolding(crate::specs::Jiff::jiff_groups, crate::specs::Jiff::jiff_marked))]
+pub fn jiff_keys() -> &'static [u8]
+    ensures { result.now ≡ keys_of jiff_groups }
+{
+    KEYS
+}
+
+const KEYS: &[u8] = b"deHkIljmMSUVWygCYGuwaAbBhpPDFRTntfrNszZQqcxX%123456789.:^#-_0";
 
 const SMALL_D: &[Row] = &[row!("%d" => "[day]")];
 
@@ -226,16 +236,7 @@ const DOT: &[Row] = &[
     row!("%.f" refused VariableFraction),
 ];
 
-const SMALL_C: &[Row] = &[
-    row!("%c" => "[year] M[month] [day padding:none], [weekday repr:short] \
-        [hour]:[minute]:[second]"),
-];
-
 const SMALL_R: &[Row] = &[row!("%r" => "[hour repr:12 padding:none]:[minute]:[second] [period]")];
-
-const SMALL_X: &[Row] = &[row!("%x" => "[year] M[month] [day padding:none]")];
-
-const CAPITAL_X: &[Row] = &[row!("%X" => "[hour]:[minute]:[second]")];
 
 const CAPITAL_N: &[Row] = &[row!("%N" => "[subsecond digits:9]")];
 
@@ -494,3 +495,12 @@ const DIGIT_ZERO: &[Row] = &[
     row!("%0z" => "[offset_hour sign:mandatory][offset_minute]" within WholeMinutes),
     row!("%0" refused Flag),
 ];
+
+const SMALL_C: &[Row] = &[
+    row!("%c" => "[year] M[month] [day padding:none], [weekday repr:short] \
+        [hour]:[minute]:[second]"),
+];
+
+const SMALL_X: &[Row] = &[row!("%x" => "[year] M[month] [day padding:none]")];
+
+const CAPITAL_X: &[Row] = &[row!("%X" => "[hour]:[minute]:[second]")];

@@ -1,7 +1,7 @@
 //! The rows of Python. `tables/write` writes them.
 
 ghost use Rattle.std.specs.Prelude.{◌≡◌};
-ghost use Rattle.timefd_dialect.specs.Groups.{rows_at};
+ghost use Rattle.timefd_dialect.specs.Groups.{keys_of, rows_at};
 ghost use Rattle.timefd_dialect.specs.Python.{python_groups};
 ghost use Rattle.timefd_dialect.specs.Rows.{entries};
 
@@ -34,9 +34,6 @@ pub fn python_rows(byte: u8) -> &'static [Row]
         b'b' => SMALL_B,
         b'B' => CAPITAL_B,
         b'p' => SMALL_P,
-        b'c' => SMALL_C,
-        b'x' => SMALL_X,
-        b'X' => CAPITAL_X,
         b'%' => PERCENT_SIGN,
         b'f' => SMALL_F,
         b'z' => SMALL_Z,
@@ -64,9 +61,22 @@ pub fn python_rows(byte: u8) -> &'static [Row]
         b'#' => HASH,
         b'E' => CAPITAL_E,
         b'O' => CAPITAL_O,
+        b'c' => SMALL_C,
+        b'x' => SMALL_X,
+        b'X' => CAPITAL_X,
         _ => &[],
     }
 }
+
+/// The bytes that find rows.
+#[tactic(auto, unfolding(crate::specs::Python::python_groups))]
+pub fn python_keys() -> &'static [u8]
+    ensures { result.now ≡ keys_of python_groups }
+{
+    KEYS
+}
+
+const KEYS: &[u8] = b"dHIjmMSUVWyYGuwaAbBp%fz:ZeklgChPDFrRTnt-_0s^#EOcxX";
 
 const SMALL_D: &[Row] = &[row!("%d" => "[day]")];
 
@@ -107,15 +117,6 @@ const SMALL_B: &[Row] = &[row!("%b" => "[month repr:short]")];
 const CAPITAL_B: &[Row] = &[row!("%B" => "[month repr:long]")];
 
 const SMALL_P: &[Row] = &[row!("%p" => "[period]")];
-
-const SMALL_C: &[Row] = &[
-    row!("%c" => "[weekday repr:short] [month repr:short] [day padding:space] \
-        [hour]:[minute]:[second] [year]" within YearsFrom1000),
-];
-
-const SMALL_X: &[Row] = &[row!("%x" => "[month]/[day]/[year repr:last_two]")];
-
-const CAPITAL_X: &[Row] = &[row!("%X" => "[hour]:[minute]:[second]")];
 
 const PERCENT_SIGN: &[Row] = &[row!("%%" => "%")];
 
@@ -268,3 +269,12 @@ const CAPITAL_O: &[Row] = &[
     row!("%OW" => "[week_number repr:monday]"),
     row!("%Oy" => "[year repr:last_two]"),
 ];
+
+const SMALL_C: &[Row] = &[
+    row!("%c" => "[weekday repr:short] [month repr:short] [day padding:space] \
+        [hour]:[minute]:[second] [year]" within YearsFrom1000),
+];
+
+const SMALL_X: &[Row] = &[row!("%x" => "[month]/[day]/[year repr:last_two]")];
+
+const CAPITAL_X: &[Row] = &[row!("%X" => "[hour]:[minute]:[second]")];

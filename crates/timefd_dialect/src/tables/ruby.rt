@@ -1,7 +1,7 @@
 //! The rows of Ruby. `tables/write` writes them.
 
 ghost use Rattle.std.specs.Prelude.{◌≡◌};
-ghost use Rattle.timefd_dialect.specs.Groups.{rows_at};
+ghost use Rattle.timefd_dialect.specs.Groups.{keys_of, rows_at};
 ghost use Rattle.timefd_dialect.specs.Ruby.{ruby_groups, ruby_marked};
 ghost use Rattle.timefd_dialect.specs.Rows.{entries};
 
@@ -41,14 +41,11 @@ pub fn ruby_rows(byte: u8) -> &'static [Row]
         b'h' => SMALL_H,
         b'p' => SMALL_P,
         b'P' => CAPITAL_P,
-        b'c' => SMALL_C,
         b'D' => CAPITAL_D,
         b'F' => CAPITAL_F,
         b'r' => SMALL_R,
         b'R' => CAPITAL_R,
         b'T' => CAPITAL_T,
-        b'x' => SMALL_X,
-        b'X' => CAPITAL_X,
         b'n' => SMALL_N,
         b't' => SMALL_T,
         b'z' => SMALL_Z,
@@ -60,6 +57,9 @@ pub fn ruby_rows(byte: u8) -> &'static [Row]
         b'Q' => CAPITAL_Q,
         b'E' => CAPITAL_E,
         b'O' => CAPITAL_O,
+        b'c' => SMALL_C,
+        b'x' => SMALL_X,
+        b'X' => CAPITAL_X,
         _ => marked_rows(byte),
     }
 }
@@ -90,6 +90,16 @@ fn marked_rows(byte: u8) -> &'static [Row]
         _ => &[],
     }
 }
+
+/// The bytes that find rows.
+#[tactic(auto, unfolding(crate::specs::Ruby::ruby_groups, crate::specs::Ruby::ruby_marked))]
+pub fn ruby_keys() -> &'static [u8]
+    ensures { result.now ≡ keys_of ruby_groups }
+{
+    KEYS
+}
+
+const KEYS: &[u8] = b"deHkIljmMSUVWygCYGuwaAbBhpPDFrRTntzsLNZvQEOcxX%:1234567890-_^#+";
 
 const SMALL_D: &[Row] = &[row!("%d" => "[day]")];
 
@@ -145,11 +155,6 @@ const SMALL_P: &[Row] = &[row!("%p" => "[period]")];
 
 const CAPITAL_P: &[Row] = &[row!("%P" => "[period case:lower]")];
 
-const SMALL_C: &[Row] = &[
-    row!("%c" => "[weekday repr:short] [month repr:short] [day padding:space] \
-        [hour]:[minute]:[second] [year]"),
-];
-
 const CAPITAL_D: &[Row] = &[row!("%D" => "[month]/[day]/[year repr:last_two]")];
 
 const CAPITAL_F: &[Row] = &[row!("%F" => "[year]-[month]-[day]")];
@@ -159,10 +164,6 @@ const SMALL_R: &[Row] = &[row!("%r" => "[hour repr:12]:[minute]:[second] [period
 const CAPITAL_R: &[Row] = &[row!("%R" => "[hour]:[minute]")];
 
 const CAPITAL_T: &[Row] = &[row!("%T" => "[hour]:[minute]:[second]")];
-
-const SMALL_X: &[Row] = &[row!("%x" => "[month]/[day]/[year repr:last_two]")];
-
-const CAPITAL_X: &[Row] = &[row!("%X" => "[hour]:[minute]:[second]")];
 
 const PERCENT_SIGN: &[Row] = &[row!("%%" => "%")];
 
@@ -500,3 +501,12 @@ const CAPITAL_O: &[Row] = &[
     row!("%Ok" => "[hour padding:space]"),
     row!("%Ol" => "[hour repr:12 padding:space]"),
 ];
+
+const SMALL_C: &[Row] = &[
+    row!("%c" => "[weekday repr:short] [month repr:short] [day padding:space] \
+        [hour]:[minute]:[second] [year]"),
+];
+
+const SMALL_X: &[Row] = &[row!("%x" => "[month]/[day]/[year repr:last_two]")];
+
+const CAPITAL_X: &[Row] = &[row!("%X" => "[hour]:[minute]:[second]")];

@@ -1,0 +1,68 @@
+-- Texts of version 3 as formats.
+use Rattle.std.specs.Prelude.{ℕ, ◌≡◌, ◌+◌, Bool, true, false, not, ◌&&◌, nat_lt, eqb, if◌then◌else◌, List, [], ◌∷◌, ◌++◌, length, ⊤, string_bytes, Option, Some, None}
+use Rattle.std.specs.List.{starts_with}
+use Rattle.timefd_component.specs.Tree.{Text}
+use Rattle.timefd_dialect.specs.declared.back.FormatError.{FormatError}
+use Rattle.timefd_dialect.specs.declared.back.FormatError.TheVariants.{Lacking, Merged, Memory}
+use Rattle.timefd_dialect.specs.declared.dialect.Dialect.{Dialect}
+use Rattle.timefd_dialect.specs.declared.reading.Converted.{Converted}
+use Rattle.timefd_dialect.specs.Groups.{Group, rows_at}
+use Rattle.timefd_dialect.specs.Limits.{all_limits, limits_from}
+use Rattle.timefd_dialect.specs.Reading.{Piece, Means, text_of}
+use Rattle.timefd_dialect.specs.Rows.{Entry, Meaning, written, refused}
+use Rattle.timefd_dialect.specs.Tables.{rows_of}
+
+-- the format means pieces whose text is the description, and the limits are theirs
+abbrev pub IsFormatOf : Dialect → Text → Converted → Type 0
+IsFormatOf dialect description answer =
+    (ps : List Piece) × Means dialect (string_bytes answer.text) ps × (description ≡ text_of ps)
+    × (answer.limits ≡ limits_from all_limits ps)
+
+-- the text of a row; none where it is refused
+abbrev pub own_text : Meaning → Text
+own_text (written own range) = own
+own_text (refused reason) = []
+
+-- the text of the row stands at the front of a description
+abbrev pub writes : Entry → Text → Bool
+writes row text =
+    nat_lt 0 (length (own_text row.meaning)) && starts_with eqb text (own_text row.meaning)
+
+abbrev pub none_writes : List Entry → Text → Bool
+none_writes [] text = true
+none_writes (row ∷ rows) text = not (writes row text) && none_writes rows text
+
+-- Which row is taken: the one with the longest text, and of those the first.
+
+abbrev pub is_better : Entry → Entry → Bool
+is_better row best = nat_lt (length (own_text best.meaning)) (length (own_text row.meaning))
+
+abbrev pub best_of : Option Entry → Entry → Entry
+best_of None row = row
+best_of (Some best) row = if is_better row best then row else best
+
+abbrev pub best_with : Option Entry → Entry → Text → Option Entry
+best_with best row text = if writes row text then Some (best_of best row) else best
+
+abbrev pub best_from : Option Entry → List Entry → Text → Option Entry
+best_from best [] text = best
+best_from best (row ∷ rows) text = best_from (best_with best row text) rows text
+
+-- of the rows that these bytes find
+abbrev pub best_at : Option Entry → List ℕ → List Group → Text → Option Entry
+best_at best [] gs text = best
+best_at best (b ∷ bytes) gs text = best_at (best_from best (rows_at b gs) text) bytes gs text
+
+-- the dialect has no directive for what stands at the front of a description
+abbrev pub Lacks : Dialect → Text → Type 0
+Lacks dialect text = none_writes (rows_of dialect) text ≡ true
+
+abbrev pub LacksAt : Dialect → Text → ℕ → Type 0
+LacksAt dialect description index =
+    (front : Text) × (rest : Text) × (description ≡ front ++ rest) × (index + length rest ≡ length description)
+    × Lacks dialect rest
+
+abbrev pub IsLackIn : Dialect → Text → FormatError → Type 0
+IsLackIn dialect description (Lacking index) = LacksAt dialect description index
+IsLackIn dialect description Merged = ⊤
+IsLackIn dialect description (Memory e) = ⊤

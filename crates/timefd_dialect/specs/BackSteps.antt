@@ -1,0 +1,11 @@
+-- How a step over a description stands to it.
+use Rattle.std.specs.Prelude.{ℕ, ◌≡◌, List, ◌++◌}
+use Rattle.std.specs.Borrow.{Bor}
+use Rattle.timefd_component.specs.Tree.{Text}
+use Rattle.timefd_dialect.specs.QuoteSteps.{IsLess}
+
+-- the text goes on with the rest, after a front with bytes
+pub record IsAfter (text : Text) (rest : Bor (List ℕ)) : Type 0 where
+  pub taken : Text
+  pub whole : text ≡ taken ++ rest.now
+  pub left : IsLess text rest.now

@@ -1,0 +1,69 @@
+//! Texts of version 3 as formats.
+
+ghost use Rattle.std.specs.Prelude.{◌≡◌, IfOk, string_bytes};
+ghost use Rattle.std.specs.Result.{IfErr};
+ghost use Rattle.timefd_dialect.specs.Back as spec;
+ghost use Rattle.timefd_dialect.specs.Items.{IsSpelledBy};
+
+use crate::dialect::Dialect;
+use crate::error::DialectError;
+use crate::reading::{Converted, to_version_three};
+use crate::reversed::format_of;
+use std::alloc::{AllocError, Global};
+
+/// Why a text of version 3 has no format.
+#[derive(Debug, Clone, Copy)]
+pub enum FormatError {
+    /// The language has no directive for the bracket that begins at this index, in bytes.
+    Lacking(usize),
+    /// What it would write is read otherwise: directives or literals run into one another.
+    Merged,
+    /// Memory ran out.
+    Memory(AllocError),
+}
+
+impl From<AllocError> for FormatError {
+    ghost use Rattle.std.specs.Prelude.{◌≡◌};
+    ghost use Rattle.timefd_dialect.specs.declared.back.FormatError.TheVariants.{Memory};
+
+    ghost from_gives = { λ e error. error ≡ Memory e };
+
+    fn from(error: AllocError) -> Self {
+        FormatError::Memory(error)
+    }
+}
+
+/// The format by which the dialect writes what a text of version 3 writes, in the normal form, and
+/// for which moments it writes the same.
+///
+/// The error is `Lacking` with the first bracket, from the left, that the dialect has no directive
+/// for, `Merged` where what stands side by side can't be told apart, or `Memory`.
+pub fn from_version_three(
+    alloc: Global,
+    dialect: Dialect,
+    description: &str,
+) -> Result<Converted, FormatError>
+    // What the format means has just this text, so it comes back from `to_version_three`, and has
+    // the same items.
+    ensures format { IfOk result (spec.IsFormatOf dialect description.now) }
+    ensures same_items { IfOk result (λ answer. IsSpelledBy dialect (string_bytes answer.text)
+        description.now) }
+
+    // No row's text stands where the bracket begins.
+    ensures fault { IfErr result (spec.IsLackIn dialect description.now) }
+{
+    let format = format_of(alloc, dialect, description)?;
+    let converted = match to_version_three(alloc, dialect, format.as_str()) {
+        Ok(converted) => converted,
+        Err(DialectError::Refused(_)) => return Err(FormatError::Merged),
+        Err(DialectError::Memory(error)) => return Err(FormatError::Memory(error)),
+    };
+    if converted.text.as_str() == description {
+        Ok(Converted {
+            text: format,
+            limits: converted.limits,
+        })
+    } else {
+        Err(FormatError::Merged)
+    }
+}

@@ -1,0 +1,138 @@
+//! Where directives stand in a format.
+
+ghost use Rattle.std.specs.Prelude.{◌≡◌, ◌<◌, ◌∷◌, ◌++◌, IfOk, None, OnOk, length};
+ghost use Rattle.timefd_dialect.specs.Dialects.{quoting_of};
+ghost use Rattle.timefd_dialect.specs.Quotes.{apostrophe, quotation};
+ghost use Rattle.timefd_dialect.specs.Rows.{longest as longest_row};
+ghost use Rattle.timefd_dialect.specs.SpotSteps.{IsPart};
+ghost use Rattle.timefd_dialect.specs.Tables.{rows_of};
+ghost use Rattle.timefd_dialect.specs.Traps as spec;
+
+use crate::character::first_char;
+use crate::dialect::{Dialect, Quoting};
+use crate::front::after_row;
+use crate::longest::longest;
+use crate::quote::{begins_with, bracketed, push_quotation};
+use crate::role::{Role, role_of};
+use std::alloc::{AllocError, Global};
+use timefd_language::text::tail;
+
+/// Where a directive stands in a format, and what it says.
+#[derive(Clone, Copy)]
+pub struct Spot {
+    /// What it says.
+    pub role: Role,
+    /// The index of its first byte.
+    pub start: usize,
+    /// The index after its last byte.
+    pub end: usize,
+}
+
+/// A part of a format, and what follows it.
+#[derive(Clone, Copy)]
+pub struct Part<'a> {
+    /// What it says, if it is a directive.
+    pub role: Option<Role>,
+    /// What follows.
+    pub rest: &'a str,
+}
+
+/// Where the directives of a format stand.
+pub fn spots(alloc: Global, dialect: Dialect, format: &str) -> Result<Vec<Spot>, AllocError>
+    ensures { IfOk result (λ spots. spec.AreSpots dialect format.now spots.items) }
+{
+    let mut spots = Vec::new(alloc);
+    let mut quoted = String::new(alloc);
+    let mut rest = format;
+    'parts: while !rest.is_empty() {
+        let part = part_at(&mut quoted, dialect, rest)?;
+        let start = format.len() - rest.len();
+        let end = format.len() - part.rest.len();
+        push_spot(&mut spots, part.role, start, end)?;
+        rest = part.rest;
+    }
+    Ok(spots)
+}
+
+/// Appends a part that is a directive.
+fn push_spot(
+    spots: &mut Vec<Spot>,
+    role: Option<Role>,
+    start: usize,
+    end: usize,
+) -> Result<(), AllocError>
+    ensures { OnOk result (spots.new.items ≡ spots.old.items ++ spec.spot_between role start end) }
+{
+    if let Some(role) = role {
+        spots.push(Spot { role, start, end })?;
+    }
+    Ok(())
+}
+
+/// The part at the front of a text. What is quoted there is written over the buffer.
+fn part_at<'a>(quoted: &mut String, dialect: Dialect, text: &'a str) -> Result<Part<'a>, AllocError>
+    requires { 0 < length text.now }
+    ensures { IfOk result (IsPart (spec.said_at dialect text.now) text.now) }
+{
+    match dialect.quoting() {
+        Quoting::Unquoted => Ok(row_part(dialect, text)),
+        Quoting::Apostrophes => if begins_with(text, b'\'') {
+            quotation_part(quoted, tail(text))
+        } else {
+            Ok(row_part(dialect, text))
+        },
+        Quoting::Brackets => Ok(bracket_part(dialect, text)),
+    }
+}
+
+/// What stands between apostrophes, after the one that opens.
+fn quotation_part<'a>(quoted: &mut String, after: &'a str) -> Result<Part<'a>, AllocError>
+    ensures { IfOk result (IsPart (spec.said_quotation (quotation after.now))
+        (apostrophe ∷ after.now)) }
+{
+    quoted.clear();
+    match push_quotation(quoted, after)? {
+        Some(rest) => Ok(literal_before(rest)),
+        None => Ok(literal_before("")),
+    }
+}
+
+/// What stands between brackets, or else the longest row or a character.
+fn bracket_part(dialect: Dialect, text: &str) -> Part<'_>
+    requires there { 0 < length text.now }
+    requires quoting { quoting_of dialect ≡ Quoting.Brackets }
+    ensures { IsPart (spec.said_at dialect text.now) text.now result }
+{
+    if !begins_with(text, b'[') {
+        return row_part(dialect, text);
+    }
+    match bracketed(tail(text)) {
+        Some((_, rest)) => literal_before(rest),
+        None => row_part(dialect, text),
+    }
+}
+
+/// The longest row at the front of a text, or the character there.
+fn row_part(dialect: Dialect, text: &str) -> Part<'_>
+    requires { 0 < length text.now }
+    ensures { IsPart (spec.said_row dialect (longest_row (rows_of dialect) text.now) text.now)
+        text.now result }
+{
+    match longest(dialect, text) {
+        Some(row) => Part {
+            role: Some(role_of(dialect, row)),
+            rest: after_row(row, text),
+        },
+        None => match first_char(text) {
+            Some((_, rest)) => literal_before(rest),
+            None => unreachable!(),
+        },
+    }
+}
+
+/// A literal before the rest of a text.
+fn literal_before(rest: &str) -> Part<'_>
+    ensures { (result.role ≡ None) × (result.rest.now ≡ rest.now) }
+{
+    Part { role: None, rest }
+}

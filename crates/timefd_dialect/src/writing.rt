@@ -1,0 +1,81 @@
+//! The row whose text of version 3 stands at the front of a description.
+
+ghost use Rattle.std.specs.Prelude.{◌≡◌, MatchOption, None, true};
+ghost use Rattle.timefd_dialect.specs.Back as spec;
+ghost use Rattle.timefd_dialect.specs.Rows.{entries, entry_of, found_entry, meaning_of};
+ghost use Rattle.timefd_dialect.specs.Tables.{groups_of};
+
+use crate::dialect::Dialect;
+use crate::row::{Row, Verdict};
+
+/// The row whose text is the longest at the front of a description, and of those the first.
+pub fn row_writing(dialect: Dialect, text: &str) -> Option<&'static Row>
+    ensures { MatchOption result (spec.Lacks dialect text.now)
+        (λ row. spec.writes (entry_of row.now) text.now ≡ true) }
+{
+    best_at(dialect, dialect.keys(), text)
+}
+
+/// The best of the rows that these bytes find.
+fn best_at(dialect: Dialect, keys: &[u8], text: &str) -> Option<&'static Row>
+    ensures { found_entry result ≡ spec.best_at None keys.now (groups_of dialect) text.now }
+{
+    let mut best = None;
+    'keys: for at in 0..keys.len() {
+        best = best_from(best, dialect.rows_at(keys[at]), text);
+    }
+    best
+}
+
+/// The best of one and these rows.
+fn best_from(best: Option<&'static Row>, rows: &'static [Row], text: &str) -> Option<&'static Row>
+    ensures { found_entry result ≡ spec.best_from (found_entry best.entry) (entries rows.now) text.now }
+{
+    let mut best = best;
+    'rows: for at in 0..rows.len() {
+        best = best_with(best, &rows[at], text);
+    }
+    best
+}
+
+/// The row, if its text stands at the front of the description and it is better than the best so far.
+fn best_with(best: Option<&'static Row>, row: &'static Row, text: &str) -> Option<&'static Row>
+    ensures { found_entry result ≡ spec.best_with (found_entry best.entry) (entry_of row.now) text.now }
+{
+    if !writes(row, text) {
+        return best;
+    }
+    match best {
+        None => Some(row),
+        Some(other) => if is_better(row, other) {
+            Some(row)
+        } else {
+            Some(other)
+        },
+    }
+}
+
+/// Whether the row's text is longer.
+fn is_better(row: &Row, best: &Row) -> bool
+    ensures { result ≡ spec.is_better (entry_of row.now) (entry_of best.now) }
+{
+    written_of(best.verdict).len() < written_of(row.verdict).len()
+}
+
+/// The text of a row; none where it is refused.
+pub fn written_of(verdict: Verdict) -> &'static str
+    ensures { result.now ≡ spec.own_text (meaning_of verdict) }
+{
+    match verdict {
+        Verdict::Written(written, _) => written,
+        Verdict::Refused(_) => "",
+    }
+}
+
+/// Whether the row's text stands at the front of a description.
+fn writes(row: &Row, text: &str) -> bool
+    ensures { result ≡ spec.writes (entry_of row.now) text.now }
+{
+    let written = written_of(row.verdict).as_bytes();
+    0 < written.len() && text.as_bytes().starts_with(written)
+}
