@@ -6,3 +6,4 @@ pub mod ItemLemmas
 pub mod LawLemmas
 pub mod AnswerLemmas
 pub mod ExistsLemmas
+pub mod ToReadLemmas

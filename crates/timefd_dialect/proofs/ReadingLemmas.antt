@@ -26,12 +26,12 @@ leads_more dialect text [] p rest after leads is =
 leads_more dialect text (q ∷ ps) p rest after leads is =
     (leads.0, leads.1, leads_more dialect leads.0 ps p rest after leads.2 is)
 
-text_of_more : (ps : List Piece) (p : Piece) → text_of (ps ++ p ∷ []) ≡ text_of ps ++ p.text
+pub text_of_more : (ps : List Piece) (p : Piece) → text_of (ps ++ p ∷ []) ≡ text_of ps ++ p.text
 text_of_more [] p = append-nil p.text
 text_of_more (q ∷ ps) p =
     ap (λ x. q.text ++ x) (text_of_more ps p) ∙ sym (append_assoc q.text (text_of ps) p.text)
 
-limits_more : (limits : Limits) (ps : List Piece) (p : Piece)
+pub limits_more : (limits : Limits) (ps : List Piece) (p : Piece)
     → limits_from limits (ps ++ p ∷ []) ≡ narrowed p.range (limits_from limits ps)
 limits_more limits [] p = refl
 limits_more limits (q ∷ ps) p = limits_more (narrowed q.range limits) ps p

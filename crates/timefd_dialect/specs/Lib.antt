@@ -10,6 +10,7 @@ pub mod Java
 pub mod Go
 pub mod Moment
 pub mod Tables
+pub mod Readings
 pub mod Dialects
 pub mod Quotes
 pub mod QuoteSteps
@@ -18,4 +19,5 @@ pub mod Steps
 pub mod Limits
 pub mod Items
 pub mod Answers
+pub mod ToRead
 pub mod Laws

@@ -10,13 +10,16 @@ mod limits;
 mod longest;
 mod quote;
 mod reading;
+mod readings;
 mod reason;
 mod row;
 mod rows;
 mod tables;
+mod to_read;
 
 pub use dialect::Dialect;
 pub use error::{DialectError, Refusal};
 pub use limits::Limits;
 pub use reading::{Converted, to_version_three};
 pub use reason::Reason;
+pub use to_read::to_version_three_for_reading;
