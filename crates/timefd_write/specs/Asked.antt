@@ -14,7 +14,10 @@ use Rattle.timefd_write.specs.declared.asked.Wanted.TheVariants as wants
 use Rattle.timefd_write.specs.declared.column.Column.{Column}
 use Rattle.timefd_write.specs.declared.otherwise.Otherwise.{Otherwise}
 use Rattle.timefd_write.specs.declared.otherwise.Otherwise.TheVariants as otherwise
+use Rattle.timefd_language.specs.declared.description_version.DescriptionVersion.TheVariants.{One, Two, Three}
+use Rattle.timefd_parse.specs.declared.language.Language.TheVariants as languages
 use Rattle.timefd_write.specs.declared.language.Wording.{Wording}
+use Rattle.timefd_write.specs.declared.language.Wording.TheVariants.{Own, Other}
 use Rattle.timefd_write.specs.declared.language.Wordings.{Wordings}
 use Rattle.timefd_write.specs.declared.word.LanguageOption.{LanguageOption}
 use Rattle.timefd_write.specs.declared.word.LanguageOption.TheVariants as options
@@ -93,12 +96,31 @@ before_column_of None state = Next (record state { wanted = wants.Column })
 abbrev pub before_column : State → Step
 before_column state = before_column_of state.column state
 
+-- All words behind it are texts. Beside it stands no other option than that for quiet.
+abbrev pub guess_by : Wording → Option Wording → Option (Bor Text) → Option Column → Option Otherwise
+    → State → List (Bor Text) → Answer
+guess_by (Own (languages.Version Three)) None None None None state texts =
+    Ok (asks.Guess (record { text_count = length texts; is_quiet = state.is_quiet }))
+guess_by (Own (languages.Version Three)) None None None (Some o) state texts = Err errors.GuessBeside
+guess_by (Own (languages.Version Three)) None None (Some c) o state texts = Err errors.GuessBeside
+guess_by (Own (languages.Version Three)) None (Some r) c o state texts = Err errors.GuessBeside
+guess_by (Own (languages.Version Three)) (Some t) r c o state texts = Err errors.GuessBeside
+guess_by (Own (languages.Version One)) t r c o state texts = Err errors.GuessBeside
+guess_by (Own (languages.Version Two)) t r c o state texts = Err errors.GuessBeside
+guess_by (Own languages.Strftime) t r c o state texts = Err errors.GuessBeside
+guess_by (Other dialect) t r c o state texts = Err errors.GuessBeside
+
+abbrev pub guess : State → List (Bor Text) → Answer
+guess state texts =
+    guess_by state.language state.to_language state.read state.column state.otherwise state texts
+
 abbrev pub first_by : Word → State → Bor Text → List (Bor Text) → Step
 first_by (words.Language option) state word behind =
     Next (record state { wanted = wants.Language option })
 first_by words.Read state word behind = before_read state
 first_by words.Csv state word behind = before_column state
 first_by words.Else state word behind = Next (record state { wanted = wants.Otherwise })
+first_by words.Guess state word behind = Done (guess state behind)
 first_by words.Quiet state word behind = Next (record state { is_quiet = true })
 first_by words.Help state word behind = Done (Ok asks.Help)
 first_by words.Version state word behind = Done (Ok asks.Version)
