@@ -1,5 +1,5 @@
 -- Which candidates read all texts, and write them back.
-use Rattle.std.specs.Prelude.{ℕ, ◌≡◌, ◌⊎◌, ◌+◌, ◌++◌, Bool, true, false, if◌then◌else◌, All, List, [], ◌∷◌, map, take, Option, Some, None, Result, Ok, Err, ⊤}
+use Rattle.std.specs.Prelude.{ℕ, ◌≡◌, ◌⊎◌, ◌+◌, ◌++◌, Bool, true, false, All, List, [], ◌∷◌, map, take, Option, Some, None, Result, Ok, Err, ⊤}
 use denote.Ref.{Bor}
 use Rattle.timefd_component.specs.Tree.{Text, Tree, pack}
 use Rattle.timefd_fault.specs.Faults.{Fault}
@@ -48,12 +48,16 @@ AllComeBack tree (text ∷ more) yes =
     (ComesBack tree text true × AllComeBack tree more yes)
     ⊎ (ComesBack tree text false × (yes ≡ false))
 
+abbrev pub one_if : Bool → ℕ
+one_if true = 1
+one_if false = 0
+
 -- how many texts come back
 abbrev pub Counts : Tree → List Text → ℕ → Type 0
 Counts tree [] n = n ≡ 0
 Counts tree (text ∷ more) n =
     (one : Bool) × (others : ℕ) × ComesBack tree text one × Counts tree more others
-    × (n ≡ (if one then 1 else 0) + others)
+    × (n ≡ one_if one + others)
 
 -- of the tree that a description of version 3 spells, or where it spells none
 abbrev pub OfDescription : Text → (Tree → Type 0) → Type 0 → Type 0

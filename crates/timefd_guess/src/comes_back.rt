@@ -29,6 +29,7 @@ pub fn reads_all(alloc: Global, description: &str, texts: &[&str]) -> Result<boo
 }
 
 /// Whether each text comes back.
+#[tactic(auto, using(crate::proofs::FoundLemmas::comes_more, crate::proofs::FoundLemmas::comes_not, crate::proofs::FoundLemmas::all_came))]
 fn all_come_back(alloc: Global, view: View<'_, '_>, texts: &[&str]) -> Result<bool, AllocError>
     ensures { IfOk result (spec.AllComeBack (view_tree view.entry) (spec.texts texts.now)) }
 {

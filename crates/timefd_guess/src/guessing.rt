@@ -26,6 +26,7 @@ pub struct Guess {
 /// reads each text as a date, a time or both, and writes it back byte for byte.
 ///
 /// An `Err` says that memory ran out.
+#[tactic(auto, using(crate::proofs::FoundLemmas::guesses_read))]
 pub fn guesses(alloc: Global, texts: &[&str]) -> Result<Vec<Guess>, AllocError>
     // The first twelve of those candidates that read all texts and write them back.
     ensures first { IfOk result (λ found. spec.AreGuesses all_entries (spec.texts texts.now)
@@ -41,6 +42,7 @@ pub fn guesses(alloc: Global, texts: &[&str]) -> Result<Vec<Guess>, AllocError>
 }
 
 /// Those of the candidates that read all texts.
+#[tactic(auto, using(crate::proofs::FoundLemmas::none_found, crate::proofs::FoundLemmas::one_found, crate::proofs::FoundLemmas::all_found))]
 fn found_among(
     alloc: Global,
     candidates: &'static [Candidate],
@@ -50,8 +52,10 @@ fn found_among(
         (spec.texts texts.now) found.items) }
 {
     let mut found = Vec::new(alloc);
-    'candidates: for at in 0..candidates.len() {
-        push_if(alloc, &mut found, candidates[at], texts)?;
+    let mut rest = candidates;
+    'candidates: while let [candidate, after @ ..] = rest {
+        push_if(alloc, &mut found, *candidate, texts)?;
+        rest = after;
     }
     Ok(found)
 }

@@ -1,6 +1,6 @@
 //! Texts that tell day and month apart, or not.
 
-ghost use Rattle.std.specs.Prelude.{IfOk};
+ghost use Rattle.std.specs.Prelude.{◌≡◌, ◌<◌, ◌+◌, ◌^◌, IfOk};
 ghost use Rattle.timefd_guess.specs.Candidates.{text_option};
 ghost use Rattle.timefd_guess.specs.Found as spec;
 ghost use Rattle.timefd_node_list.specs.Views.{view_tree};
@@ -35,14 +35,24 @@ fn read_by(alloc: Global, description: &str, texts: &[&str]) -> Result<usize, Al
 }
 
 /// How many texts come back.
+#[tactic(auto, using(crate::proofs::FoundLemmas::none_counted, crate::proofs::FoundLemmas::one_counted, crate::proofs::FoundLemmas::all_counted))]
 fn count(alloc: Global, view: View<'_, '_>, texts: &[&str]) -> Result<usize, AllocError>
     ensures { IfOk result (spec.Counts (view_tree view.entry) (spec.texts texts.now)) }
 {
     let mut count = 0;
-    'texts: for at in 0..texts.len() {
-        if comes_back(alloc, view, texts[at])? {
-            count += 1;
-        }
+    let mut rest = texts;
+    'texts: while let [text, after @ ..] = rest {
+        let yes = comes_back(alloc, view, text)?;
+        count = counted(count, yes);
+        rest = after;
     }
     Ok(count)
+}
+
+/// One more, if it counts.
+fn counted(count: usize, yes: bool) -> usize
+    requires { count < 2 ^ 63 }
+    ensures { result ≡ count + spec.one_if yes }
+{
+    if yes { count + 1 } else { count }
 }

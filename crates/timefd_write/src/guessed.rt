@@ -34,13 +34,16 @@ pub fn write_guesses<W: Write, E: Write>(
 }
 
 // A line of each description.
+#[tactic(auto, using(crate::proofs::GuessLemmas::line_more, crate::proofs::GuessLemmas::lines_done))]
 fn guess_lines(alloc: Global, found: &[Guess]) -> Result<String, AllocError>
     ensures { IfOk result (λ lines. string_bytes lines ≡ spec.guess_lines found.now) }
 {
     let mut lines = String::new(alloc);
-    'guesses: for at in 0..found.len() {
-        lines.push_str(found[at].description)?;
+    let mut rest = found;
+    'guesses: while let [guess, after @ ..] = rest {
+        lines.push_str(guess.description)?;
         lines.push_str("\n")?;
+        rest = after;
     }
     Ok(lines)
 }

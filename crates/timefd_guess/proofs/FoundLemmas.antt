@@ -1,0 +1,130 @@
+-- What is found of texts so far, and what holds of it.
+use Rattle.std.proofs.Common.{ℕ, ◌≡◌, ◌+◌, ◌++◌, Bool, true, false, List, [], ◌∷◌, take, length, zero, suc, Option, Some, None, append-nil, append_assoc, refl, sym, ap, subst, ◌∙◌, inl, inr, arith, Ok}
+use Rattle.std.specs.Prelude.{All, ◌≤◌}
+use denote.Ref.{Bor}
+use Rattle.timefd_component.specs.Tree.{Text, Tree, pack}
+use Rattle.timefd_guess.specs.Candidates.{Entry, entries, entry_of}
+use Rattle.timefd_guess.specs.Found.{texts, ComesBack, AllComeBack, Counts, one_if, ReadsAll, IsOffered, IsGuess, Appends, AreFound, IsReadBack, ReadsBack}
+use Rattle.timefd_language.specs.Grammar.{Spells, nesting_limit}
+use Rattle.timefd_language.specs.declared.description_version.DescriptionVersion.TheVariants.{Three}
+use Rattle.timefd_guess.specs.declared.candidate.Candidate.{Candidate}
+use Rattle.timefd_guess.specs.declared.guessing.Guess.{Guess}
+
+-- Texts that come back.
+
+-- what is left decides
+abbrev pub Decides : Tree → List Text → List Text → Type 0
+Decides tree all rest = (yes : Bool) → AllComeBack tree rest yes → AllComeBack tree all yes
+
+pub comes_more : (tree : Tree) (all : List Text) (rest after : List (Bor Text)) (text : Bor Text)
+    → rest ≡ text ∷ after → ComesBack tree text.now true → Decides tree all (texts rest)
+    → Decides tree all (texts after)
+comes_more tree all rest after text split one so_far yes more =
+    so_far yes (subst (λ r. AllComeBack tree (texts r) yes) (sym split) (inl (one, more)))
+
+pub comes_not : (tree : Tree) (all : List Text) (rest after : List (Bor Text)) (text : Bor Text)
+    → rest ≡ text ∷ after → ComesBack tree text.now false → Decides tree all (texts rest)
+    → AllComeBack tree all false
+comes_not tree all rest after text split one so_far =
+    so_far false (subst (λ r. AllComeBack tree (texts r) false) (sym split) (inr (one, refl)))
+
+pub all_came : (tree : Tree) (all : List Text) (rest : List (Bor Text)) → rest ≡ []
+    → Decides tree all (texts rest) → AllComeBack tree all true
+all_came tree all rest none so_far =
+    so_far true (subst (λ r. AllComeBack tree (texts r) true) (sym none) refl)
+
+-- How many come back.
+
+abbrev pub Adds : Tree → List Text → List Text → ℕ → Type 0
+Adds tree all rest count = (n : ℕ) → Counts tree rest n → Counts tree all (count + n)
+
+pub none_counted : (tree : Tree) (all : List Text) → Adds tree all all 0
+none_counted tree all n counts = counts
+
+pub one_counted : (tree : Tree) (all : List Text) (rest after : List (Bor Text)) (text : Bor Text)
+    (count new : ℕ) (one : Bool) → rest ≡ text ∷ after → ComesBack tree text.now one
+    → new ≡ count + one_if one → Adds tree all (texts rest) count → Adds tree all (texts after) new
+one_counted tree all rest after text count new one split comes sum so_far n counts =
+    subst (Counts tree all) (omega (arith, sum))
+    (so_far (one_if one + n)
+    (subst (λ r. Counts tree (texts r) (one_if one + n)) (sym split)
+    (one, n, comes, counts, refl)))
+
+pub all_counted : (tree : Tree) (all : List Text) (rest : List (Bor Text)) (count : ℕ) → rest ≡ []
+    → Adds tree all (texts rest) count → Counts tree all count
+all_counted tree all rest count none so_far =
+    subst (Counts tree all) (omega arith)
+    (so_far 0 (subst (λ r. Counts tree (texts r) 0) (sym none) refl))
+
+-- Candidates that are found.
+
+abbrev pub Finds : List Entry → List Text → List Entry → List Guess → Type 0
+Finds rows all rest found =
+    (more : List Guess) → AreFound rest all more → AreFound rows all (found ++ more)
+
+pub none_found : (rows : List Entry) (all : List Text) → Finds rows all rows []
+none_found rows all more found = found
+
+pub one_found : (rows : List Entry) (all : List Text) (rest after : List Candidate) (row : Candidate)
+    (old new : List Guess) → rest ≡ row ∷ after → Appends (entry_of row) all old new
+    → Finds rows all (entries rest) old → Finds rows all (entries after) new
+one_found rows all rest after row old new split one so_far more found =
+    subst (AreFound rows all) (sym (ap (λ x. x ++ more) one.4 ∙ append_assoc old one.1 more))
+    (so_far (one.1 ++ more)
+    (subst (λ r. AreFound (entries r) all (one.1 ++ more)) (sym split)
+    (one.0, one.1, more, one.2, one.3, found, refl)))
+
+pub all_found : (rows : List Entry) (all : List Text) (rest : List Candidate) (found : List Guess)
+    → rest ≡ [] → Finds rows all (entries rest) found → AreFound rows all found
+all_found rows all rest found none so_far =
+    subst (AreFound rows all) (append-nil found)
+    (so_far [] (subst (λ r. AreFound (entries r) all []) (sym none) refl))
+
+-- Each of them reads each text, and writes it back.
+
+read_back : (tree : Tree) (text : Text) → ComesBack tree text true → IsReadBack tree text
+read_back tree text (None, read, is) = cc
+read_back tree text (Some m, read, is) = (m, read, is)
+
+all_read_back : (tree : Tree) (all : List Text) → AllComeBack tree all true
+    → All (IsReadBack tree) all
+all_read_back tree [] came = tt
+all_read_back tree (text ∷ more) (inl (one, others)) =
+    (read_back tree text one, all_read_back tree more others)
+all_read_back tree (text ∷ more) (inr (one, none)) = cc
+
+description_reads : (all : List Text) (text : Text) (guess : Guess) → guess.description.now ≡ text
+    → ReadsAll text all true → ReadsBack all guess
+description_reads all text guess is (inl (list, spelled, came)) =
+    (list, subst (λ t. Spells Three nesting_limit 0 t list) (sym is) spelled,
+    all_read_back (pack list) all came)
+description_reads all text guess is (inr (f, faulty, none)) = cc
+
+append_all : (P : Guess → Type 0) (xs ys : List Guess) → All P xs → All P ys → All P (xs ++ ys)
+append_all P [] ys a b = b
+append_all P (x ∷ xs) ys a b = (a.0, append_all P xs ys a.1 b)
+
+take_all : (P : Guess → Type 0) (n : ℕ) (xs : List Guess) → All P xs → All P (take n xs)
+take_all P zero xs a = tt
+take_all P (suc n) [] a = tt
+take_all P (suc n) (x ∷ xs) a = (a.0, take_all P n xs a.1)
+
+offered_read : (all : List Text) (row : Entry) (yes : Bool) (front : List Guess)
+    → ReadsAll row.text all yes → IsOffered yes row all front → All (ReadsBack all) front
+offered_read all row false front reads none = subst (All (ReadsBack all)) (sym none) tt
+offered_read all row true front reads one =
+    subst (All (ReadsBack all)) (sym one.1)
+    (description_reads all row.text one.0 one.2.0 reads, tt)
+
+found_read : (all : List Text) (rows : List Entry) (found : List Guess) → AreFound rows all found
+    → All (ReadsBack all) found
+found_read all [] found none = subst (All (ReadsBack all)) (sym none) tt
+found_read all (row ∷ rows) found (yes, front, more, reads, offered, others, is) =
+    subst (All (ReadsBack all)) (sym is)
+    (append_all (ReadsBack all) front more (offered_read all row yes front reads offered)
+    (found_read all rows more others))
+
+pub guesses_read : (all : List Text) (rows : List Entry) (found some : List Guess) (n : ℕ)
+    → AreFound rows all found → some ≡ take n found → All (ReadsBack all) some
+guesses_read all rows found some n are is =
+    subst (All (ReadsBack all)) (sym is) (take_all (ReadsBack all) n found (found_read all rows found are))
