@@ -1,6 +1,7 @@
 -- What is found of texts so far, and what holds of it.
 use Rattle.std.proofs.Common.{ℕ, ◌≡◌, ◌+◌, ◌++◌, Bool, true, false, List, [], ◌∷◌, take, length, zero, suc, Option, Some, None, append-nil, append_assoc, refl, sym, ap, subst, ◌∙◌, inl, inr, arith, Ok}
 use Rattle.std.specs.Prelude.{All, ◌≤◌}
+use Rattle.std.proofs.lemmas.List.Elements.{All-nil, All-cons, All-append, All-take}
 use denote.Ref.{Bor}
 use Rattle.timefd_component.specs.Tree.{Text, Tree, pack}
 use Rattle.timefd_guess.specs.Candidates.{Entry, entries, entry_of}
@@ -88,43 +89,37 @@ read_back tree text (Some m, read, is) = (m, read, is)
 
 all_read_back : (tree : Tree) (all : List Text) → AllComeBack tree all true
     → All (IsReadBack tree) all
-all_read_back tree [] came = tt
+all_read_back tree [] came = All-nil (IsReadBack tree)
 all_read_back tree (text ∷ more) (inl (one, others)) =
-    (read_back tree text one, all_read_back tree more others)
+    All-cons (IsReadBack tree) text more (read_back tree text one) (all_read_back tree more others)
 all_read_back tree (text ∷ more) (inr (one, none)) = cc
 
 description_reads : (all : List Text) (text : Text) (guess : Guess) → guess.description.now ≡ text
     → ReadsAll text all true → ReadsBack all guess
-description_reads all text guess is (inl (list, spelled, came)) =
-    (list, subst (λ t. Spells Three nesting_limit 0 t list) (sym is) spelled,
-    all_read_back (pack list) all came)
+description_reads all text guess is (inl (list, spelled, came)) = (
+  list,
+  subst (λ t. Spells Three nesting_limit 0 t list) (sym is) spelled,
+  all_read_back (pack list) all came,
+)
 description_reads all text guess is (inr (f, faulty, none)) = cc
-
-append_all : (P : Guess → Type 0) (xs ys : List Guess) → All P xs → All P ys → All P (xs ++ ys)
-append_all P [] ys a b = b
-append_all P (x ∷ xs) ys a b = (a.0, append_all P xs ys a.1 b)
-
-take_all : (P : Guess → Type 0) (n : ℕ) (xs : List Guess) → All P xs → All P (take n xs)
-take_all P zero xs a = tt
-take_all P (suc n) [] a = tt
-take_all P (suc n) (x ∷ xs) a = (a.0, take_all P n xs a.1)
 
 offered_read : (all : List Text) (row : Entry) (yes : Bool) (front : List Guess)
     → ReadsAll row.text all yes → IsOffered yes row all front → All (ReadsBack all) front
-offered_read all row false front reads none = subst (All (ReadsBack all)) (sym none) tt
+offered_read all row false front reads none = subst (All (ReadsBack all)) (sym none) (All-nil (ReadsBack all))
 offered_read all row true front reads one =
     subst (All (ReadsBack all)) (sym one.1)
-    (description_reads all row.text one.0 one.2.0 reads, tt)
+    (All-cons (ReadsBack all) one.0 [] (description_reads all row.text one.0 one.2.0 reads)
+    (All-nil (ReadsBack all)))
 
 found_read : (all : List Text) (rows : List Entry) (found : List Guess) → AreFound rows all found
     → All (ReadsBack all) found
-found_read all [] found none = subst (All (ReadsBack all)) (sym none) tt
+found_read all [] found none = subst (All (ReadsBack all)) (sym none) (All-nil (ReadsBack all))
 found_read all (row ∷ rows) found (yes, front, more, reads, offered, others, is) =
     subst (All (ReadsBack all)) (sym is)
-    (append_all (ReadsBack all) front more (offered_read all row yes front reads offered)
+    (All-append (ReadsBack all) front more (offered_read all row yes front reads offered)
     (found_read all rows more others))
 
 pub guesses_read : (all : List Text) (rows : List Entry) (found some : List Guess) (n : ℕ)
     → AreFound rows all found → some ≡ take n found → All (ReadsBack all) some
 guesses_read all rows found some n are is =
-    subst (All (ReadsBack all)) (sym is) (take_all (ReadsBack all) n found (found_read all rows found are))
+    subst (All (ReadsBack all)) (sym is) (All-take (ReadsBack all) n found (found_read all rows found are))
