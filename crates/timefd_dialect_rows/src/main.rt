@@ -1,6 +1,6 @@
 //! Answers rows: each line of the standard input is the name of a dialect, a tab and a format, and
 //! the line of the standard output that stands beside it is its text of version 3, or why it has
-//! none. `stdin` and `stdout` of this crate are tests. Empty lines and comments, which begin with `#`,
+//! none; with `read ` before the name, the text that reads what the format writes. `stdin` and `stdout` of this crate are tests. Empty lines and comments, which begin with `#`,
 //! are copied.
 #![tactic(auto)]
 
