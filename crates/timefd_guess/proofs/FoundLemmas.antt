@@ -1,17 +1,32 @@
 -- What is found of texts so far, and what holds of it.
-use Rattle.std.proofs.Common.{ℕ, ◌≡◌, ◌+◌, ◌++◌, Bool, true, false, List, [], ◌∷◌, take, length, zero, suc, Option, Some, None, append-nil, append_assoc, refl, sym, ap, subst, ◌∙◌, inl, inr, arith, Ok}
-use Rattle.std.specs.Prelude.{All, ◌≤◌}
+use Rattle.std.proofs.Common.{ℕ, ◌≡◌, ◌+◌, ◌++◌, Bool, true, false, List, [], ◌∷◌, take, length, zero, suc, Option, Some, None, append-nil, append_assoc, refl, sym, ap, subst, ◌∙◌, inl, inr, arith, Result, Ok, Err}
+use Rattle.std.specs.Prelude.{All, ◌≤◌, IfOk}
+use Rattle.std.specs.declared.alloc.AllocError.{AllocError}
 use Rattle.std.proofs.lemmas.List.Elements.{All-nil, All-cons, All-append, All-take}
 use denote.Ref.{Bor}
 use Rattle.timefd_component.specs.Tree.{Text, Tree, pack}
 use Rattle.timefd_guess.specs.Candidates.{Entry, entries, entry_of}
-use Rattle.timefd_guess.specs.Found.{texts, ComesBack, AllComeBack, Counts, one_if, ReadsAll, IsOffered, IsGuess, Appends, AreFound, IsReadBack, ReadsBack}
+use Rattle.timefd_guess.specs.Found.{texts, IsRead, IsWritten, ReadBy, ComesBack, AllComeBack, Counts, one_if, ReadsAll, IsOffered, IsGuess, Appends, AreFound, IsReadBack, ReadsBack}
+use Rattle.timefd_fault.specs.Faults.{Fault}
+use Rattle.timefd_language.specs.Broken.{FaultOf}
+use Rattle.timefd_moment.specs.declared.moment.Moment.{Moment}
+use Rattle.timefd_read_dates.specs.Reads.{fields_of}
 use Rattle.timefd_language.specs.Grammar.{Spells, nesting_limit}
 use Rattle.timefd_language.specs.declared.description_version.DescriptionVersion.TheVariants.{Three}
 use Rattle.timefd_guess.specs.declared.candidate.Candidate.{Candidate}
 use Rattle.timefd_guess.specs.declared.guessing.Guess.{Guess}
 
 -- Texts that come back.
+
+pub comes_some : (tree : Tree) (text : Text) (m : Moment) (r : Result Bool AllocError)
+    → IsRead (fields_of tree text) (Some m) → IfOk r (IsWritten tree m text)
+    → IfOk r (ComesBack tree text)
+comes_some tree text m (Ok yes) read is = (Some m, read, is)
+comes_some tree text m (Err e) read is = tt
+
+pub comes_none : (tree : Tree) (text : Text) → IsRead (fields_of tree text) None
+    → ComesBack tree text false
+comes_none tree text read = (None, read, refl)
 
 -- what is left decides
 abbrev pub Decides : Tree → List Text → List Text → Type 0
@@ -33,6 +48,34 @@ pub all_came : (tree : Tree) (all : List Text) (rest : List (Bor Text)) → rest
     → Decides tree all (texts rest) → AllComeBack tree all true
 all_came tree all rest none so_far =
     so_far true (subst (λ r. AllComeBack tree (texts r) true) (sym none) refl)
+
+-- A description that is read, or is none.
+
+abbrev pub IsTreeOf : Text → Tree → Type 0
+IsTreeOf description tree =
+    (list : List Tree) × Spells Three nesting_limit 0 description list × (tree ≡ pack list)
+
+pub reads_of : (description : Text) (all : List Text) (tree view : Tree) (r : Result Bool AllocError)
+    → IsTreeOf description tree → view ≡ tree → IfOk r (AllComeBack view all)
+    → IfOk r (ReadsAll description all)
+reads_of description all tree view (Ok yes) found is came =
+    inl (found.0, found.1, subst (λ t. AllComeBack t all yes) (is ∙ found.2) came)
+reads_of description all tree view (Err e) found is came = tt
+
+pub read_by_of : (description : Text) (all : List Text) (tree view : Tree) (r : Result ℕ AllocError)
+    → IsTreeOf description tree → view ≡ tree → IfOk r (Counts view all)
+    → IfOk r (ReadBy description all)
+read_by_of description all tree view (Ok n) found is counts =
+    inl (found.0, found.1, subst (λ t. Counts t all n) (is ∙ found.2) counts)
+read_by_of description all tree view (Err e) found is counts = tt
+
+pub reads_none : (description : Text) (all : List Text) (f : Fault)
+    → FaultOf Three nesting_limit description f → ReadsAll description all false
+reads_none description all f faulty = inr (f, faulty, refl)
+
+pub read_by_none : (description : Text) (all : List Text) (f : Fault)
+    → FaultOf Three nesting_limit description f → ReadBy description all 0
+read_by_none description all f faulty = inr (f, faulty, refl)
 
 -- How many come back.
 
