@@ -3,10 +3,12 @@
 `dialects/NAME.toml` has the rows of a dialect, measured against the real programs, and `dialects/reasons.toml` the reasons. Flags are
 spelled out here, and what a dialect doesn't know becomes a row with a reason: so the longest row that stands at a place decides it.
 """
+import functools
 import json
 import pathlib
 import string
 import tomllib
+import unicodedata
 
 FOLDER = pathlib.Path(__file__).resolve().parent / "dialects"
 CRATE = "crates/timefd_dialect"
@@ -15,10 +17,9 @@ TITLES = {
     "python": "Python", "c": "C", "gnu": "GNU date", "chrono": "chrono", "jiff": "jiff", "ruby": "Ruby", "java": "Java", "go": "Go",
     "moment": "moment",
 }
-# The flags of each part of a table, which is proved by itself.
-PARTS = {"plain": "", "padded": "-_0", "cased": "^#"}
 
 
+@functools.cache
 def load(name):
     return tomllib.loads((FOLDER / f"{name}.toml").read_text())
 
@@ -72,15 +73,28 @@ def rows_of(name):
     return of_percent(table) if table["kind"] == "percent" else of_runs(table)
 
 
+def key_of(name, text):
+    """The byte by which a row is found: the one after the `%`, or the first; the row of `%` alone has none."""
+    return text.encode()[1:2] if load(name)["kind"] == "percent" else text.encode()[:1]
+
+
+@functools.cache
+def groups_of(name):
+    """The rows by the byte that finds them, the longest first. The row of `%` alone stands where no other does."""
+    groups = {}
+    for text, row in sorted(rows_of(name).items(), key=lambda it: -len(it[0].encode())):
+        groups.setdefault(key_of(name, text), {})[text] = row
+    order = list(dict.fromkeys(key_of(name, text) for text in rows_of(name)))
+    return {key: groups[key] for key in order if key}
+
+
 def parts_of(name):
-    """The rows of each part of a dialect's table: without a flag, or with a flag of padding or of case. The prover's step limit allows
-    some 230 rows in one part."""
-    table, parts = load(name), {part: {} for part in PARTS}
-    for text, row in rows_of(name).items():
-        flag = text[1:2] if table["kind"] == "percent" and text[2:] else ""
-        part = next((part for part in PARTS if flag and flag in PARTS[part] and flag in table["flags"]), "plain")
-        parts[part][text] = row
-    return {part: rows for part, rows in parts.items() if rows}
+    """The groups in parts that search can prove: of up to 58 bytes. Flags, digits and other marks are a part of their own where there are more."""
+    groups = groups_of(name)
+    if len(groups) <= 58:
+        return {"groups": groups}
+    letters = {key: rows for key, rows in groups.items() if key.isalpha()}
+    return {"groups": letters, "marked": {key: rows for key, rows in groups.items() if key not in letters}}
 
 
 def quoted(text):
@@ -94,16 +108,45 @@ def rust_row(text, row):
     if "not_before" in row:
         words += ["not", "before", camel(row["not_before"])]
     if "why" in row:
-        return "    row!(" + " ".join(words + ["refused", camel(row["why"])]) + "),"
+        return "row!(" + " ".join(words + ["refused", camel(row["why"])]) + ")"
     range_ = ["within", camel(row["when"])] if "when" in row else []
-    line = "    row!(" + " ".join(words + ["=>", quoted(row["v3"])] + range_) + "),"
-    if len(line) <= 100:
+    line = "row!(" + " ".join(words + ["=>", quoted(row["v3"])] + range_) + ")"
+    if len(line) <= 80:
         return line
     # Too long for a line: the literal goes on in the next one.
     front, back = row["v3"][:60].rsplit(" ", 1)
     back += row["v3"][60:]
-    return "    row!(" + " ".join(words + ["=>", quoted(front + " ")[:-1] + "\\"]) + "\n        " + " ".join(
-        [quoted(back)[1:]] + range_) + "),"
+    return "row!(" + " ".join(words + ["=>", quoted(front + " ")[:-1] + "\\"]) + "\n        " + " ".join(
+        [quoted(back)[1:]] + range_) + ")"
+
+
+def byte_literal(key):
+    kept = {"'": "\\'", "\\": "\\\\", "\n": "\\n", "\r": "\\r"}
+    return str(key[0]) if key[0] > 127 else f"b'{kept.get(chr(key[0]), chr(key[0]))}'"
+
+
+def constant_name(key):
+    """The name of the rows that a byte finds, as `SMALL_D`, `HYPHEN`, `DIGIT_ZERO`."""
+    named = {"\n": "LINE_FEED", "\r": "CARRIAGE_RETURN", "-": "HYPHEN", "_": "UNDERSCORE", "^": "CARET", "#": "HASH", ".": "DOT"}
+    if key[0] > 127:
+        return "LINE_SEPARATOR"
+    name = named.get(chr(key[0])) or unicodedata.name(chr(key[0]))
+    return name.replace("LATIN ", "").replace("LETTER ", "").replace(" ", "_")
+
+
+def rust_constant(key, rows):
+    """The rows that a byte finds."""
+    written = [rust_row(*row) for row in rows.items()]
+    begin = f"const {constant_name(key)}: &[Row] = &["
+    line = f"{begin}{', '.join(written)}];"
+    fits = len(line) <= 100 if "\n" not in line else len(line.split("\n")[0]) <= 90
+    if len(written) == 1 and fits or len(", ".join(written)) <= 60:
+        return line + "\n"
+    return begin + "\n" + "".join(f"    {it},\n" for it in written) + "];\n"
+
+
+def rust_arm_of(key):
+    return f"        {byte_literal(key)} => {constant_name(key)},\n"
 
 
 def codes(text):
@@ -123,18 +166,47 @@ def specified_row(text, row):
     return f"{codes(text)} means {codes(row['v3'])}"
 
 
+# What finds a row, as the code says it.
+KEYS = {"percent": "of the directives with this byte after the `%`", "runs": "that begin with this byte", "layout": "that begin with this byte"}
+
+
+def rust_match(name, part, about, others):
+    arms = "".join(map(rust_arm_of, parts_of(name)[part]))
+    function, visible = (f"{name}_rows", "pub ") if part == "groups" else (f"{part}_rows", "")
+    return (f"/// {about}, the longest first.\n"
+            f"#[tactic(auto, unfolding(crate::specs::{camel(name)}::{name}_{part}))]\n"
+            f"{visible}fn {function}(byte: u8) -> &'static [Row]\n"
+            f"    ensures {{ entries result.now ≡ rows_at byte {name}_{part} }}\n{{\n"
+            f"    match byte {{\n{arms}        _ => {others},\n    }}\n}}\n\n")
+
+
 def rust_table(name):
-    rows = rows_of(name)
-    reason = "use crate::reason::Reason;\n" if any("why" in row for row in rows.values()) else ""
-    text = (f"//! The rows of {TITLES[name]}. `tables/write` writes them.\n\n{reason}"
-            "use crate::row::{NotBefore, Range, Row, Verdict, row};\n")
-    for part, rows in parts_of(name).items():
-        text += f"\npub const {part.upper()}: &[Row] = &[\n" + "\n".join(rust_row(*row) for row in rows.items()) + "\n];\n"
-    return text
+    groups, parts = groups_of(name), parts_of(name)
+    reason = "use crate::reason::Reason;\n" if any("why" in row for rows in groups.values() for row in rows.values()) else ""
+    constants = "\n".join(rust_constant(*group) for group in groups.items())
+    matches = rust_match(name, "groups", f"The rows {KEYS[load(name)['kind']]}", "marked_rows(byte)" if len(parts) > 1 else "&[]")
+    if "marked" in parts:
+        matches += rust_match(name, "marked", "Those of the directives with a flag, a digit or another mark there", "&[]")
+    return (f"//! The rows of {TITLES[name]}. `tables/write` writes them.\n\n"
+            "ghost use Rattle.std.specs.Prelude.{◌≡◌};\nghost use Rattle.timefd_dialect.specs.Groups.{rows_at};\n"
+            f"ghost use Rattle.timefd_dialect.specs.{camel(name)}.{{{', '.join(definitions(name))}}};\n"
+            "ghost use Rattle.timefd_dialect.specs.Rows.{entries};\n\n"
+            f"{reason}use crate::row::{{NotBefore, Range, Row, Verdict, row}};\n\n{matches}{constants}")
+
+
+def definitions(name):
+    return [f"{name}_{part}" for part in parts_of(name)]
+
+
+def specified_group(key, rows):
+    """A group of rows that a byte finds."""
+    between = " ∷ " if len(rows) == 1 else "\n    ∷ "
+    return f"under {key[0]} ({between.join([specified_row(*row) for row in rows.items()] + ['[]'])})"
 
 
 def specified_table(name):
-    rows = rows_of(name)
+    groups = groups_of(name)
+    rows = {text: row for group in groups.values() for text, row in group.items()}
     reasons = sorted({camel(row["why"]) for row in rows.values() if "why" in row})
     ranges = sorted({camel(row["when"]) for row in rows.values() if "when" in row})
     nexts = sorted({camel(row["not_before"]) for row in rows.values() if "not_before" in row})
@@ -146,65 +218,48 @@ def specified_table(name):
         uses.append(f"use Rattle.timefd_dialect.specs.declared.row.NotBefore.TheVariants.{{{', '.join(nexts)}}}")
     if ranges:
         uses.append(f"use Rattle.timefd_dialect.specs.declared.row.Range.TheVariants.{{{', '.join(ranges)}}}")
-    words = ["Entry", "◌means◌", "◌refused_for◌"] + (["within"] if ranges and ranges != ["Years0To9999"] else []) + (
+    words = ["◌means◌", "◌refused_for◌"] + (["within"] if ranges and ranges != ["Years0To9999"] else []) + (
         ["before", "written", "refused"] if nexts else [])
+    uses.append("use Rattle.timefd_dialect.specs.Groups.{Group, under}")
     uses.append(f"use Rattle.timefd_dialect.specs.Rows.{{{', '.join(words)}}}")
-    text = f"-- The rows of {TITLES[name]}.\n" + "\n".join(uses) + "\n"
-    told = {"plain": "", "padded": "-- with a flag of padding\n", "cased": "-- with a flag of case\n"}
-    for part, rows in parts_of(name).items():
-        listed = "\n    ∷ ".join([specified_row(*row) for row in rows.items()] + ["[]"])
-        text += f"\n{told[part]}unfoldable pub {name}_{part} : List Entry\n{name}_{part} =\n    {listed}\n"
+    parts = parts_of(name)
+    text = f"-- The rows of {TITLES[name]}, by the byte that finds them, the longest first.\n" + "\n".join(uses) + "\n"
+    for part, groups in reversed(parts.items()):
+        end = f"{name}_marked" if part == "groups" and "marked" in parts else "[]"
+        listed = "\n    ∷ ".join([specified_group(*group) for group in groups.items()] + [end])
+        about = "" if part == "groups" else "-- those with a flag, a digit or another mark\n"
+        text += f"\n{about}unfoldable pub {name}_{part} : List Group\n{name}_{part} =\n    {listed}\n"
     return text
-
-
-def with_part(part):
-    """The dialects whose tables have a part."""
-    return [name for name in NAMES if part in parts_of(name)]
-
-
-def definitions(name):
-    return [f"{name}_{part}" for part in parts_of(name)]
 
 
 def rust_rows():
-    """The function that answers each part of each table."""
-    text = ("//! The rows of each dialect. `tables/write` writes this file.\n\nghost use Rattle.std.specs.Prelude.{◌≡◌};\n"
-            + "".join(f"ghost use Rattle.timefd_dialect.specs.{camel(it)}.{{{', '.join(definitions(it))}}};\n" for it in sorted(NAMES))
-            + "ghost use Rattle.timefd_dialect.specs.Rows.{entries};\nghost use Rattle.timefd_dialect.specs.Tables as spec;\n\n"
-            "use crate::dialect::Dialect;\nuse crate::row::Row;\nuse crate::tables;\n\nimpl Dialect {\n")
-    told = {"plain": "without a flag", "padded": "with a flag of padding", "cased": "with a flag of case"}
-    functions = []
-    for part in PARTS:
-        arms = "".join(f"            Dialect::{camel(name)} => {name}_{part}_rows(),\n" for name in with_part(part))
-        rest = [f"Dialect::{camel(name)}" for name in NAMES if name not in with_part(part)]
-        if rest:
-            joined = f"            {' | '.join(rest)} =>"
-            arms += joined + (" &[],\n" if len(joined) <= 95 else "\n                &[],\n")
-        functions.append(
-            f"    /// Its rows {told[part]}.\n    pub fn {part}_rows(self) -> &'static [Row]\n"
-            f"        ensures {{ entries result.now ≡ spec.{part}_rows self }}\n    {{\n        match self {{\n{arms}        }}\n    }}\n"
-        )
-    text += "\n".join(functions) + "}\n"
-    for part in PARTS:
-        for name in with_part(part):
-            text += (f"\n#[tactic(auto, unfolding(crate::specs::{camel(name)}::{name}_{part}))]\n"
-                     f"fn {name}_{part}_rows() -> &'static [Row]\n    ensures {{ entries result.now ≡ {name}_{part} }}\n"
-                     f"{{\n    tables::{name}::{part.upper()}\n}}\n")
-    return text
+    """The function that answers the rows that a byte finds in each table."""
+    arms = "".join(f"            Dialect::{camel(name)} => {name}_rows(byte),\n" for name in NAMES)
+    uses = "".join(f"use crate::tables::{name}::{name}_rows;\n" for name in sorted(NAMES))
+    return ("//! The rows of each dialect. `tables/write` writes this file.\n\nghost use Rattle.std.specs.Prelude.{◌≡◌};\n"
+            "ghost use Rattle.timefd_dialect.specs.Groups.{rows_at};\n"
+            "ghost use Rattle.timefd_dialect.specs.Rows.{entries};\n"
+            "ghost use Rattle.timefd_dialect.specs.Tables.{groups_of};\n\n"
+            f"use crate::dialect::Dialect;\nuse crate::row::Row;\n{uses}\nimpl Dialect {{\n"
+            "    /// The rows that this byte finds, the longest first.\n"
+            "    pub fn rows_at(self, byte: u8) -> &'static [Row]\n"
+            "        ensures { entries result.now ≡ rows_at byte (groups_of self) }\n    {\n"
+            f"        match self {{\n{arms}        }}\n    }}\n}}\n")
 
 
 def specified_tables():
-    uses = "".join(f"use Rattle.timefd_dialect.specs.{camel(name)}.{{{', '.join(definitions(name))}}}\n" for name in NAMES)
-    text = ("-- The rows of each dialect.\nuse Rattle.std.specs.Prelude.{List, [], ◌++◌}\n"
+    uses = "".join(f"use Rattle.timefd_dialect.specs.{camel(name)}.{{{name}_groups}}\n" for name in NAMES)
+    rows = "".join(f"groups_of {camel(name)} = {name}_groups\n" for name in NAMES)
+    return ("-- The rows of each dialect.\nuse Rattle.std.specs.Prelude.{List, ◌++◌}\n"
             "use Rattle.timefd_dialect.specs.declared.dialect.Dialect.{Dialect}\n"
             f"use Rattle.timefd_dialect.specs.declared.dialect.Dialect.TheVariants.{{{', '.join(map(camel, NAMES))}}}\n"
-            f"use Rattle.timefd_dialect.specs.Rows.{{Entry}}\n{uses}")
-    told = {"plain": "without a flag", "padded": "with a flag of padding", "cased": "with a flag of case"}
-    for part in PARTS:
-        text += f"\n-- {told[part]}\nabbrev pub {part}_rows : Dialect → List Entry\n" + "".join(
-            f"{part}_rows {camel(name)} = {f'{name}_{part}' if name in with_part(part) else '[]'}\n" for name in NAMES)
-    parts = " ++ ".join(f"{part}_rows dialect" for part in PARTS)
-    return text + f"\nabbrev pub rows_of : Dialect → List Entry\nrows_of dialect = {parts}\n"
+            "use Rattle.timefd_dialect.specs.Dialects.{leading_of, unknown_rows}\n"
+            "use Rattle.timefd_dialect.specs.Groups.{Group, all_rows}\n"
+            f"use Rattle.timefd_dialect.specs.Rows.{{Entry}}\n{uses}\n"
+            "-- those that a byte finds\n"
+            f"abbrev pub groups_of : Dialect → List Group\n{rows}\n"
+            "abbrev pub rows_of : Dialect → List Entry\n"
+            "rows_of dialect = all_rows (groups_of dialect) ++ unknown_rows (leading_of dialect)\n")
 
 
 def reasons():

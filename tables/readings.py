@@ -48,8 +48,9 @@ def code():
 
 def rust_row(text, row):
     """A row; a long text goes on in lines of its own."""
-    line = dialects.rust_row(text, row)
-    if all(len(part) <= 100 for part in line.split("\n")):
+    back = f"refused {dialects.camel(row['why'])}" if "why" in row else f"=> {dialects.quoted(row['v3'])}"
+    line = f"    row!({dialects.quoted(text)} {back}),"
+    if len(line) <= 100:
         return line
     words, lines = row["v3"].split(" "), [""]
     for word in words:

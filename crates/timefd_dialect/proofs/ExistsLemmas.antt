@@ -140,7 +140,7 @@ within n dialect [] le = inl ([], refl)
 within zero dialect (b ∷ rest) le = absurd (omega (arith, le))
 within (suc n) dialect (b ∷ rest) le =
     by_front dialect (b ∷ rest) (front_of dialect (b ∷ rest)) refl (step_front dialect b rest)
-    (λ p behind less. within n dialect behind (omega (arith, le, less)))
+    (λ p after less. within n dialect after (omega (arith, le, less)))
 
 pub answer_law : (dialect : Dialect) (text : Text) → HasAnswer dialect text
 answer_law dialect text = within (length text) dialect text (omega arith)

@@ -1,5 +1,8 @@
 pub mod CharacterLemmas
+pub mod ByteLemmas
 pub mod RowLemmas
+pub mod GroupLemmas
+pub mod PlainLemmas
 pub mod ReadingLemmas
 pub mod TableLemmas
 pub mod ItemLemmas

@@ -1,5 +1,6 @@
 -- What holds of the rows of each table, and so of the longest that stands at a place.
 use Rattle.std.proofs.Common.{ℕ, ◌≡◌, ◌<◌, cond, nat_lt, Bool, true, false, List, [], ◌∷◌, ◌++◌, length, drop, Option, Some, None, refl, sym, ap, ◌∙◌, subst, inl, inr, arith}
+use Rattle.std.specs.Borrow.{Bor}
 use Rattle.std.specs.Prelude.{◌&&◌, IfSome}
 use Rattle.std.proofs.lemmas.Bool.{cases_Bool, and_parts}
 use Rattle.std.proofs.lemmas.Bool.Decides.{nat_tests, Decides-eqb}
@@ -8,17 +9,17 @@ use Rattle.timefd_component.specs.Tree.{Text}
 use Rattle.timefd_dialect.specs.declared.dialect.Dialect.{Dialect}
 use Rattle.timefd_dialect.specs.declared.dialect.Dialect.TheVariants.{Python, C, Gnu, Chrono, Jiff, Ruby, Java, Go, Moment}
 use Rattle.timefd_dialect.specs.declared.row.Row.{Row}
-use Rattle.timefd_dialect.specs.Rows.{Entry, entry_of, entry_option, stands, longer, better, longest_from, longest}
+use Rattle.timefd_dialect.specs.Rows.{Entry, entry_of, found_entry, stands, longer, better, longest_from, longest}
 use Rattle.timefd_dialect.specs.Tables.{rows_of}
-use Rattle.timefd_dialect.specs.Python.{python_plain}
-use Rattle.timefd_dialect.specs.C.{c_plain, c_padded, c_cased}
-use Rattle.timefd_dialect.specs.Gnu.{gnu_plain, gnu_padded, gnu_cased}
-use Rattle.timefd_dialect.specs.Chrono.{chrono_plain, chrono_padded}
-use Rattle.timefd_dialect.specs.Jiff.{jiff_plain, jiff_padded, jiff_cased}
-use Rattle.timefd_dialect.specs.Ruby.{ruby_plain, ruby_padded, ruby_cased}
-use Rattle.timefd_dialect.specs.Java.{java_plain}
-use Rattle.timefd_dialect.specs.Go.{go_plain}
-use Rattle.timefd_dialect.specs.Moment.{moment_plain}
+use Rattle.timefd_dialect.specs.Python.{python_groups}
+use Rattle.timefd_dialect.specs.C.{c_groups, c_marked}
+use Rattle.timefd_dialect.specs.Gnu.{gnu_groups, gnu_marked}
+use Rattle.timefd_dialect.specs.Chrono.{chrono_groups}
+use Rattle.timefd_dialect.specs.Jiff.{jiff_groups, jiff_marked}
+use Rattle.timefd_dialect.specs.Ruby.{ruby_groups, ruby_marked}
+use Rattle.timefd_dialect.specs.Java.{java_groups}
+use Rattle.timefd_dialect.specs.Go.{go_groups}
+use Rattle.timefd_dialect.specs.Moment.{moment_groups}
 
 -- the text begins with what a row has that stands there
 pub row_stands : (row : Entry) (text : Text) → stands row text ≡ true
@@ -72,7 +73,7 @@ abbrev pub has_bytes : Entry → Bool
 has_bytes row = nat_lt 0 (length row.text)
 
 pub all_have_bytes : (dialect : Dialect) → all_pass has_bytes (rows_of dialect) ≡ true
-unfolding python_plain c_plain c_padded c_cased gnu_plain gnu_padded gnu_cased chrono_plain chrono_padded jiff_plain jiff_padded jiff_cased ruby_plain ruby_padded ruby_cased java_plain go_plain moment_plain
+unfolding python_groups c_groups c_marked gnu_groups gnu_marked chrono_groups jiff_groups jiff_marked ruby_groups ruby_marked java_groups go_groups moment_groups
 all_have_bytes Python = refl
 all_have_bytes C = refl
 all_have_bytes Gnu = refl
@@ -95,29 +96,14 @@ found_row dialect row text e =
     some : (n : ℕ) → nat_lt 0 n ≡ true → 0 < n
     some n e = grind (arith, nat_tests)
 
-pub found_bytes : (dialect : Dialect) (found : Option Row) (text : Text)
-    → entry_option found ≡ longest (rows_of dialect) text
-    → IfSome found (λ row. 0 < length row.text.now)
+pub found_bytes : (dialect : Dialect) (found : Option (Bor Row)) (text : Text)
+    → found_entry found ≡ longest (rows_of dialect) text
+    → IfSome found (λ row. 0 < length row.now.text.now)
 found_bytes dialect None text e = tt
-found_bytes dialect (Some row) text e = (found_row dialect row text e).0
+found_bytes dialect (Some row) text e = (found_row dialect row.now text e).0
 
-pub found_stands : (dialect : Dialect) (found : Option Row) (text : Text)
-    → entry_option found ≡ longest (rows_of dialect) text
-    → IfSome found (λ row. stands (entry_of row) text ≡ true)
+pub found_stands : (dialect : Dialect) (found : Option (Bor Row)) (text : Text)
+    → found_entry found ≡ longest (rows_of dialect) text
+    → IfSome found (λ row. stands (entry_of row.now) text ≡ true)
 found_stands dialect None text e = tt
-found_stands dialect (Some row) text e = (found_row dialect row text e).1
-
--- The longest of the rows is found part by part.
-
-longest_more : (best : Option Entry) (a b : List Entry) (text : Text)
-    → longest_from best (a ++ b) text ≡ longest_from (longest_from best a text) b text
-longest_more best [] b text = refl
-longest_more best (row ∷ a) b text = longest_more (better best row text) a b text
-
-pub longest_parts : (a b c : List Entry) (text : Text) (x y z : Option Entry)
-    → x ≡ longest_from None a text → y ≡ longest_from x b text → z ≡ longest_from y c text
-    → z ≡ longest (a ++ b ++ c) text
-longest_parts a b c text x y z ex ey ez =
-    ez ∙ ap (λ o. longest_from o c text) (ey ∙ ap (λ o. longest_from o b text) ex)
-    ∙ sym (longest_more None (a ++ b) c text
-    ∙ ap (λ o. longest_from o c text) (longest_more None a b text))
+found_stands dialect (Some row) text e = (found_row dialect row.now text e).1

@@ -6,15 +6,15 @@ use Rattle.timefd_dialect.specs.declared.dialect.Dialect.{Dialect}
 use Rattle.timefd_dialect.specs.declared.dialect.Dialect.TheVariants.{Python, C, Gnu, Chrono, Jiff, Ruby, Java, Go, Moment}
 use Rattle.timefd_dialect.specs.Rows.{Entry, Meaning, written, refused}
 use Rattle.timefd_dialect.specs.Tables.{rows_of}
-use Rattle.timefd_dialect.specs.Python.{python_plain}
-use Rattle.timefd_dialect.specs.C.{c_plain, c_padded, c_cased}
-use Rattle.timefd_dialect.specs.Gnu.{gnu_plain, gnu_padded, gnu_cased}
-use Rattle.timefd_dialect.specs.Chrono.{chrono_plain, chrono_padded}
-use Rattle.timefd_dialect.specs.Jiff.{jiff_plain, jiff_padded, jiff_cased}
-use Rattle.timefd_dialect.specs.Ruby.{ruby_plain, ruby_padded, ruby_cased}
-use Rattle.timefd_dialect.specs.Java.{java_plain}
-use Rattle.timefd_dialect.specs.Go.{go_plain}
-use Rattle.timefd_dialect.specs.Moment.{moment_plain}
+use Rattle.timefd_dialect.specs.Python.{python_groups}
+use Rattle.timefd_dialect.specs.C.{c_groups, c_marked}
+use Rattle.timefd_dialect.specs.Gnu.{gnu_groups, gnu_marked}
+use Rattle.timefd_dialect.specs.Chrono.{chrono_groups}
+use Rattle.timefd_dialect.specs.Jiff.{jiff_groups, jiff_marked}
+use Rattle.timefd_dialect.specs.Ruby.{ruby_groups, ruby_marked}
+use Rattle.timefd_dialect.specs.Java.{java_groups}
+use Rattle.timefd_dialect.specs.Go.{go_groups}
+use Rattle.timefd_dialect.specs.Moment.{moment_groups}
 use Rattle.timefd_dialect.proofs.RowLemmas.{all_pass}
 use Rattle.timefd_language.specs.declared.description_version.DescriptionVersion.TheVariants.{Three}
 use Rattle.timefd_language.specs.Grammar.{nesting_limit}
@@ -32,7 +32,7 @@ abbrev pub reads : Entry → Bool
 reads row = meaning_reads row.meaning
 
 pub all_read : (dialect : Dialect) → all_pass reads (rows_of dialect) ≡ true
-unfolding python_plain c_plain c_padded c_cased gnu_plain gnu_padded gnu_cased chrono_plain chrono_padded jiff_plain jiff_padded jiff_cased ruby_plain ruby_padded ruby_cased java_plain go_plain moment_plain answer_of
+unfolding python_groups c_groups c_marked gnu_groups gnu_marked chrono_groups jiff_groups jiff_marked ruby_groups ruby_marked java_groups go_groups moment_groups answer_of
 all_read Python = refl
 all_read C = refl
 all_read Gnu = refl

@@ -15,7 +15,6 @@ use Rattle.timefd_dialect.specs.Limits.{all_limits, narrowed, limits_from}
 use Rattle.timefd_dialect.specs.Reading.{Piece, ended, piece, refused_for, text_of}
 use Rattle.timefd_dialect.specs.Steps.{Takes}
 use Rattle.timefd_dialect.specs.ToRead.{front_to_read, LeadsToRead, ReadsBy, UnreadAt, IsToRead, IsUnreadFor}
-use Rattle.timefd_dialect.proofs.ReadingLemmas.{text_of_more, limits_more}
 
 -- pieces to read by lead from the format to the rest, with their text and their limits
 pub record HasToRead (dialect : Dialect) (format rest text : Text) (limits : Limits) : Type 0 where
@@ -34,6 +33,16 @@ leads_more dialect text [] p rest after leads is =
     (after, ap (front_to_read dialect) leads ∙ is, refl)
 leads_more dialect text (q ∷ ps) p rest after leads is =
     (leads.0, leads.1, leads_more dialect leads.0 ps p rest after leads.2 is)
+
+text_of_more : (ps : List Piece) (p : Piece) → text_of (ps ++ p ∷ []) ≡ text_of ps ++ p.text
+text_of_more [] p = append-nil p.text
+text_of_more (q ∷ ps) p =
+    ap (λ x. q.text ++ x) (text_of_more ps p) ∙ sym (append_assoc q.text (text_of ps) p.text)
+
+limits_more : (limits : Limits) (ps : List Piece) (p : Piece)
+    → limits_from limits (ps ++ p ∷ []) ≡ narrowed p.range (limits_from limits ps)
+limits_more limits [] p = refl
+limits_more limits (q ∷ ps) p = limits_more (narrowed q.range limits) ps p
 
 pub nothing_to_read : (dialect : Dialect) (format : Text)
     → HasToRead dialect format format [] all_limits

@@ -1,11 +1,15 @@
--- The name of each dialect, and how it quotes.
-use Rattle.std.specs.Prelude.{codes, if◌then◌else◌, Option, Some, None}
+-- The name of each dialect, what its directives begin with, and how it quotes.
+use Rattle.std.specs.Prelude.{ℕ, ◌==◌, codes, if◌then◌else◌, List, [], ◌∷◌, Option, Some, None}
 use Rattle.std.specs.Str.{bytes_eq}
 use Rattle.timefd_component.specs.Tree.{Text}
 use Rattle.timefd_dialect.specs.declared.dialect.Dialect.{Dialect}
 use Rattle.timefd_dialect.specs.declared.dialect.Dialect.TheVariants.{Python, C, Gnu, Chrono, Jiff, Ruby, Java, Go, Moment}
+use Rattle.timefd_dialect.specs.declared.dialect.Leading.{Leading}
+use Rattle.timefd_dialect.specs.declared.dialect.Leading.TheVariants.{Percent, Bare}
 use Rattle.timefd_dialect.specs.declared.dialect.Quoting.{Quoting}
 use Rattle.timefd_dialect.specs.declared.dialect.Quoting.TheVariants.{Unquoted, Apostrophes, Brackets}
+use Rattle.timefd_dialect.specs.declared.reason.Reason.TheVariants.{UnknownDirective}
+use Rattle.timefd_dialect.specs.Rows.{Entry, ◌refused_for◌}
 
 abbrev pub name_of : Dialect → Text
 name_of Python = codes "python"
@@ -42,3 +46,34 @@ quoting_of Ruby = Unquoted
 quoting_of Java = Apostrophes
 quoting_of Go = Unquoted
 quoting_of Moment = Brackets
+
+-- What finds a row.
+
+abbrev pub leading_of : Dialect → Leading
+leading_of Python = Percent
+leading_of C = Percent
+leading_of Gnu = Percent
+leading_of Chrono = Percent
+leading_of Jiff = Percent
+leading_of Ruby = Percent
+leading_of Java = Bare
+leading_of Go = Bare
+leading_of Moment = Bare
+
+abbrev pub first_byte : Text → Option ℕ
+first_byte [] = None
+first_byte (b ∷ rest) = Some b
+
+-- the byte after a `%`
+abbrev pub second_byte : Text → Option ℕ
+second_byte [] = None
+second_byte (b ∷ rest) = if b == 37 then first_byte rest else None
+
+abbrev pub key_of : Leading → Text → Option ℕ
+key_of Percent text = second_byte text
+key_of Bare text = first_byte text
+
+-- what a `%` is that begins no other row
+abbrev pub unknown_rows : Leading → List Entry
+unknown_rows Percent = codes "%" refused_for UnknownDirective ∷ []
+unknown_rows Bare = []

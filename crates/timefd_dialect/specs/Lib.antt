@@ -1,5 +1,7 @@
 pub mod Reasons
 pub mod Rows
+pub mod Dialects
+pub mod Groups
 pub mod Python
 pub mod C
 pub mod Gnu
@@ -11,12 +13,12 @@ pub mod Go
 pub mod Moment
 pub mod Tables
 pub mod Readings
-pub mod Dialects
+pub mod Plain
 pub mod Quotes
 pub mod QuoteSteps
 pub mod Reading
-pub mod Steps
 pub mod Limits
+pub mod Steps
 pub mod Items
 pub mod Answers
 pub mod ToRead

@@ -1,54 +1,55 @@
--- The rows of Python.
+-- The rows of Python, by the byte that finds them, the longest first.
 use Rattle.std.specs.Prelude.{codes, List, [], ◌∷◌}
-use Rattle.timefd_dialect.specs.declared.reason.Reason.TheVariants.{Capitals, LocalTime, Platform, UnknownDirective, ZoneName}
+use Rattle.timefd_dialect.specs.declared.reason.Reason.TheVariants.{Capitals, LocalTime, Platform, ZoneName}
 use Rattle.timefd_dialect.specs.declared.row.Range.TheVariants.{WholeMinutes, YearsFrom1000}
-use Rattle.timefd_dialect.specs.Rows.{Entry, ◌means◌, ◌refused_for◌, within}
+use Rattle.timefd_dialect.specs.Groups.{Group, under}
+use Rattle.timefd_dialect.specs.Rows.{◌means◌, ◌refused_for◌, within}
 
-unfoldable pub python_plain : List Entry
-python_plain =
-    codes "%d" means codes "[day]"
-    ∷ codes "%H" means codes "[hour]"
-    ∷ codes "%I" means codes "[hour repr:12]"
-    ∷ codes "%j" means codes "[ordinal]"
-    ∷ codes "%m" means codes "[month]"
-    ∷ codes "%M" means codes "[minute]"
-    ∷ codes "%S" means codes "[second]"
-    ∷ codes "%U" means codes "[week_number repr:sunday]"
-    ∷ codes "%V" means codes "[week_number]"
-    ∷ codes "%W" means codes "[week_number repr:monday]"
-    ∷ codes "%y" means codes "[year repr:last_two]"
-    ∷ within YearsFrom1000 (codes "%Y") (codes "[year]")
-    ∷ within YearsFrom1000 (codes "%G") (codes "[year base:iso_week]")
-    ∷ codes "%u" means codes "[weekday repr:monday]"
-    ∷ codes "%w" means codes "[weekday repr:sunday one_indexed:false]"
-    ∷ codes "%a" means codes "[weekday repr:short]"
-    ∷ codes "%A" means codes "[weekday]"
-    ∷ codes "%b" means codes "[month repr:short]"
-    ∷ codes "%B" means codes "[month repr:long]"
-    ∷ codes "%p" means codes "[period]"
-    ∷ within YearsFrom1000 (codes "%c") (codes "[weekday repr:short] [month repr:short] [day padding:space] [hour]:[minute]:[second] [year]")
-    ∷ codes "%x" means codes "[month]/[day]/[year repr:last_two]"
-    ∷ codes "%X" means codes "[hour]:[minute]:[second]"
-    ∷ codes "%%" means codes "%"
-    ∷ codes "%f" means codes "[subsecond digits:6]"
-    ∷ within WholeMinutes (codes "%z") (codes "[offset_hour sign:mandatory][offset_minute]")
-    ∷ within WholeMinutes (codes "%:z") (codes "[offset_hour sign:mandatory]:[offset_minute]")
-    ∷ codes "%Z" refused_for ZoneName
-    ∷ codes "%e" means codes "[day padding:space]"
-    ∷ codes "%k" means codes "[hour padding:space]"
-    ∷ codes "%l" means codes "[hour repr:12 padding:space]"
-    ∷ codes "%g" means codes "[year repr:last_two base:iso_week]"
-    ∷ within YearsFrom1000 (codes "%C") (codes "[year repr:century]")
-    ∷ codes "%h" means codes "[month repr:short]"
-    ∷ codes "%P" means codes "[period case:lower]"
-    ∷ codes "%D" means codes "[month]/[day]/[year repr:last_two]"
-    ∷ within YearsFrom1000 (codes "%F") (codes "[year]-[month]-[day]")
-    ∷ codes "%r" means codes "[hour repr:12]:[minute]:[second] [period]"
-    ∷ codes "%R" means codes "[hour]:[minute]"
-    ∷ codes "%T" means codes "[hour]:[minute]:[second]"
-    ∷ codes "%n" means (10 ∷ [])
-    ∷ codes "%t" means (9 ∷ [])
-    ∷ codes "%-d" means codes "[day padding:none]"
+unfoldable pub python_groups : List Group
+python_groups =
+    under 100 (codes "%d" means codes "[day]" ∷ [])
+    ∷ under 72 (codes "%H" means codes "[hour]" ∷ [])
+    ∷ under 73 (codes "%I" means codes "[hour repr:12]" ∷ [])
+    ∷ under 106 (codes "%j" means codes "[ordinal]" ∷ [])
+    ∷ under 109 (codes "%m" means codes "[month]" ∷ [])
+    ∷ under 77 (codes "%M" means codes "[minute]" ∷ [])
+    ∷ under 83 (codes "%S" means codes "[second]" ∷ [])
+    ∷ under 85 (codes "%U" means codes "[week_number repr:sunday]" ∷ [])
+    ∷ under 86 (codes "%V" means codes "[week_number]" ∷ [])
+    ∷ under 87 (codes "%W" means codes "[week_number repr:monday]" ∷ [])
+    ∷ under 121 (codes "%y" means codes "[year repr:last_two]" ∷ [])
+    ∷ under 89 (within YearsFrom1000 (codes "%Y") (codes "[year]") ∷ [])
+    ∷ under 71 (within YearsFrom1000 (codes "%G") (codes "[year base:iso_week]") ∷ [])
+    ∷ under 117 (codes "%u" means codes "[weekday repr:monday]" ∷ [])
+    ∷ under 119 (codes "%w" means codes "[weekday repr:sunday one_indexed:false]" ∷ [])
+    ∷ under 97 (codes "%a" means codes "[weekday repr:short]" ∷ [])
+    ∷ under 65 (codes "%A" means codes "[weekday]" ∷ [])
+    ∷ under 98 (codes "%b" means codes "[month repr:short]" ∷ [])
+    ∷ under 66 (codes "%B" means codes "[month repr:long]" ∷ [])
+    ∷ under 112 (codes "%p" means codes "[period]" ∷ [])
+    ∷ under 99 (within YearsFrom1000 (codes "%c") (codes "[weekday repr:short] [month repr:short] [day padding:space] [hour]:[minute]:[second] [year]") ∷ [])
+    ∷ under 120 (codes "%x" means codes "[month]/[day]/[year repr:last_two]" ∷ [])
+    ∷ under 88 (codes "%X" means codes "[hour]:[minute]:[second]" ∷ [])
+    ∷ under 37 (codes "%%" means codes "%" ∷ [])
+    ∷ under 102 (codes "%f" means codes "[subsecond digits:6]" ∷ [])
+    ∷ under 122 (within WholeMinutes (codes "%z") (codes "[offset_hour sign:mandatory][offset_minute]") ∷ [])
+    ∷ under 58 (within WholeMinutes (codes "%:z") (codes "[offset_hour sign:mandatory]:[offset_minute]") ∷ [])
+    ∷ under 90 (codes "%Z" refused_for ZoneName ∷ [])
+    ∷ under 101 (codes "%e" means codes "[day padding:space]" ∷ [])
+    ∷ under 107 (codes "%k" means codes "[hour padding:space]" ∷ [])
+    ∷ under 108 (codes "%l" means codes "[hour repr:12 padding:space]" ∷ [])
+    ∷ under 103 (codes "%g" means codes "[year repr:last_two base:iso_week]" ∷ [])
+    ∷ under 67 (within YearsFrom1000 (codes "%C") (codes "[year repr:century]") ∷ [])
+    ∷ under 104 (codes "%h" means codes "[month repr:short]" ∷ [])
+    ∷ under 80 (codes "%P" means codes "[period case:lower]" ∷ [])
+    ∷ under 68 (codes "%D" means codes "[month]/[day]/[year repr:last_two]" ∷ [])
+    ∷ under 70 (within YearsFrom1000 (codes "%F") (codes "[year]-[month]-[day]") ∷ [])
+    ∷ under 114 (codes "%r" means codes "[hour repr:12]:[minute]:[second] [period]" ∷ [])
+    ∷ under 82 (codes "%R" means codes "[hour]:[minute]" ∷ [])
+    ∷ under 84 (codes "%T" means codes "[hour]:[minute]:[second]" ∷ [])
+    ∷ under 110 (codes "%n" means (10 ∷ []) ∷ [])
+    ∷ under 116 (codes "%t" means (9 ∷ []) ∷ [])
+    ∷ under 45 (codes "%-d" means codes "[day padding:none]"
     ∷ codes "%-e" means codes "[day padding:none]"
     ∷ codes "%-H" means codes "[hour padding:none]"
     ∷ codes "%-k" means codes "[hour padding:none]"
@@ -63,7 +64,11 @@ python_plain =
     ∷ codes "%-W" means codes "[week_number repr:monday padding:none]"
     ∷ codes "%-y" means codes "[year repr:last_two padding:none]"
     ∷ codes "%-g" means codes "[year repr:last_two base:iso_week padding:none]"
-    ∷ codes "%_d" means codes "[day padding:space]"
+    ∷ codes "%-Y" means codes "[year padding:none]"
+    ∷ codes "%-G" means codes "[year base:iso_week padding:none]"
+    ∷ codes "%-C" means codes "[year repr:century padding:none]"
+    ∷ [])
+    ∷ under 95 (codes "%_d" means codes "[day padding:space]"
     ∷ codes "%_e" means codes "[day padding:space]"
     ∷ codes "%_H" means codes "[hour padding:space]"
     ∷ codes "%_k" means codes "[hour padding:space]"
@@ -78,7 +83,8 @@ python_plain =
     ∷ codes "%_W" means codes "[week_number repr:monday padding:space]"
     ∷ codes "%_y" means codes "[year repr:last_two padding:space]"
     ∷ codes "%_g" means codes "[year repr:last_two base:iso_week padding:space]"
-    ∷ codes "%0d" means codes "[day]"
+    ∷ [])
+    ∷ under 48 (codes "%0d" means codes "[day]"
     ∷ codes "%0e" means codes "[day]"
     ∷ codes "%0H" means codes "[hour]"
     ∷ codes "%0k" means codes "[hour]"
@@ -93,16 +99,15 @@ python_plain =
     ∷ codes "%0W" means codes "[week_number repr:monday]"
     ∷ codes "%0y" means codes "[year repr:last_two]"
     ∷ codes "%0g" means codes "[year repr:last_two base:iso_week]"
-    ∷ codes "%-Y" means codes "[year padding:none]"
-    ∷ codes "%-G" means codes "[year base:iso_week padding:none]"
-    ∷ codes "%-C" means codes "[year repr:century padding:none]"
-    ∷ codes "%s" refused_for LocalTime
-    ∷ codes "%^a" refused_for Capitals
+    ∷ [])
+    ∷ under 115 (codes "%s" refused_for LocalTime ∷ [])
+    ∷ under 94 (codes "%^a" refused_for Capitals
     ∷ codes "%^A" refused_for Capitals
     ∷ codes "%^b" refused_for Capitals
     ∷ codes "%^B" refused_for Capitals
     ∷ codes "%^h" refused_for Capitals
-    ∷ codes "%#a" refused_for Capitals
+    ∷ [])
+    ∷ under 35 (codes "%#a" refused_for Capitals
     ∷ codes "%#A" refused_for Capitals
     ∷ codes "%#b" refused_for Capitals
     ∷ codes "%#B" refused_for Capitals
@@ -117,13 +122,15 @@ python_plain =
     ∷ codes "%#Y" refused_for Platform
     ∷ codes "%#c" refused_for Platform
     ∷ codes "%#x" refused_for Platform
-    ∷ within YearsFrom1000 (codes "%Ec") (codes "[weekday repr:short] [month repr:short] [day padding:space] [hour]:[minute]:[second] [year]")
+    ∷ [])
+    ∷ under 69 (within YearsFrom1000 (codes "%Ec") (codes "[weekday repr:short] [month repr:short] [day padding:space] [hour]:[minute]:[second] [year]")
     ∷ within YearsFrom1000 (codes "%EC") (codes "[year repr:century]")
     ∷ codes "%Ex" means codes "[month]/[day]/[year repr:last_two]"
     ∷ codes "%EX" means codes "[hour]:[minute]:[second]"
     ∷ codes "%Ey" means codes "[year repr:last_two]"
     ∷ within YearsFrom1000 (codes "%EY") (codes "[year]")
-    ∷ codes "%Od" means codes "[day]"
+    ∷ [])
+    ∷ under 79 (codes "%Od" means codes "[day]"
     ∷ codes "%Oe" means codes "[day padding:space]"
     ∷ codes "%OH" means codes "[hour]"
     ∷ codes "%OI" means codes "[hour repr:12]"
@@ -136,5 +143,5 @@ python_plain =
     ∷ codes "%Ow" means codes "[weekday repr:sunday one_indexed:false]"
     ∷ codes "%OW" means codes "[week_number repr:monday]"
     ∷ codes "%Oy" means codes "[year repr:last_two]"
-    ∷ codes "%" refused_for UnknownDirective
+    ∷ [])
     ∷ []

@@ -34,13 +34,13 @@ IsQuoteStep text (Character character after) =
 
 -- what is quoted is appended to a text, and the rest follows it; or nothing closes it
 abbrev pub AppendsQuotation : Text → Text → Text → Option (Bor (List ℕ)) → Type 0
-AppendsQuotation behind old new None = quotation behind ≡ None
-AppendsQuotation behind old new (Some rest) =
-    (bytes : Text) × (quotation behind ≡ Some (bytes, rest.now)) × (new ≡ old ++ escaped bytes)
-    × IsLess behind rest.now
+AppendsQuotation after old new None = quotation after ≡ None
+AppendsQuotation after old new (Some rest) =
+    (bytes : Text) × (quotation after ≡ Some (bytes, rest.now)) × (new ≡ old ++ escaped bytes)
+    × IsLess after rest.now
 
 abbrev pub IsBracketed : Text → Option (Bor (List ℕ) × Bor (List ℕ)) → Type 0
-IsBracketed behind None = closing behind ≡ None
-IsBracketed behind (Some x) =
-    (index : ℕ) × (closing behind ≡ Some index) × (x.0.now ≡ take index behind)
-    × (x.1.now ≡ drop (index + 1) behind) × IsLess behind x.1.now
+IsBracketed after None = closing after ≡ None
+IsBracketed after (Some x) =
+    (index : ℕ) × (closing after ≡ Some index) × (x.0.now ≡ take index after)
+    × (x.1.now ≡ drop (index + 1) after) × IsLess after x.1.now

@@ -6,7 +6,7 @@ use Rattle.timefd_language.specs.Bytes.{left, right, backslash, is_special, Zero
 
 -- Literals in version 3.
 
--- a `[`, a `]` and a backslash stand behind a backslash
+-- a `[`, a `]` and a backslash get a backslash in front
 abbrev pub escaped : Text → Text
 escaped [] = []
 escaped (b ∷ bytes) = if is_special b then backslash ∷ b ∷ escaped bytes else b ∷ escaped bytes

@@ -66,7 +66,7 @@ front_of dialect (b ∷ rest) =
 abbrev pub Leads : Dialect → Text → List Piece → Text → Type 0
 Leads dialect text [] rest = text ≡ rest
 Leads dialect text (p ∷ ps) rest =
-    (behind : Text) × (front_of dialect text ≡ piece p behind) × Leads dialect behind ps rest
+    (after : Text) × (front_of dialect text ≡ piece p after) × Leads dialect after ps rest
 
 -- The text means these pieces.
 abbrev pub Means : Dialect → Text → List Piece → Type 0

@@ -1,5 +1,6 @@
 -- Rows of a dialect's table, and which of them stands at a place.
 use Rattle.std.specs.Prelude.{ℕ, Bool, true, false, not, ◌&&◌, nat_le, nat_lt, eqb, if◌then◌else◌, List, [], ◌∷◌, drop, length, Option, Some, None}
+use Rattle.std.specs.Borrow.{Bor}
 use Rattle.std.specs.List.{starts_with}
 use Rattle.timefd_component.specs.Tree.{Text}
 use Rattle.timefd_dialect.specs.declared.reason.Reason.{Reason}
@@ -58,9 +59,9 @@ abbrev pub entries : List Row → List Entry
 entries [] = []
 entries (row ∷ rows) = entry_of row ∷ entries rows
 
-abbrev pub entry_option : Option Row → Option Entry
-entry_option None = None
-entry_option (Some row) = Some (entry_of row)
+abbrev pub found_entry : Option (Bor Row) → Option Entry
+found_entry None = None
+found_entry (Some row) = Some (entry_of row.now)
 
 -- The longest that stands at a place.
 

@@ -1,53 +1,31 @@
 -- The rows of each dialect.
-use Rattle.std.specs.Prelude.{List, [], ◌++◌}
+use Rattle.std.specs.Prelude.{List, ◌++◌}
 use Rattle.timefd_dialect.specs.declared.dialect.Dialect.{Dialect}
 use Rattle.timefd_dialect.specs.declared.dialect.Dialect.TheVariants.{Python, C, Gnu, Chrono, Jiff, Ruby, Java, Go, Moment}
+use Rattle.timefd_dialect.specs.Dialects.{leading_of, unknown_rows}
+use Rattle.timefd_dialect.specs.Groups.{Group, all_rows}
 use Rattle.timefd_dialect.specs.Rows.{Entry}
-use Rattle.timefd_dialect.specs.Python.{python_plain}
-use Rattle.timefd_dialect.specs.C.{c_plain, c_padded, c_cased}
-use Rattle.timefd_dialect.specs.Gnu.{gnu_plain, gnu_padded, gnu_cased}
-use Rattle.timefd_dialect.specs.Chrono.{chrono_plain, chrono_padded}
-use Rattle.timefd_dialect.specs.Jiff.{jiff_plain, jiff_padded, jiff_cased}
-use Rattle.timefd_dialect.specs.Ruby.{ruby_plain, ruby_padded, ruby_cased}
-use Rattle.timefd_dialect.specs.Java.{java_plain}
-use Rattle.timefd_dialect.specs.Go.{go_plain}
-use Rattle.timefd_dialect.specs.Moment.{moment_plain}
+use Rattle.timefd_dialect.specs.Python.{python_groups}
+use Rattle.timefd_dialect.specs.C.{c_groups}
+use Rattle.timefd_dialect.specs.Gnu.{gnu_groups}
+use Rattle.timefd_dialect.specs.Chrono.{chrono_groups}
+use Rattle.timefd_dialect.specs.Jiff.{jiff_groups}
+use Rattle.timefd_dialect.specs.Ruby.{ruby_groups}
+use Rattle.timefd_dialect.specs.Java.{java_groups}
+use Rattle.timefd_dialect.specs.Go.{go_groups}
+use Rattle.timefd_dialect.specs.Moment.{moment_groups}
 
--- without a flag
-abbrev pub plain_rows : Dialect → List Entry
-plain_rows Python = python_plain
-plain_rows C = c_plain
-plain_rows Gnu = gnu_plain
-plain_rows Chrono = chrono_plain
-plain_rows Jiff = jiff_plain
-plain_rows Ruby = ruby_plain
-plain_rows Java = java_plain
-plain_rows Go = go_plain
-plain_rows Moment = moment_plain
-
--- with a flag of padding
-abbrev pub padded_rows : Dialect → List Entry
-padded_rows Python = []
-padded_rows C = c_padded
-padded_rows Gnu = gnu_padded
-padded_rows Chrono = chrono_padded
-padded_rows Jiff = jiff_padded
-padded_rows Ruby = ruby_padded
-padded_rows Java = []
-padded_rows Go = []
-padded_rows Moment = []
-
--- with a flag of case
-abbrev pub cased_rows : Dialect → List Entry
-cased_rows Python = []
-cased_rows C = c_cased
-cased_rows Gnu = gnu_cased
-cased_rows Chrono = []
-cased_rows Jiff = jiff_cased
-cased_rows Ruby = ruby_cased
-cased_rows Java = []
-cased_rows Go = []
-cased_rows Moment = []
+-- those that a byte finds
+abbrev pub groups_of : Dialect → List Group
+groups_of Python = python_groups
+groups_of C = c_groups
+groups_of Gnu = gnu_groups
+groups_of Chrono = chrono_groups
+groups_of Jiff = jiff_groups
+groups_of Ruby = ruby_groups
+groups_of Java = java_groups
+groups_of Go = go_groups
+groups_of Moment = moment_groups
 
 abbrev pub rows_of : Dialect → List Entry
-rows_of dialect = plain_rows dialect ++ padded_rows dialect ++ cased_rows dialect
+rows_of dialect = all_rows (groups_of dialect) ++ unknown_rows (leading_of dialect)

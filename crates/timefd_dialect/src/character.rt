@@ -57,15 +57,15 @@ fn continues(byte: u8) -> bool
     128 <= byte && byte < 192
 }
 
-/// Appends a literal: a `[`, a `]` and a backslash behind a backslash.
+/// Appends a literal: a `[`, a `]` and a backslash get a backslash in front.
 pub fn push_literal(answer: &mut String, literal: &str) -> Result<(), AllocError>
     ensures { OnOk result (string_bytes answer.new ≡ string_bytes answer.old ++ spec.escaped
         literal.now) }
 {
     let mut rest = literal;
-    'characters: while let Some((front, behind)) = first_char(rest) {
+    'characters: while let Some((front, after)) = first_char(rest) {
         push_char(answer, front)?;
-        rest = behind;
+        rest = after;
     }
     Ok(())
 }

@@ -1,7 +1,11 @@
-//! The dialects: the name of each, and how it quotes.
+//! The dialects: the name of each, what its directives begin with, and how it quotes.
 
 ghost use Rattle.std.specs.Prelude.{◌≡◌};
 ghost use Rattle.timefd_dialect.specs.Dialects as spec;
+ghost use Rattle.timefd_dialect.specs.Rows.{entries};
+
+use crate::reason::Reason;
+use crate::row::{NotBefore, Row, Verdict, row};
 
 /// A language or a library whose formats are read.
 #[derive(Debug, Clone, Copy, PartialEq, Eq)]
@@ -24,6 +28,15 @@ pub enum Dialect {
     Go,
     /// Tokens of moment.js, for JavaScript.
     Moment,
+}
+
+/// What a dialect's directives begin with.
+#[derive(Clone, Copy)]
+pub enum Leading {
+    /// A `%`; the byte after it finds the rows.
+    Percent,
+    /// A byte of their own, which finds the rows.
+    Bare,
 }
 
 /// How a dialect quotes what stands for itself.
@@ -73,6 +86,21 @@ impl Dialect {
         }
     }
 
+    /// What its directives begin with.
+    pub fn leading(self) -> Leading
+        ensures { result ≡ spec.leading_of self }
+    {
+        match self {
+            Dialect::Python
+            | Dialect::C
+            | Dialect::Gnu
+            | Dialect::Chrono
+            | Dialect::Jiff
+            | Dialect::Ruby => Leading::Percent,
+            Dialect::Java | Dialect::Go | Dialect::Moment => Leading::Bare,
+        }
+    }
+
     /// How it quotes.
     pub fn quoting(self) -> Quoting
         ensures { result ≡ spec.quoting_of self }
@@ -87,6 +115,37 @@ impl Dialect {
             | Dialect::Go => Quoting::Unquoted,
             Dialect::Java => Quoting::Apostrophes,
             Dialect::Moment => Quoting::Brackets,
+        }
+    }
+}
+
+/// A `%` that begins no other row.
+const UNKNOWN: &[Row] = &[row!("%" refused UnknownDirective)];
+
+impl Leading {
+    /// The byte that finds the rows at the front of a text.
+    pub fn key(self, text: &[u8]) -> Option<u8>
+        ensures { result ≡ spec.key_of self text.now }
+    {
+        match self {
+            Leading::Percent => match text {
+                [b'%', byte, ..] => Some(*byte),
+                _ => None,
+            },
+            Leading::Bare => match text {
+                [byte, ..] => Some(*byte),
+                [] => None,
+            },
+        }
+    }
+
+    /// The rows that stand where no row stands that a byte finds.
+    pub fn unknown_rows(self) -> &'static [Row]
+        ensures { entries result.now ≡ spec.unknown_rows self }
+    {
+        match self {
+            Leading::Percent => UNKNOWN,
+            Leading::Bare => &[],
         }
     }
 }

@@ -6,13 +6,14 @@ ghost use Rattle.timefd_component.specs.Tree.{Text};
 ghost use Rattle.timefd_dialect.specs.Dialects.{quoting_of};
 ghost use Rattle.timefd_dialect.specs.Quotes.{apostrophe, quotation};
 ghost use Rattle.timefd_dialect.specs.Reading.{front_meant, front_of, front_quotation, front_row};
-ghost use Rattle.timefd_dialect.specs.Rows.{entry_of, entry_option, longest as longest_row, meaning_of, stands};
-ghost use Rattle.timefd_dialect.specs.Steps.{GivesStep};
+ghost use Rattle.timefd_dialect.specs.Rows.{entry_of, longest as longest_row, meaning_of, stands};
+ghost use Rattle.timefd_dialect.specs.Steps.{GivesStep, GivesSteps};
 ghost use Rattle.timefd_dialect.specs.Tables.{rows_of};
 
 use crate::character::{first_char, push_char, push_literal};
 use crate::dialect::{Dialect, Quoting};
 use crate::longest::longest;
+use crate::plain::cut_plain;
 use crate::quote::{begins_with, bracketed, push_quotation};
 use crate::reason::Reason;
 use crate::row::{Range, Row, Verdict};
@@ -46,6 +47,24 @@ impl From<AllocError> for Stop {
     }
 }
 
+/// Appends the texts of pieces that stand at the front: of a run of bytes that stand for themselves,
+/// or of one piece.
+pub fn push_pieces<'a>(
+    answer: &mut String,
+    dialect: Dialect,
+    text: &'a str,
+) -> Result<Step<'a>, Stop>
+    requires { 0 < length text.now }
+    ensures { GivesSteps dialect text.now (string_bytes answer.old) (string_bytes answer.new) result }
+{
+    let (run, rest) = cut_plain(dialect, text);
+    if run.is_empty() {
+        return push_front(answer, dialect, text);
+    }
+    answer.push_str(run)?;
+    Ok(whole(rest))
+}
+
 /// Appends the text of the piece that stands at the front.
 pub fn push_front<'a>(
     answer: &mut String,
@@ -68,12 +87,12 @@ pub fn push_front<'a>(
 }
 
 /// Appends what stands between apostrophes, after the one that opens, and answers the rest.
-fn push_apostrophes<'a>(answer: &mut String, behind: &'a str) -> Result<Step<'a>, Stop>
-    ensures { GivesStep (front_quotation (quotation behind.now)) (apostrophe ∷ behind.now)
+fn push_apostrophes<'a>(answer: &mut String, after: &'a str) -> Result<Step<'a>, Stop>
+    ensures { GivesStep (front_quotation (quotation after.now)) (apostrophe ∷ after.now)
         (string_bytes answer.old) (string_bytes answer.new) result }
 {
     let start = answer.len();
-    let Some(rest) = push_quotation(answer, behind)? else {
+    let Some(rest) = push_quotation(answer, after)? else {
         return Err(Stop::Refused(Reason::UnclosedQuote));
     };
     if answer.len() == start {
@@ -107,7 +126,7 @@ fn push_row<'a>(answer: &mut String, dialect: Dialect, text: &'a str) -> Result<
     ensures { GivesStep (front_row (longest_row (rows_of dialect) text.now) text.now) text.now
         (string_bytes answer.old) (string_bytes answer.new) result }
 {
-    match row_at(dialect, text) {
+    match longest(dialect, text) {
         Some(row) => push_verdict(answer, row, text),
         None => match first_char(text) {
             Some((character, rest)) => {
@@ -119,37 +138,20 @@ fn push_row<'a>(answer: &mut String, dialect: Dialect, text: &'a str) -> Result<
     }
 }
 
-/// The longest row that stands at the front.
-fn row_at(dialect: Dialect, text: &str) -> Option<Row>
-    ensures row { entry_option result ≡ longest_row (rows_of dialect) text.now }
-    ensures bytes { IfSome result (λ row. 0 < length row.text.now) }
-    ensures stands { IfSome result (λ row. stands (entry_of row) text.now ≡ true) }
-{
-    longest_of_all(dialect, text)
-}
-
-/// The longest row that stands at the front, of all parts of the dialect's table.
-fn longest_of_all(dialect: Dialect, text: &str) -> Option<Row>
-    ensures { entry_option result ≡ longest_row (rows_of dialect) text.now }
-{
-    let plain = longest(None, dialect.plain_rows(), text);
-    let padded = longest(plain, dialect.padded_rows(), text);
-    longest(padded, dialect.cased_rows(), text)
-}
-
 /// Appends what a row at the front of the text means.
-fn push_verdict<'a>(answer: &mut String, row: Row, text: &'a str) -> Result<Step<'a>, Stop>
-    requires there { 0 < length row.text.now }
-    requires stands { stands (entry_of row) text.now ≡ true }
-    ensures { GivesStep (front_meant (meaning_of row.verdict) (drop (length row.text.now) text.now))
-        text.now (string_bytes answer.old) (string_bytes answer.new) result }
+fn push_verdict<'a>(answer: &mut String, row: &Row, text: &'a str) -> Result<Step<'a>, Stop>
+    requires there { 0 < length row.now.text.now }
+    requires stands { stands (entry_of row.now) text.now ≡ true }
+    ensures { GivesStep (front_meant (meaning_of row.now.verdict)
+        (drop (length row.now.text.now) text.now)) text.now (string_bytes answer.old)
+        (string_bytes answer.new) result }
 {
     match row.verdict {
         Verdict::Refused(reason) => Err(Stop::Refused(reason)),
         Verdict::Written(written, range) => {
             answer.push_str(written)?;
             Ok(Step {
-                rest: behind_row(row, text),
+                rest: after_row(row, text),
                 range,
             })
         }
@@ -157,20 +159,20 @@ fn push_verdict<'a>(answer: &mut String, row: Row, text: &'a str) -> Result<Step
 }
 
 /// What follows a row that stands at the front.
-fn behind_row(row: Row, text: &str) -> &str
-    requires { stands (entry_of row) text.now ≡ true }
-    ensures rest { result.now ≡ drop (length row.text.now) text.now }
-    ensures whole { text.now ≡ row.text.now ++ result.now }
+fn after_row<'a>(row: &Row, text: &'a str) -> &'a str
+    requires { stands (entry_of row.now) text.now ≡ true }
+    ensures rest { result.now ≡ drop (length row.now.text.now) text.now }
+    ensures whole { text.now ≡ row.now.text.now ++ result.now }
     ensures utf8 { IsUtf8 result.now }
 {
-    match behind_literal(text, row.text) {
+    match after_literal(text, row.text) {
         Some(rest) => rest,
         None => unreachable!(),
     }
 }
 
 /// What follows a literal, if the text begins with it.
-fn behind_literal<'a>(text: &'a str, literal: &str) -> Option<&'a str>
+fn after_literal<'a>(text: &'a str, literal: &str) -> Option<&'a str>
     ensures rest { MatchOption result ((rest : Text) → ¬ (text.now ≡ literal.now ++ rest))
         (λ rest. text.now ≡ literal.now ++ rest.now) }
     ensures utf8 { IfSome result (λ rest. IsUtf8 rest.now) }

@@ -8,6 +8,7 @@ mod front;
 pub mod laws;
 mod limits;
 mod longest;
+mod plain;
 mod quote;
 mod reading;
 mod readings;

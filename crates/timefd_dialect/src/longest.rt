@@ -1,43 +1,60 @@
 //! The longest row that stands at the front of a text.
 
-ghost use Rattle.std.specs.Prelude.{◌≡◌};
+ghost use Rattle.std.specs.Prelude.{◌≡◌, ◌<◌, IfSome, length, true};
+ghost use Rattle.timefd_dialect.specs.Dialects.{key_of, leading_of};
+ghost use Rattle.timefd_dialect.specs.Groups.{first_standing, rows_found};
 ghost use Rattle.timefd_dialect.specs.Rows as spec;
+ghost use Rattle.timefd_dialect.specs.Tables.{groups_of, rows_of};
 
+use crate::dialect::Dialect;
 use crate::row::{NotBefore, Row};
 
-/// The longest that stands at the front of the text, of the best so far and these rows.
-pub fn longest(best: Option<Row>, rows: &'static [Row], text: &str) -> Option<Row>
-    ensures { spec.entry_option result ≡ spec.longest_from (spec.entry_option best)
-        (spec.entries rows.now) text.now }
+/// The longest row that stands at the front of the text.
+pub fn longest(dialect: Dialect, text: &str) -> Option<&'static Row>
+    ensures row { spec.found_entry result ≡ spec.longest (rows_of dialect) text.now }
+    ensures bytes { IfSome result (λ row. 0 < length row.now.text.now) }
+    ensures stands { IfSome result (λ row. spec.stands (spec.entry_of row.now) text.now ≡ true) }
 {
-    let mut best = best;
-    'rows: for at in 0..rows.len() {
-        best = better(best, rows[at], text);
-    }
-    best
+    first_of_both(dialect, text)
 }
 
-/// The row, if it stands at the front of the text and is longer than the best so far.
-fn better(best: Option<Row>, row: Row, text: &str) -> Option<Row>
-    ensures { spec.entry_option result ≡ spec.better (spec.entry_option best) (spec.entry_of row)
-        text.now }
+/// The first row that stands at the front of the text: of those that a byte finds, or of the others.
+fn first_of_both(dialect: Dialect, text: &str) -> Option<&'static Row>
+    ensures { spec.found_entry result ≡ spec.longest (rows_of dialect) text.now }
 {
-    if !stands(row, text) {
-        return best;
+    match first(rows_at_front(dialect, text), text) {
+        Some(row) => Some(row),
+        None => first(dialect.leading().unknown_rows(), text),
     }
-    match best {
-        None => Some(row),
-        Some(other) => if other.text.len() < row.text.len() {
-            Some(row)
-        } else {
-            Some(other)
-        },
+}
+
+/// The rows that can stand at the front of the text, the longest first.
+fn rows_at_front(dialect: Dialect, text: &str) -> &'static [Row]
+    ensures { spec.entries result.now ≡ rows_found (key_of (leading_of dialect) text.now)
+        (groups_of dialect) }
+{
+    match dialect.leading().key(text.as_bytes()) {
+        Some(byte) => dialect.rows_at(byte),
+        None => &[],
     }
+}
+
+/// The first of the rows that stands at the front of the text.
+fn first(rows: &'static [Row], text: &str) -> Option<&'static Row>
+    ensures { spec.found_entry result ≡ first_standing (spec.entries rows.now) text.now }
+{
+    'rows: for at in 0..rows.len() {
+        let row = &rows[at];
+        if stands(row, text) {
+            return Some(row);
+        }
+    }
+    None
 }
 
 /// Whether the row stands at the front of the text.
-fn stands(row: Row, text: &str) -> bool
-    ensures { result ≡ spec.stands (spec.entry_of row) text.now }
+fn stands(row: &Row, text: &str) -> bool
+    ensures { result ≡ spec.stands (spec.entry_of row.now) text.now }
 {
     let bytes = text.as_bytes();
     let own = row.text.as_bytes();

@@ -10,7 +10,7 @@ use crate::character::{first_char, push_char};
 use std::alloc::AllocError;
 use timefd_language::text::tail;
 
-/// What stands next behind an apostrophe that opens.
+/// What stands next after an apostrophe that opens.
 #[derive(Clone, Copy)]
 pub enum QuoteStep<'a> {
     /// Nothing.
@@ -25,12 +25,12 @@ pub enum QuoteStep<'a> {
 /// that; `None` if none closes it.
 pub fn push_quotation<'a>(
     answer: &mut String,
-    behind: &'a str,
+    after: &'a str,
 ) -> Result<Option<&'a str>, AllocError>
-    ensures { IfOk result (λ rest. AppendsQuotation behind.now (string_bytes answer.old)
+    ensures { IfOk result (λ rest. AppendsQuotation after.now (string_bytes answer.old)
         (string_bytes answer.new) rest) }
 {
-    let mut rest = behind;
+    let mut rest = after;
     'characters: loop {
         match quote_step(rest) {
             QuoteStep::End => return Ok(None),
@@ -43,7 +43,7 @@ pub fn push_quotation<'a>(
     }
 }
 
-/// What stands next behind an apostrophe that opens.
+/// What stands next after an apostrophe that opens.
 fn quote_step(text: &str) -> QuoteStep<'_>
     ensures { IsQuoteStep text.now result }
 {
@@ -53,10 +53,10 @@ fn quote_step(text: &str) -> QuoteStep<'_>
     if !begins_with(text, b'\'') {
         return QuoteStep::Character(character, after);
     }
-    let behind = tail(text);
-    match behind.as_bytes() {
-        [b'\'', ..] => QuoteStep::Character("'", tail(behind)),
-        _ => QuoteStep::Closing(behind),
+    let closed = tail(text);
+    match closed.as_bytes() {
+        [b'\'', ..] => QuoteStep::Character("'", tail(closed)),
+        _ => QuoteStep::Closing(closed),
     }
 }
 
@@ -69,12 +69,12 @@ pub fn begins_with(text: &str, byte: u8) -> bool
 }
 
 /// What stands between a `[` and the last `]` before the next `[`, and what follows that.
-pub fn bracketed(behind: &str) -> Option<(&str, &str)>
-    ensures { IsBracketed behind.now result }
+pub fn bracketed(after: &str) -> Option<(&str, &str)>
+    ensures { IsBracketed after.now result }
 {
-    match closing(behind.as_bytes()) {
+    match closing(after.as_bytes()) {
         Some(at) => {
-            let (quoted, rest) = behind.split_at(at);
+            let (quoted, rest) = after.split_at(at);
             Some((quoted, tail(rest)))
         }
         None => None,
@@ -82,17 +82,17 @@ pub fn bracketed(behind: &str) -> Option<(&str, &str)>
 }
 
 /// The index of the last `]` before the next `[`.
-fn closing(behind: &[u8]) -> Option<usize>
-    ensures index { result ≡ spec.closing behind.now }
-    ensures within { IfSome result (λ at. at < length behind.now) }
-    ensures bracket { IfSome result (λ at. slice_index behind.now at ≡ right) }
+fn closing(after: &[u8]) -> Option<usize>
+    ensures index { result ≡ spec.closing after.now }
+    ensures within { IfSome result (λ at. at < length after.now) }
+    ensures bracket { IfSome result (λ at. slice_index after.now at ≡ right) }
 {
     let mut last = None;
-    'bytes: for at in 0..behind.len() {
-        if behind[at] == b'[' {
+    'bytes: for at in 0..after.len() {
+        if after[at] == b'[' {
             return last;
         }
-        if behind[at] == b']' {
+        if after[at] == b']' {
             last = Some(at);
         }
     }

@@ -9,7 +9,7 @@ ghost use Rattle.timefd_dialect.specs.declared.reason.Reason.{Reason};
 
 use crate::dialect::Dialect;
 use crate::error::{DialectError, Refusal};
-use crate::front::{Stop, push_front};
+use crate::front::{Stop, push_pieces};
 use crate::limits::Limits;
 use std::alloc::Global;
 
@@ -55,11 +55,11 @@ fn text_of_format(alloc: Global, dialect: Dialect, format: &str) -> Result<Conve
         (string_bytes answer.text)) }
     ensures fault { IfErr result (IsRefusedFor dialect format.now) }
 {
-    let mut text = String::new(alloc);
+    let mut text = String::with_capacity(alloc, first_room(format))?;
     let mut limits = Limits::ALL;
     let mut rest = format;
     'pieces: while !rest.is_empty() {
-        match push_front(&mut text, dialect, rest) {
+        match push_pieces(&mut text, dialect, rest) {
             Ok(step) => {
                 limits = limits.narrowed(step.range);
                 rest = step.rest;
@@ -72,4 +72,9 @@ fn text_of_format(alloc: Global, dialect: Dialect, format: &str) -> Result<Conve
         }
     }
     Ok(Converted { text, limits })
+}
+
+/// For how many bytes the text of a format has room at first. Most of up to 64 bytes need no more.
+fn first_room(format: &str) -> usize {
+    8 * format.len().min(64)
 }

@@ -133,14 +133,16 @@ const C: &[Row] = &[
     row!("[minute]" => "[minute padding:none]"),
     row!("[second]" => "[second padding:none]"),
     row!("[year]" => "[year padding:none]"),
-    row!("[weekday repr:short]" => "[first [[weekday case_sensitive:false]] [[weekday \
-        repr:short case_sensitive:false]]]"),
-    row!("[weekday]" => "[first [[weekday case_sensitive:false]] [[weekday \
-        repr:short case_sensitive:false]]]"),
-    row!("[month repr:short]" => "[first [[month repr:long case_sensitive:false]] [[month \
-        repr:short case_sensitive:false]]]"),
-    row!("[month repr:long]" => "[first [[month repr:long case_sensitive:false]] [[month \
-        repr:short case_sensitive:false]]]"),
+    row!("[weekday repr:short]" => "\
+        [first [[weekday case_sensitive:false]] [[weekday repr:short case_sensitive:false]]]"),
+    row!("[weekday]" => "\
+        [first [[weekday case_sensitive:false]] [[weekday repr:short case_sensitive:false]]]"),
+    row!("[month repr:short]" => "\
+        [first [[month repr:long case_sensitive:false]] [[month repr:short \
+        case_sensitive:false]]]"),
+    row!("[month repr:long]" => "\
+        [first [[month repr:long case_sensitive:false]] [[month repr:short \
+        case_sensitive:false]]]"),
     row!("[period]" => "[period case_sensitive:false]"),
     row!("[offset_hour sign:mandatory][offset_minute]" => "\
         [first [[offset_hour sign:mandatory]:[offset_minute]] [[offset_hour \
@@ -175,11 +177,12 @@ const CHRONO: &[Row] = &[
     row!("[second]" => "[second padding:none]"),
     row!("[year]" => "[year padding:none]"),
     row!("[weekday repr:short]" => "[weekday repr:short case_sensitive:false]"),
-    row!("[weekday]" => "[first [[weekday case_sensitive:false]] [[weekday \
-        repr:short case_sensitive:false]]]"),
+    row!("[weekday]" => "\
+        [first [[weekday case_sensitive:false]] [[weekday repr:short case_sensitive:false]]]"),
     row!("[month repr:short]" => "[month repr:short case_sensitive:false]"),
-    row!("[month repr:long]" => "[first [[month repr:long case_sensitive:false]] [[month \
-        repr:short case_sensitive:false]]]"),
+    row!("[month repr:long]" => "\
+        [first [[month repr:long case_sensitive:false]] [[month repr:short \
+        case_sensitive:false]]]"),
     row!("[period]" => "[period case_sensitive:false]"),
     row!("[period case:lower]" => "[period case_sensitive:false]"),
     row!(".[subsecond digits:3]" => "[optional [.[subsecond]]]"),
@@ -250,14 +253,16 @@ const RUBY: &[Row] = &[
     row!("[month]" => "[month padding:none]"),
     row!("[minute]" => "[minute padding:none]"),
     row!("[second]" => "[second padding:none]"),
-    row!("[weekday repr:short]" => "[first [[weekday case_sensitive:false]] [[weekday \
-        repr:short case_sensitive:false]]]"),
-    row!("[weekday]" => "[first [[weekday case_sensitive:false]] [[weekday \
-        repr:short case_sensitive:false]]]"),
-    row!("[month repr:short]" => "[first [[month repr:long case_sensitive:false]] [[month \
-        repr:short case_sensitive:false]]]"),
-    row!("[month repr:long]" => "[first [[month repr:long case_sensitive:false]] [[month \
-        repr:short case_sensitive:false]]]"),
+    row!("[weekday repr:short]" => "\
+        [first [[weekday case_sensitive:false]] [[weekday repr:short case_sensitive:false]]]"),
+    row!("[weekday]" => "\
+        [first [[weekday case_sensitive:false]] [[weekday repr:short case_sensitive:false]]]"),
+    row!("[month repr:short]" => "\
+        [first [[month repr:long case_sensitive:false]] [[month repr:short \
+        case_sensitive:false]]]"),
+    row!("[month repr:long]" => "\
+        [first [[month repr:long case_sensitive:false]] [[month repr:short \
+        case_sensitive:false]]]"),
     row!("[period]" => "[period case_sensitive:false]"),
     row!("[period case:lower]" => "[period case_sensitive:false]"),
     row!("[offset_hour sign:mandatory][offset_minute]" => "\

@@ -1,50 +1,185 @@
 //! The rows of C. `tables/write` writes them.
 
+ghost use Rattle.std.specs.Prelude.{◌≡◌};
+ghost use Rattle.timefd_dialect.specs.Groups.{rows_at};
+ghost use Rattle.timefd_dialect.specs.C.{c_groups, c_marked};
+ghost use Rattle.timefd_dialect.specs.Rows.{entries};
+
 use crate::reason::Reason;
 use crate::row::{NotBefore, Range, Row, Verdict, row};
 
-pub const PLAIN: &[Row] = &[
-    row!("%d" => "[day]"),
-    row!("%e" => "[day padding:space]"),
-    row!("%H" => "[hour]"),
-    row!("%k" => "[hour padding:space]"),
-    row!("%I" => "[hour repr:12]"),
-    row!("%l" => "[hour repr:12 padding:space]"),
-    row!("%j" => "[ordinal]"),
-    row!("%m" => "[month]"),
-    row!("%M" => "[minute]"),
-    row!("%S" => "[second]"),
-    row!("%U" => "[week_number repr:sunday]"),
-    row!("%V" => "[week_number]"),
-    row!("%W" => "[week_number repr:monday]"),
-    row!("%y" => "[year repr:last_two]"),
-    row!("%g" => "[year repr:last_two base:iso_week]" within YearsFrom1),
-    row!("%C" => "[year repr:century]" within YearsFrom1000),
-    row!("%Y" => "[year]" within YearsFrom1000),
-    row!("%G" => "[year base:iso_week]" within YearsFrom1000),
-    row!("%u" => "[weekday repr:monday]"),
-    row!("%w" => "[weekday repr:sunday one_indexed:false]"),
-    row!("%a" => "[weekday repr:short]"),
-    row!("%A" => "[weekday]"),
-    row!("%b" => "[month repr:short]"),
-    row!("%B" => "[month repr:long]"),
-    row!("%h" => "[month repr:short]"),
-    row!("%p" => "[period]"),
-    row!("%P" => "[period case:lower]"),
+/// The rows of the directives with this byte after the `%`, the longest first.
+#[tactic(auto, unfolding(crate::specs::C::c_groups))]
+pub fn c_rows(byte: u8) -> &'static [Row]
+    ensures { entries result.now ≡ rows_at byte c_groups }
+{
+    match byte {
+        b'd' => SMALL_D,
+        b'e' => SMALL_E,
+        b'H' => CAPITAL_H,
+        b'k' => SMALL_K,
+        b'I' => CAPITAL_I,
+        b'l' => SMALL_L,
+        b'j' => SMALL_J,
+        b'm' => SMALL_M,
+        b'M' => CAPITAL_M,
+        b'S' => CAPITAL_S,
+        b'U' => CAPITAL_U,
+        b'V' => CAPITAL_V,
+        b'W' => CAPITAL_W,
+        b'y' => SMALL_Y,
+        b'g' => SMALL_G,
+        b'C' => CAPITAL_C,
+        b'Y' => CAPITAL_Y,
+        b'G' => CAPITAL_G,
+        b'u' => SMALL_U,
+        b'w' => SMALL_W,
+        b'a' => SMALL_A,
+        b'A' => CAPITAL_A,
+        b'b' => SMALL_B,
+        b'B' => CAPITAL_B,
+        b'h' => SMALL_H,
+        b'p' => SMALL_P,
+        b'P' => CAPITAL_P,
+        b'c' => SMALL_C,
+        b'D' => CAPITAL_D,
+        b'F' => CAPITAL_F,
+        b'r' => SMALL_R,
+        b'R' => CAPITAL_R,
+        b'T' => CAPITAL_T,
+        b'x' => SMALL_X,
+        b'X' => CAPITAL_X,
+        b'n' => SMALL_N,
+        b't' => SMALL_T,
+        b'z' => SMALL_Z,
+        b's' => SMALL_S,
+        b'E' => CAPITAL_E,
+        b'O' => CAPITAL_O,
+        b'Z' => CAPITAL_Z,
+        b'v' => SMALL_V,
+        b'f' => SMALL_F,
+        b'N' => CAPITAL_N,
+        b'L' => CAPITAL_L,
+        b'Q' => CAPITAL_Q,
+        b'q' => SMALL_Q,
+        b'i' => SMALL_I,
+        b'J' => CAPITAL_J,
+        b'K' => CAPITAL_K,
+        b'o' => SMALL_O,
+        _ => marked_rows(byte),
+    }
+}
+
+/// Those of the directives with a flag, a digit or another mark there, the longest first.
+#[tactic(auto, unfolding(crate::specs::C::c_marked))]
+fn marked_rows(byte: u8) -> &'static [Row]
+    ensures { entries result.now ≡ rows_at byte c_marked }
+{
+    match byte {
+        b'%' => PERCENT_SIGN,
+        b'-' => HYPHEN,
+        b'_' => UNDERSCORE,
+        b'0' => DIGIT_ZERO,
+        b'^' => CARET,
+        b'#' => HASH,
+        b'+' => PLUS_SIGN,
+        b'1' => DIGIT_ONE,
+        b'2' => DIGIT_TWO,
+        b'3' => DIGIT_THREE,
+        b'4' => DIGIT_FOUR,
+        b'5' => DIGIT_FIVE,
+        b'6' => DIGIT_SIX,
+        b'7' => DIGIT_SEVEN,
+        b'8' => DIGIT_EIGHT,
+        b'9' => DIGIT_NINE,
+        _ => &[],
+    }
+}
+
+const SMALL_D: &[Row] = &[row!("%d" => "[day]")];
+
+const SMALL_E: &[Row] = &[row!("%e" => "[day padding:space]")];
+
+const CAPITAL_H: &[Row] = &[row!("%H" => "[hour]")];
+
+const SMALL_K: &[Row] = &[row!("%k" => "[hour padding:space]")];
+
+const CAPITAL_I: &[Row] = &[row!("%I" => "[hour repr:12]")];
+
+const SMALL_L: &[Row] = &[row!("%l" => "[hour repr:12 padding:space]")];
+
+const SMALL_J: &[Row] = &[row!("%j" => "[ordinal]")];
+
+const SMALL_M: &[Row] = &[row!("%m" => "[month]")];
+
+const CAPITAL_M: &[Row] = &[row!("%M" => "[minute]")];
+
+const CAPITAL_S: &[Row] = &[row!("%S" => "[second]")];
+
+const CAPITAL_U: &[Row] = &[row!("%U" => "[week_number repr:sunday]")];
+
+const CAPITAL_V: &[Row] = &[row!("%V" => "[week_number]")];
+
+const CAPITAL_W: &[Row] = &[row!("%W" => "[week_number repr:monday]")];
+
+const SMALL_Y: &[Row] = &[row!("%y" => "[year repr:last_two]")];
+
+const SMALL_G: &[Row] = &[row!("%g" => "[year repr:last_two base:iso_week]" within YearsFrom1)];
+
+const CAPITAL_C: &[Row] = &[row!("%C" => "[year repr:century]" within YearsFrom1000)];
+
+const CAPITAL_Y: &[Row] = &[row!("%Y" => "[year]" within YearsFrom1000)];
+
+const CAPITAL_G: &[Row] = &[row!("%G" => "[year base:iso_week]" within YearsFrom1000)];
+
+const SMALL_U: &[Row] = &[row!("%u" => "[weekday repr:monday]")];
+
+const SMALL_W: &[Row] = &[row!("%w" => "[weekday repr:sunday one_indexed:false]")];
+
+const SMALL_A: &[Row] = &[row!("%a" => "[weekday repr:short]")];
+
+const CAPITAL_A: &[Row] = &[row!("%A" => "[weekday]")];
+
+const SMALL_B: &[Row] = &[row!("%b" => "[month repr:short]")];
+
+const CAPITAL_B: &[Row] = &[row!("%B" => "[month repr:long]")];
+
+const SMALL_H: &[Row] = &[row!("%h" => "[month repr:short]")];
+
+const SMALL_P: &[Row] = &[row!("%p" => "[period]")];
+
+const CAPITAL_P: &[Row] = &[row!("%P" => "[period case:lower]")];
+
+const SMALL_C: &[Row] = &[
     row!("%c" => "[weekday repr:short] [month repr:short] [day padding:space] \
         [hour]:[minute]:[second] [year]" within YearsFrom1000),
-    row!("%D" => "[month]/[day]/[year repr:last_two]"),
-    row!("%F" => "[year]-[month]-[day]" within YearsFrom1000),
-    row!("%r" => "[hour repr:12]:[minute]:[second] [period]"),
-    row!("%R" => "[hour]:[minute]"),
-    row!("%T" => "[hour]:[minute]:[second]"),
-    row!("%x" => "[month]/[day]/[year repr:last_two]"),
-    row!("%X" => "[hour]:[minute]:[second]"),
-    row!("%%" => "%"),
-    row!("%n" => "\n"),
-    row!("%t" => "\t"),
-    row!("%z" => "[offset_hour sign:mandatory][offset_minute]"),
-    row!("%s" => "[unix_timestamp]"),
+];
+
+const CAPITAL_D: &[Row] = &[row!("%D" => "[month]/[day]/[year repr:last_two]")];
+
+const CAPITAL_F: &[Row] = &[row!("%F" => "[year]-[month]-[day]" within YearsFrom1000)];
+
+const SMALL_R: &[Row] = &[row!("%r" => "[hour repr:12]:[minute]:[second] [period]")];
+
+const CAPITAL_R: &[Row] = &[row!("%R" => "[hour]:[minute]")];
+
+const CAPITAL_T: &[Row] = &[row!("%T" => "[hour]:[minute]:[second]")];
+
+const SMALL_X: &[Row] = &[row!("%x" => "[month]/[day]/[year repr:last_two]")];
+
+const CAPITAL_X: &[Row] = &[row!("%X" => "[hour]:[minute]:[second]")];
+
+const PERCENT_SIGN: &[Row] = &[row!("%%" => "%")];
+
+const SMALL_N: &[Row] = &[row!("%n" => "\n")];
+
+const SMALL_T: &[Row] = &[row!("%t" => "\t")];
+
+const SMALL_Z: &[Row] = &[row!("%z" => "[offset_hour sign:mandatory][offset_minute]")];
+
+const SMALL_S: &[Row] = &[row!("%s" => "[unix_timestamp]")];
+
+const CAPITAL_E: &[Row] = &[
     row!("%Ec" => "[weekday repr:short] [month repr:short] [day padding:space] \
         [hour]:[minute]:[second] [year]" within YearsFrom1000),
     row!("%EC" => "[year repr:century]" within YearsFrom1000),
@@ -52,6 +187,9 @@ pub const PLAIN: &[Row] = &[
     row!("%EX" => "[hour]:[minute]:[second]"),
     row!("%Ey" => "[year repr:last_two]"),
     row!("%EY" => "[year]" within YearsFrom1000),
+];
+
+const CAPITAL_O: &[Row] = &[
     row!("%Od" => "[day]"),
     row!("%OH" => "[hour]"),
     row!("%OI" => "[hour repr:12]"),
@@ -67,348 +205,379 @@ pub const PLAIN: &[Row] = &[
     row!("%Oe" => "[day padding:space]"),
     row!("%Ok" => "[hour padding:space]"),
     row!("%Ol" => "[hour repr:12 padding:space]"),
-    row!("%Z" refused ZoneName),
-    row!("%+" refused Unsupported),
-    row!("%v" refused Unsupported),
-    row!("%f" refused Unsupported),
-    row!("%N" refused Unsupported),
-    row!("%L" refused Unsupported),
-    row!("%Q" refused Unsupported),
-    row!("%q" refused Unsupported),
-    row!("%i" refused Unsupported),
-    row!("%J" refused Unsupported),
-    row!("%K" refused Unsupported),
-    row!("%o" refused Unsupported),
-    row!("%" refused UnknownDirective),
-    row!("%-" refused Flag),
-    row!("%_" refused Flag),
-    row!("%0" refused Flag),
-    row!("%^" refused Flag),
-    row!("%#" refused Flag),
-    row!("%1" refused Width),
-    row!("%2" refused Width),
-    row!("%3" refused Width),
-    row!("%4" refused Width),
-    row!("%5" refused Width),
-    row!("%6" refused Width),
-    row!("%7" refused Width),
-    row!("%8" refused Width),
-    row!("%9" refused Width),
 ];
 
-pub const PADDED: &[Row] = &[
-    row!("%-z" refused VariableWidth),
-    row!("%_z" refused VariableWidth),
-    row!("%0z" => "[offset_hour sign:mandatory][offset_minute]"),
-    row!("%-d" => "[day padding:none]"),
-    row!("%_d" => "[day padding:space]"),
-    row!("%0d" => "[day]"),
-    row!("%-e" => "[day padding:none]"),
-    row!("%_e" => "[day padding:space]"),
-    row!("%0e" => "[day]"),
-    row!("%-H" => "[hour padding:none]"),
-    row!("%_H" => "[hour padding:space]"),
-    row!("%0H" => "[hour]"),
-    row!("%-k" => "[hour padding:none]"),
-    row!("%_k" => "[hour padding:space]"),
-    row!("%0k" => "[hour]"),
-    row!("%-I" => "[hour repr:12 padding:none]"),
-    row!("%_I" => "[hour repr:12 padding:space]"),
-    row!("%0I" => "[hour repr:12]"),
-    row!("%-l" => "[hour repr:12 padding:none]"),
-    row!("%_l" => "[hour repr:12 padding:space]"),
-    row!("%0l" => "[hour repr:12]"),
-    row!("%-j" => "[ordinal padding:none]"),
-    row!("%_j" => "[ordinal padding:space]"),
-    row!("%0j" => "[ordinal]"),
-    row!("%-m" => "[month padding:none]"),
-    row!("%_m" => "[month padding:space]"),
-    row!("%0m" => "[month]"),
-    row!("%-M" => "[minute padding:none]"),
-    row!("%_M" => "[minute padding:space]"),
-    row!("%0M" => "[minute]"),
-    row!("%-S" => "[second padding:none]"),
-    row!("%_S" => "[second padding:space]"),
-    row!("%0S" => "[second]"),
-    row!("%-U" => "[week_number repr:sunday padding:none]"),
-    row!("%_U" => "[week_number repr:sunday padding:space]"),
-    row!("%0U" => "[week_number repr:sunday]"),
-    row!("%-V" => "[week_number padding:none]"),
-    row!("%_V" => "[week_number padding:space]"),
-    row!("%0V" => "[week_number]"),
-    row!("%-W" => "[week_number repr:monday padding:none]"),
-    row!("%_W" => "[week_number repr:monday padding:space]"),
-    row!("%0W" => "[week_number repr:monday]"),
-    row!("%-y" => "[year repr:last_two padding:none]"),
-    row!("%_y" => "[year repr:last_two padding:space]"),
-    row!("%0y" => "[year repr:last_two]"),
-    row!("%-g" => "[year repr:last_two base:iso_week padding:none]" within YearsFrom1),
-    row!("%_g" => "[year repr:last_two base:iso_week padding:space]" within YearsFrom1),
-    row!("%0g" => "[year repr:last_two base:iso_week]" within YearsFrom1),
-    row!("%-C" => "[year repr:century]" within YearsFrom1000),
-    row!("%_C" => "[year repr:century]" within YearsFrom1000),
-    row!("%0C" => "[year repr:century]" within YearsFrom1000),
-    row!("%-Y" => "[year]" within YearsFrom1000),
-    row!("%_Y" => "[year]" within YearsFrom1000),
-    row!("%0Y" => "[year]" within YearsFrom1000),
-    row!("%-G" => "[year base:iso_week]" within YearsFrom1000),
-    row!("%_G" => "[year base:iso_week]" within YearsFrom1000),
-    row!("%0G" => "[year base:iso_week]" within YearsFrom1000),
-    row!("%-u" => "[weekday repr:monday]"),
-    row!("%_u" => "[weekday repr:monday]"),
-    row!("%0u" => "[weekday repr:monday]"),
-    row!("%-w" => "[weekday repr:sunday one_indexed:false]"),
-    row!("%_w" => "[weekday repr:sunday one_indexed:false]"),
-    row!("%0w" => "[weekday repr:sunday one_indexed:false]"),
-    row!("%-a" => "[weekday repr:short]"),
-    row!("%_a" => "[weekday repr:short]"),
-    row!("%0a" => "[weekday repr:short]"),
-    row!("%-A" => "[weekday]"),
-    row!("%_A" => "[weekday]"),
-    row!("%0A" => "[weekday]"),
-    row!("%-b" => "[month repr:short]"),
-    row!("%_b" => "[month repr:short]"),
-    row!("%0b" => "[month repr:short]"),
-    row!("%-B" => "[month repr:long]"),
-    row!("%_B" => "[month repr:long]"),
-    row!("%0B" => "[month repr:long]"),
-    row!("%-h" => "[month repr:short]"),
-    row!("%_h" => "[month repr:short]"),
-    row!("%0h" => "[month repr:short]"),
-    row!("%-p" => "[period]"),
-    row!("%_p" => "[period]"),
-    row!("%0p" => "[period]"),
-    row!("%-P" => "[period case:lower]"),
-    row!("%_P" => "[period case:lower]"),
-    row!("%0P" => "[period case:lower]"),
-    row!("%-c" => "[weekday repr:short] [month repr:short] [day padding:space] \
-        [hour]:[minute]:[second] [year]" within YearsFrom1000),
-    row!("%_c" => "[weekday repr:short] [month repr:short] [day padding:space] \
-        [hour]:[minute]:[second] [year]" within YearsFrom1000),
-    row!("%0c" => "[weekday repr:short] [month repr:short] [day padding:space] \
-        [hour]:[minute]:[second] [year]" within YearsFrom1000),
-    row!("%-D" => "[month]/[day]/[year repr:last_two]"),
-    row!("%_D" => "[month]/[day]/[year repr:last_two]"),
-    row!("%0D" => "[month]/[day]/[year repr:last_two]"),
-    row!("%-F" => "[year]-[month]-[day]" within YearsFrom1000),
-    row!("%_F" => "[year]-[month]-[day]" within YearsFrom1000),
-    row!("%0F" => "[year]-[month]-[day]" within YearsFrom1000),
-    row!("%-r" => "[hour repr:12]:[minute]:[second] [period]"),
-    row!("%_r" => "[hour repr:12]:[minute]:[second] [period]"),
-    row!("%0r" => "[hour repr:12]:[minute]:[second] [period]"),
-    row!("%-R" => "[hour]:[minute]"),
-    row!("%_R" => "[hour]:[minute]"),
-    row!("%0R" => "[hour]:[minute]"),
-    row!("%-T" => "[hour]:[minute]:[second]"),
-    row!("%_T" => "[hour]:[minute]:[second]"),
-    row!("%0T" => "[hour]:[minute]:[second]"),
-    row!("%-x" => "[month]/[day]/[year repr:last_two]"),
-    row!("%_x" => "[month]/[day]/[year repr:last_two]"),
-    row!("%0x" => "[month]/[day]/[year repr:last_two]"),
-    row!("%-X" => "[hour]:[minute]:[second]"),
-    row!("%_X" => "[hour]:[minute]:[second]"),
-    row!("%0X" => "[hour]:[minute]:[second]"),
-    row!("%-%" => "%"),
-    row!("%_%" => "%"),
-    row!("%0%" => "%"),
-    row!("%-n" => "\n"),
-    row!("%_n" => "\n"),
-    row!("%0n" => "\n"),
-    row!("%-t" => "\t"),
-    row!("%_t" => "\t"),
-    row!("%0t" => "\t"),
-    row!("%-s" => "[unix_timestamp]"),
-    row!("%_s" => "[unix_timestamp]"),
-    row!("%0s" => "[unix_timestamp]"),
+const CAPITAL_Z: &[Row] = &[row!("%Z" refused ZoneName)];
+
+const HYPHEN: &[Row] = &[
     row!("%-Ec" => "[weekday repr:short] [month repr:short] [day padding:space] \
         [hour]:[minute]:[second] [year]" within YearsFrom1000),
-    row!("%_Ec" => "[weekday repr:short] [month repr:short] [day padding:space] \
-        [hour]:[minute]:[second] [year]" within YearsFrom1000),
-    row!("%0Ec" => "[weekday repr:short] [month repr:short] [day padding:space] \
-        [hour]:[minute]:[second] [year]" within YearsFrom1000),
     row!("%-EC" => "[year repr:century]" within YearsFrom1000),
-    row!("%_EC" => "[year repr:century]" within YearsFrom1000),
-    row!("%0EC" => "[year repr:century]" within YearsFrom1000),
     row!("%-Ex" => "[month]/[day]/[year repr:last_two]"),
-    row!("%_Ex" => "[month]/[day]/[year repr:last_two]"),
-    row!("%0Ex" => "[month]/[day]/[year repr:last_two]"),
     row!("%-EX" => "[hour]:[minute]:[second]"),
-    row!("%_EX" => "[hour]:[minute]:[second]"),
-    row!("%0EX" => "[hour]:[minute]:[second]"),
     row!("%-Ey" => "[year repr:last_two padding:none]"),
-    row!("%_Ey" => "[year repr:last_two padding:space]"),
-    row!("%0Ey" => "[year repr:last_two]"),
     row!("%-EY" => "[year]" within YearsFrom1000),
-    row!("%_EY" => "[year]" within YearsFrom1000),
-    row!("%0EY" => "[year]" within YearsFrom1000),
     row!("%-Od" => "[day padding:none]"),
-    row!("%_Od" => "[day padding:space]"),
-    row!("%0Od" => "[day]"),
     row!("%-OH" => "[hour padding:none]"),
-    row!("%_OH" => "[hour padding:space]"),
-    row!("%0OH" => "[hour]"),
     row!("%-OI" => "[hour repr:12 padding:none]"),
-    row!("%_OI" => "[hour repr:12 padding:space]"),
-    row!("%0OI" => "[hour repr:12]"),
     row!("%-OM" => "[minute padding:none]"),
-    row!("%_OM" => "[minute padding:space]"),
-    row!("%0OM" => "[minute]"),
     row!("%-OS" => "[second padding:none]"),
-    row!("%_OS" => "[second padding:space]"),
-    row!("%0OS" => "[second]"),
     row!("%-OU" => "[week_number repr:sunday padding:none]"),
-    row!("%_OU" => "[week_number repr:sunday padding:space]"),
-    row!("%0OU" => "[week_number repr:sunday]"),
     row!("%-OV" => "[week_number padding:none]"),
-    row!("%_OV" => "[week_number padding:space]"),
-    row!("%0OV" => "[week_number]"),
     row!("%-OW" => "[week_number repr:monday padding:none]"),
-    row!("%_OW" => "[week_number repr:monday padding:space]"),
-    row!("%0OW" => "[week_number repr:monday]"),
     row!("%-Om" => "[month padding:none]"),
-    row!("%_Om" => "[month padding:space]"),
-    row!("%0Om" => "[month]"),
     row!("%-Ou" => "[weekday repr:monday]"),
-    row!("%_Ou" => "[weekday repr:monday]"),
-    row!("%0Ou" => "[weekday repr:monday]"),
     row!("%-Ow" => "[weekday repr:sunday one_indexed:false]"),
-    row!("%_Ow" => "[weekday repr:sunday one_indexed:false]"),
-    row!("%0Ow" => "[weekday repr:sunday one_indexed:false]"),
     row!("%-Oy" => "[year repr:last_two padding:none]"),
-    row!("%_Oy" => "[year repr:last_two padding:space]"),
-    row!("%0Oy" => "[year repr:last_two]"),
     row!("%-Oe" => "[day padding:none]"),
-    row!("%_Oe" => "[day padding:space]"),
-    row!("%0Oe" => "[day]"),
     row!("%-Ok" => "[hour padding:none]"),
-    row!("%_Ok" => "[hour padding:space]"),
-    row!("%0Ok" => "[hour]"),
     row!("%-Ol" => "[hour repr:12 padding:none]"),
-    row!("%_Ol" => "[hour repr:12 padding:space]"),
-    row!("%0Ol" => "[hour repr:12]"),
+    row!("%-z" refused VariableWidth),
+    row!("%-d" => "[day padding:none]"),
+    row!("%-e" => "[day padding:none]"),
+    row!("%-H" => "[hour padding:none]"),
+    row!("%-k" => "[hour padding:none]"),
+    row!("%-I" => "[hour repr:12 padding:none]"),
+    row!("%-l" => "[hour repr:12 padding:none]"),
+    row!("%-j" => "[ordinal padding:none]"),
+    row!("%-m" => "[month padding:none]"),
+    row!("%-M" => "[minute padding:none]"),
+    row!("%-S" => "[second padding:none]"),
+    row!("%-U" => "[week_number repr:sunday padding:none]"),
+    row!("%-V" => "[week_number padding:none]"),
+    row!("%-W" => "[week_number repr:monday padding:none]"),
+    row!("%-y" => "[year repr:last_two padding:none]"),
+    row!("%-g" => "[year repr:last_two base:iso_week \
+        padding:none]" within YearsFrom1),
+    row!("%-C" => "[year repr:century]" within YearsFrom1000),
+    row!("%-Y" => "[year]" within YearsFrom1000),
+    row!("%-G" => "[year base:iso_week]" within YearsFrom1000),
+    row!("%-u" => "[weekday repr:monday]"),
+    row!("%-w" => "[weekday repr:sunday one_indexed:false]"),
+    row!("%-a" => "[weekday repr:short]"),
+    row!("%-A" => "[weekday]"),
+    row!("%-b" => "[month repr:short]"),
+    row!("%-B" => "[month repr:long]"),
+    row!("%-h" => "[month repr:short]"),
+    row!("%-p" => "[period]"),
+    row!("%-P" => "[period case:lower]"),
+    row!("%-c" => "[weekday repr:short] [month repr:short] [day padding:space] \
+        [hour]:[minute]:[second] [year]" within YearsFrom1000),
+    row!("%-D" => "[month]/[day]/[year repr:last_two]"),
+    row!("%-F" => "[year]-[month]-[day]" within YearsFrom1000),
+    row!("%-r" => "[hour repr:12]:[minute]:[second] [period]"),
+    row!("%-R" => "[hour]:[minute]"),
+    row!("%-T" => "[hour]:[minute]:[second]"),
+    row!("%-x" => "[month]/[day]/[year repr:last_two]"),
+    row!("%-X" => "[hour]:[minute]:[second]"),
+    row!("%-%" => "%"),
+    row!("%-n" => "\n"),
+    row!("%-t" => "\t"),
+    row!("%-s" => "[unix_timestamp]"),
+    row!("%-" refused Flag),
 ];
 
-pub const CASED: &[Row] = &[
+const UNDERSCORE: &[Row] = &[
+    row!("%_Ec" => "[weekday repr:short] [month repr:short] [day padding:space] \
+        [hour]:[minute]:[second] [year]" within YearsFrom1000),
+    row!("%_EC" => "[year repr:century]" within YearsFrom1000),
+    row!("%_Ex" => "[month]/[day]/[year repr:last_two]"),
+    row!("%_EX" => "[hour]:[minute]:[second]"),
+    row!("%_Ey" => "[year repr:last_two padding:space]"),
+    row!("%_EY" => "[year]" within YearsFrom1000),
+    row!("%_Od" => "[day padding:space]"),
+    row!("%_OH" => "[hour padding:space]"),
+    row!("%_OI" => "[hour repr:12 padding:space]"),
+    row!("%_OM" => "[minute padding:space]"),
+    row!("%_OS" => "[second padding:space]"),
+    row!("%_OU" => "[week_number repr:sunday padding:space]"),
+    row!("%_OV" => "[week_number padding:space]"),
+    row!("%_OW" => "[week_number repr:monday padding:space]"),
+    row!("%_Om" => "[month padding:space]"),
+    row!("%_Ou" => "[weekday repr:monday]"),
+    row!("%_Ow" => "[weekday repr:sunday one_indexed:false]"),
+    row!("%_Oy" => "[year repr:last_two padding:space]"),
+    row!("%_Oe" => "[day padding:space]"),
+    row!("%_Ok" => "[hour padding:space]"),
+    row!("%_Ol" => "[hour repr:12 padding:space]"),
+    row!("%_z" refused VariableWidth),
+    row!("%_d" => "[day padding:space]"),
+    row!("%_e" => "[day padding:space]"),
+    row!("%_H" => "[hour padding:space]"),
+    row!("%_k" => "[hour padding:space]"),
+    row!("%_I" => "[hour repr:12 padding:space]"),
+    row!("%_l" => "[hour repr:12 padding:space]"),
+    row!("%_j" => "[ordinal padding:space]"),
+    row!("%_m" => "[month padding:space]"),
+    row!("%_M" => "[minute padding:space]"),
+    row!("%_S" => "[second padding:space]"),
+    row!("%_U" => "[week_number repr:sunday padding:space]"),
+    row!("%_V" => "[week_number padding:space]"),
+    row!("%_W" => "[week_number repr:monday padding:space]"),
+    row!("%_y" => "[year repr:last_two padding:space]"),
+    row!("%_g" => "[year repr:last_two base:iso_week \
+        padding:space]" within YearsFrom1),
+    row!("%_C" => "[year repr:century]" within YearsFrom1000),
+    row!("%_Y" => "[year]" within YearsFrom1000),
+    row!("%_G" => "[year base:iso_week]" within YearsFrom1000),
+    row!("%_u" => "[weekday repr:monday]"),
+    row!("%_w" => "[weekday repr:sunday one_indexed:false]"),
+    row!("%_a" => "[weekday repr:short]"),
+    row!("%_A" => "[weekday]"),
+    row!("%_b" => "[month repr:short]"),
+    row!("%_B" => "[month repr:long]"),
+    row!("%_h" => "[month repr:short]"),
+    row!("%_p" => "[period]"),
+    row!("%_P" => "[period case:lower]"),
+    row!("%_c" => "[weekday repr:short] [month repr:short] [day padding:space] \
+        [hour]:[minute]:[second] [year]" within YearsFrom1000),
+    row!("%_D" => "[month]/[day]/[year repr:last_two]"),
+    row!("%_F" => "[year]-[month]-[day]" within YearsFrom1000),
+    row!("%_r" => "[hour repr:12]:[minute]:[second] [period]"),
+    row!("%_R" => "[hour]:[minute]"),
+    row!("%_T" => "[hour]:[minute]:[second]"),
+    row!("%_x" => "[month]/[day]/[year repr:last_two]"),
+    row!("%_X" => "[hour]:[minute]:[second]"),
+    row!("%_%" => "%"),
+    row!("%_n" => "\n"),
+    row!("%_t" => "\t"),
+    row!("%_s" => "[unix_timestamp]"),
+    row!("%_" refused Flag),
+];
+
+const DIGIT_ZERO: &[Row] = &[
+    row!("%0Ec" => "[weekday repr:short] [month repr:short] [day padding:space] \
+        [hour]:[minute]:[second] [year]" within YearsFrom1000),
+    row!("%0EC" => "[year repr:century]" within YearsFrom1000),
+    row!("%0Ex" => "[month]/[day]/[year repr:last_two]"),
+    row!("%0EX" => "[hour]:[minute]:[second]"),
+    row!("%0Ey" => "[year repr:last_two]"),
+    row!("%0EY" => "[year]" within YearsFrom1000),
+    row!("%0Od" => "[day]"),
+    row!("%0OH" => "[hour]"),
+    row!("%0OI" => "[hour repr:12]"),
+    row!("%0OM" => "[minute]"),
+    row!("%0OS" => "[second]"),
+    row!("%0OU" => "[week_number repr:sunday]"),
+    row!("%0OV" => "[week_number]"),
+    row!("%0OW" => "[week_number repr:monday]"),
+    row!("%0Om" => "[month]"),
+    row!("%0Ou" => "[weekday repr:monday]"),
+    row!("%0Ow" => "[weekday repr:sunday one_indexed:false]"),
+    row!("%0Oy" => "[year repr:last_two]"),
+    row!("%0Oe" => "[day]"),
+    row!("%0Ok" => "[hour]"),
+    row!("%0Ol" => "[hour repr:12]"),
+    row!("%0z" => "[offset_hour sign:mandatory][offset_minute]"),
+    row!("%0d" => "[day]"),
+    row!("%0e" => "[day]"),
+    row!("%0H" => "[hour]"),
+    row!("%0k" => "[hour]"),
+    row!("%0I" => "[hour repr:12]"),
+    row!("%0l" => "[hour repr:12]"),
+    row!("%0j" => "[ordinal]"),
+    row!("%0m" => "[month]"),
+    row!("%0M" => "[minute]"),
+    row!("%0S" => "[second]"),
+    row!("%0U" => "[week_number repr:sunday]"),
+    row!("%0V" => "[week_number]"),
+    row!("%0W" => "[week_number repr:monday]"),
+    row!("%0y" => "[year repr:last_two]"),
+    row!("%0g" => "[year repr:last_two base:iso_week]" within YearsFrom1),
+    row!("%0C" => "[year repr:century]" within YearsFrom1000),
+    row!("%0Y" => "[year]" within YearsFrom1000),
+    row!("%0G" => "[year base:iso_week]" within YearsFrom1000),
+    row!("%0u" => "[weekday repr:monday]"),
+    row!("%0w" => "[weekday repr:sunday one_indexed:false]"),
+    row!("%0a" => "[weekday repr:short]"),
+    row!("%0A" => "[weekday]"),
+    row!("%0b" => "[month repr:short]"),
+    row!("%0B" => "[month repr:long]"),
+    row!("%0h" => "[month repr:short]"),
+    row!("%0p" => "[period]"),
+    row!("%0P" => "[period case:lower]"),
+    row!("%0c" => "[weekday repr:short] [month repr:short] [day padding:space] \
+        [hour]:[minute]:[second] [year]" within YearsFrom1000),
+    row!("%0D" => "[month]/[day]/[year repr:last_two]"),
+    row!("%0F" => "[year]-[month]-[day]" within YearsFrom1000),
+    row!("%0r" => "[hour repr:12]:[minute]:[second] [period]"),
+    row!("%0R" => "[hour]:[minute]"),
+    row!("%0T" => "[hour]:[minute]:[second]"),
+    row!("%0x" => "[month]/[day]/[year repr:last_two]"),
+    row!("%0X" => "[hour]:[minute]:[second]"),
+    row!("%0%" => "%"),
+    row!("%0n" => "\n"),
+    row!("%0t" => "\t"),
+    row!("%0s" => "[unix_timestamp]"),
+    row!("%0" refused Flag),
+];
+
+const CARET: &[Row] = &[
+    row!("%^Ec" refused Capitals),
+    row!("%^EC" => "[year repr:century]" within YearsFrom1000),
+    row!("%^Ex" => "[month]/[day]/[year repr:last_two]"),
+    row!("%^EX" => "[hour]:[minute]:[second]"),
+    row!("%^Ey" => "[year repr:last_two]"),
+    row!("%^EY" => "[year]" within YearsFrom1000),
+    row!("%^Od" => "[day]"),
+    row!("%^OH" => "[hour]"),
+    row!("%^OI" => "[hour repr:12]"),
+    row!("%^OM" => "[minute]"),
+    row!("%^OS" => "[second]"),
+    row!("%^OU" => "[week_number repr:sunday]"),
+    row!("%^OV" => "[week_number]"),
+    row!("%^OW" => "[week_number repr:monday]"),
+    row!("%^Om" => "[month]"),
+    row!("%^Ou" => "[weekday repr:monday]"),
+    row!("%^Ow" => "[weekday repr:sunday one_indexed:false]"),
+    row!("%^Oy" => "[year repr:last_two]"),
+    row!("%^Oe" => "[day padding:space]"),
+    row!("%^Ok" => "[hour padding:space]"),
+    row!("%^Ol" => "[hour repr:12 padding:space]"),
     row!("%^a" refused Capitals),
     row!("%^A" refused Capitals),
     row!("%^b" refused Capitals),
     row!("%^B" refused Capitals),
     row!("%^h" refused Capitals),
     row!("%^c" refused Capitals),
-    row!("%^Ec" refused Capitals),
+    row!("%^d" => "[day]"),
+    row!("%^e" => "[day padding:space]"),
+    row!("%^H" => "[hour]"),
+    row!("%^k" => "[hour padding:space]"),
+    row!("%^I" => "[hour repr:12]"),
+    row!("%^l" => "[hour repr:12 padding:space]"),
+    row!("%^j" => "[ordinal]"),
+    row!("%^m" => "[month]"),
+    row!("%^M" => "[minute]"),
+    row!("%^S" => "[second]"),
+    row!("%^U" => "[week_number repr:sunday]"),
+    row!("%^V" => "[week_number]"),
+    row!("%^W" => "[week_number repr:monday]"),
+    row!("%^y" => "[year repr:last_two]"),
+    row!("%^g" => "[year repr:last_two base:iso_week]" within YearsFrom1),
+    row!("%^C" => "[year repr:century]" within YearsFrom1000),
+    row!("%^Y" => "[year]" within YearsFrom1000),
+    row!("%^G" => "[year base:iso_week]" within YearsFrom1000),
+    row!("%^u" => "[weekday repr:monday]"),
+    row!("%^w" => "[weekday repr:sunday one_indexed:false]"),
+    row!("%^p" => "[period]"),
+    row!("%^P" => "[period case:lower]"),
+    row!("%^D" => "[month]/[day]/[year repr:last_two]"),
+    row!("%^F" => "[year]-[month]-[day]" within YearsFrom1000),
+    row!("%^r" => "[hour repr:12]:[minute]:[second] [period]"),
+    row!("%^R" => "[hour]:[minute]"),
+    row!("%^T" => "[hour]:[minute]:[second]"),
+    row!("%^x" => "[month]/[day]/[year repr:last_two]"),
+    row!("%^X" => "[hour]:[minute]:[second]"),
+    row!("%^%" => "%"),
+    row!("%^n" => "\n"),
+    row!("%^t" => "\t"),
+    row!("%^s" => "[unix_timestamp]"),
+    row!("%^" refused Flag),
+];
+
+const HASH: &[Row] = &[
+    row!("%#Ec" => "[weekday repr:short] [month repr:short] [day padding:space] \
+        [hour]:[minute]:[second] [year]" within YearsFrom1000),
+    row!("%#EC" => "[year repr:century]" within YearsFrom1000),
+    row!("%#Ex" => "[month]/[day]/[year repr:last_two]"),
+    row!("%#EX" => "[hour]:[minute]:[second]"),
+    row!("%#Ey" => "[year repr:last_two]"),
+    row!("%#EY" => "[year]" within YearsFrom1000),
+    row!("%#Od" => "[day]"),
+    row!("%#OH" => "[hour]"),
+    row!("%#OI" => "[hour repr:12]"),
+    row!("%#OM" => "[minute]"),
+    row!("%#OS" => "[second]"),
+    row!("%#OU" => "[week_number repr:sunday]"),
+    row!("%#OV" => "[week_number]"),
+    row!("%#OW" => "[week_number repr:monday]"),
+    row!("%#Om" => "[month]"),
+    row!("%#Ou" => "[weekday repr:monday]"),
+    row!("%#Ow" => "[weekday repr:sunday one_indexed:false]"),
+    row!("%#Oy" => "[year repr:last_two]"),
+    row!("%#Oe" => "[day padding:space]"),
+    row!("%#Ok" => "[hour padding:space]"),
+    row!("%#Ol" => "[hour repr:12 padding:space]"),
     row!("%#a" refused Capitals),
     row!("%#A" refused Capitals),
     row!("%#b" refused Capitals),
     row!("%#B" refused Capitals),
     row!("%#h" refused Capitals),
     row!("%#p" => "[period case:lower]"),
-    row!("%^d" => "[day]"),
     row!("%#d" => "[day]"),
-    row!("%^e" => "[day padding:space]"),
     row!("%#e" => "[day padding:space]"),
-    row!("%^H" => "[hour]"),
     row!("%#H" => "[hour]"),
-    row!("%^k" => "[hour padding:space]"),
     row!("%#k" => "[hour padding:space]"),
-    row!("%^I" => "[hour repr:12]"),
     row!("%#I" => "[hour repr:12]"),
-    row!("%^l" => "[hour repr:12 padding:space]"),
     row!("%#l" => "[hour repr:12 padding:space]"),
-    row!("%^j" => "[ordinal]"),
     row!("%#j" => "[ordinal]"),
-    row!("%^m" => "[month]"),
     row!("%#m" => "[month]"),
-    row!("%^M" => "[minute]"),
     row!("%#M" => "[minute]"),
-    row!("%^S" => "[second]"),
     row!("%#S" => "[second]"),
-    row!("%^U" => "[week_number repr:sunday]"),
     row!("%#U" => "[week_number repr:sunday]"),
-    row!("%^V" => "[week_number]"),
     row!("%#V" => "[week_number]"),
-    row!("%^W" => "[week_number repr:monday]"),
     row!("%#W" => "[week_number repr:monday]"),
-    row!("%^y" => "[year repr:last_two]"),
     row!("%#y" => "[year repr:last_two]"),
-    row!("%^g" => "[year repr:last_two base:iso_week]" within YearsFrom1),
     row!("%#g" => "[year repr:last_two base:iso_week]" within YearsFrom1),
-    row!("%^C" => "[year repr:century]" within YearsFrom1000),
     row!("%#C" => "[year repr:century]" within YearsFrom1000),
-    row!("%^Y" => "[year]" within YearsFrom1000),
     row!("%#Y" => "[year]" within YearsFrom1000),
-    row!("%^G" => "[year base:iso_week]" within YearsFrom1000),
     row!("%#G" => "[year base:iso_week]" within YearsFrom1000),
-    row!("%^u" => "[weekday repr:monday]"),
     row!("%#u" => "[weekday repr:monday]"),
-    row!("%^w" => "[weekday repr:sunday one_indexed:false]"),
     row!("%#w" => "[weekday repr:sunday one_indexed:false]"),
-    row!("%^p" => "[period]"),
-    row!("%^P" => "[period case:lower]"),
     row!("%#P" => "[period case:lower]"),
     row!("%#c" => "[weekday repr:short] [month repr:short] [day padding:space] \
         [hour]:[minute]:[second] [year]" within YearsFrom1000),
-    row!("%^D" => "[month]/[day]/[year repr:last_two]"),
     row!("%#D" => "[month]/[day]/[year repr:last_two]"),
-    row!("%^F" => "[year]-[month]-[day]" within YearsFrom1000),
     row!("%#F" => "[year]-[month]-[day]" within YearsFrom1000),
-    row!("%^r" => "[hour repr:12]:[minute]:[second] [period]"),
     row!("%#r" => "[hour repr:12]:[minute]:[second] [period]"),
-    row!("%^R" => "[hour]:[minute]"),
     row!("%#R" => "[hour]:[minute]"),
-    row!("%^T" => "[hour]:[minute]:[second]"),
     row!("%#T" => "[hour]:[minute]:[second]"),
-    row!("%^x" => "[month]/[day]/[year repr:last_two]"),
     row!("%#x" => "[month]/[day]/[year repr:last_two]"),
-    row!("%^X" => "[hour]:[minute]:[second]"),
     row!("%#X" => "[hour]:[minute]:[second]"),
-    row!("%^%" => "%"),
     row!("%#%" => "%"),
-    row!("%^n" => "\n"),
     row!("%#n" => "\n"),
-    row!("%^t" => "\t"),
     row!("%#t" => "\t"),
-    row!("%^s" => "[unix_timestamp]"),
     row!("%#s" => "[unix_timestamp]"),
-    row!("%#Ec" => "[weekday repr:short] [month repr:short] [day padding:space] \
-        [hour]:[minute]:[second] [year]" within YearsFrom1000),
-    row!("%^EC" => "[year repr:century]" within YearsFrom1000),
-    row!("%#EC" => "[year repr:century]" within YearsFrom1000),
-    row!("%^Ex" => "[month]/[day]/[year repr:last_two]"),
-    row!("%#Ex" => "[month]/[day]/[year repr:last_two]"),
-    row!("%^EX" => "[hour]:[minute]:[second]"),
-    row!("%#EX" => "[hour]:[minute]:[second]"),
-    row!("%^Ey" => "[year repr:last_two]"),
-    row!("%#Ey" => "[year repr:last_two]"),
-    row!("%^EY" => "[year]" within YearsFrom1000),
-    row!("%#EY" => "[year]" within YearsFrom1000),
-    row!("%^Od" => "[day]"),
-    row!("%#Od" => "[day]"),
-    row!("%^OH" => "[hour]"),
-    row!("%#OH" => "[hour]"),
-    row!("%^OI" => "[hour repr:12]"),
-    row!("%#OI" => "[hour repr:12]"),
-    row!("%^OM" => "[minute]"),
-    row!("%#OM" => "[minute]"),
-    row!("%^OS" => "[second]"),
-    row!("%#OS" => "[second]"),
-    row!("%^OU" => "[week_number repr:sunday]"),
-    row!("%#OU" => "[week_number repr:sunday]"),
-    row!("%^OV" => "[week_number]"),
-    row!("%#OV" => "[week_number]"),
-    row!("%^OW" => "[week_number repr:monday]"),
-    row!("%#OW" => "[week_number repr:monday]"),
-    row!("%^Om" => "[month]"),
-    row!("%#Om" => "[month]"),
-    row!("%^Ou" => "[weekday repr:monday]"),
-    row!("%#Ou" => "[weekday repr:monday]"),
-    row!("%^Ow" => "[weekday repr:sunday one_indexed:false]"),
-    row!("%#Ow" => "[weekday repr:sunday one_indexed:false]"),
-    row!("%^Oy" => "[year repr:last_two]"),
-    row!("%#Oy" => "[year repr:last_two]"),
-    row!("%^Oe" => "[day padding:space]"),
-    row!("%#Oe" => "[day padding:space]"),
-    row!("%^Ok" => "[hour padding:space]"),
-    row!("%#Ok" => "[hour padding:space]"),
-    row!("%^Ol" => "[hour repr:12 padding:space]"),
-    row!("%#Ol" => "[hour repr:12 padding:space]"),
+    row!("%#" refused Flag),
 ];
+
+const PLUS_SIGN: &[Row] = &[row!("%+" refused Unsupported)];
+
+const SMALL_V: &[Row] = &[row!("%v" refused Unsupported)];
+
+const SMALL_F: &[Row] = &[row!("%f" refused Unsupported)];
+
+const CAPITAL_N: &[Row] = &[row!("%N" refused Unsupported)];
+
+const CAPITAL_L: &[Row] = &[row!("%L" refused Unsupported)];
+
+const CAPITAL_Q: &[Row] = &[row!("%Q" refused Unsupported)];
+
+const SMALL_Q: &[Row] = &[row!("%q" refused Unsupported)];
+
+const SMALL_I: &[Row] = &[row!("%i" refused Unsupported)];
+
+const CAPITAL_J: &[Row] = &[row!("%J" refused Unsupported)];
+
+const CAPITAL_K: &[Row] = &[row!("%K" refused Unsupported)];
+
+const SMALL_O: &[Row] = &[row!("%o" refused Unsupported)];
+
+const DIGIT_ONE: &[Row] = &[row!("%1" refused Width)];
+
+const DIGIT_TWO: &[Row] = &[row!("%2" refused Width)];
+
+const DIGIT_THREE: &[Row] = &[row!("%3" refused Width)];
+
+const DIGIT_FOUR: &[Row] = &[row!("%4" refused Width)];
+
+const DIGIT_FIVE: &[Row] = &[row!("%5" refused Width)];
+
+const DIGIT_SIX: &[Row] = &[row!("%6" refused Width)];
+
+const DIGIT_SEVEN: &[Row] = &[row!("%7" refused Width)];
+
+const DIGIT_EIGHT: &[Row] = &[row!("%8" refused Width)];
+
+const DIGIT_NINE: &[Row] = &[row!("%9" refused Width)];

@@ -1,241 +1,440 @@
 //! The rows of Java. `tables/write` writes them.
 
+ghost use Rattle.std.specs.Prelude.{◌≡◌};
+ghost use Rattle.timefd_dialect.specs.Groups.{rows_at};
+ghost use Rattle.timefd_dialect.specs.Java.{java_groups};
+ghost use Rattle.timefd_dialect.specs.Rows.{entries};
+
 use crate::reason::Reason;
 use crate::row::{NotBefore, Range, Row, Verdict, row};
 
-pub const PLAIN: &[Row] = &[
-    row!("u" => "[year padding:none]"),
-    row!("uu" => "[year repr:last_two]"),
-    row!("uuu" => "[year padding:none]" within YearsFrom100),
-    row!("uuuu" => "[year]"),
-    row!("uuuuu" => "0[year]"),
-    row!("uuuuuu" => "00[year]"),
-    row!("uuuuuuu" => "000[year]"),
-    row!("uuuuuuuu" => "0000[year]"),
-    row!("uuuuuuuuu" => "00000[year]"),
-    row!("y" => "[year padding:none]" within YearsFrom1),
-    row!("yy" => "[year repr:last_two]" within YearsFrom1),
-    row!("yyy" => "[year padding:none]" within YearsFrom100),
-    row!("yyyy" => "[year]" within YearsFrom1),
-    row!("yyyyy" => "0[year]" within YearsFrom1),
-    row!("yyyyyy" => "00[year]" within YearsFrom1),
-    row!("yyyyyyy" => "000[year]" within YearsFrom1),
-    row!("yyyyyyyy" => "0000[year]" within YearsFrom1),
-    row!("yyyyyyyyy" => "00000[year]" within YearsFrom1),
-    row!("M" => "[month padding:none]"),
-    row!("MM" => "[month]"),
-    row!("MMM" => "[month repr:short]"),
-    row!("MMMM" => "[month repr:long]"),
-    row!("MMMMM" refused NarrowName),
-    row!("L" => "[month padding:none]"),
-    row!("LL" => "[month]"),
-    row!("LLL" => "[month repr:short]"),
-    row!("LLLL" => "[month repr:long]"),
-    row!("LLLLL" refused NarrowName),
-    row!("d" => "[day padding:none]"),
-    row!("dd" => "[day]"),
-    row!("D" => "[ordinal padding:none]"),
-    row!("DD" refused VariableWidth),
-    row!("DDD" => "[ordinal]"),
-    row!("E" => "[weekday repr:short]"),
-    row!("EE" => "[weekday repr:short]"),
-    row!("EEE" => "[weekday repr:short]"),
-    row!("EEEE" => "[weekday]"),
-    row!("EEEEE" refused NarrowName),
-    row!("e" refused LocalWeek),
-    row!("ee" refused LocalWeek),
-    row!("eee" => "[weekday repr:short]"),
-    row!("eeee" => "[weekday]"),
-    row!("eeeee" refused NarrowName),
-    row!("c" refused LocalWeek),
-    row!("ccc" => "[weekday repr:short]"),
-    row!("cccc" => "[weekday]"),
-    row!("ccccc" refused NarrowName),
-    row!("a" => "[period]"),
-    row!("B" refused DayPeriod),
-    row!("BBBB" refused DayPeriod),
-    row!("BBBBB" refused DayPeriod),
-    row!("H" => "[hour padding:none]"),
-    row!("HH" => "[hour]"),
-    row!("h" => "[hour repr:12 padding:none]"),
-    row!("hh" => "[hour repr:12]"),
-    row!("K" refused HourFrom0Or24),
-    row!("KK" refused HourFrom0Or24),
-    row!("k" refused HourFrom0Or24),
-    row!("kk" refused HourFrom0Or24),
-    row!("m" => "[minute padding:none]"),
-    row!("mm" => "[minute]"),
-    row!("s" => "[second padding:none]"),
-    row!("ss" => "[second]"),
-    row!("S" => "[subsecond digits:1]"),
-    row!("SS" => "[subsecond digits:2]"),
-    row!("SSS" => "[subsecond digits:3]"),
-    row!("SSSS" => "[subsecond digits:4]"),
-    row!("SSSSS" => "[subsecond digits:5]"),
-    row!("SSSSSS" => "[subsecond digits:6]"),
-    row!("SSSSSSS" => "[subsecond digits:7]"),
-    row!("SSSSSSSS" => "[subsecond digits:8]"),
-    row!("SSSSSSSSS" => "[subsecond digits:9]"),
-    row!("n" refused VariableWidth),
-    row!("nn" refused VariableWidth),
-    row!("nnn" refused VariableWidth),
-    row!("nnnn" refused VariableWidth),
-    row!("nnnnn" refused VariableWidth),
-    row!("nnnnnn" refused VariableWidth),
-    row!("nnnnnnn" refused VariableWidth),
-    row!("nnnnnnnn" refused VariableWidth),
-    row!("nnnnnnnnn" => "[subsecond digits:9]"),
-    row!("A" refused UnitOfDay),
-    row!("AA" refused UnitOfDay),
-    row!("AAA" refused UnitOfDay),
-    row!("AAAA" refused UnitOfDay),
-    row!("AAAAA" refused UnitOfDay),
-    row!("AAAAAA" refused UnitOfDay),
-    row!("AAAAAAA" refused UnitOfDay),
-    row!("AAAAAAAA" refused UnitOfDay),
-    row!("AAAAAAAAA" refused UnitOfDay),
-    row!("N" refused UnitOfDay),
-    row!("NN" refused UnitOfDay),
-    row!("NNN" refused UnitOfDay),
-    row!("NNNN" refused UnitOfDay),
-    row!("NNNNN" refused UnitOfDay),
-    row!("NNNNNN" refused UnitOfDay),
-    row!("NNNNNNN" refused UnitOfDay),
-    row!("NNNNNNNN" refused UnitOfDay),
-    row!("NNNNNNNNN" refused UnitOfDay),
-    row!("g" refused JulianDay),
-    row!("gg" refused JulianDay),
-    row!("ggg" refused JulianDay),
-    row!("gggg" refused JulianDay),
-    row!("ggggg" refused JulianDay),
-    row!("gggggg" refused JulianDay),
-    row!("ggggggg" refused JulianDay),
-    row!("gggggggg" refused JulianDay),
-    row!("ggggggggg" refused JulianDay),
-    row!("Y" refused LocalWeek),
-    row!("YY" refused LocalWeek),
-    row!("YYY" refused LocalWeek),
-    row!("YYYY" refused LocalWeek),
-    row!("YYYYY" refused LocalWeek),
-    row!("YYYYYY" refused LocalWeek),
-    row!("YYYYYYY" refused LocalWeek),
-    row!("YYYYYYYY" refused LocalWeek),
-    row!("YYYYYYYYY" refused LocalWeek),
-    row!("w" refused LocalWeek),
-    row!("ww" refused LocalWeek),
-    row!("W" refused LocalWeek),
-    row!("F" refused WeekOfMonth),
-    row!("Q" refused Quarter),
-    row!("QQ" refused Quarter),
-    row!("QQQ" refused Quarter),
-    row!("QQQQ" refused Quarter),
-    row!("QQQQQ" refused Quarter),
-    row!("q" refused Quarter),
-    row!("qq" refused Quarter),
-    row!("qqq" refused Quarter),
-    row!("qqqq" refused Quarter),
-    row!("qqqqq" refused Quarter),
-    row!("G" refused Era),
-    row!("GG" refused Era),
-    row!("GGG" refused Era),
-    row!("GGGG" refused Era),
-    row!("GGGGG" refused Era),
-    row!("VV" refused ZoneName),
-    row!("v" refused ZoneName),
-    row!("vvvv" refused ZoneName),
-    row!("z" refused ZoneName),
-    row!("zz" refused ZoneName),
-    row!("zzz" refused ZoneName),
-    row!("zzzz" refused ZoneName),
-    row!("O" refused GmtOffset),
-    row!("OOOO" refused GmtOffset),
-    row!("X" refused ZForUtc),
-    row!("XX" refused ZForUtc),
-    row!("XXX" refused ZForUtc),
-    row!("XXXX" refused ZForUtc),
-    row!("XXXXX" refused ZForUtc),
-    row!("x" refused VariableOffset),
-    row!("xx" => "[offset_hour sign:mandatory][offset_minute]"),
-    row!("xxx" => "[offset_hour sign:mandatory]:[offset_minute]"),
-    row!("xxxx" => "[offset_hour sign:mandatory][offset_minute]" within WholeMinutes),
-    row!("xxxxx" => "[offset_hour sign:mandatory]:[offset_minute]" within WholeMinutes),
-    row!("Z" => "[offset_hour sign:mandatory][offset_minute]"),
-    row!("ZZ" => "[offset_hour sign:mandatory][offset_minute]"),
-    row!("ZZZ" => "[offset_hour sign:mandatory][offset_minute]"),
-    row!("ZZZZ" refused GmtOffset),
-    row!("ZZZZZ" refused ZForUtc),
-    row!("p" refused PadLetter),
-    row!("pp" refused PadLetter),
-    row!("ppp" refused PadLetter),
-    row!("pppp" refused PadLetter),
-    row!("ppppp" refused PadLetter),
-    row!("pppppp" refused PadLetter),
-    row!("ppppppp" refused PadLetter),
-    row!("pppppppp" refused PadLetter),
-    row!("ppppppppp" refused PadLetter),
-    row!("aa" refused TooManyLetters),
-    row!("b" refused UnknownLetter),
-    row!("cc" refused TooManyLetters),
-    row!("cccccc" refused TooManyLetters),
-    row!("ddd" refused TooManyLetters),
-    row!("eeeeee" refused TooManyLetters),
-    row!("f" refused UnknownLetter),
-    row!("gggggggggg" refused TooManyLetters),
-    row!("hhh" refused TooManyLetters),
-    row!("i" refused UnknownLetter),
-    row!("j" refused UnknownLetter),
-    row!("kkk" refused TooManyLetters),
-    row!("l" refused UnknownLetter),
-    row!("mmm" refused TooManyLetters),
-    row!("nnnnnnnnnn" refused TooManyLetters),
-    row!("o" refused UnknownLetter),
-    row!("pppppppppp" refused TooManyLetters),
-    row!("qqqqqq" refused TooManyLetters),
-    row!("r" refused UnknownLetter),
-    row!("sss" refused TooManyLetters),
-    row!("t" refused UnknownLetter),
+/// The rows that begin with this byte, the longest first.
+#[tactic(auto, unfolding(crate::specs::Java::java_groups))]
+pub fn java_rows(byte: u8) -> &'static [Row]
+    ensures { entries result.now ≡ rows_at byte java_groups }
+{
+    match byte {
+        b'u' => SMALL_U,
+        b'y' => SMALL_Y,
+        b'M' => CAPITAL_M,
+        b'L' => CAPITAL_L,
+        b'd' => SMALL_D,
+        b'D' => CAPITAL_D,
+        b'E' => CAPITAL_E,
+        b'e' => SMALL_E,
+        b'c' => SMALL_C,
+        b'a' => SMALL_A,
+        b'B' => CAPITAL_B,
+        b'H' => CAPITAL_H,
+        b'h' => SMALL_H,
+        b'K' => CAPITAL_K,
+        b'k' => SMALL_K,
+        b'm' => SMALL_M,
+        b's' => SMALL_S,
+        b'S' => CAPITAL_S,
+        b'n' => SMALL_N,
+        b'A' => CAPITAL_A,
+        b'N' => CAPITAL_N,
+        b'g' => SMALL_G,
+        b'Y' => CAPITAL_Y,
+        b'w' => SMALL_W,
+        b'W' => CAPITAL_W,
+        b'F' => CAPITAL_F,
+        b'Q' => CAPITAL_Q,
+        b'q' => SMALL_Q,
+        b'G' => CAPITAL_G,
+        b'V' => CAPITAL_V,
+        b'v' => SMALL_V,
+        b'z' => SMALL_Z,
+        b'O' => CAPITAL_O,
+        b'X' => CAPITAL_X,
+        b'x' => SMALL_X,
+        b'Z' => CAPITAL_Z,
+        b'p' => SMALL_P,
+        b'b' => SMALL_B,
+        b'f' => SMALL_F,
+        b'i' => SMALL_I,
+        b'j' => SMALL_J,
+        b'l' => SMALL_L,
+        b'o' => SMALL_O,
+        b'r' => SMALL_R,
+        b't' => SMALL_T,
+        b'C' => CAPITAL_C,
+        b'I' => CAPITAL_I,
+        b'J' => CAPITAL_J,
+        b'P' => CAPITAL_P,
+        b'R' => CAPITAL_R,
+        b'T' => CAPITAL_T,
+        b'U' => CAPITAL_U,
+        b'[' => LEFT_SQUARE_BRACKET,
+        b']' => RIGHT_SQUARE_BRACKET,
+        b'#' => HASH,
+        b'{' => LEFT_CURLY_BRACKET,
+        b'}' => RIGHT_CURLY_BRACKET,
+        _ => &[],
+    }
+}
+
+const SMALL_U: &[Row] = &[
     row!("uuuuuuuuuu" refused TooManyLetters),
-    row!("vv" refused TooManyLetters),
-    row!("vvv" refused TooManyLetters),
-    row!("vvvvv" refused TooManyLetters),
-    row!("www" refused TooManyLetters),
-    row!("xxxxxx" refused TooManyLetters),
-    row!("yyyyyyyyyy" refused TooManyLetters),
-    row!("zzzzz" refused TooManyLetters),
-    row!("AAAAAAAAAA" refused TooManyLetters),
-    row!("BB" refused TooManyLetters),
-    row!("BBB" refused TooManyLetters),
-    row!("BBBBBB" refused TooManyLetters),
-    row!("C" refused UnknownLetter),
-    row!("DDDD" refused TooManyLetters),
-    row!("EEEEEE" refused TooManyLetters),
-    row!("FF" refused TooManyLetters),
-    row!("GGGGGG" refused TooManyLetters),
-    row!("HHH" refused TooManyLetters),
-    row!("I" refused UnknownLetter),
-    row!("J" refused UnknownLetter),
-    row!("KKK" refused TooManyLetters),
-    row!("LLLLLL" refused TooManyLetters),
-    row!("MMMMMM" refused TooManyLetters),
-    row!("NNNNNNNNNN" refused TooManyLetters),
-    row!("OO" refused TooManyLetters),
-    row!("OOO" refused TooManyLetters),
-    row!("OOOOO" refused TooManyLetters),
-    row!("P" refused UnknownLetter),
-    row!("QQQQQQ" refused TooManyLetters),
-    row!("R" refused UnknownLetter),
-    row!("SSSSSSSSSS" refused TooManyLetters),
-    row!("T" refused UnknownLetter),
-    row!("U" refused UnknownLetter),
-    row!("V" refused TooManyLetters),
-    row!("VVV" refused TooManyLetters),
-    row!("WW" refused TooManyLetters),
-    row!("XXXXXX" refused TooManyLetters),
-    row!("YYYYYYYYYY" refused TooManyLetters),
-    row!("ZZZZZZ" refused TooManyLetters),
-    row!("[" refused OptionalPart),
-    row!("]" refused OptionalPart),
-    row!("#" refused Reserved),
-    row!("{" refused Reserved),
-    row!("}" refused Reserved),
+    row!("uuuuuuuuu" => "00000[year]"),
+    row!("uuuuuuuu" => "0000[year]"),
+    row!("uuuuuuu" => "000[year]"),
+    row!("uuuuuu" => "00[year]"),
+    row!("uuuuu" => "0[year]"),
+    row!("uuuu" => "[year]"),
+    row!("uuu" => "[year padding:none]" within YearsFrom100),
+    row!("uu" => "[year repr:last_two]"),
+    row!("u" => "[year padding:none]"),
 ];
+
+const SMALL_Y: &[Row] = &[
+    row!("yyyyyyyyyy" refused TooManyLetters),
+    row!("yyyyyyyyy" => "00000[year]" within YearsFrom1),
+    row!("yyyyyyyy" => "0000[year]" within YearsFrom1),
+    row!("yyyyyyy" => "000[year]" within YearsFrom1),
+    row!("yyyyyy" => "00[year]" within YearsFrom1),
+    row!("yyyyy" => "0[year]" within YearsFrom1),
+    row!("yyyy" => "[year]" within YearsFrom1),
+    row!("yyy" => "[year padding:none]" within YearsFrom100),
+    row!("yy" => "[year repr:last_two]" within YearsFrom1),
+    row!("y" => "[year padding:none]" within YearsFrom1),
+];
+
+const CAPITAL_M: &[Row] = &[
+    row!("MMMMMM" refused TooManyLetters),
+    row!("MMMMM" refused NarrowName),
+    row!("MMMM" => "[month repr:long]"),
+    row!("MMM" => "[month repr:short]"),
+    row!("MM" => "[month]"),
+    row!("M" => "[month padding:none]"),
+];
+
+const CAPITAL_L: &[Row] = &[
+    row!("LLLLLL" refused TooManyLetters),
+    row!("LLLLL" refused NarrowName),
+    row!("LLLL" => "[month repr:long]"),
+    row!("LLL" => "[month repr:short]"),
+    row!("LL" => "[month]"),
+    row!("L" => "[month padding:none]"),
+];
+
+const SMALL_D: &[Row] = &[
+    row!("ddd" refused TooManyLetters),
+    row!("dd" => "[day]"),
+    row!("d" => "[day padding:none]"),
+];
+
+const CAPITAL_D: &[Row] = &[
+    row!("DDDD" refused TooManyLetters),
+    row!("DDD" => "[ordinal]"),
+    row!("DD" refused VariableWidth),
+    row!("D" => "[ordinal padding:none]"),
+];
+
+const CAPITAL_E: &[Row] = &[
+    row!("EEEEEE" refused TooManyLetters),
+    row!("EEEEE" refused NarrowName),
+    row!("EEEE" => "[weekday]"),
+    row!("EEE" => "[weekday repr:short]"),
+    row!("EE" => "[weekday repr:short]"),
+    row!("E" => "[weekday repr:short]"),
+];
+
+const SMALL_E: &[Row] = &[
+    row!("eeeeee" refused TooManyLetters),
+    row!("eeeee" refused NarrowName),
+    row!("eeee" => "[weekday]"),
+    row!("eee" => "[weekday repr:short]"),
+    row!("ee" refused LocalWeek),
+    row!("e" refused LocalWeek),
+];
+
+const SMALL_C: &[Row] = &[
+    row!("cccccc" refused TooManyLetters),
+    row!("ccccc" refused NarrowName),
+    row!("cccc" => "[weekday]"),
+    row!("ccc" => "[weekday repr:short]"),
+    row!("cc" refused TooManyLetters),
+    row!("c" refused LocalWeek),
+];
+
+const SMALL_A: &[Row] = &[row!("aa" refused TooManyLetters), row!("a" => "[period]")];
+
+const CAPITAL_B: &[Row] = &[
+    row!("BBBBBB" refused TooManyLetters),
+    row!("BBBBB" refused DayPeriod),
+    row!("BBBB" refused DayPeriod),
+    row!("BBB" refused TooManyLetters),
+    row!("BB" refused TooManyLetters),
+    row!("B" refused DayPeriod),
+];
+
+const CAPITAL_H: &[Row] = &[
+    row!("HHH" refused TooManyLetters),
+    row!("HH" => "[hour]"),
+    row!("H" => "[hour padding:none]"),
+];
+
+const SMALL_H: &[Row] = &[
+    row!("hhh" refused TooManyLetters),
+    row!("hh" => "[hour repr:12]"),
+    row!("h" => "[hour repr:12 padding:none]"),
+];
+
+const CAPITAL_K: &[Row] = &[
+    row!("KKK" refused TooManyLetters),
+    row!("KK" refused HourFrom0Or24),
+    row!("K" refused HourFrom0Or24),
+];
+
+const SMALL_K: &[Row] = &[
+    row!("kkk" refused TooManyLetters),
+    row!("kk" refused HourFrom0Or24),
+    row!("k" refused HourFrom0Or24),
+];
+
+const SMALL_M: &[Row] = &[
+    row!("mmm" refused TooManyLetters),
+    row!("mm" => "[minute]"),
+    row!("m" => "[minute padding:none]"),
+];
+
+const SMALL_S: &[Row] = &[
+    row!("sss" refused TooManyLetters),
+    row!("ss" => "[second]"),
+    row!("s" => "[second padding:none]"),
+];
+
+const CAPITAL_S: &[Row] = &[
+    row!("SSSSSSSSSS" refused TooManyLetters),
+    row!("SSSSSSSSS" => "[subsecond digits:9]"),
+    row!("SSSSSSSS" => "[subsecond digits:8]"),
+    row!("SSSSSSS" => "[subsecond digits:7]"),
+    row!("SSSSSS" => "[subsecond digits:6]"),
+    row!("SSSSS" => "[subsecond digits:5]"),
+    row!("SSSS" => "[subsecond digits:4]"),
+    row!("SSS" => "[subsecond digits:3]"),
+    row!("SS" => "[subsecond digits:2]"),
+    row!("S" => "[subsecond digits:1]"),
+];
+
+const SMALL_N: &[Row] = &[
+    row!("nnnnnnnnnn" refused TooManyLetters),
+    row!("nnnnnnnnn" => "[subsecond digits:9]"),
+    row!("nnnnnnnn" refused VariableWidth),
+    row!("nnnnnnn" refused VariableWidth),
+    row!("nnnnnn" refused VariableWidth),
+    row!("nnnnn" refused VariableWidth),
+    row!("nnnn" refused VariableWidth),
+    row!("nnn" refused VariableWidth),
+    row!("nn" refused VariableWidth),
+    row!("n" refused VariableWidth),
+];
+
+const CAPITAL_A: &[Row] = &[
+    row!("AAAAAAAAAA" refused TooManyLetters),
+    row!("AAAAAAAAA" refused UnitOfDay),
+    row!("AAAAAAAA" refused UnitOfDay),
+    row!("AAAAAAA" refused UnitOfDay),
+    row!("AAAAAA" refused UnitOfDay),
+    row!("AAAAA" refused UnitOfDay),
+    row!("AAAA" refused UnitOfDay),
+    row!("AAA" refused UnitOfDay),
+    row!("AA" refused UnitOfDay),
+    row!("A" refused UnitOfDay),
+];
+
+const CAPITAL_N: &[Row] = &[
+    row!("NNNNNNNNNN" refused TooManyLetters),
+    row!("NNNNNNNNN" refused UnitOfDay),
+    row!("NNNNNNNN" refused UnitOfDay),
+    row!("NNNNNNN" refused UnitOfDay),
+    row!("NNNNNN" refused UnitOfDay),
+    row!("NNNNN" refused UnitOfDay),
+    row!("NNNN" refused UnitOfDay),
+    row!("NNN" refused UnitOfDay),
+    row!("NN" refused UnitOfDay),
+    row!("N" refused UnitOfDay),
+];
+
+const SMALL_G: &[Row] = &[
+    row!("gggggggggg" refused TooManyLetters),
+    row!("ggggggggg" refused JulianDay),
+    row!("gggggggg" refused JulianDay),
+    row!("ggggggg" refused JulianDay),
+    row!("gggggg" refused JulianDay),
+    row!("ggggg" refused JulianDay),
+    row!("gggg" refused JulianDay),
+    row!("ggg" refused JulianDay),
+    row!("gg" refused JulianDay),
+    row!("g" refused JulianDay),
+];
+
+const CAPITAL_Y: &[Row] = &[
+    row!("YYYYYYYYYY" refused TooManyLetters),
+    row!("YYYYYYYYY" refused LocalWeek),
+    row!("YYYYYYYY" refused LocalWeek),
+    row!("YYYYYYY" refused LocalWeek),
+    row!("YYYYYY" refused LocalWeek),
+    row!("YYYYY" refused LocalWeek),
+    row!("YYYY" refused LocalWeek),
+    row!("YYY" refused LocalWeek),
+    row!("YY" refused LocalWeek),
+    row!("Y" refused LocalWeek),
+];
+
+const SMALL_W: &[Row] = &[
+    row!("www" refused TooManyLetters),
+    row!("ww" refused LocalWeek),
+    row!("w" refused LocalWeek),
+];
+
+const CAPITAL_W: &[Row] = &[
+    row!("WW" refused TooManyLetters),
+    row!("W" refused LocalWeek),
+];
+
+const CAPITAL_F: &[Row] = &[
+    row!("FF" refused TooManyLetters),
+    row!("F" refused WeekOfMonth),
+];
+
+const CAPITAL_Q: &[Row] = &[
+    row!("QQQQQQ" refused TooManyLetters),
+    row!("QQQQQ" refused Quarter),
+    row!("QQQQ" refused Quarter),
+    row!("QQQ" refused Quarter),
+    row!("QQ" refused Quarter),
+    row!("Q" refused Quarter),
+];
+
+const SMALL_Q: &[Row] = &[
+    row!("qqqqqq" refused TooManyLetters),
+    row!("qqqqq" refused Quarter),
+    row!("qqqq" refused Quarter),
+    row!("qqq" refused Quarter),
+    row!("qq" refused Quarter),
+    row!("q" refused Quarter),
+];
+
+const CAPITAL_G: &[Row] = &[
+    row!("GGGGGG" refused TooManyLetters),
+    row!("GGGGG" refused Era),
+    row!("GGGG" refused Era),
+    row!("GGG" refused Era),
+    row!("GG" refused Era),
+    row!("G" refused Era),
+];
+
+const CAPITAL_V: &[Row] = &[
+    row!("VVV" refused TooManyLetters),
+    row!("VV" refused ZoneName),
+    row!("V" refused TooManyLetters),
+];
+
+const SMALL_V: &[Row] = &[
+    row!("vvvvv" refused TooManyLetters),
+    row!("vvvv" refused ZoneName),
+    row!("vvv" refused TooManyLetters),
+    row!("vv" refused TooManyLetters),
+    row!("v" refused ZoneName),
+];
+
+const SMALL_Z: &[Row] = &[
+    row!("zzzzz" refused TooManyLetters),
+    row!("zzzz" refused ZoneName),
+    row!("zzz" refused ZoneName),
+    row!("zz" refused ZoneName),
+    row!("z" refused ZoneName),
+];
+
+const CAPITAL_O: &[Row] = &[
+    row!("OOOOO" refused TooManyLetters),
+    row!("OOOO" refused GmtOffset),
+    row!("OOO" refused TooManyLetters),
+    row!("OO" refused TooManyLetters),
+    row!("O" refused GmtOffset),
+];
+
+const CAPITAL_X: &[Row] = &[
+    row!("XXXXXX" refused TooManyLetters),
+    row!("XXXXX" refused ZForUtc),
+    row!("XXXX" refused ZForUtc),
+    row!("XXX" refused ZForUtc),
+    row!("XX" refused ZForUtc),
+    row!("X" refused ZForUtc),
+];
+
+const SMALL_X: &[Row] = &[
+    row!("xxxxxx" refused TooManyLetters),
+    row!("xxxxx" => "[offset_hour \
+        sign:mandatory]:[offset_minute]" within WholeMinutes),
+    row!("xxxx" => "[offset_hour \
+        sign:mandatory][offset_minute]" within WholeMinutes),
+    row!("xxx" => "[offset_hour sign:mandatory]:[offset_minute]"),
+    row!("xx" => "[offset_hour sign:mandatory][offset_minute]"),
+    row!("x" refused VariableOffset),
+];
+
+const CAPITAL_Z: &[Row] = &[
+    row!("ZZZZZZ" refused TooManyLetters),
+    row!("ZZZZZ" refused ZForUtc),
+    row!("ZZZZ" refused GmtOffset),
+    row!("ZZZ" => "[offset_hour sign:mandatory][offset_minute]"),
+    row!("ZZ" => "[offset_hour sign:mandatory][offset_minute]"),
+    row!("Z" => "[offset_hour sign:mandatory][offset_minute]"),
+];
+
+const SMALL_P: &[Row] = &[
+    row!("pppppppppp" refused TooManyLetters),
+    row!("ppppppppp" refused PadLetter),
+    row!("pppppppp" refused PadLetter),
+    row!("ppppppp" refused PadLetter),
+    row!("pppppp" refused PadLetter),
+    row!("ppppp" refused PadLetter),
+    row!("pppp" refused PadLetter),
+    row!("ppp" refused PadLetter),
+    row!("pp" refused PadLetter),
+    row!("p" refused PadLetter),
+];
+
+const SMALL_B: &[Row] = &[row!("b" refused UnknownLetter)];
+
+const SMALL_F: &[Row] = &[row!("f" refused UnknownLetter)];
+
+const SMALL_I: &[Row] = &[row!("i" refused UnknownLetter)];
+
+const SMALL_J: &[Row] = &[row!("j" refused UnknownLetter)];
+
+const SMALL_L: &[Row] = &[row!("l" refused UnknownLetter)];
+
+const SMALL_O: &[Row] = &[row!("o" refused UnknownLetter)];
+
+const SMALL_R: &[Row] = &[row!("r" refused UnknownLetter)];
+
+const SMALL_T: &[Row] = &[row!("t" refused UnknownLetter)];
+
+const CAPITAL_C: &[Row] = &[row!("C" refused UnknownLetter)];
+
+const CAPITAL_I: &[Row] = &[row!("I" refused UnknownLetter)];
+
+const CAPITAL_J: &[Row] = &[row!("J" refused UnknownLetter)];
+
+const CAPITAL_P: &[Row] = &[row!("P" refused UnknownLetter)];
+
+const CAPITAL_R: &[Row] = &[row!("R" refused UnknownLetter)];
+
+const CAPITAL_T: &[Row] = &[row!("T" refused UnknownLetter)];
+
+const CAPITAL_U: &[Row] = &[row!("U" refused UnknownLetter)];
+
+const LEFT_SQUARE_BRACKET: &[Row] = &[row!("[" refused OptionalPart)];
+
+const RIGHT_SQUARE_BRACKET: &[Row] = &[row!("]" refused OptionalPart)];
+
+const HASH: &[Row] = &[row!("#" refused Reserved)];
+
+const LEFT_CURLY_BRACKET: &[Row] = &[row!("{" refused Reserved)];
+
+const RIGHT_CURLY_BRACKET: &[Row] = &[row!("}" refused Reserved)];

@@ -1,53 +1,219 @@
 //! The rows of jiff. `tables/write` writes them.
 
+ghost use Rattle.std.specs.Prelude.{◌≡◌};
+ghost use Rattle.timefd_dialect.specs.Groups.{rows_at};
+ghost use Rattle.timefd_dialect.specs.Jiff.{jiff_groups, jiff_marked};
+ghost use Rattle.timefd_dialect.specs.Rows.{entries};
+
 use crate::reason::Reason;
 use crate::row::{NotBefore, Range, Row, Verdict, row};
 
-pub const PLAIN: &[Row] = &[
-    row!("%d" => "[day]"),
-    row!("%e" => "[day padding:space]"),
-    row!("%H" => "[hour]"),
-    row!("%k" => "[hour padding:space]"),
-    row!("%I" => "[hour repr:12]"),
-    row!("%l" => "[hour repr:12 padding:space]"),
-    row!("%j" => "[ordinal]"),
-    row!("%m" => "[month]"),
-    row!("%M" => "[minute]"),
-    row!("%S" => "[second]"),
-    row!("%U" => "[week_number repr:sunday]"),
-    row!("%V" => "[week_number]"),
-    row!("%W" => "[week_number repr:monday]"),
-    row!("%y" => "[year repr:last_two]"),
-    row!("%g" => "[year repr:last_two base:iso_week]" within YearsFrom1),
-    row!("%C" => "[year repr:century padding:none]"),
-    row!("%Y" => "[year]"),
-    row!("%G" => "[year base:iso_week]" within YearsFrom1),
-    row!("%u" => "[weekday repr:monday]"),
-    row!("%w" => "[weekday repr:sunday one_indexed:false]"),
-    row!("%a" => "[weekday repr:short]"),
-    row!("%A" => "[weekday]"),
-    row!("%b" => "[month repr:short]"),
-    row!("%B" => "[month repr:long]"),
-    row!("%h" => "[month repr:short]"),
-    row!("%p" => "[period]"),
-    row!("%P" => "[period case:lower]"),
-    row!("%D" => "[month]/[day]/[year repr:last_two]"),
-    row!("%F" => "[year]-[month]-[day]"),
-    row!("%R" => "[hour]:[minute]"),
-    row!("%T" => "[hour]:[minute]:[second]"),
-    row!("%%" => "%"),
-    row!("%n" => "\n"),
-    row!("%t" => "\t"),
-    row!("%f" => "[subsecond]"),
+/// The rows of the directives with this byte after the `%`, the longest first.
+#[tactic(auto, unfolding(crate::specs::Jiff::jiff_groups))]
+pub fn jiff_rows(byte: u8) -> &'static [Row]
+    ensures { entries result.now ≡ rows_at byte jiff_groups }
+{
+    match byte {
+        b'd' => SMALL_D,
+        b'e' => SMALL_E,
+        b'H' => CAPITAL_H,
+        b'k' => SMALL_K,
+        b'I' => CAPITAL_I,
+        b'l' => SMALL_L,
+        b'j' => SMALL_J,
+        b'm' => SMALL_M,
+        b'M' => CAPITAL_M,
+        b'S' => CAPITAL_S,
+        b'U' => CAPITAL_U,
+        b'V' => CAPITAL_V,
+        b'W' => CAPITAL_W,
+        b'y' => SMALL_Y,
+        b'g' => SMALL_G,
+        b'C' => CAPITAL_C,
+        b'Y' => CAPITAL_Y,
+        b'G' => CAPITAL_G,
+        b'u' => SMALL_U,
+        b'w' => SMALL_W,
+        b'a' => SMALL_A,
+        b'A' => CAPITAL_A,
+        b'b' => SMALL_B,
+        b'B' => CAPITAL_B,
+        b'h' => SMALL_H,
+        b'p' => SMALL_P,
+        b'P' => CAPITAL_P,
+        b'D' => CAPITAL_D,
+        b'F' => CAPITAL_F,
+        b'R' => CAPITAL_R,
+        b'T' => CAPITAL_T,
+        b'n' => SMALL_N,
+        b't' => SMALL_T,
+        b'f' => SMALL_F,
+        b'c' => SMALL_C,
+        b'r' => SMALL_R,
+        b'x' => SMALL_X,
+        b'X' => CAPITAL_X,
+        b'N' => CAPITAL_N,
+        b's' => SMALL_S,
+        b'z' => SMALL_Z,
+        b'Z' => CAPITAL_Z,
+        b'Q' => CAPITAL_Q,
+        b'q' => SMALL_Q,
+        _ => marked_rows(byte),
+    }
+}
+
+/// Those of the directives with a flag, a digit or another mark there, the longest first.
+#[tactic(auto, unfolding(crate::specs::Jiff::jiff_marked))]
+fn marked_rows(byte: u8) -> &'static [Row]
+    ensures { entries result.now ≡ rows_at byte jiff_marked }
+{
+    match byte {
+        b'%' => PERCENT_SIGN,
+        b'1' => DIGIT_ONE,
+        b'2' => DIGIT_TWO,
+        b'3' => DIGIT_THREE,
+        b'4' => DIGIT_FOUR,
+        b'5' => DIGIT_FIVE,
+        b'6' => DIGIT_SIX,
+        b'7' => DIGIT_SEVEN,
+        b'8' => DIGIT_EIGHT,
+        b'9' => DIGIT_NINE,
+        b'.' => DOT,
+        b':' => COLON,
+        b'^' => CARET,
+        b'#' => HASH,
+        b'-' => HYPHEN,
+        b'_' => UNDERSCORE,
+        b'0' => DIGIT_ZERO,
+        _ => &[],
+    }
+}
+
+const SMALL_D: &[Row] = &[row!("%d" => "[day]")];
+
+const SMALL_E: &[Row] = &[row!("%e" => "[day padding:space]")];
+
+const CAPITAL_H: &[Row] = &[row!("%H" => "[hour]")];
+
+const SMALL_K: &[Row] = &[row!("%k" => "[hour padding:space]")];
+
+const CAPITAL_I: &[Row] = &[row!("%I" => "[hour repr:12]")];
+
+const SMALL_L: &[Row] = &[row!("%l" => "[hour repr:12 padding:space]")];
+
+const SMALL_J: &[Row] = &[row!("%j" => "[ordinal]")];
+
+const SMALL_M: &[Row] = &[row!("%m" => "[month]")];
+
+const CAPITAL_M: &[Row] = &[row!("%M" => "[minute]")];
+
+const CAPITAL_S: &[Row] = &[row!("%S" => "[second]")];
+
+const CAPITAL_U: &[Row] = &[row!("%U" => "[week_number repr:sunday]")];
+
+const CAPITAL_V: &[Row] = &[row!("%V" => "[week_number]")];
+
+const CAPITAL_W: &[Row] = &[row!("%W" => "[week_number repr:monday]")];
+
+const SMALL_Y: &[Row] = &[row!("%y" => "[year repr:last_two]")];
+
+const SMALL_G: &[Row] = &[row!("%g" => "[year repr:last_two base:iso_week]" within YearsFrom1)];
+
+const CAPITAL_C: &[Row] = &[row!("%C" => "[year repr:century padding:none]")];
+
+const CAPITAL_Y: &[Row] = &[row!("%Y" => "[year]")];
+
+const CAPITAL_G: &[Row] = &[row!("%G" => "[year base:iso_week]" within YearsFrom1)];
+
+const SMALL_U: &[Row] = &[row!("%u" => "[weekday repr:monday]")];
+
+const SMALL_W: &[Row] = &[row!("%w" => "[weekday repr:sunday one_indexed:false]")];
+
+const SMALL_A: &[Row] = &[row!("%a" => "[weekday repr:short]")];
+
+const CAPITAL_A: &[Row] = &[row!("%A" => "[weekday]")];
+
+const SMALL_B: &[Row] = &[row!("%b" => "[month repr:short]")];
+
+const CAPITAL_B: &[Row] = &[row!("%B" => "[month repr:long]")];
+
+const SMALL_H: &[Row] = &[row!("%h" => "[month repr:short]")];
+
+const SMALL_P: &[Row] = &[row!("%p" => "[period]")];
+
+const CAPITAL_P: &[Row] = &[row!("%P" => "[period case:lower]")];
+
+const CAPITAL_D: &[Row] = &[row!("%D" => "[month]/[day]/[year repr:last_two]")];
+
+const CAPITAL_F: &[Row] = &[row!("%F" => "[year]-[month]-[day]")];
+
+const CAPITAL_R: &[Row] = &[row!("%R" => "[hour]:[minute]")];
+
+const CAPITAL_T: &[Row] = &[row!("%T" => "[hour]:[minute]:[second]")];
+
+const PERCENT_SIGN: &[Row] = &[row!("%%" => "%")];
+
+const SMALL_N: &[Row] = &[row!("%n" => "\n")];
+
+const SMALL_T: &[Row] = &[row!("%t" => "\t")];
+
+const SMALL_F: &[Row] = &[row!("%f" => "[subsecond]")];
+
+const DIGIT_ONE: &[Row] = &[
     row!("%1f" => "[subsecond digits:1]"),
+    row!("%1N" => "[subsecond digits:1]"),
+    row!("%1" refused Width),
+];
+
+const DIGIT_TWO: &[Row] = &[
     row!("%2f" => "[subsecond digits:2]"),
+    row!("%2N" => "[subsecond digits:2]"),
+    row!("%2" refused Width),
+];
+
+const DIGIT_THREE: &[Row] = &[
     row!("%3f" => "[subsecond digits:3]"),
+    row!("%3N" => "[subsecond digits:3]"),
+    row!("%3" refused Width),
+];
+
+const DIGIT_FOUR: &[Row] = &[
     row!("%4f" => "[subsecond digits:4]"),
+    row!("%4N" => "[subsecond digits:4]"),
+    row!("%4" refused Width),
+];
+
+const DIGIT_FIVE: &[Row] = &[
     row!("%5f" => "[subsecond digits:5]"),
+    row!("%5N" => "[subsecond digits:5]"),
+    row!("%5" refused Width),
+];
+
+const DIGIT_SIX: &[Row] = &[
     row!("%6f" => "[subsecond digits:6]"),
+    row!("%6N" => "[subsecond digits:6]"),
+    row!("%6" refused Width),
+];
+
+const DIGIT_SEVEN: &[Row] = &[
     row!("%7f" => "[subsecond digits:7]"),
+    row!("%7N" => "[subsecond digits:7]"),
+    row!("%7" refused Width),
+];
+
+const DIGIT_EIGHT: &[Row] = &[
     row!("%8f" => "[subsecond digits:8]"),
+    row!("%8N" => "[subsecond digits:8]"),
+    row!("%8" refused Width),
+];
+
+const DIGIT_NINE: &[Row] = &[
     row!("%9f" => "[subsecond digits:9]"),
+    row!("%9N" => "[subsecond digits:9]"),
+    row!("%9" refused Width),
+];
+
+const DOT: &[Row] = &[
     row!("%.1f" => ".[subsecond digits:1]"),
     row!("%.2f" => ".[subsecond digits:2]"),
     row!("%.3f" => ".[subsecond digits:3]"),
@@ -57,259 +223,274 @@ pub const PLAIN: &[Row] = &[
     row!("%.7f" => ".[subsecond digits:7]"),
     row!("%.8f" => ".[subsecond digits:8]"),
     row!("%.9f" => ".[subsecond digits:9]"),
+    row!("%.f" refused VariableFraction),
+];
+
+const SMALL_C: &[Row] = &[
     row!("%c" => "[year] M[month] [day padding:none], [weekday repr:short] \
         [hour]:[minute]:[second]"),
-    row!("%r" => "[hour repr:12 padding:none]:[minute]:[second] [period]"),
-    row!("%x" => "[year] M[month] [day padding:none]"),
-    row!("%X" => "[hour]:[minute]:[second]"),
-    row!("%N" => "[subsecond digits:9]"),
-    row!("%1N" => "[subsecond digits:1]"),
-    row!("%2N" => "[subsecond digits:2]"),
-    row!("%3N" => "[subsecond digits:3]"),
-    row!("%4N" => "[subsecond digits:4]"),
-    row!("%5N" => "[subsecond digits:5]"),
-    row!("%6N" => "[subsecond digits:6]"),
-    row!("%7N" => "[subsecond digits:7]"),
-    row!("%8N" => "[subsecond digits:8]"),
-    row!("%9N" => "[subsecond digits:9]"),
-    row!("%::z" => "[offset_hour sign:mandatory]:[offset_minute]:[offset_second]"),
-    row!("%s" => "[unix_timestamp]" within From1970),
-    row!("%z" => "[offset_hour sign:mandatory][offset_minute]" within WholeMinutes),
-    row!("%:z" => "[offset_hour sign:mandatory]:[offset_minute]" within WholeMinutes),
-    row!("%.f" refused VariableFraction),
-    row!("%Z" refused ZoneName),
-    row!("%Q" refused ZoneName),
-    row!("%:Q" refused ZoneName),
-    row!("%q" refused Quarter),
+];
+
+const SMALL_R: &[Row] = &[row!("%r" => "[hour repr:12 padding:none]:[minute]:[second] [period]")];
+
+const SMALL_X: &[Row] = &[row!("%x" => "[year] M[month] [day padding:none]")];
+
+const CAPITAL_X: &[Row] = &[row!("%X" => "[hour]:[minute]:[second]")];
+
+const CAPITAL_N: &[Row] = &[row!("%N" => "[subsecond digits:9]")];
+
+const COLON: &[Row] = &[
     row!("%:::z" refused VariableOffset),
-    row!("%" refused UnknownDirective),
-    row!("%-" refused Flag),
-    row!("%_" refused Flag),
-    row!("%0" refused Flag),
-    row!("%^" refused Flag),
-    row!("%#" refused Flag),
-    row!("%1" refused Width),
-    row!("%2" refused Width),
-    row!("%3" refused Width),
-    row!("%4" refused Width),
-    row!("%5" refused Width),
-    row!("%6" refused Width),
-    row!("%7" refused Width),
-    row!("%8" refused Width),
-    row!("%9" refused Width),
+    row!("%::z" => "[offset_hour sign:mandatory]:[offset_minute]:[offset_second]"),
+    row!("%:z" => "[offset_hour \
+        sign:mandatory]:[offset_minute]" within WholeMinutes),
+    row!("%:Q" refused ZoneName),
 ];
 
-pub const PADDED: &[Row] = &[
-    row!("%-F" => "[year]-[month]-[day]"),
-    row!("%-R" => "[hour]:[minute]"),
-    row!("%-T" => "[hour]:[minute]:[second]"),
-    row!("%-D" => "[month]/[day]/[year repr:last_two]"),
-    row!("%_F" => "[year]-[month]-[day]"),
-    row!("%_R" => "[hour]:[minute]"),
-    row!("%_T" => "[hour]:[minute]:[second]"),
-    row!("%_D" => "[month]/[day]/[year repr:last_two]"),
-    row!("%-d" => "[day padding:none]"),
-    row!("%_d" => "[day padding:space]"),
-    row!("%0d" => "[day]"),
-    row!("%-e" => "[day padding:none]"),
-    row!("%_e" => "[day padding:space]"),
-    row!("%0e" => "[day]"),
-    row!("%-H" => "[hour padding:none]"),
-    row!("%_H" => "[hour padding:space]"),
-    row!("%0H" => "[hour]"),
-    row!("%-k" => "[hour padding:none]"),
-    row!("%_k" => "[hour padding:space]"),
-    row!("%0k" => "[hour]"),
-    row!("%-I" => "[hour repr:12 padding:none]"),
-    row!("%_I" => "[hour repr:12 padding:space]"),
-    row!("%0I" => "[hour repr:12]"),
-    row!("%-l" => "[hour repr:12 padding:none]"),
-    row!("%_l" => "[hour repr:12 padding:space]"),
-    row!("%0l" => "[hour repr:12]"),
-    row!("%-j" => "[ordinal padding:none]"),
-    row!("%_j" => "[ordinal padding:space]"),
-    row!("%0j" => "[ordinal]"),
-    row!("%-m" => "[month padding:none]"),
-    row!("%_m" => "[month padding:space]"),
-    row!("%0m" => "[month]"),
-    row!("%-M" => "[minute padding:none]"),
-    row!("%_M" => "[minute padding:space]"),
-    row!("%0M" => "[minute]"),
-    row!("%-S" => "[second padding:none]"),
-    row!("%_S" => "[second padding:space]"),
-    row!("%0S" => "[second]"),
-    row!("%-U" => "[week_number repr:sunday padding:none]"),
-    row!("%_U" => "[week_number repr:sunday padding:space]"),
-    row!("%0U" => "[week_number repr:sunday]"),
-    row!("%-V" => "[week_number padding:none]"),
-    row!("%_V" => "[week_number padding:space]"),
-    row!("%0V" => "[week_number]"),
-    row!("%-W" => "[week_number repr:monday padding:none]"),
-    row!("%_W" => "[week_number repr:monday padding:space]"),
-    row!("%0W" => "[week_number repr:monday]"),
-    row!("%-y" => "[year repr:last_two padding:none]"),
-    row!("%_y" => "[year repr:last_two padding:space]"),
-    row!("%0y" => "[year repr:last_two]"),
-    row!("%-g" => "[year repr:last_two base:iso_week padding:none]" within YearsFrom1),
-    row!("%_g" => "[year repr:last_two base:iso_week padding:space]" within YearsFrom1),
-    row!("%0g" => "[year repr:last_two base:iso_week]" within YearsFrom1),
-    row!("%-C" => "[year repr:century padding:none]"),
-    row!("%_C" => "[year repr:century padding:none]"),
-    row!("%0C" => "[year repr:century padding:none]"),
-    row!("%-Y" => "[year padding:none]"),
-    row!("%_Y" => "[year padding:space]"),
-    row!("%0Y" => "[year]"),
-    row!("%-G" => "[year base:iso_week padding:none]" within YearsFrom1),
-    row!("%_G" => "[year base:iso_week padding:space]" within YearsFrom1),
-    row!("%0G" => "[year base:iso_week]" within YearsFrom1),
-    row!("%-u" => "[weekday repr:monday]"),
-    row!("%_u" => "[weekday repr:monday]"),
-    row!("%0u" => "[weekday repr:monday]"),
-    row!("%-w" => "[weekday repr:sunday one_indexed:false]"),
-    row!("%_w" => "[weekday repr:sunday one_indexed:false]"),
-    row!("%0w" => "[weekday repr:sunday one_indexed:false]"),
-    row!("%-a" => "[weekday repr:short]"),
-    row!("%_a" => "[weekday repr:short]"),
-    row!("%0a" => "[weekday repr:short]"),
-    row!("%-A" => "[weekday]"),
-    row!("%_A" => "[weekday]"),
-    row!("%0A" => "[weekday]"),
-    row!("%-b" => "[month repr:short]"),
-    row!("%_b" => "[month repr:short]"),
-    row!("%0b" => "[month repr:short]"),
-    row!("%-B" => "[month repr:long]"),
-    row!("%_B" => "[month repr:long]"),
-    row!("%0B" => "[month repr:long]"),
-    row!("%-h" => "[month repr:short]"),
-    row!("%_h" => "[month repr:short]"),
-    row!("%0h" => "[month repr:short]"),
-    row!("%-p" => "[period]"),
-    row!("%_p" => "[period]"),
-    row!("%0p" => "[period]"),
-    row!("%-P" => "[period case:lower]"),
-    row!("%_P" => "[period case:lower]"),
-    row!("%0P" => "[period case:lower]"),
-    row!("%0D" => "[month]/[day]/[year repr:last_two]"),
-    row!("%0F" => "[year]-[month]-[day]"),
-    row!("%0R" => "[hour]:[minute]"),
-    row!("%0T" => "[hour]:[minute]:[second]"),
-    row!("%-%" => "%"),
-    row!("%_%" => "%"),
-    row!("%0%" => "%"),
-    row!("%-n" => "\n"),
-    row!("%_n" => "\n"),
-    row!("%0n" => "\n"),
-    row!("%-t" => "\t"),
-    row!("%_t" => "\t"),
-    row!("%0t" => "\t"),
-    row!("%-c" => "[year] M[month] [day padding:none], [weekday repr:short] \
-        [hour]:[minute]:[second]"),
-    row!("%_c" => "[year] M[month] [day padding:none], [weekday repr:short] \
-        [hour]:[minute]:[second]"),
-    row!("%0c" => "[year] M[month] [day padding:none], [weekday repr:short] \
-        [hour]:[minute]:[second]"),
-    row!("%-r" => "[hour repr:12 padding:none]:[minute]:[second] [period]"),
-    row!("%_r" => "[hour repr:12 padding:none]:[minute]:[second] [period]"),
-    row!("%0r" => "[hour repr:12 padding:none]:[minute]:[second] [period]"),
-    row!("%-x" => "[year] M[month] [day padding:none]"),
-    row!("%_x" => "[year] M[month] [day padding:none]"),
-    row!("%0x" => "[year] M[month] [day padding:none]"),
-    row!("%-X" => "[hour]:[minute]:[second]"),
-    row!("%_X" => "[hour]:[minute]:[second]"),
-    row!("%0X" => "[hour]:[minute]:[second]"),
-    row!("%-s" => "[unix_timestamp]" within From1970),
-    row!("%_s" => "[unix_timestamp]" within From1970),
-    row!("%0s" => "[unix_timestamp]" within From1970),
-    row!("%-z" => "[offset_hour sign:mandatory][offset_minute]" within WholeMinutes),
-    row!("%_z" => "[offset_hour sign:mandatory][offset_minute]" within WholeMinutes),
-    row!("%0z" => "[offset_hour sign:mandatory][offset_minute]" within WholeMinutes),
-    row!("%-:z" => "[offset_hour sign:mandatory]:[offset_minute]" within WholeMinutes),
-    row!("%_:z" => "[offset_hour sign:mandatory]:[offset_minute]" within WholeMinutes),
-    row!("%0:z" => "[offset_hour sign:mandatory]:[offset_minute]" within WholeMinutes),
+const SMALL_S: &[Row] = &[row!("%s" => "[unix_timestamp]" within From1970)];
+
+const SMALL_Z: &[Row] = &[
+    row!("%z" => "[offset_hour sign:mandatory][offset_minute]" within WholeMinutes),
 ];
 
-pub const CASED: &[Row] = &[
+const CAPITAL_Z: &[Row] = &[row!("%Z" refused ZoneName)];
+
+const CAPITAL_Q: &[Row] = &[row!("%Q" refused ZoneName)];
+
+const SMALL_Q: &[Row] = &[row!("%q" refused Quarter)];
+
+const CARET: &[Row] = &[
+    row!("%^:z" => "[offset_hour \
+        sign:mandatory]:[offset_minute]" within WholeMinutes),
     row!("%^c" refused Capitals),
     row!("%^a" refused Capitals),
     row!("%^A" refused Capitals),
     row!("%^b" refused Capitals),
     row!("%^B" refused Capitals),
     row!("%^h" refused Capitals),
-    row!("%#p" => "[period case:lower]"),
     row!("%^P" => "[period]"),
     row!("%^d" => "[day]"),
-    row!("%#d" => "[day]"),
     row!("%^e" => "[day padding:space]"),
-    row!("%#e" => "[day padding:space]"),
     row!("%^H" => "[hour]"),
-    row!("%#H" => "[hour]"),
     row!("%^k" => "[hour padding:space]"),
-    row!("%#k" => "[hour padding:space]"),
     row!("%^I" => "[hour repr:12]"),
-    row!("%#I" => "[hour repr:12]"),
     row!("%^l" => "[hour repr:12 padding:space]"),
-    row!("%#l" => "[hour repr:12 padding:space]"),
     row!("%^j" => "[ordinal]"),
-    row!("%#j" => "[ordinal]"),
     row!("%^m" => "[month]"),
-    row!("%#m" => "[month]"),
     row!("%^M" => "[minute]"),
-    row!("%#M" => "[minute]"),
     row!("%^S" => "[second]"),
-    row!("%#S" => "[second]"),
     row!("%^U" => "[week_number repr:sunday]"),
-    row!("%#U" => "[week_number repr:sunday]"),
     row!("%^V" => "[week_number]"),
-    row!("%#V" => "[week_number]"),
     row!("%^W" => "[week_number repr:monday]"),
-    row!("%#W" => "[week_number repr:monday]"),
     row!("%^y" => "[year repr:last_two]"),
-    row!("%#y" => "[year repr:last_two]"),
     row!("%^g" => "[year repr:last_two base:iso_week]" within YearsFrom1),
-    row!("%#g" => "[year repr:last_two base:iso_week]" within YearsFrom1),
     row!("%^C" => "[year repr:century padding:none]"),
-    row!("%#C" => "[year repr:century padding:none]"),
     row!("%^Y" => "[year]"),
-    row!("%#Y" => "[year]"),
     row!("%^G" => "[year base:iso_week]" within YearsFrom1),
-    row!("%#G" => "[year base:iso_week]" within YearsFrom1),
     row!("%^u" => "[weekday repr:monday]"),
-    row!("%#u" => "[weekday repr:monday]"),
     row!("%^w" => "[weekday repr:sunday one_indexed:false]"),
+    row!("%^p" => "[period]"),
+    row!("%^D" => "[month]/[day]/[year repr:last_two]"),
+    row!("%^F" => "[year]-[month]-[day]"),
+    row!("%^R" => "[hour]:[minute]"),
+    row!("%^T" => "[hour]:[minute]:[second]"),
+    row!("%^%" => "%"),
+    row!("%^n" => "\n"),
+    row!("%^t" => "\t"),
+    row!("%^r" => "[hour repr:12 padding:none]:[minute]:[second] [period]"),
+    row!("%^x" => "[year] M[month] [day padding:none]"),
+    row!("%^X" => "[hour]:[minute]:[second]"),
+    row!("%^s" => "[unix_timestamp]" within From1970),
+    row!("%^z" => "[offset_hour sign:mandatory][offset_minute]" within WholeMinutes),
+    row!("%^" refused Flag),
+];
+
+const HASH: &[Row] = &[
+    row!("%#:z" => "[offset_hour \
+        sign:mandatory]:[offset_minute]" within WholeMinutes),
+    row!("%#p" => "[period case:lower]"),
+    row!("%#d" => "[day]"),
+    row!("%#e" => "[day padding:space]"),
+    row!("%#H" => "[hour]"),
+    row!("%#k" => "[hour padding:space]"),
+    row!("%#I" => "[hour repr:12]"),
+    row!("%#l" => "[hour repr:12 padding:space]"),
+    row!("%#j" => "[ordinal]"),
+    row!("%#m" => "[month]"),
+    row!("%#M" => "[minute]"),
+    row!("%#S" => "[second]"),
+    row!("%#U" => "[week_number repr:sunday]"),
+    row!("%#V" => "[week_number]"),
+    row!("%#W" => "[week_number repr:monday]"),
+    row!("%#y" => "[year repr:last_two]"),
+    row!("%#g" => "[year repr:last_two base:iso_week]" within YearsFrom1),
+    row!("%#C" => "[year repr:century padding:none]"),
+    row!("%#Y" => "[year]"),
+    row!("%#G" => "[year base:iso_week]" within YearsFrom1),
+    row!("%#u" => "[weekday repr:monday]"),
     row!("%#w" => "[weekday repr:sunday one_indexed:false]"),
     row!("%#a" => "[weekday repr:short]"),
     row!("%#A" => "[weekday]"),
     row!("%#b" => "[month repr:short]"),
     row!("%#B" => "[month repr:long]"),
     row!("%#h" => "[month repr:short]"),
-    row!("%^p" => "[period]"),
     row!("%#P" => "[period case:lower]"),
-    row!("%^D" => "[month]/[day]/[year repr:last_two]"),
     row!("%#D" => "[month]/[day]/[year repr:last_two]"),
-    row!("%^F" => "[year]-[month]-[day]"),
     row!("%#F" => "[year]-[month]-[day]"),
-    row!("%^R" => "[hour]:[minute]"),
     row!("%#R" => "[hour]:[minute]"),
-    row!("%^T" => "[hour]:[minute]:[second]"),
     row!("%#T" => "[hour]:[minute]:[second]"),
-    row!("%^%" => "%"),
     row!("%#%" => "%"),
-    row!("%^n" => "\n"),
     row!("%#n" => "\n"),
-    row!("%^t" => "\t"),
     row!("%#t" => "\t"),
     row!("%#c" => "[year] M[month] [day padding:none], [weekday repr:short] \
         [hour]:[minute]:[second]"),
-    row!("%^r" => "[hour repr:12 padding:none]:[minute]:[second] [period]"),
     row!("%#r" => "[hour repr:12 padding:none]:[minute]:[second] [period]"),
-    row!("%^x" => "[year] M[month] [day padding:none]"),
     row!("%#x" => "[year] M[month] [day padding:none]"),
-    row!("%^X" => "[hour]:[minute]:[second]"),
     row!("%#X" => "[hour]:[minute]:[second]"),
-    row!("%^s" => "[unix_timestamp]" within From1970),
     row!("%#s" => "[unix_timestamp]" within From1970),
-    row!("%^z" => "[offset_hour sign:mandatory][offset_minute]" within WholeMinutes),
     row!("%#z" => "[offset_hour sign:mandatory][offset_minute]" within WholeMinutes),
-    row!("%^:z" => "[offset_hour sign:mandatory]:[offset_minute]" within WholeMinutes),
-    row!("%#:z" => "[offset_hour sign:mandatory]:[offset_minute]" within WholeMinutes),
+    row!("%#" refused Flag),
+];
+
+const HYPHEN: &[Row] = &[
+    row!("%-:z" => "[offset_hour \
+        sign:mandatory]:[offset_minute]" within WholeMinutes),
+    row!("%-F" => "[year]-[month]-[day]"),
+    row!("%-R" => "[hour]:[minute]"),
+    row!("%-T" => "[hour]:[minute]:[second]"),
+    row!("%-D" => "[month]/[day]/[year repr:last_two]"),
+    row!("%-d" => "[day padding:none]"),
+    row!("%-e" => "[day padding:none]"),
+    row!("%-H" => "[hour padding:none]"),
+    row!("%-k" => "[hour padding:none]"),
+    row!("%-I" => "[hour repr:12 padding:none]"),
+    row!("%-l" => "[hour repr:12 padding:none]"),
+    row!("%-j" => "[ordinal padding:none]"),
+    row!("%-m" => "[month padding:none]"),
+    row!("%-M" => "[minute padding:none]"),
+    row!("%-S" => "[second padding:none]"),
+    row!("%-U" => "[week_number repr:sunday padding:none]"),
+    row!("%-V" => "[week_number padding:none]"),
+    row!("%-W" => "[week_number repr:monday padding:none]"),
+    row!("%-y" => "[year repr:last_two padding:none]"),
+    row!("%-g" => "[year repr:last_two base:iso_week \
+        padding:none]" within YearsFrom1),
+    row!("%-C" => "[year repr:century padding:none]"),
+    row!("%-Y" => "[year padding:none]"),
+    row!("%-G" => "[year base:iso_week padding:none]" within YearsFrom1),
+    row!("%-u" => "[weekday repr:monday]"),
+    row!("%-w" => "[weekday repr:sunday one_indexed:false]"),
+    row!("%-a" => "[weekday repr:short]"),
+    row!("%-A" => "[weekday]"),
+    row!("%-b" => "[month repr:short]"),
+    row!("%-B" => "[month repr:long]"),
+    row!("%-h" => "[month repr:short]"),
+    row!("%-p" => "[period]"),
+    row!("%-P" => "[period case:lower]"),
+    row!("%-%" => "%"),
+    row!("%-n" => "\n"),
+    row!("%-t" => "\t"),
+    row!("%-c" => "[year] M[month] [day padding:none], [weekday repr:short] \
+        [hour]:[minute]:[second]"),
+    row!("%-r" => "[hour repr:12 padding:none]:[minute]:[second] [period]"),
+    row!("%-x" => "[year] M[month] [day padding:none]"),
+    row!("%-X" => "[hour]:[minute]:[second]"),
+    row!("%-s" => "[unix_timestamp]" within From1970),
+    row!("%-z" => "[offset_hour sign:mandatory][offset_minute]" within WholeMinutes),
+    row!("%-" refused Flag),
+];
+
+const UNDERSCORE: &[Row] = &[
+    row!("%_:z" => "[offset_hour \
+        sign:mandatory]:[offset_minute]" within WholeMinutes),
+    row!("%_F" => "[year]-[month]-[day]"),
+    row!("%_R" => "[hour]:[minute]"),
+    row!("%_T" => "[hour]:[minute]:[second]"),
+    row!("%_D" => "[month]/[day]/[year repr:last_two]"),
+    row!("%_d" => "[day padding:space]"),
+    row!("%_e" => "[day padding:space]"),
+    row!("%_H" => "[hour padding:space]"),
+    row!("%_k" => "[hour padding:space]"),
+    row!("%_I" => "[hour repr:12 padding:space]"),
+    row!("%_l" => "[hour repr:12 padding:space]"),
+    row!("%_j" => "[ordinal padding:space]"),
+    row!("%_m" => "[month padding:space]"),
+    row!("%_M" => "[minute padding:space]"),
+    row!("%_S" => "[second padding:space]"),
+    row!("%_U" => "[week_number repr:sunday padding:space]"),
+    row!("%_V" => "[week_number padding:space]"),
+    row!("%_W" => "[week_number repr:monday padding:space]"),
+    row!("%_y" => "[year repr:last_two padding:space]"),
+    row!("%_g" => "[year repr:last_two base:iso_week \
+        padding:space]" within YearsFrom1),
+    row!("%_C" => "[year repr:century padding:none]"),
+    row!("%_Y" => "[year padding:space]"),
+    row!("%_G" => "[year base:iso_week padding:space]" within YearsFrom1),
+    row!("%_u" => "[weekday repr:monday]"),
+    row!("%_w" => "[weekday repr:sunday one_indexed:false]"),
+    row!("%_a" => "[weekday repr:short]"),
+    row!("%_A" => "[weekday]"),
+    row!("%_b" => "[month repr:short]"),
+    row!("%_B" => "[month repr:long]"),
+    row!("%_h" => "[month repr:short]"),
+    row!("%_p" => "[period]"),
+    row!("%_P" => "[period case:lower]"),
+    row!("%_%" => "%"),
+    row!("%_n" => "\n"),
+    row!("%_t" => "\t"),
+    row!("%_c" => "[year] M[month] [day padding:none], [weekday repr:short] \
+        [hour]:[minute]:[second]"),
+    row!("%_r" => "[hour repr:12 padding:none]:[minute]:[second] [period]"),
+    row!("%_x" => "[year] M[month] [day padding:none]"),
+    row!("%_X" => "[hour]:[minute]:[second]"),
+    row!("%_s" => "[unix_timestamp]" within From1970),
+    row!("%_z" => "[offset_hour sign:mandatory][offset_minute]" within WholeMinutes),
+    row!("%_" refused Flag),
+];
+
+const DIGIT_ZERO: &[Row] = &[
+    row!("%0:z" => "[offset_hour \
+        sign:mandatory]:[offset_minute]" within WholeMinutes),
+    row!("%0d" => "[day]"),
+    row!("%0e" => "[day]"),
+    row!("%0H" => "[hour]"),
+    row!("%0k" => "[hour]"),
+    row!("%0I" => "[hour repr:12]"),
+    row!("%0l" => "[hour repr:12]"),
+    row!("%0j" => "[ordinal]"),
+    row!("%0m" => "[month]"),
+    row!("%0M" => "[minute]"),
+    row!("%0S" => "[second]"),
+    row!("%0U" => "[week_number repr:sunday]"),
+    row!("%0V" => "[week_number]"),
+    row!("%0W" => "[week_number repr:monday]"),
+    row!("%0y" => "[year repr:last_two]"),
+    row!("%0g" => "[year repr:last_two base:iso_week]" within YearsFrom1),
+    row!("%0C" => "[year repr:century padding:none]"),
+    row!("%0Y" => "[year]"),
+    row!("%0G" => "[year base:iso_week]" within YearsFrom1),
+    row!("%0u" => "[weekday repr:monday]"),
+    row!("%0w" => "[weekday repr:sunday one_indexed:false]"),
+    row!("%0a" => "[weekday repr:short]"),
+    row!("%0A" => "[weekday]"),
+    row!("%0b" => "[month repr:short]"),
+    row!("%0B" => "[month repr:long]"),
+    row!("%0h" => "[month repr:short]"),
+    row!("%0p" => "[period]"),
+    row!("%0P" => "[period case:lower]"),
+    row!("%0D" => "[month]/[day]/[year repr:last_two]"),
+    row!("%0F" => "[year]-[month]-[day]"),
+    row!("%0R" => "[hour]:[minute]"),
+    row!("%0T" => "[hour]:[minute]:[second]"),
+    row!("%0%" => "%"),
+    row!("%0n" => "\n"),
+    row!("%0t" => "\t"),
+    row!("%0c" => "[year] M[month] [day padding:none], [weekday repr:short] \
+        [hour]:[minute]:[second]"),
+    row!("%0r" => "[hour repr:12 padding:none]:[minute]:[second] [period]"),
+    row!("%0x" => "[year] M[month] [day padding:none]"),
+    row!("%0X" => "[hour]:[minute]:[second]"),
+    row!("%0s" => "[unix_timestamp]" within From1970),
+    row!("%0z" => "[offset_hour sign:mandatory][offset_minute]" within WholeMinutes),
+    row!("%0" refused Flag),
 ];

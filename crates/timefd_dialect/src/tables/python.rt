@@ -1,52 +1,164 @@
 //! The rows of Python. `tables/write` writes them.
 
+ghost use Rattle.std.specs.Prelude.{◌≡◌};
+ghost use Rattle.timefd_dialect.specs.Groups.{rows_at};
+ghost use Rattle.timefd_dialect.specs.Python.{python_groups};
+ghost use Rattle.timefd_dialect.specs.Rows.{entries};
+
 use crate::reason::Reason;
 use crate::row::{NotBefore, Range, Row, Verdict, row};
 
-pub const PLAIN: &[Row] = &[
-    row!("%d" => "[day]"),
-    row!("%H" => "[hour]"),
-    row!("%I" => "[hour repr:12]"),
-    row!("%j" => "[ordinal]"),
-    row!("%m" => "[month]"),
-    row!("%M" => "[minute]"),
-    row!("%S" => "[second]"),
-    row!("%U" => "[week_number repr:sunday]"),
-    row!("%V" => "[week_number]"),
-    row!("%W" => "[week_number repr:monday]"),
-    row!("%y" => "[year repr:last_two]"),
-    row!("%Y" => "[year]" within YearsFrom1000),
-    row!("%G" => "[year base:iso_week]" within YearsFrom1000),
-    row!("%u" => "[weekday repr:monday]"),
-    row!("%w" => "[weekday repr:sunday one_indexed:false]"),
-    row!("%a" => "[weekday repr:short]"),
-    row!("%A" => "[weekday]"),
-    row!("%b" => "[month repr:short]"),
-    row!("%B" => "[month repr:long]"),
-    row!("%p" => "[period]"),
+/// The rows of the directives with this byte after the `%`, the longest first.
+#[tactic(auto, unfolding(crate::specs::Python::python_groups))]
+pub fn python_rows(byte: u8) -> &'static [Row]
+    ensures { entries result.now ≡ rows_at byte python_groups }
+{
+    match byte {
+        b'd' => SMALL_D,
+        b'H' => CAPITAL_H,
+        b'I' => CAPITAL_I,
+        b'j' => SMALL_J,
+        b'm' => SMALL_M,
+        b'M' => CAPITAL_M,
+        b'S' => CAPITAL_S,
+        b'U' => CAPITAL_U,
+        b'V' => CAPITAL_V,
+        b'W' => CAPITAL_W,
+        b'y' => SMALL_Y,
+        b'Y' => CAPITAL_Y,
+        b'G' => CAPITAL_G,
+        b'u' => SMALL_U,
+        b'w' => SMALL_W,
+        b'a' => SMALL_A,
+        b'A' => CAPITAL_A,
+        b'b' => SMALL_B,
+        b'B' => CAPITAL_B,
+        b'p' => SMALL_P,
+        b'c' => SMALL_C,
+        b'x' => SMALL_X,
+        b'X' => CAPITAL_X,
+        b'%' => PERCENT_SIGN,
+        b'f' => SMALL_F,
+        b'z' => SMALL_Z,
+        b':' => COLON,
+        b'Z' => CAPITAL_Z,
+        b'e' => SMALL_E,
+        b'k' => SMALL_K,
+        b'l' => SMALL_L,
+        b'g' => SMALL_G,
+        b'C' => CAPITAL_C,
+        b'h' => SMALL_H,
+        b'P' => CAPITAL_P,
+        b'D' => CAPITAL_D,
+        b'F' => CAPITAL_F,
+        b'r' => SMALL_R,
+        b'R' => CAPITAL_R,
+        b'T' => CAPITAL_T,
+        b'n' => SMALL_N,
+        b't' => SMALL_T,
+        b'-' => HYPHEN,
+        b'_' => UNDERSCORE,
+        b'0' => DIGIT_ZERO,
+        b's' => SMALL_S,
+        b'^' => CARET,
+        b'#' => HASH,
+        b'E' => CAPITAL_E,
+        b'O' => CAPITAL_O,
+        _ => &[],
+    }
+}
+
+const SMALL_D: &[Row] = &[row!("%d" => "[day]")];
+
+const CAPITAL_H: &[Row] = &[row!("%H" => "[hour]")];
+
+const CAPITAL_I: &[Row] = &[row!("%I" => "[hour repr:12]")];
+
+const SMALL_J: &[Row] = &[row!("%j" => "[ordinal]")];
+
+const SMALL_M: &[Row] = &[row!("%m" => "[month]")];
+
+const CAPITAL_M: &[Row] = &[row!("%M" => "[minute]")];
+
+const CAPITAL_S: &[Row] = &[row!("%S" => "[second]")];
+
+const CAPITAL_U: &[Row] = &[row!("%U" => "[week_number repr:sunday]")];
+
+const CAPITAL_V: &[Row] = &[row!("%V" => "[week_number]")];
+
+const CAPITAL_W: &[Row] = &[row!("%W" => "[week_number repr:monday]")];
+
+const SMALL_Y: &[Row] = &[row!("%y" => "[year repr:last_two]")];
+
+const CAPITAL_Y: &[Row] = &[row!("%Y" => "[year]" within YearsFrom1000)];
+
+const CAPITAL_G: &[Row] = &[row!("%G" => "[year base:iso_week]" within YearsFrom1000)];
+
+const SMALL_U: &[Row] = &[row!("%u" => "[weekday repr:monday]")];
+
+const SMALL_W: &[Row] = &[row!("%w" => "[weekday repr:sunday one_indexed:false]")];
+
+const SMALL_A: &[Row] = &[row!("%a" => "[weekday repr:short]")];
+
+const CAPITAL_A: &[Row] = &[row!("%A" => "[weekday]")];
+
+const SMALL_B: &[Row] = &[row!("%b" => "[month repr:short]")];
+
+const CAPITAL_B: &[Row] = &[row!("%B" => "[month repr:long]")];
+
+const SMALL_P: &[Row] = &[row!("%p" => "[period]")];
+
+const SMALL_C: &[Row] = &[
     row!("%c" => "[weekday repr:short] [month repr:short] [day padding:space] \
         [hour]:[minute]:[second] [year]" within YearsFrom1000),
-    row!("%x" => "[month]/[day]/[year repr:last_two]"),
-    row!("%X" => "[hour]:[minute]:[second]"),
-    row!("%%" => "%"),
-    row!("%f" => "[subsecond digits:6]"),
+];
+
+const SMALL_X: &[Row] = &[row!("%x" => "[month]/[day]/[year repr:last_two]")];
+
+const CAPITAL_X: &[Row] = &[row!("%X" => "[hour]:[minute]:[second]")];
+
+const PERCENT_SIGN: &[Row] = &[row!("%%" => "%")];
+
+const SMALL_F: &[Row] = &[row!("%f" => "[subsecond digits:6]")];
+
+const SMALL_Z: &[Row] = &[
     row!("%z" => "[offset_hour sign:mandatory][offset_minute]" within WholeMinutes),
-    row!("%:z" => "[offset_hour sign:mandatory]:[offset_minute]" within WholeMinutes),
-    row!("%Z" refused ZoneName),
-    row!("%e" => "[day padding:space]"),
-    row!("%k" => "[hour padding:space]"),
-    row!("%l" => "[hour repr:12 padding:space]"),
-    row!("%g" => "[year repr:last_two base:iso_week]"),
-    row!("%C" => "[year repr:century]" within YearsFrom1000),
-    row!("%h" => "[month repr:short]"),
-    row!("%P" => "[period case:lower]"),
-    row!("%D" => "[month]/[day]/[year repr:last_two]"),
-    row!("%F" => "[year]-[month]-[day]" within YearsFrom1000),
-    row!("%r" => "[hour repr:12]:[minute]:[second] [period]"),
-    row!("%R" => "[hour]:[minute]"),
-    row!("%T" => "[hour]:[minute]:[second]"),
-    row!("%n" => "\n"),
-    row!("%t" => "\t"),
+];
+
+const COLON: &[Row] = &[row!("%:z" => "[offset_hour \
+        sign:mandatory]:[offset_minute]" within WholeMinutes)];
+
+const CAPITAL_Z: &[Row] = &[row!("%Z" refused ZoneName)];
+
+const SMALL_E: &[Row] = &[row!("%e" => "[day padding:space]")];
+
+const SMALL_K: &[Row] = &[row!("%k" => "[hour padding:space]")];
+
+const SMALL_L: &[Row] = &[row!("%l" => "[hour repr:12 padding:space]")];
+
+const SMALL_G: &[Row] = &[row!("%g" => "[year repr:last_two base:iso_week]")];
+
+const CAPITAL_C: &[Row] = &[row!("%C" => "[year repr:century]" within YearsFrom1000)];
+
+const SMALL_H: &[Row] = &[row!("%h" => "[month repr:short]")];
+
+const CAPITAL_P: &[Row] = &[row!("%P" => "[period case:lower]")];
+
+const CAPITAL_D: &[Row] = &[row!("%D" => "[month]/[day]/[year repr:last_two]")];
+
+const CAPITAL_F: &[Row] = &[row!("%F" => "[year]-[month]-[day]" within YearsFrom1000)];
+
+const SMALL_R: &[Row] = &[row!("%r" => "[hour repr:12]:[minute]:[second] [period]")];
+
+const CAPITAL_R: &[Row] = &[row!("%R" => "[hour]:[minute]")];
+
+const CAPITAL_T: &[Row] = &[row!("%T" => "[hour]:[minute]:[second]")];
+
+const SMALL_N: &[Row] = &[row!("%n" => "\n")];
+
+const SMALL_T: &[Row] = &[row!("%t" => "\t")];
+
+const HYPHEN: &[Row] = &[
     row!("%-d" => "[day padding:none]"),
     row!("%-e" => "[day padding:none]"),
     row!("%-H" => "[hour padding:none]"),
@@ -62,6 +174,12 @@ pub const PLAIN: &[Row] = &[
     row!("%-W" => "[week_number repr:monday padding:none]"),
     row!("%-y" => "[year repr:last_two padding:none]"),
     row!("%-g" => "[year repr:last_two base:iso_week padding:none]"),
+    row!("%-Y" => "[year padding:none]"),
+    row!("%-G" => "[year base:iso_week padding:none]"),
+    row!("%-C" => "[year repr:century padding:none]"),
+];
+
+const UNDERSCORE: &[Row] = &[
     row!("%_d" => "[day padding:space]"),
     row!("%_e" => "[day padding:space]"),
     row!("%_H" => "[hour padding:space]"),
@@ -77,6 +195,9 @@ pub const PLAIN: &[Row] = &[
     row!("%_W" => "[week_number repr:monday padding:space]"),
     row!("%_y" => "[year repr:last_two padding:space]"),
     row!("%_g" => "[year repr:last_two base:iso_week padding:space]"),
+];
+
+const DIGIT_ZERO: &[Row] = &[
     row!("%0d" => "[day]"),
     row!("%0e" => "[day]"),
     row!("%0H" => "[hour]"),
@@ -92,15 +213,19 @@ pub const PLAIN: &[Row] = &[
     row!("%0W" => "[week_number repr:monday]"),
     row!("%0y" => "[year repr:last_two]"),
     row!("%0g" => "[year repr:last_two base:iso_week]"),
-    row!("%-Y" => "[year padding:none]"),
-    row!("%-G" => "[year base:iso_week padding:none]"),
-    row!("%-C" => "[year repr:century padding:none]"),
-    row!("%s" refused LocalTime),
+];
+
+const SMALL_S: &[Row] = &[row!("%s" refused LocalTime)];
+
+const CARET: &[Row] = &[
     row!("%^a" refused Capitals),
     row!("%^A" refused Capitals),
     row!("%^b" refused Capitals),
     row!("%^B" refused Capitals),
     row!("%^h" refused Capitals),
+];
+
+const HASH: &[Row] = &[
     row!("%#a" refused Capitals),
     row!("%#A" refused Capitals),
     row!("%#b" refused Capitals),
@@ -116,6 +241,9 @@ pub const PLAIN: &[Row] = &[
     row!("%#Y" refused Platform),
     row!("%#c" refused Platform),
     row!("%#x" refused Platform),
+];
+
+const CAPITAL_E: &[Row] = &[
     row!("%Ec" => "[weekday repr:short] [month repr:short] [day padding:space] \
         [hour]:[minute]:[second] [year]" within YearsFrom1000),
     row!("%EC" => "[year repr:century]" within YearsFrom1000),
@@ -123,6 +251,9 @@ pub const PLAIN: &[Row] = &[
     row!("%EX" => "[hour]:[minute]:[second]"),
     row!("%Ey" => "[year repr:last_two]"),
     row!("%EY" => "[year]" within YearsFrom1000),
+];
+
+const CAPITAL_O: &[Row] = &[
     row!("%Od" => "[day]"),
     row!("%Oe" => "[day padding:space]"),
     row!("%OH" => "[hour]"),
@@ -136,5 +267,4 @@ pub const PLAIN: &[Row] = &[
     row!("%Ow" => "[weekday repr:sunday one_indexed:false]"),
     row!("%OW" => "[week_number repr:monday]"),
     row!("%Oy" => "[year repr:last_two]"),
-    row!("%" refused UnknownDirective),
 ];

@@ -6,6 +6,6 @@ use Rattle.timefd_dialect.proofs.quote.closing.Given as goal
 
 abbrev pub invariant-bytes : goal.invariant-bytes
 invariant-bytes l =
-    (closing_from l.at l.last (drop l.at l.behind) ≡ closing l.behind)
-    × IfSome l.last (λ at. at < length l.behind)
-    × IfSome l.last (λ at. slice_index l.behind at ≡ right)
+    (closing_from l.at l.last (drop l.at l.after) ≡ closing l.after)
+    × IfSome l.last (λ at. at < length l.after)
+    × IfSome l.last (λ at. slice_index l.after at ≡ right)

@@ -11,8 +11,8 @@ abbrev pub invariant-characters : goal.invariant-characters
 invariant-characters l =
     shadow (Utf8 l.rest)
     × (bytes : Text) × (string_bytes l.answer ≡ string_bytes l.fn.answer ++ escaped bytes)
-    × (quotation l.behind ≡ with_front bytes (quotation l.rest))
-    × (length l.rest ≤ length l.behind)
+    × (quotation l.after ≡ with_front bytes (quotation l.rest))
+    × (length l.rest ≤ length l.after)
 
 abbrev pub decreases-characters : goal.decreases-characters
 decreases-characters l = length l.rest

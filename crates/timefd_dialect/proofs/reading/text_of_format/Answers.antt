@@ -7,7 +7,7 @@ pub pieces-preserved : goal.pieces-preserved
 pieces-preserved c = (
   c.in-Ok.ensures.left.utf8,
   subst (HasRead c.args.dialect c.args.format.now c.in-Ok.step.rest.now
-      (string_bytes c.push_front.new.answer)) (sym c.narrowed-limits.ensures)
+      (string_bytes c.push_pieces.new.answer)) (sym c.narrowed-limits.ensures)
       (read_more _ _ _ _ _ _ _ c.pieces.invariant.1 c.in-Ok.ensures),
 )
 
