@@ -102,10 +102,12 @@ fn push_front_to_read<'a>(
 fn row_named(rows: &'static [Row], text: &str) -> Option<Row>
     ensures { entry_option result ≡ row_named (entries rows.now) text.now }
 {
-    'rows: for at in 0..rows.len() {
-        if rows[at].text == text {
-            return Some(rows[at]);
+    let mut rest = rows;
+    'rows: while let [row, after @ ..] = rest {
+        if row.text.as_bytes() == text.as_bytes() {
+            return Some(*row);
         }
+        rest = after;
     }
     None
 }
