@@ -8,8 +8,8 @@ FILE = pathlib.Path(__file__).resolve().parent / "guesses.toml"
 CRATE = "crates/timefd_guess"
 
 
-def candidates():
-    return tomllib.loads(FILE.read_text())["candidate"]
+def groups():
+    return tomllib.loads(FILE.read_text())["group"]
 
 
 def long_literal(text):
@@ -36,15 +36,37 @@ def code_row(row):
     return f"    candidate!(\n        {quoted if len(quoted) <= 90 else long_literal(row['text'])}\n    ),"
 
 
+def variant(group):
+    return dialects.camel(group["name"])
+
+
+def definition(group):
+    return group["name"].replace("-", "_")
+
+
+def capital(text):
+    return text[0].upper() + text[1:]
+
+
 def code():
-    rows = "\n".join(code_row(row) for row in candidates())
+    variants = "".join(f"    /// {capital(it['title'])}.\n    {variant(it)},\n" for it in groups())
+    listed = "".join(f"        Group::{variant(it)},\n" for it in groups())
+    arms = "".join(f"            Group::{variant(it)} => {definition(it)}_rows(),\n" for it in groups())
+    functions = "".join(
+        f"\n#[tactic(auto, unfolding(crate::specs::Candidates::{definition(it)}_entries))]\n"
+        f"fn {definition(it)}_rows() -> &'static [Candidate]\n    ensures {{ spec.entries result.now ≡ spec.{definition(it)}_entries }}\n"
+        f"{{\n    {definition(it).upper()}\n}}\n" for it in groups())
+    constants = "".join(f"\nconst {definition(it).upper()}: &[Candidate] = &[\n" + "\n".join(code_row(row) for row in it["candidate"]) + "\n];\n"
+                        for it in groups())
     return ("//! Descriptions that dates and times are often written by, likeliest first. `tables/write` writes them.\n\n"
             "ghost use Rattle.std.specs.Prelude.{◌≡◌};\nghost use Rattle.timefd_guess.specs.Candidates as spec;\n\n"
             "use crate::candidate::{Candidate, candidate};\n\n"
-            "/// The candidates, likeliest first.\n#[tactic(auto, unfolding(crate::specs::Candidates::all_entries))]\n"
-            "pub fn all_candidates() -> &'static [Candidate]\n    ensures { spec.entries result.now ≡ spec.all_entries }\n"
-            "{\n    ALL\n}\n\n"
-            f"const ALL: &[Candidate] = &[\n{rows}\n];\n")
+            f"/// Where descriptions are from.\n#[derive(Clone, Copy)]\npub enum Group {{\n{variants}}}\n\n"
+            "/// The groups, likeliest first.\npub fn all_groups() -> &'static [Group]\n    ensures { result.now ≡ spec.all_groups }\n"
+            f"{{\n    &[\n{listed}    ]\n}}\n\n"
+            "impl Group {\n    /// Its descriptions, likeliest first.\n    pub fn rows(self) -> &'static [Candidate]\n"
+            f"        ensures {{ spec.entries result.now ≡ spec.rows_of self }}\n    {{\n        match self {{\n{arms}        }}\n    }}\n}}\n"
+            f"{functions}{constants}")
 
 
 def specified_row(row):
@@ -54,12 +76,15 @@ def specified_row(row):
 
 
 def specification():
-    listed = "\n    ∷ ".join([specified_row(row) for row in candidates()] + ["[]"])
+    lists = "".join(f"\nunfoldable pub {definition(it)}_entries : List Entry\n{definition(it)}_entries =\n    "
+                    + "\n    ∷ ".join([specified_row(row) for row in it["candidate"]] + ["[]"]) + "\n" for it in groups())
     return ("-- Descriptions that dates and times are often written by, likeliest first.\n"
-            "use Rattle.std.specs.Prelude.{codes, List, [], ◌∷◌, Option, Some, None}\n"
+            "use Rattle.std.specs.Prelude.{codes, List, [], ◌∷◌, ◌++◌, Option, Some, None}\n"
             "use denote.Ref.{Bor}\n"
             "use Rattle.timefd_component.specs.Tree.{Text}\n"
-            "use Rattle.timefd_guess.specs.declared.candidate.Candidate.{Candidate}\n\n"
+            "use Rattle.timefd_guess.specs.declared.candidate.Candidate.{Candidate}\n"
+            "use Rattle.timefd_guess.specs.declared.candidates.Group.{Group}\n"
+            f"use Rattle.timefd_guess.specs.declared.candidates.Group.TheVariants.{{{', '.join(map(variant, groups()))}}}\n\n"
             "-- a description, and the one in which day and month stand in each other's place\n"
             "pub record Entry : Type 0 where\n  pub text : Text\n  pub swapped : Option Text\n\n"
             "abbrev pub alone : Text → Entry\nalone text = record { text = text; swapped = None }\n\n"
@@ -70,8 +95,14 @@ def specification():
             "abbrev pub entry_of : Candidate → Entry\n"
             "entry_of row = record { text = row.description.now; swapped = text_option row.swapped }\n\n"
             "abbrev pub entries : List Candidate → List Entry\nentries [] = []\n"
-            "entries (row ∷ rows) = entry_of row ∷ entries rows\n\n"
-            f"unfoldable pub all_entries : List Entry\nall_entries =\n    {listed}\n")
+            "entries (row ∷ rows) = entry_of row ∷ entries rows\n"
+            f"{lists}\nabbrev pub rows_of : Group → List Entry\n"
+            + "".join(f"rows_of {variant(it)} = {definition(it)}_entries\n" for it in groups())
+            + "\nabbrev pub all_groups : List Group\nall_groups =\n    "
+            + "\n    ∷ ".join([variant(it) for it in groups()] + ["[]"])
+            + "\n\n-- the rows of groups in turn\nabbrev pub rows_in : List Group → List Entry\nrows_in [] = []\n"
+            "rows_in (group ∷ groups) = rows_of group ++ rows_in groups\n\n"
+            "abbrev pub all_entries : List Entry\nall_entries = rows_in all_groups\n")
 
 
 def files():

@@ -5,8 +5,13 @@ use Rattle.std.specs.declared.alloc.AllocError.{AllocError}
 use Rattle.std.proofs.lemmas.List.Elements.{All-nil, All-cons, All-append, All-take}
 use denote.Ref.{Bor}
 use Rattle.timefd_component.specs.Tree.{Text, Tree, pack}
-use Rattle.timefd_guess.specs.Candidates.{Entry, entries, entry_of}
-use Rattle.timefd_guess.specs.Found.{texts, IsRead, IsWritten, ReadBy, ComesBack, AllComeBack, Counts, one_if, ReadsAll, IsOffered, IsGuess, Appends, AreFound, IsReadBack, ReadsBack}
+use Rattle.timefd_borrowed_fault.specs.BorrowedFaults.{IsLentOf, lent_fault}
+use Rattle.timefd_borrowed_fault.specs.declared.borrowed_fault.BorrowedFault.{BorrowedFault}
+use Rattle.timefd_borrowed_fault.specs.declared.borrowed_parse_error.BorrowedParseError.{BorrowedParseError}
+use Rattle.timefd_borrowed_fault.specs.declared.borrowed_parse_error.BorrowedParseError.TheVariants.{Invalid}
+use Rattle.timefd_guess.specs.Candidates.{Entry, entries, entry_of, rows_of, rows_in}
+use Rattle.timefd_guess.specs.declared.candidates.Group.{Group}
+use Rattle.timefd_guess.specs.Found.{texts, Adds, IsRead, IsWritten, ReadBy, ComesBack, AllComeBack, Counts, one_if, ReadsAll, IsOffered, IsGuess, Appends, AreFound, IsReadBack, ReadsBack}
 use Rattle.timefd_fault.specs.Faults.{Fault}
 use Rattle.timefd_language.specs.Broken.{FaultOf}
 use Rattle.timefd_moment.specs.declared.moment.Moment.{Moment}
@@ -21,7 +26,7 @@ use Rattle.timefd_guess.specs.declared.guessing.Guess.{Guess}
 pub comes_some : (tree : Tree) (text : Text) (m : Moment) (r : Result Bool AllocError)
     → IsRead (fields_of tree text) (Some m) → IfOk r (IsWritten tree m text)
     → IfOk r (ComesBack tree text)
-comes_some tree text m (Ok yes) read is = (Some m, read, is)
+comes_some tree text m (Ok is_so) read is = (Some m, read, is)
 comes_some tree text m (Err e) read is = tt
 
 pub comes_none : (tree : Tree) (text : Text) → IsRead (fields_of tree text) None
@@ -30,13 +35,13 @@ comes_none tree text read = (None, read, refl)
 
 -- what is left decides
 abbrev pub Decides : Tree → List Text → List Text → Type 0
-Decides tree all rest = (yes : Bool) → AllComeBack tree rest yes → AllComeBack tree all yes
+Decides tree all rest = (is_so : Bool) → AllComeBack tree rest is_so → AllComeBack tree all is_so
 
 pub comes_more : (tree : Tree) (all : List Text) (rest after : List (Bor Text)) (text : Bor Text)
     → rest ≡ text ∷ after → ComesBack tree text.now true → Decides tree all (texts rest)
     → Decides tree all (texts after)
-comes_more tree all rest after text split one so_far yes more =
-    so_far yes (subst (λ r. AllComeBack tree (texts r) yes) (sym split) (inl (one, more)))
+comes_more tree all rest after text split one so_far is_so more =
+    so_far is_so (subst (λ r. AllComeBack tree (texts r) is_so) (sym split) (inl (one, more)))
 
 pub comes_not : (tree : Tree) (all : List Text) (rest after : List (Bor Text)) (text : Bor Text)
     → rest ≡ text ∷ after → ComesBack tree text.now false → Decides tree all (texts rest)
@@ -58,8 +63,8 @@ IsTreeOf description tree =
 pub reads_of : (description : Text) (all : List Text) (tree view : Tree) (r : Result Bool AllocError)
     → IsTreeOf description tree → view ≡ tree → IfOk r (AllComeBack view all)
     → IfOk r (ReadsAll description all)
-reads_of description all tree view (Ok yes) found is came =
-    inl (found.0, found.1, subst (λ t. AllComeBack t all yes) (is ∙ found.2) came)
+reads_of description all tree view (Ok is_so) found is came =
+    inl (found.0, found.1, subst (λ t. AllComeBack t all is_so) (is ∙ found.2) came)
 reads_of description all tree view (Err e) found is came = tt
 
 pub read_by_of : (description : Text) (all : List Text) (tree view : Tree) (r : Result ℕ AllocError)
@@ -73,21 +78,35 @@ pub reads_none : (description : Text) (all : List Text) (f : Fault)
     → FaultOf Three nesting_limit description f → ReadsAll description all false
 reads_none description all f faulty = inr (f, faulty, refl)
 
+pub reads_none_of : (description : Text) (all : List Text) (e : BorrowedParseError)
+    (fault : BorrowedFault) → e ≡ Invalid fault
+    → IsLentOf (FaultOf Three nesting_limit description) e → ReadsAll description all false
+reads_none_of description all e fault is told =
+    reads_none description all (lent_fault fault)
+    (subst (IsLentOf (FaultOf Three nesting_limit description)) is told)
+
 pub read_by_none : (description : Text) (all : List Text) (f : Fault)
     → FaultOf Three nesting_limit description f → ReadBy description all 0
 read_by_none description all f faulty = inr (f, faulty, refl)
 
+pub read_by_none_of : (description : Text) (all : List Text) (e : BorrowedParseError)
+    (fault : BorrowedFault) → e ≡ Invalid fault
+    → IsLentOf (FaultOf Three nesting_limit description) e → ReadBy description all 0
+read_by_none_of description all e fault is told =
+    read_by_none description all (lent_fault fault)
+    (subst (IsLentOf (FaultOf Three nesting_limit description)) is told)
+
 -- How many come back.
 
-abbrev pub Adds : Tree → List Text → List Text → ℕ → Type 0
-Adds tree all rest count = (n : ℕ) → Counts tree rest n → Counts tree all (count + n)
+abbrev pub Counting : Tree → List Text → List Text → ℕ → Type 0
+Counting tree all rest count = (n : ℕ) → Counts tree rest n → Counts tree all (count + n)
 
-pub none_counted : (tree : Tree) (all : List Text) → Adds tree all all 0
-none_counted tree all n counts = counts
+pub none_counted : (tree : Tree) (all : List Text) → Counting tree all all 0
+none_counted tree all n counts = subst (Counts tree all) (omega arith) counts
 
 pub one_counted : (tree : Tree) (all : List Text) (rest after : List (Bor Text)) (text : Bor Text)
     (count new : ℕ) (one : Bool) → rest ≡ text ∷ after → ComesBack tree text.now one
-    → new ≡ count + one_if one → Adds tree all (texts rest) count → Adds tree all (texts after) new
+    → new ≡ count + one_if one → Counting tree all (texts rest) count → Counting tree all (texts after) new
 one_counted tree all rest after text count new one split comes sum so_far n counts =
     subst (Counts tree all) (omega (arith, sum))
     (so_far (one_if one + n)
@@ -95,34 +114,70 @@ one_counted tree all rest after text count new one split comes sum so_far n coun
     (one, n, comes, counts, refl)))
 
 pub all_counted : (tree : Tree) (all : List Text) (rest : List (Bor Text)) (count : ℕ) → rest ≡ []
-    → Adds tree all (texts rest) count → Counts tree all count
+    → Counting tree all (texts rest) count → Counts tree all count
 all_counted tree all rest count none so_far =
     subst (Counts tree all) (omega arith)
     (so_far 0 (subst (λ r. Counts tree (texts r) 0) (sym none) refl))
 
 -- Candidates that are found.
 
-abbrev pub Finds : List Entry → List Text → List Entry → List Guess → Type 0
-Finds rows all rest found =
-    (more : List Guess) → AreFound rest all more → AreFound rows all (found ++ more)
+-- what is found of the rest comes after
+abbrev pub Finds : List Entry → List Text → List Entry → List Guess → List Guess → Type 0
+Finds rows all rest old found =
+    (more : List Guess) → AreFound rest all more → Adds rows all old (found ++ more)
 
-pub none_found : (rows : List Entry) (all : List Text) → Finds rows all rows []
-none_found rows all more found = found
+pub none_found : (rows : List Entry) (all : List Text) (old : List Guess)
+    → Finds rows all rows old old
+none_found rows all old more found = (more, found, refl)
 
 pub one_found : (rows : List Entry) (all : List Text) (rest after : List Candidate) (row : Candidate)
-    (old new : List Guess) → rest ≡ row ∷ after → Appends (entry_of row) all old new
-    → Finds rows all (entries rest) old → Finds rows all (entries after) new
-one_found rows all rest after row old new split one so_far more found =
-    subst (AreFound rows all) (sym (ap (λ x. x ++ more) one.4 ∙ append_assoc old one.1 more))
+    (old found new : List Guess) → rest ≡ row ∷ after → Appends (entry_of row) all found new
+    → Finds rows all (entries rest) old found → Finds rows all (entries after) old new
+one_found rows all rest after row old found new split one so_far more others =
+    subst (Adds rows all old) (sym (ap (λ x. x ++ more) one.4 ∙ append_assoc found one.1 more))
     (so_far (one.1 ++ more)
     (subst (λ r. AreFound (entries r) all (one.1 ++ more)) (sym split)
-    (one.0, one.1, more, one.2, one.3, found, refl)))
+    (one.0, one.1, more, one.2, one.3, others, refl)))
 
-pub all_found : (rows : List Entry) (all : List Text) (rest : List Candidate) (found : List Guess)
-    → rest ≡ [] → Finds rows all (entries rest) found → AreFound rows all found
-all_found rows all rest found none so_far =
-    subst (AreFound rows all) (append-nil found)
+pub all_found : (rows : List Entry) (all : List Text) (rest : List Candidate) (old found : List Guess)
+    → rest ≡ [] → Finds rows all (entries rest) old found → Adds rows all old found
+all_found rows all rest old found none so_far =
+    subst (Adds rows all old) (append-nil found)
     (so_far [] (subst (λ r. AreFound (entries r) all []) (sym none) refl))
+
+-- Groups of candidates.
+
+joined : (rows others : List Entry) (all : List Text) (found more : List Guess)
+    → AreFound rows all found → AreFound others all more
+    → AreFound (rows ++ others) all (found ++ more)
+joined [] others all found more none are =
+    subst (λ x. AreFound others all (x ++ more)) (sym none) are
+joined (row ∷ rows) others all found more one are = (
+  one.0,
+  one.1,
+  one.2 ++ more,
+  one.3,
+  one.4,
+  joined rows others all one.2 more one.5 are,
+  ap (λ x. x ++ more) one.6 ∙ append_assoc one.1 one.2 more,
+)
+
+pub one_group : (rows : List Entry) (all : List Text) (rest after : List Group) (group : Group)
+    (candidates : List Candidate) (old found new : List Guess) → rest ≡ group ∷ after
+    → entries candidates ≡ rows_of group → Adds (entries candidates) all found new
+    → Finds rows all (rows_in rest) old found → Finds rows all (rows_in after) old new
+one_group rows all rest after group candidates old found new split are one so_far more others =
+    subst (Adds rows all old) (sym (ap (λ x. x ++ more) one.2 ∙ append_assoc found one.0 more))
+    (so_far (one.0 ++ more)
+    (subst (λ r. AreFound (rows_in r) all (one.0 ++ more)) (sym split)
+    (joined (rows_of group) (rows_in after) all one.0 more
+    (subst (λ r. AreFound r all one.0) are one.1) others)))
+
+pub all_in_groups : (rows : List Entry) (all : List Text) (rest : List Group) (found : List Guess)
+    → rest ≡ [] → Finds rows all (rows_in rest) [] found → AreFound rows all found
+all_in_groups rows all rest found none so_far =
+    let whole = so_far [] (subst (λ r. AreFound (rows_in r) all []) (sym none) refl) in
+    subst (AreFound rows all) (sym (sym (append-nil found) ∙ whole.2)) whole.1
 
 -- Each of them reads each text, and writes it back.
 
@@ -146,8 +201,8 @@ description_reads all text guess is (inl (list, spelled, came)) = (
 )
 description_reads all text guess is (inr (f, faulty, none)) = cc
 
-offered_read : (all : List Text) (row : Entry) (yes : Bool) (front : List Guess)
-    → ReadsAll row.text all yes → IsOffered yes row all front → All (ReadsBack all) front
+offered_read : (all : List Text) (row : Entry) (is_so : Bool) (front : List Guess)
+    → ReadsAll row.text all is_so → IsOffered is_so row all front → All (ReadsBack all) front
 offered_read all row false front reads none = subst (All (ReadsBack all)) (sym none) (All-nil (ReadsBack all))
 offered_read all row true front reads one =
     subst (All (ReadsBack all)) (sym one.1)
@@ -157,9 +212,9 @@ offered_read all row true front reads one =
 found_read : (all : List Text) (rows : List Entry) (found : List Guess) → AreFound rows all found
     → All (ReadsBack all) found
 found_read all [] found none = subst (All (ReadsBack all)) (sym none) (All-nil (ReadsBack all))
-found_read all (row ∷ rows) found (yes, front, more, reads, offered, others, is) =
+found_read all (row ∷ rows) found (is_so, front, more, reads, offered, others, is) =
     subst (All (ReadsBack all)) (sym is)
-    (All-append (ReadsBack all) front more (offered_read all row yes front reads offered)
+    (All-append (ReadsBack all) front more (offered_read all row is_so front reads offered)
     (found_read all rows more others))
 
 pub guesses_read : (all : List Text) (rows : List Entry) (found some : List Guess) (n : ℕ)

@@ -33,20 +33,20 @@ IsWritten tree m text true = written m tree ≡ Ok text
 IsWritten tree m text false = ¬ (written m tree ≡ Ok text)
 
 abbrev pub IsWrittenOf : Tree → Option Moment → Text → Bool → Type 0
-IsWrittenOf tree None text yes = yes ≡ false
-IsWrittenOf tree (Some m) text yes = IsWritten tree m text yes
+IsWrittenOf tree None text same = same ≡ false
+IsWrittenOf tree (Some m) text same = IsWritten tree m text same
 
 -- whether the whole text is read, and what is written of the moment that it shows is the text again
 abbrev pub ComesBack : Tree → Text → Bool → Type 0
-ComesBack tree text yes =
-    (m : Option Moment) × IsRead (fields_of tree text) m × IsWrittenOf tree m text yes
+ComesBack tree text found =
+    (m : Option Moment) × IsRead (fields_of tree text) m × IsWrittenOf tree m text found
 
 -- whether each text comes back
 abbrev pub AllComeBack : Tree → List Text → Bool → Type 0
-AllComeBack tree [] yes = yes ≡ true
-AllComeBack tree (text ∷ more) yes =
-    (ComesBack tree text true × AllComeBack tree more yes)
-    ⊎ (ComesBack tree text false × (yes ≡ false))
+AllComeBack tree [] found = found ≡ true
+AllComeBack tree (text ∷ more) found =
+    (ComesBack tree text true × AllComeBack tree more found)
+    ⊎ (ComesBack tree text false × (found ≡ false))
 
 abbrev pub one_if : Bool → ℕ
 one_if true = 1
@@ -67,8 +67,8 @@ OfDescription description Holds otherwise =
 
 -- whether the description reads each text, and writes it back
 abbrev pub ReadsAll : Text → List Text → Bool → Type 0
-ReadsAll description all yes =
-    OfDescription description (λ tree. AllComeBack tree all yes) (yes ≡ false)
+ReadsAll description all found =
+    OfDescription description (λ tree. AllComeBack tree all found) (found ≡ false)
 
 -- how many texts the description reads and writes back
 abbrev pub ReadBy : Text → List Text → ℕ → Type 0
@@ -91,15 +91,19 @@ IsOffered false row all front = front ≡ []
 -- the candidate is appended, if it reads all texts
 abbrev pub Appends : Entry → List Text → List Guess → List Guess → Type 0
 Appends row all old new =
-    (yes : Bool) × (front : List Guess) × ReadsAll row.text all yes × IsOffered yes row all front
+    (reads : Bool) × (front : List Guess) × ReadsAll row.text all reads × IsOffered reads row all front
     × (new ≡ old ++ front)
 
 -- those of the candidates that read all texts, in turn
 abbrev pub AreFound : List Entry → List Text → List Guess → Type 0
 AreFound [] all found = found ≡ []
 AreFound (row ∷ rows) all found =
-    (yes : Bool) × (front more : List Guess) × ReadsAll row.text all yes
-    × IsOffered yes row all front × AreFound rows all more × (found ≡ front ++ more)
+    (reads : Bool) × (front more : List Guess) × ReadsAll row.text all reads
+    × IsOffered reads row all front × AreFound rows all more × (found ≡ front ++ more)
+
+-- those of the candidates that read all texts are appended
+abbrev pub Adds : List Entry → List Text → List Guess → List Guess → Type 0
+Adds rows all old new = (more : List Guess) × AreFound rows all more × (new ≡ old ++ more)
 
 -- the first twelve of them
 abbrev pub AreGuesses : List Entry → List Text → List Guess → Type 0

@@ -5,7 +5,7 @@ ghost use Rattle.timefd_guess.specs.Candidates.{all_entries, entries, entry_of};
 ghost use Rattle.timefd_guess.specs.Found as spec;
 
 use crate::candidate::Candidate;
-use crate::candidates::all_candidates;
+use crate::candidates::all_groups;
 use crate::comes_back::reads_all;
 use crate::swapped::undecided;
 use std::alloc::{AllocError, Global};
@@ -36,28 +36,42 @@ pub fn guesses(alloc: Global, texts: &[&str]) -> Result<Vec<Guess>, AllocError>
     ensures reads { IfOk result (λ found. All (spec.ReadsBack (spec.texts texts.now)) found.items) }
     ensures few { IfOk result (λ found. length found.items ≤ 12) }
 {
-    let mut found = found_among(alloc, all_candidates(), texts)?;
+    let mut found = found_of_all(alloc, texts)?;
     found.truncate(MOST);
     Ok(found)
 }
 
-/// Those of the candidates that read all texts.
-#[tactic(auto, using(crate::proofs::FoundLemmas::none_found, crate::proofs::FoundLemmas::one_found, crate::proofs::FoundLemmas::all_found))]
-fn found_among(
-    alloc: Global,
-    candidates: &'static [Candidate],
-    texts: &[&str],
-) -> Result<Vec<Guess>, AllocError>
-    ensures { IfOk result (λ found. spec.AreFound (entries candidates.now)
-        (spec.texts texts.now) found.items) }
+/// All candidates that read all texts.
+#[tactic(auto, using(crate::proofs::FoundLemmas::none_found, crate::proofs::FoundLemmas::one_group, crate::proofs::FoundLemmas::all_in_groups))]
+fn found_of_all(alloc: Global, texts: &[&str]) -> Result<Vec<Guess>, AllocError>
+    ensures { IfOk result (λ found. spec.AreFound all_entries (spec.texts texts.now) found.items) }
 {
     let mut found = Vec::new(alloc);
-    let mut rest = candidates;
-    'candidates: while let [candidate, after @ ..] = rest {
-        push_if(alloc, &mut found, *candidate, texts)?;
+    let mut rest = all_groups();
+    'groups: while let [group, after @ ..] = rest {
+        push_found(alloc, &mut found, group.rows(), texts)?;
         rest = after;
     }
     Ok(found)
+}
+
+/// Appends those of the candidates that read all texts.
+#[tactic(auto, using(crate::proofs::FoundLemmas::none_found, crate::proofs::FoundLemmas::one_found, crate::proofs::FoundLemmas::all_found))]
+fn push_found(
+    alloc: Global,
+    found: &mut Vec<Guess>,
+    candidates: &'static [Candidate],
+    texts: &[&str],
+) -> Result<(), AllocError>
+    ensures { OnOk result (spec.Adds (entries candidates.now) (spec.texts texts.now)
+        found.old.items found.new.items) }
+{
+    let mut rest = candidates;
+    'candidates: while let [candidate, after @ ..] = rest {
+        push_if(alloc, found, *candidate, texts)?;
+        rest = after;
+    }
+    Ok(())
 }
 
 /// Appends the candidate, if it reads all texts.
