@@ -10,12 +10,18 @@ use Rattle.timefd_dialect.specs.declared.reason.Reason.{Reason}
 use Rattle.timefd_dialect.specs.Limits.{all_limits, limits_from}
 use Rattle.timefd_dialect.specs.Reading.{Piece, Front, ended, piece, refused_for, front_meant, front_of, text_of}
 use Rattle.timefd_dialect.specs.Readings.{readings_of}
-use Rattle.timefd_dialect.specs.Rows.{Entry}
+use Rattle.timefd_dialect.specs.Rows.{Entry, entry_of}
+use Rattle.timefd_dialect.specs.declared.row.Row.{Row}
 
 -- the row of this text
 abbrev pub named : List Entry → Text → Option Entry
 named [] text = None
 named (row ∷ rows) text = if bytes_eq row.text text then Some row else named rows text
+
+-- the same of the rows of the code
+abbrev pub row_option : Option Row → Option Entry
+row_option None = None
+row_option (Some row) = Some (entry_of row)
 
 -- A piece is read by itself, or by what a row has for its text; a row may refuse it.
 abbrev pub piece_read : Option Entry → Piece → Text → Front

@@ -5,9 +5,9 @@ ghost use Rattle.std.specs.Result.{IfErr};
 ghost use Rattle.timefd_dialect.specs.Answers.{IsMemory, IsRefusal};
 ghost use Rattle.timefd_dialect.specs.Reading.{Piece, text_of};
 ghost use Rattle.timefd_dialect.specs.Readings.{readings_of};
-ghost use Rattle.timefd_dialect.specs.Rows.{entries, entry_of, entry_option};
+ghost use Rattle.timefd_dialect.specs.Rows.{entries};
 ghost use Rattle.timefd_dialect.specs.Steps.{GivesStep};
-ghost use Rattle.timefd_dialect.specs.ToRead.{IsToRead, IsUnreadFor, ReadsBy, UnreadAt, front_to_read, named as row_named};
+ghost use Rattle.timefd_dialect.specs.ToRead.{IsToRead, IsUnreadFor, ReadsBy, UnreadAt, front_to_read, named as row_named, row_option};
 ghost use Rattle.timefd_dialect.specs.declared.reason.Reason.{Reason};
 
 use crate::dialect::Dialect;
@@ -100,7 +100,7 @@ fn push_front_to_read<'a>(
 
 /// The row of this text.
 fn row_named(rows: &'static [Row], text: &str) -> Option<Row>
-    ensures { entry_option result ≡ row_named (entries rows.now) text.now }
+    ensures { row_option result ≡ row_named (entries rows.now) text.now }
 {
     let mut rest = rows;
     'rows: while let [row, after @ ..] = rest {

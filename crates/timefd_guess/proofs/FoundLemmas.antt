@@ -1,5 +1,5 @@
 -- What is found of texts so far, and what holds of it.
-use Rattle.std.proofs.Common.{ℕ, ◌≡◌, ◌+◌, ◌++◌, Bool, true, false, List, [], ◌∷◌, take, length, zero, suc, Option, Some, None, append-nil, append_assoc, refl, sym, ap, subst, ◌∙◌, inl, inr, arith, Result, Ok, Err}
+use Rattle.std.proofs.Common.{ℕ, ◌≡◌, ◌+◌, ◌-◌, ◌++◌, Bool, true, false, List, [], ◌∷◌, take, length, zero, suc, Option, Some, None, append-nil, append_assoc, refl, sym, ap, subst, ◌∙◌, inl, inr, arith, Result, Ok, Err}
 use Rattle.std.specs.Prelude.{All, ◌≤◌, IfOk}
 use Rattle.std.specs.declared.alloc.AllocError.{AllocError}
 use Rattle.std.proofs.lemmas.List.Elements.{All-nil, All-cons, All-append, All-take}
@@ -118,6 +118,13 @@ pub all_counted : (tree : Tree) (all : List Text) (rest : List (Bor Text)) (coun
 all_counted tree all rest count none so_far =
     subst (Counts tree all) (omega arith)
     (so_far 0 (subst (λ r. Counts tree (texts r) 0) (sym none) refl))
+
+-- What is counted is no more than what is gone.
+pub bound_more : (rest after : List (Bor Text)) (count new most : ℕ) (one : Bool) → 1 ≤ length rest
+    → length after ≡ length rest - 1 → new ≡ count + one_if one → count + length rest ≤ most
+    → new + length after ≤ most
+bound_more rest after count new most true some less sum within = omega (arith, some, less, sum, within)
+bound_more rest after count new most false some less sum within = omega (arith, some, less, sum, within)
 
 -- Candidates that are found.
 
