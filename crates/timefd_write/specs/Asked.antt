@@ -1,5 +1,5 @@
 -- What words ask for, read from the first to the last.
-use Rattle.std.specs.Prelude.{List, [], ◌∷◌, length, false, true, Option, Some, None, Result, Ok, Err}
+use Rattle.std.specs.Prelude.{Bool, ◌&&◌, if◌then◌else◌, List, [], ◌∷◌, length, false, true, Option, Some, None, Result, Ok, Err}
 use denote.Ref.{Bor}
 use Rattle.timefd_component.specs.Tree.{Text}
 use Rattle.timefd_write.specs.declared.asked.Asked.{Asked}
@@ -96,23 +96,34 @@ before_column_of None state = Next (record state { wanted = wants.Column })
 abbrev pub before_column : State → Step
 before_column state = before_column_of state.column state
 
--- All words behind it are texts. Beside it stands no other option than that for quiet.
-abbrev pub guess_by : Wording → Option Wording → Option (Bor Text) → Option Column → Option Otherwise
-    → State → List (Bor Text) → Answer
-guess_by (Own (languages.Version Three)) None None None None state texts =
-    Ok (asks.Guess (record { text_count = length texts; is_quiet = state.is_quiet }))
-guess_by (Own (languages.Version Three)) None None None (Some o) state texts = Err errors.GuessBeside
-guess_by (Own (languages.Version Three)) None None (Some c) o state texts = Err errors.GuessBeside
-guess_by (Own (languages.Version Three)) None (Some r) c o state texts = Err errors.GuessBeside
-guess_by (Own (languages.Version Three)) (Some t) r c o state texts = Err errors.GuessBeside
-guess_by (Own (languages.Version One)) t r c o state texts = Err errors.GuessBeside
-guess_by (Own (languages.Version Two)) t r c o state texts = Err errors.GuessBeside
-guess_by (Own languages.Strftime) t r c o state texts = Err errors.GuessBeside
-guess_by (Other dialect) t r c o state texts = Err errors.GuessBeside
+abbrev pub is_version_three : Wording → Bool
+is_version_three (Own (languages.Version Three)) = true
+is_version_three (Own (languages.Version One)) = false
+is_version_three (Own (languages.Version Two)) = false
+is_version_three (Own languages.Strftime) = false
+is_version_three (Other dialect) = false
 
+abbrev pub has_no_description : Option Wording → Option (Bor Text) → Bool
+has_no_description None None = true
+has_no_description None (Some text) = false
+has_no_description (Some language) read = false
+
+abbrev pub has_no_table : Option Column → Option Otherwise → Bool
+has_no_table None None = true
+has_no_table None (Some o) = false
+has_no_table (Some column) o = false
+
+-- whether no other option than that for quiet is known
+abbrev pub is_bare : State → Bool
+is_bare state = is_version_three state.language && has_no_description state.to_language state.read
+    && has_no_table state.column state.otherwise
+
+-- All words behind it are texts. Beside it stands no other option than that for quiet.
 abbrev pub guess : State → List (Bor Text) → Answer
 guess state texts =
-    guess_by state.language state.to_language state.read state.column state.otherwise state texts
+    if is_bare state
+    then Ok (asks.Guess (record { text_count = length texts; is_quiet = state.is_quiet }))
+    else Err errors.GuessBeside
 
 abbrev pub first_by : Word → State → Bor Text → List (Bor Text) → Step
 first_by (words.Language option) state word behind =

@@ -268,20 +268,48 @@ fn before_read<'a>(state: State<'a>) -> Step<'a>
 fn guess<'a>(state: State<'a>, words: &'a [&'a str]) -> Result<Asked<'a>, OptionError<'a>>
     ensures { result ≡ spec.guess state.entry words.now }
 {
-    match (
-        state.language,
-        state.to_language,
-        state.read,
-        state.column,
-        state.otherwise,
-    ) {
-        (Wording::Own(Language::Version(DescriptionVersion::Three)), None, None, None, None) => {
-            Ok(Asked::Guess(GuessRequest {
-                text_count: words.len(),
-                is_quiet: state.is_quiet,
-            }))
-        }
-        _ => Err(OptionError::GuessBeside),
+    if !is_bare(state) {
+        return Err(OptionError::GuessBeside);
+    }
+    Ok(Asked::Guess(GuessRequest {
+        text_count: words.len(),
+        is_quiet: state.is_quiet,
+    }))
+}
+
+// Whether no other option than `--quiet` is known.
+fn is_bare(state: State<'_>) -> bool
+    ensures { result ≡ spec.is_bare state.entry }
+{
+    is_version_three(state.language) && has_no_description(state) && has_no_table(state)
+}
+
+fn is_version_three(wording: Wording) -> bool
+    ensures { result ≡ spec.is_version_three wording }
+{
+    match wording {
+        Wording::Own(Language::Version(DescriptionVersion::Three)) => true,
+        Wording::Own(Language::Version(DescriptionVersion::One | DescriptionVersion::Two))
+        | Wording::Own(Language::Strftime)
+        | Wording::Other(_) => false,
+    }
+}
+
+fn has_no_description(state: State<'_>) -> bool
+    ensures { result ≡ spec.has_no_description state.entry.to_language state.entry.read }
+{
+    match (state.to_language, state.read) {
+        (None, None) => true,
+        (Some(_), _) | (None, Some(_)) => false,
+    }
+}
+
+fn has_no_table(state: State<'_>) -> bool
+    ensures { result ≡ spec.has_no_table state.entry.column state.entry.otherwise }
+{
+    match (state.column, state.otherwise) {
+        (None, None) => true,
+        (Some(_), _) | (None, Some(_)) => false,
     }
 }
 
