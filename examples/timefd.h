@@ -272,6 +272,7 @@ timefd_answer timefd_convert(uint32_t from, uint32_t to, const uint8_t *text, si
 #define TIMEFD_REASON_READING_ONLY 20u      /* it can be read, and not be written */
 #define TIMEFD_REASON_RESERVED 21u          /* the character is reserved */
 #define TIMEFD_REASON_TOO_MANY_LETTERS 22u  /* no pattern has so many of this letter */
+#define TIMEFD_REASON_TWO_DIGIT_YEAR 36u    /* it reads two digits of a year, which tell no century */
 #define TIMEFD_REASON_TWO_LETTER_NAME 23u   /* it writes a weekday in two letters */
 #define TIMEFD_REASON_UNCLOSED_QUOTE 24u    /* no quote closes this one */
 #define TIMEFD_REASON_UNIT_OF_DAY 25u       /* it counts milliseconds or nanoseconds from midnight on */

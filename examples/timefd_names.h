@@ -132,6 +132,7 @@ static inline const char *timefd_reason_name(uint32_t reason) {
     case TIMEFD_REASON_READING_ONLY: return "reading-only";
     case TIMEFD_REASON_RESERVED: return "reserved";
     case TIMEFD_REASON_TOO_MANY_LETTERS: return "too-many-letters";
+    case TIMEFD_REASON_TWO_DIGIT_YEAR: return "two-digit-year";
     case TIMEFD_REASON_TWO_LETTER_NAME: return "two-letter-name";
     case TIMEFD_REASON_UNCLOSED_QUOTE: return "unclosed-quote";
     case TIMEFD_REASON_UNIT_OF_DAY: return "unit-of-day";
@@ -174,6 +175,7 @@ static inline const char *timefd_reason_sentence(uint32_t reason) {
     case TIMEFD_REASON_READING_ONLY: return "it can be read, and not be written";
     case TIMEFD_REASON_RESERVED: return "the character is reserved";
     case TIMEFD_REASON_TOO_MANY_LETTERS: return "no pattern has so many of this letter";
+    case TIMEFD_REASON_TWO_DIGIT_YEAR: return "it reads two digits of a year, which tell no century";
     case TIMEFD_REASON_TWO_LETTER_NAME: return "it writes a weekday in two letters";
     case TIMEFD_REASON_UNCLOSED_QUOTE: return "no quote closes this one";
     case TIMEFD_REASON_UNIT_OF_DAY: return "it counts milliseconds or nanoseconds from midnight on";
@@ -216,6 +218,7 @@ static inline const char *timefd_reason_cure(uint32_t reason) {
     case TIMEFD_REASON_READING_ONLY: return "Write a directive for writing.";
     case TIMEFD_REASON_RESERVED: return "Quote it, if it is to stand for itself, or leave it out.";
     case TIMEFD_REASON_TOO_MANY_LETTERS: return "Write fewer of them.";
+    case TIMEFD_REASON_TWO_DIGIT_YEAR: return "Read by a format with all digits of the year.";
     case TIMEFD_REASON_TWO_LETTER_NAME: return "Write the short name, of three letters.";
     case TIMEFD_REASON_UNCLOSED_QUOTE: return "Close it; a quote that stands for itself is written twice.";
     case TIMEFD_REASON_UNIT_OF_DAY: return "Write hour, minute, second and fraction.";

@@ -127,6 +127,15 @@ timefd_answer modernize(uint32_t kind, const struct text *text, struct buffer *b
     return answer;
 }
 
+timefd_convert_answer convert_format(uint32_t dialect, const struct text *text, struct buffer *buffer, size_t room) {
+    uint8_t *bytes = lend(dialect, text);
+    uint8_t *front = fill(buffer, room);
+    timefd_convert_answer answer = timefd_convert_format(dialect, bytes, text->len, front, room);
+    take_back(dialect, text, bytes);
+    check_filled(dialect, text, buffer, room, answer.written);
+    return answer;
+}
+
 timefd_format_answer format(uint32_t kind, const struct text *text, const timefd_moment *moment,
                             struct buffer *buffer, size_t room) {
     uint8_t *bytes = lend(kind, text);

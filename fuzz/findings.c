@@ -21,6 +21,10 @@ const char *language_name(uint32_t kind) {
     static const char *const NAMES[] = {
         "v1_to_v2", "version 1", "version 2", "version 3", "strftime",
     };
+    static const char *const DIALECTS[] = {"python", "c", "gnu", "chrono", "jiff", "ruby", "java", "go", "moment"};
+    if (kind >= TIMEFD_PYTHON && kind <= TIMEFD_MOMENT) {
+        return DIALECTS[kind - TIMEFD_PYTHON];
+    }
     return kind <= LANGUAGES ? NAMES[kind] : "another kind";
 }
 

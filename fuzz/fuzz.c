@@ -82,6 +82,18 @@ static void print_tally(uint32_t kind, const struct tally *tally) {
     fflush(stdout);
 }
 
+/* Tries so many formats of each other language. */
+static void try_dialects(size_t count) {
+    for (uint32_t dialect = TIMEFD_PYTHON; dialect <= TIMEFD_MOMENT; dialect++) {
+        size_t accepted = 0;
+        for (size_t left = count; left > 0; left--) {
+            accepted += check_dialect(dialect).status == TIMEFD_ACCEPTED;
+        }
+        printf("%s: %zu formats, %zu accepted\n", language_name(dialect), count, accepted);
+        fflush(stdout);
+    }
+}
+
 /* The number that a word is, or the end. */
 static size_t number_of(const char *word) {
     char *end;
@@ -105,6 +117,7 @@ int main(int argc, char **words) {
         struct tally tally = try_language(kind, count);
         print_tally(kind, &tally);
     }
+    try_dialects(count);
     printf("%zu findings\n", finding_count());
     return finding_count() == 0 ? 0 : 1;
 }

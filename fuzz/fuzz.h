@@ -85,6 +85,7 @@ timefd_diagnosis diagnose(uint32_t kind, const struct text *text, struct buffer 
                           struct buffer *word, size_t word_room);
 timefd_answer convert(const struct text *text, struct buffer *buffer, size_t room);
 timefd_answer modernize(uint32_t kind, const struct text *text, struct buffer *buffer, size_t room);
+timefd_convert_answer convert_format(uint32_t dialect, const struct text *text, struct buffer *buffer, size_t room);
 timefd_format_answer format(uint32_t kind, const struct text *text, const timefd_moment *moment,
                             struct buffer *buffer, size_t room);
 timefd_format_answer format_nodes(uint32_t kind, const struct text *text,
@@ -112,5 +113,8 @@ timefd_format_answer show(uint32_t kind, const struct text *text, struct buffer 
 void check_modern(uint32_t kind, const struct text *text, timefd_answer judged);
 void check_pair(uint32_t kind, const struct text *first, const struct text *second);
 void check_versions(uint32_t kind, const struct text *text);
+
+/* dialects.c: makes a format of another language, and looks at what becomes of it. */
+timefd_convert_answer check_dialect(uint32_t dialect);
 
 #endif

@@ -38,13 +38,14 @@ _timefd_lint() {
     esac
 }
 
-# Behind `--` and behind the description no word is an option.
+# Behind `--`, `--guess` and the description no word is an option.
 _timefd_format() {
     local word value=
     for word in "${COMP_WORDS[@]:1:COMP_CWORD-1}"; do
         case $value$word in
         --language | --to-language | --read | --csv | --else) value=$word ;;
         --language* | --to-language* | --read* | --csv* | --else*) value= ;;
+        --guess) return ;;
         -*) [ "$word" != -- ] || return ;;
         *)
             mapfile -t COMPREPLY < <(compgen -W now -- "$2")
@@ -57,7 +58,7 @@ _timefd_format() {
     --read | --csv) COMPREPLY=() ;;
     --else) mapfile -t COMPREPLY < <(compgen -W 'keep empty fail' -- "$2") ;;
     *)
-        word='--language --read --to-language --csv --else --quiet --help --version --'
+        word='--language --read --to-language --csv --else --guess --quiet --help --version --'
         mapfile -t COMPREPLY < <(compgen -W "$word" -- "$2")
         ;;
     esac

@@ -136,6 +136,11 @@ class Reason(enum.IntEnum):
         "no pattern has so many of this letter",
         "Write fewer of them.",
     )
+    TWO_DIGIT_YEAR = (
+        36,
+        "it reads two digits of a year, which tell no century",
+        "Read by a format with all digits of the year.",
+    )
     TWO_LETTER_NAME = (
         23,
         "it writes a weekday in two letters",

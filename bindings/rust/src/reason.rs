@@ -48,6 +48,8 @@ pub enum Reason {
     Reserved,
     /// No pattern has so many of this letter.
     TooManyLetters,
+    /// It reads two digits of a year, which tell no century.
+    TwoDigitYear,
     /// It writes a weekday in two letters.
     TwoLetterName,
     /// No quote closes this one.
@@ -102,6 +104,7 @@ impl Reason {
             20 => Self::ReadingOnly,
             21 => Self::Reserved,
             22 => Self::TooManyLetters,
+            36 => Self::TwoDigitYear,
             23 => Self::TwoLetterName,
             24 => Self::UnclosedQuote,
             25 => Self::UnitOfDay,
@@ -145,6 +148,7 @@ impl Reason {
             Self::ReadingOnly => "reading-only",
             Self::Reserved => "reserved",
             Self::TooManyLetters => "too-many-letters",
+            Self::TwoDigitYear => "two-digit-year",
             Self::TwoLetterName => "two-letter-name",
             Self::UnclosedQuote => "unclosed-quote",
             Self::UnitOfDay => "unit-of-day",
@@ -191,6 +195,7 @@ impl Reason {
             Self::ReadingOnly => "it can be read, and not be written",
             Self::Reserved => "the character is reserved",
             Self::TooManyLetters => "no pattern has so many of this letter",
+            Self::TwoDigitYear => "it reads two digits of a year, which tell no century",
             Self::TwoLetterName => "it writes a weekday in two letters",
             Self::UnclosedQuote => "no quote closes this one",
             Self::UnitOfDay => "it counts milliseconds or nanoseconds from midnight on",
@@ -235,6 +240,7 @@ impl Reason {
             Self::ReadingOnly => "Write a directive for writing.",
             Self::Reserved => "Quote it, if it is to stand for itself, or leave it out.",
             Self::TooManyLetters => "Write fewer of them.",
+            Self::TwoDigitYear => "Read by a format with all digits of the year.",
             Self::TwoLetterName => "Write the short name, of three letters.",
             Self::UnclosedQuote => "Close it; a quote that stands for itself is written twice.",
             Self::UnitOfDay => "Write hour, minute, second and fraction.",

@@ -1,7 +1,7 @@
 -- The number of each reason for C.
 use Rattle.std.specs.Prelude.{ℕ}
 use Rattle.timefd_dialect.specs.declared.reason.Reason.{Reason}
-use Rattle.timefd_dialect.specs.declared.reason.Reason.TheVariants.{Backslash, Capitals, DatetimeOnly, DayPeriod, Era, Flag, FractionWidth, GmtOffset, HourFrom0Or24, JulianDay, LocalTime, LocalWeek, Locale, NarrowName, OptionalPart, OrdinalSuffix, PadLetter, Platform, Quarter, ReadingOnly, Reserved, TooManyLetters, TwoLetterName, UnclosedQuote, UnitOfDay, UnknownDirective, UnknownLetter, Unsupported, VariableFraction, VariableOffset, VariableWidth, WeekOfMonth, Width, ZForUtc, ZoneName}
+use Rattle.timefd_dialect.specs.declared.reason.Reason.TheVariants.{Backslash, Capitals, DatetimeOnly, DayPeriod, Era, Flag, FractionWidth, GmtOffset, HourFrom0Or24, JulianDay, LocalTime, LocalWeek, Locale, NarrowName, OptionalPart, OrdinalSuffix, PadLetter, Platform, Quarter, ReadingOnly, Reserved, TooManyLetters, TwoDigitYear, TwoLetterName, UnclosedQuote, UnitOfDay, UnknownDirective, UnknownLetter, Unsupported, VariableFraction, VariableOffset, VariableWidth, WeekOfMonth, Width, ZForUtc, ZoneName}
 
 abbrev pub reason_number : Reason → ℕ
 reason_number Backslash = 1
@@ -26,6 +26,7 @@ reason_number Quarter = 19
 reason_number ReadingOnly = 20
 reason_number Reserved = 21
 reason_number TooManyLetters = 22
+reason_number TwoDigitYear = 36
 reason_number TwoLetterName = 23
 reason_number UnclosedQuote = 24
 reason_number UnitOfDay = 25

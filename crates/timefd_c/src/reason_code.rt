@@ -32,6 +32,7 @@ pub fn reason_code(reason: Reason) -> u32
         Reason::ReadingOnly => 20,
         Reason::Reserved => 21,
         Reason::TooManyLetters => 22,
+        Reason::TwoDigitYear => 36,
         Reason::TwoLetterName => 23,
         Reason::UnclosedQuote => 24,
         Reason::UnitOfDay => 25,

@@ -12,3 +12,4 @@ pub mod ExistsLemmas
 pub mod SpotLemmas
 pub mod BackLemmas
 pub mod WritingLemmas
+pub mod ToReadLemmas

@@ -12,6 +12,7 @@ pub mod Java
 pub mod Go
 pub mod Moment
 pub mod Tables
+pub mod Readings
 pub mod Plain
 pub mod Quotes
 pub mod QuoteSteps
@@ -20,6 +21,7 @@ pub mod Limits
 pub mod Steps
 pub mod Items
 pub mod Answers
+pub mod ToRead
 pub mod Laws
 pub mod Roles
 pub mod TrapWords

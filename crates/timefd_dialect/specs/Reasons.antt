@@ -2,7 +2,7 @@
 use Rattle.std.specs.Prelude.{Bool, true, false, codes}
 use Rattle.timefd_component.specs.Tree.{Text}
 use Rattle.timefd_dialect.specs.declared.reason.Reason.{Reason}
-use Rattle.timefd_dialect.specs.declared.reason.Reason.TheVariants.{Backslash, Capitals, DatetimeOnly, DayPeriod, Era, Flag, FractionWidth, GmtOffset, HourFrom0Or24, JulianDay, LocalTime, LocalWeek, Locale, NarrowName, OptionalPart, OrdinalSuffix, PadLetter, Platform, Quarter, ReadingOnly, Reserved, TooManyLetters, TwoLetterName, UnclosedQuote, UnitOfDay, UnknownDirective, UnknownLetter, Unsupported, VariableFraction, VariableOffset, VariableWidth, WeekOfMonth, Width, ZForUtc, ZoneName}
+use Rattle.timefd_dialect.specs.declared.reason.Reason.TheVariants.{Backslash, Capitals, DatetimeOnly, DayPeriod, Era, Flag, FractionWidth, GmtOffset, HourFrom0Or24, JulianDay, LocalTime, LocalWeek, Locale, NarrowName, OptionalPart, OrdinalSuffix, PadLetter, Platform, Quarter, ReadingOnly, Reserved, TooManyLetters, TwoDigitYear, TwoLetterName, UnclosedQuote, UnitOfDay, UnknownDirective, UnknownLetter, Unsupported, VariableFraction, VariableOffset, VariableWidth, WeekOfMonth, Width, ZForUtc, ZoneName}
 
 abbrev pub name : Reason → Text
 name Backslash = codes "backslash"
@@ -27,6 +27,7 @@ name Quarter = codes "quarter"
 name ReadingOnly = codes "reading-only"
 name Reserved = codes "reserved"
 name TooManyLetters = codes "too-many-letters"
+name TwoDigitYear = codes "two-digit-year"
 name TwoLetterName = codes "two-letter-name"
 name UnclosedQuote = codes "unclosed-quote"
 name UnitOfDay = codes "unit-of-day"
@@ -64,6 +65,7 @@ sentence Quarter = codes "it writes a quarter, and version 3 has none"
 sentence ReadingOnly = codes "it can be read, and not be written"
 sentence Reserved = codes "the character is reserved"
 sentence TooManyLetters = codes "no pattern has so many of this letter"
+sentence TwoDigitYear = codes "it reads two digits of a year, which tell no century"
 sentence TwoLetterName = codes "it writes a weekday in two letters"
 sentence UnclosedQuote = codes "no quote closes this one"
 sentence UnitOfDay = codes "it counts milliseconds or nanoseconds from midnight on"
@@ -101,6 +103,7 @@ cure Quarter = codes "Write the month, or count the quarter in a program."
 cure ReadingOnly = codes "Write a directive for writing."
 cure Reserved = codes "Quote it, if it is to stand for itself, or leave it out."
 cure TooManyLetters = codes "Write fewer of them."
+cure TwoDigitYear = codes "Read by a format with all digits of the year."
 cure TwoLetterName = codes "Write the short name, of three letters."
 cure UnclosedQuote = codes "Close it; a quote that stands for itself is written twice."
 cure UnitOfDay = codes "Write hour, minute, second and fraction."

@@ -66,7 +66,11 @@ pub fn push_pieces<'a>(
 }
 
 /// Appends the text of the piece that stands at the front.
-fn push_front<'a>(answer: &mut String, dialect: Dialect, text: &'a str) -> Result<Step<'a>, Stop>
+pub fn push_front<'a>(
+    answer: &mut String,
+    dialect: Dialect,
+    text: &'a str,
+) -> Result<Step<'a>, Stop>
     requires { 0 < length text.now }
     ensures { GivesStep (front_of dialect text.now) text.now (string_bytes answer.old)
         (string_bytes answer.new) result }

@@ -50,6 +50,8 @@ pub enum Reason {
     Reserved,
     /// No pattern has so many of this letter.
     TooManyLetters,
+    /// It reads two digits of a year, which tell no century.
+    TwoDigitYear,
     /// It writes a weekday in two letters.
     TwoLetterName,
     /// No quote closes this one.
@@ -106,6 +108,7 @@ impl Reason {
             Reason::ReadingOnly => "reading-only",
             Reason::Reserved => "reserved",
             Reason::TooManyLetters => "too-many-letters",
+            Reason::TwoDigitYear => "two-digit-year",
             Reason::TwoLetterName => "two-letter-name",
             Reason::UnclosedQuote => "unclosed-quote",
             Reason::UnitOfDay => "unit-of-day",
@@ -151,6 +154,7 @@ impl Reason {
             Reason::ReadingOnly => "it can be read, and not be written",
             Reason::Reserved => "the character is reserved",
             Reason::TooManyLetters => "no pattern has so many of this letter",
+            Reason::TwoDigitYear => "it reads two digits of a year, which tell no century",
             Reason::TwoLetterName => "it writes a weekday in two letters",
             Reason::UnclosedQuote => "no quote closes this one",
             Reason::UnitOfDay => "it counts milliseconds or nanoseconds from midnight on",
@@ -195,6 +199,7 @@ impl Reason {
             Reason::ReadingOnly => "Write a directive for writing.",
             Reason::Reserved => "Quote it, if it is to stand for itself, or leave it out.",
             Reason::TooManyLetters => "Write fewer of them.",
+            Reason::TwoDigitYear => "Read by a format with all digits of the year.",
             Reason::TwoLetterName => "Write the short name, of three letters.",
             Reason::UnclosedQuote => "Close it; a quote that stands for itself is written twice.",
             Reason::UnitOfDay => "Write hour, minute, second and fraction.",

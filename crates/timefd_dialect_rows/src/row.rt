@@ -3,7 +3,7 @@
 use std::alloc::{AllocError, Global};
 use timefd_dialect::{
     Converted, Dialect, DialectError, FormatError, Found, Refusal, from_version_three,
-    to_version_three, traps,
+    to_version_three, to_version_three_for_reading, traps,
 };
 
 /// What stands beside a line.
@@ -31,15 +31,16 @@ fn answer_to(
     text: &str,
 ) -> Result<String, AllocError> {
     match asked {
-        None => answer_of(alloc, dialect, text),
+        None => answer_of(alloc, to_version_three(alloc, dialect, text)),
+        Some("read") => answer_of(alloc, to_version_three_for_reading(alloc, dialect, text)),
         Some("back") => format_of(alloc, dialect, text),
         Some("traps") => traps_of(alloc, dialect, text),
         Some(word) => format!(in alloc; "`{word}` is not asked of a dialect"),
     }
 }
 
-fn answer_of(alloc: Global, dialect: Dialect, format: &str) -> Result<String, AllocError> {
-    match to_version_three(alloc, dialect, format) {
+fn answer_of(alloc: Global, answer: Result<Converted, DialectError>) -> Result<String, AllocError> {
+    match answer {
         Ok(converted) => told(alloc, &converted),
         Err(DialectError::Refused(refusal)) => refused(alloc, refusal),
         Err(DialectError::Memory(error)) => Err(error),

@@ -1,5 +1,5 @@
 -- What words ask for, read from the first to the last.
-use Rattle.std.specs.Prelude.{List, [], ◌∷◌, length, false, true, Option, Some, None, Result, Ok, Err}
+use Rattle.std.specs.Prelude.{Bool, ◌&&◌, if◌then◌else◌, List, [], ◌∷◌, length, false, true, Option, Some, None, Result, Ok, Err}
 use denote.Ref.{Bor}
 use Rattle.timefd_component.specs.Tree.{Text}
 use Rattle.timefd_write.specs.declared.asked.Asked.{Asked}
@@ -14,7 +14,10 @@ use Rattle.timefd_write.specs.declared.asked.Wanted.TheVariants as wants
 use Rattle.timefd_write.specs.declared.column.Column.{Column}
 use Rattle.timefd_write.specs.declared.otherwise.Otherwise.{Otherwise}
 use Rattle.timefd_write.specs.declared.otherwise.Otherwise.TheVariants as otherwise
+use Rattle.timefd_language.specs.declared.description_version.DescriptionVersion.TheVariants.{One, Two, Three}
+use Rattle.timefd_parse.specs.declared.language.Language.TheVariants as languages
 use Rattle.timefd_write.specs.declared.language.Wording.{Wording}
+use Rattle.timefd_write.specs.declared.language.Wording.TheVariants.{Own, Other}
 use Rattle.timefd_write.specs.declared.language.Wordings.{Wordings}
 use Rattle.timefd_write.specs.declared.word.LanguageOption.{LanguageOption}
 use Rattle.timefd_write.specs.declared.word.LanguageOption.TheVariants as options
@@ -93,12 +96,42 @@ before_column_of None state = Next (record state { wanted = wants.Column })
 abbrev pub before_column : State → Step
 before_column state = before_column_of state.column state
 
+abbrev pub is_version_three : Wording → Bool
+is_version_three (Own (languages.Version Three)) = true
+is_version_three (Own (languages.Version One)) = false
+is_version_three (Own (languages.Version Two)) = false
+is_version_three (Own languages.Strftime) = false
+is_version_three (Other dialect) = false
+
+abbrev pub has_no_description : Option Wording → Option (Bor Text) → Bool
+has_no_description None None = true
+has_no_description None (Some text) = false
+has_no_description (Some language) read = false
+
+abbrev pub has_no_table : Option Column → Option Otherwise → Bool
+has_no_table None None = true
+has_no_table None (Some o) = false
+has_no_table (Some column) o = false
+
+-- whether no other option than that for quiet is known
+abbrev pub is_bare : State → Bool
+is_bare state = is_version_three state.language && has_no_description state.to_language state.read
+    && has_no_table state.column state.otherwise
+
+-- All words behind it are texts. Beside it stands no other option than that for quiet.
+abbrev pub guess : State → List (Bor Text) → Answer
+guess state texts =
+    if is_bare state
+    then Ok (asks.Guess (record { text_count = length texts; is_quiet = state.is_quiet }))
+    else Err errors.GuessBeside
+
 abbrev pub first_by : Word → State → Bor Text → List (Bor Text) → Step
 first_by (words.Language option) state word behind =
     Next (record state { wanted = wants.Language option })
 first_by words.Read state word behind = before_read state
 first_by words.Csv state word behind = before_column state
 first_by words.Else state word behind = Next (record state { wanted = wants.Otherwise })
+first_by words.Guess state word behind = Done (guess state behind)
 first_by words.Quiet state word behind = Next (record state { is_quiet = true })
 first_by words.Help state word behind = Done (Ok asks.Help)
 first_by words.Version state word behind = Done (Ok asks.Version)

@@ -15,3 +15,5 @@ pub mod Tables
 pub mod Warned
 pub mod Runs
 pub mod Converted
+pub mod ToRead
+pub mod Guessed

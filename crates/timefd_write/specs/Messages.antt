@@ -109,4 +109,6 @@ option_sentence errors.MomentBesideColumn =
     codes "`--csv` reads the standard input; no moment stands after the description then"
 option_sentence errors.NothingRead =
     codes "`--to-language` goes with `--read`; without it `--language` names the language"
+option_sentence errors.GuessBeside =
+    codes "`--guess` stands behind no other option than `--quiet`; it finds a description"
 option_sentence errors.NoDescription = codes "there is no description; --help shows the usage"

@@ -7,6 +7,7 @@ use crate::column::{Column, column_named};
 use crate::language::{Wording, Wordings, default_wording, wording_named};
 use crate::otherwise::{Otherwise, otherwise_named};
 use crate::word::{LanguageOption, Word, word_of};
+use timefd_parse::{DescriptionVersion, Language};
 
 /// A description, and the moments that are written by it.
 #[derive(Clone, Copy)]
@@ -27,6 +28,15 @@ pub struct Request<'a> {
     pub is_quiet: bool,
 }
 
+/// Texts whose description is to be found.
+#[derive(Clone, Copy)]
+pub struct GuessRequest {
+    /// How many of the last words are texts: none, where the standard input is read.
+    pub text_count: usize,
+    /// Whether it is left out what texts don't tell apart.
+    pub is_quiet: bool,
+}
+
 /// What the words ask for.
 #[derive(Clone, Copy)]
 pub enum Asked<'a> {
@@ -36,6 +46,8 @@ pub enum Asked<'a> {
     Version,
     /// A run.
     Run(Request<'a>),
+    /// The descriptions that texts may be written by.
+    Guess(GuessRequest),
 }
 
 /// Why words are no arguments of the program.
@@ -65,6 +77,8 @@ pub enum OptionError<'a> {
     MomentBesideColumn,
     /// `--to-language` stands without `--read`.
     NothingRead,
+    /// Another option than `--quiet` stands before `--guess`.
+    GuessBeside,
     /// There is no description.
     NoDescription,
 }
@@ -224,6 +238,7 @@ fn first<'a>(state: State<'a>, word: &'a str, behind: &'a [&'a str]) -> Step<'a>
             wanted: Wanted::Otherwise,
             ..state
         }),
+        Word::Guess => Step::Done(guess(state, behind)),
         Word::Quiet => Step::Next(State {
             is_quiet: true,
             ..state
@@ -246,6 +261,55 @@ fn before_read<'a>(state: State<'a>) -> Step<'a>
             wanted: Wanted::Read,
             ..state
         }),
+    }
+}
+
+// `--guess`, behind which all words are texts.
+fn guess<'a>(state: State<'a>, words: &'a [&'a str]) -> Result<Asked<'a>, OptionError<'a>>
+    ensures { result ≡ spec.guess state.entry words.now }
+{
+    if !is_bare(state) {
+        return Err(OptionError::GuessBeside);
+    }
+    Ok(Asked::Guess(GuessRequest {
+        text_count: words.len(),
+        is_quiet: state.is_quiet,
+    }))
+}
+
+// Whether no other option than `--quiet` is known.
+fn is_bare(state: State<'_>) -> bool
+    ensures { result ≡ spec.is_bare state.entry }
+{
+    is_version_three(state.language) && has_no_description(state) && has_no_table(state)
+}
+
+fn is_version_three(wording: Wording) -> bool
+    ensures { result ≡ spec.is_version_three wording }
+{
+    match wording {
+        Wording::Own(Language::Version(DescriptionVersion::Three)) => true,
+        Wording::Own(Language::Version(DescriptionVersion::One | DescriptionVersion::Two))
+        | Wording::Own(Language::Strftime)
+        | Wording::Other(_) => false,
+    }
+}
+
+fn has_no_description(state: State<'_>) -> bool
+    ensures { result ≡ spec.has_no_description state.entry.to_language state.entry.read }
+{
+    match (state.to_language, state.read) {
+        (None, None) => true,
+        (Some(_), _) | (None, Some(_)) => false,
+    }
+}
+
+fn has_no_table(state: State<'_>) -> bool
+    ensures { result ≡ spec.has_no_table state.entry.column state.entry.otherwise }
+{
+    match (state.column, state.otherwise) {
+        (None, None) => true,
+        (Some(_), _) | (None, Some(_)) => false,
     }
 }
 

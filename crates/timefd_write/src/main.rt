@@ -13,6 +13,8 @@ mod entry;
 mod field;
 mod fields;
 mod frame;
+mod guess_run;
+mod guessed;
 mod header;
 mod language;
 mod line;
@@ -29,15 +31,17 @@ mod run;
 mod seconds;
 mod source;
 mod table;
+mod to_read;
 mod usage;
 mod warned;
 mod word;
 mod words;
 
-use asked::{Asked, OptionError, Request, asked_of};
+use asked::{Asked, GuessRequest, OptionError, Request, asked_of};
 use clock::moment_now;
 use converted::{Described, limits_sentence, own_description, refused_sentence};
 use end::RunEnd;
+use guess_run::{GuessEnd, guess_end};
 use language::Languages;
 use message::Manner;
 use outcome::RunError;
@@ -48,6 +52,7 @@ use std::io::{BufReader, BufWriter, IsTerminal, Write};
 use std::process::ExitCode;
 use timefd_dialect::DialectError;
 use timefd_streams::{WordsError, all_words, lent, shows_colors};
+use to_read::{description_to_read, limits_told};
 
 // The statuses of runs that did not come to their end.
 const REFUSED: u8 = 1;
@@ -57,6 +62,8 @@ const WRONG_ARGUMENTS: u8 = 2;
 const NO_MEMORY: u8 = 3;
 
 const FAILED: u8 = 4;
+
+const NOT_TEXT: u8 = 5;
 
 // How many bytes are read at once.
 const BUFFER: usize = 65_536;
@@ -104,6 +111,10 @@ fn status(rt: &HostRuntime, words: &[&str]) -> u8 {
             let from = words.len().saturating_sub(request.moment_count);
             run_status(rt, request, words.get(from..).unwrap_or(&[]))
         }
+        Ok(Asked::Guess(request)) => {
+            let from = words.len().saturating_sub(request.text_count);
+            guess_status(rt, request, words.get(from..).unwrap_or(&[]))
+        }
         Err(error) => wrong_arguments(rt, error),
     }
 }
@@ -127,6 +138,14 @@ fn tell_limits(rt: &HostRuntime, description: &Described<'_>) -> Result<(), Allo
     Ok(())
 }
 
+// Says of which moments alone texts of a format are read.
+fn tell_reading_limits(rt: &HostRuntime, read: &Described<'_>) -> Result<(), AllocError> {
+    if let Some(sentence) = limits_told(rt.alloc(), read.limits())? {
+        told(rt, 0, &sentence);
+    }
+    Ok(())
+}
+
 fn run_status(rt: &HostRuntime, request: Request<'_>, moments: &[&str]) -> u8 {
     let written = match own_description(rt.alloc(), request.wordings.written, request.description) {
         Ok(written) => written,
@@ -138,9 +157,25 @@ fn run_status(rt: &HostRuntime, request: Request<'_>, moments: &[&str]) -> u8 {
     let Some(text) = request.read else {
         return described_status(rt, request, None, &written, moments);
     };
-    match own_description(rt.alloc(), request.wordings.read, text) {
-        Ok(read) => described_status(rt, request, Some(&read), &written, moments),
-        Err(error) => not_converted(rt, error),
+    let read = match description_to_read(rt.alloc(), request.wordings.read, text) {
+        Ok(read) => read,
+        Err(error) => return not_converted(rt, error),
+    };
+    if !request.is_quiet && tell_reading_limits(rt, &read).is_err() {
+        return no_memory(rt);
+    }
+    described_status(rt, request, Some(&read), &written, moments)
+}
+
+fn guess_status(rt: &HostRuntime, request: GuessRequest, texts: &[&str]) -> u8 {
+    match guess_end(rt, request, texts) {
+        GuessEnd::Found => 0,
+        GuessEnd::NotFound => told(rt, REFUSED, "no description that is known reads all texts"),
+        GuessEnd::NoText => told(rt, REFUSED, "there is no text to find a description of"),
+        GuessEnd::NotText => told(rt, NOT_TEXT, "a line is no UTF-8"),
+        GuessEnd::Memory => no_memory(rt),
+        GuessEnd::Read => told(rt, FAILED, "the standard input can't be read"),
+        GuessEnd::Write => write_failed(rt),
     }
 }
 

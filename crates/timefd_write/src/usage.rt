@@ -13,6 +13,7 @@ pub const VERSION: &str = "timefd_format 0.2.0\n";
 
 /// What `--help` writes.
 pub const USAGE: &str = "usage: timefd_format [OPTION].. [--] DESCRIPTION [MOMENT]..
+       timefd_format [--quiet] --guess [TEXT]..
 
 Writes each moment by the format description, a line each. Without a moment it reads them from the
 standard input, one a line. A moment is a date, with a time of day and an offset where they are
@@ -29,6 +30,9 @@ that many seconds after 1970 began, both in UTC.
                                  1, or its name in the first line, which is kept then
   --else keep|empty|fail         what stands where a moment isn't written: its text, nothing, or
                                  the run ends; else a line is left out, and a field is kept
+  --guess [TEXT]..               writes the descriptions of version 3 that read all the texts and write
+                                 them back, likeliest first; without a text those that read all
+                                 lines of the standard input
   --quiet, -q                    leaves out warnings: no component in a description, or text that
                                  another language reads as one
   --help, -h                     writes this
@@ -90,6 +94,10 @@ pub fn sentence(alloc: Global, error: OptionError<'_>) -> Result<String, AllocEr
         OptionError::NothingRead => String::from_str(
             alloc,
             "`--to-language` goes with `--read`; without it `--language` names the language",
+        ),
+        OptionError::GuessBeside => String::from_str(
+            alloc,
+            "`--guess` stands behind no other option than `--quiet`; it finds a description",
         ),
         OptionError::NoDescription => {
             String::from_str(alloc, "there is no description; --help shows the usage")

@@ -1,0 +1,12 @@
+use Rattle.std.proofs.Common.{length}
+use Rattle.timefd_guess.specs.Found.{texts}
+use Rattle.timefd_guess.proofs.FoundLemmas.{Decides}
+use Rattle.timefd_node_list.specs.Views.{view_tree}
+use Rattle.timefd_guess.proofs.comes_back.all_come_back.Given as goal
+
+-- what is left decides
+abbrev pub invariant-texts : goal.invariant-texts
+invariant-texts l = Decides (view_tree l.view) (texts l.fn.texts) (texts l.rest)
+
+abbrev pub decreases-texts : goal.decreases-texts
+decreases-texts l = length l.rest

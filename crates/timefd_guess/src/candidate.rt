@@ -1,0 +1,27 @@
+//! A description that dates and times are often written by.
+
+/// A description that dates and times are often written by.
+#[derive(Clone, Copy)]
+pub struct Candidate {
+    /// The description, in version 3.
+    pub description: &'static str,
+    /// The one in which day and month stand in each other's place, where texts alone tell them apart.
+    pub swapped: Option<&'static str>,
+}
+
+macro_rules! candidate {
+    ($description:literal) => {
+        Candidate {
+            description: $description,
+            swapped: None,
+        }
+    };
+    ($description:literal, swapped $other:literal) => {
+        Candidate {
+            description: $description,
+            swapped: Some($other),
+        }
+    };
+}
+
+pub(crate) use candidate;

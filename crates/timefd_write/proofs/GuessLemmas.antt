@@ -1,0 +1,20 @@
+-- Lines of descriptions, one more behind others.
+use Rattle.std.proofs.Common.{◌≡◌, List, [], ◌∷◌, ◌++◌, codes, sym, ap, ◌∙◌, append_assoc, append-nil}
+use Rattle.timefd_component.specs.Tree.{Text}
+use Rattle.timefd_guess.specs.declared.guessing.Guess.{Guess}
+use Rattle.timefd_write.specs.Guessed.{guess_lines}
+
+pub line_more : (old between new : Text) (rest after : List Guess) (guess : Guess) (all : Text)
+    → between ≡ old ++ guess.description.now → new ≡ between ++ codes "\n" → rest ≡ guess ∷ after
+    → old ++ guess_lines rest ≡ all → new ++ guess_lines after ≡ all
+line_more old between new rest after guess all first second split so_far =
+    ap (λ x. x ++ guess_lines after) (second ∙ ap (λ x. x ++ codes "\n") first)
+    ∙ append_assoc (old ++ guess.description.now) (codes "\n") (guess_lines after)
+    ∙ append_assoc old guess.description.now (codes "\n" ++ guess_lines after)
+    ∙ ap (λ x. old ++ x) (sym (append_assoc guess.description.now (codes "\n") (guess_lines after)))
+    ∙ ap (λ r. old ++ guess_lines r) (sym split) ∙ so_far
+
+pub lines_done : (lines : Text) (rest : List Guess) (all : Text) → rest ≡ []
+    → lines ++ guess_lines rest ≡ all → lines ≡ all
+lines_done lines rest all none so_far =
+    sym (append-nil lines) ∙ ap (λ r. lines ++ guess_lines r) (sym none) ∙ so_far

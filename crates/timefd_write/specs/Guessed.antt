@@ -1,0 +1,31 @@
+-- What is written of texts whose description is to be found.
+use Rattle.std.specs.Prelude.{ℕ, ◌≡◌, ◌++◌, Bool, true, false, List, [], ◌∷◌, codes, decimal, length, Option}
+use Rattle.std.specs.Io.KnownBytes.{Appends}
+use Rattle.timefd_component.specs.Tree.{Text}
+use Rattle.timefd_guess.specs.Candidates.{all_entries}
+use Rattle.timefd_guess.specs.Found.{AreGuesses}
+use Rattle.timefd_guess.specs.declared.guessing.Guess.{Guess}
+
+abbrev pub guess_line : Guess → Text
+guess_line guess = guess.description.now ++ codes "\n"
+
+-- a line of each description
+abbrev pub guess_lines : List Guess → Text
+guess_lines [] = []
+guess_lines (guess ∷ more) = guess_line guess ++ guess_lines more
+
+abbrev pub is_any : List Guess → Bool
+is_any [] = false
+is_any (guess ∷ more) = true
+
+-- The descriptions that may be meant are written, a line each, and whether there is one is answered.
+abbrev pub WritesGuesses : List Text → Option Text → Option Text → Bool → Type 0
+WritesGuesses texts before after found =
+    (guesses : List Guess) × AreGuesses all_entries texts guesses
+    × Appends before after (guess_lines guesses) × (found ≡ is_any guesses)
+
+-- of texts that don't tell day and month apart
+abbrev pub swapped_message : ℕ → ℕ → Text
+swapped_message undecided count =
+    codes "timefd_format: day and month may be swapped: " ++ (decimal undecided
+    ++ (codes " of " ++ (decimal count ++ codes " texts decide nothing\n")))

@@ -1,0 +1,48 @@
+-- Descriptions that texts are read by, and what is told of them.
+use Rattle.std.specs.Prelude.{ℕ, ◌≡◌, ◌==◌, Bool, true, false, Option, Some, None, codes, decimal, ◌++◌, if◌then◌else◌, string_bytes, ⊤}
+use Rattle.std.specs.declared.string.String.{String}
+use Rattle.timefd_component.specs.Tree.{Text}
+use Rattle.timefd_dialect.specs.ToRead.{IsToRead, IsUnreadFor}
+use Rattle.timefd_dialect.specs.declared.dialect.Dialect.{Dialect}
+use Rattle.timefd_dialect.specs.declared.error.DialectError.{DialectError}
+use Rattle.timefd_dialect.specs.declared.limits.Limits.{Limits}
+use Rattle.timefd_write.specs.declared.converted.Described.{Described}
+use Rattle.timefd_write.specs.declared.converted.Described.TheVariants.{Own, Converted}
+use Rattle.timefd_write.specs.declared.language.Wording.{Wording}
+use Rattle.timefd_write.specs.declared.language.Wording.TheVariants as wordings
+
+-- a language of `time` stays as it is, and a format of another is converted to read what it writes
+abbrev pub IsDescribedToRead : Wording → Text → Described → Type 0
+IsDescribedToRead wording text (Own language own) =
+    (wording ≡ wordings.Own language) × (own.now ≡ text)
+IsDescribedToRead wording text (Converted converted) =
+    (dialect : Dialect) × (wording ≡ wordings.Other dialect) × IsToRead dialect text converted
+
+-- the refusal of a format of another language
+abbrev pub IsUnreadIn : Wording → Text → DialectError → Type 0
+IsUnreadIn wording text e =
+    (dialect : Dialect) × (wording ≡ wordings.Other dialect) × IsUnreadFor dialect text e
+
+-- from this year on
+abbrev pub from_year : ℕ → Bool → Text
+from_year year true =
+    codes "texts of the format are read from the year " ++ (decimal year
+    ++ codes " on, where their offset has whole minutes")
+from_year year false =
+    codes "texts of the format are read from the year " ++ (decimal year ++ codes " on")
+
+abbrev pub of_all_years : Bool → Option Text
+of_all_years true = Some (codes "texts of the format are read where their offset has whole minutes")
+of_all_years false = None
+
+-- of which moments alone texts are read
+abbrev pub limits_told : Limits → Option Text
+limits_told limits =
+    if limits.first_year == 0 then of_all_years limits.whole_minutes
+    else Some (from_year limits.first_year limits.whole_minutes)
+
+abbrev pub IsTold : Option Text → Option String → Type 0
+IsTold None None = ⊤
+IsTold None (Some text) = ⊥
+IsTold (Some told) None = ⊥
+IsTold (Some told) (Some text) = string_bytes text ≡ told

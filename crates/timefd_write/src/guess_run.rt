@@ -1,0 +1,100 @@
+//! The run that `--guess` asks for.
+
+use crate::asked::GuessRequest;
+use crate::guessed::write_guesses;
+use crate::outcome::RunError;
+use std::alloc::AllocError;
+use std::io::{BufRead, BufReader, BufWriter, ErrorKind, Write};
+use timefd_streams::lent;
+
+/// What a run comes to that looks for a description.
+#[derive(Clone, Copy)]
+pub enum GuessEnd {
+    /// A description is found.
+    Found,
+    /// None is.
+    NotFound,
+    /// There is no text.
+    NoText,
+    /// A line is no UTF-8.
+    NotText,
+    /// Memory ran out.
+    Memory,
+    /// The standard input can't be read.
+    Read,
+    /// The standard output can't be written.
+    Write,
+}
+
+impl From<AllocError> for GuessEnd {
+    ghost use Rattle.std.specs.Prelude.{◌≡◌};
+    ghost use Rattle.timefd_write.specs.declared.guess_run.GuessEnd.{GuessEnd};
+
+    ghost from_gives = { λ _ e. e ≡ GuessEnd.Memory };
+
+    fn from(_: AllocError) -> GuessEnd {
+        GuessEnd::Memory
+    }
+}
+
+/// Writes the descriptions that the words may be written by, or the lines of the standard input where there
+/// is no word.
+pub fn guess_end(rt: &HostRuntime, request: GuessRequest, words: &[&str]) -> GuessEnd {
+    if !words.is_empty() {
+        return end_of(rt, request, words);
+    }
+    match input_end(rt, request) {
+        Ok(end) => end,
+        Err(end) => end,
+    }
+}
+
+fn input_end(rt: &HostRuntime, request: GuessRequest) -> Result<GuessEnd, GuessEnd> {
+    let lines = input_lines(rt)?;
+    let words = lent(rt.alloc(), &lines)?;
+    Ok(end_of(rt, request, &words))
+}
+
+// The lines of the standard input.
+fn input_lines(rt: &HostRuntime) -> Result<Vec<String>, GuessEnd> {
+    let mut lines = Vec::new(rt.alloc());
+    for line in BufReader::new(rt.alloc(), rt.stdin())
+        .map_err(read_error)?
+        .lines(rt.alloc())
+    {
+        if lines.push(line.map_err(read_error)?).is_err() {
+            return Err(GuessEnd::Memory);
+        }
+    }
+    Ok(lines)
+}
+
+fn read_error(error: std::io::Error) -> GuessEnd {
+    match error.kind() {
+        ErrorKind::OutOfMemory => GuessEnd::Memory,
+        ErrorKind::InvalidData => GuessEnd::NotText,
+        _ => GuessEnd::Read,
+    }
+}
+
+fn end_of(rt: &HostRuntime, request: GuessRequest, words: &[&str]) -> GuessEnd {
+    if words.is_empty() {
+        return GuessEnd::NoText;
+    }
+    let Ok(mut output) = BufWriter::new(rt.alloc(), rt.stdout()) else {
+        return GuessEnd::Memory;
+    };
+    let found = write_guesses(
+        rt.alloc(),
+        request.is_quiet,
+        words,
+        &mut output,
+        &mut rt.stderr(),
+    );
+    match (found, output.flush()) {
+        (Ok(true), Ok(())) => GuessEnd::Found,
+        (Ok(false), Ok(())) => GuessEnd::NotFound,
+        (Err(RunError::Memory), _) => GuessEnd::Memory,
+        (Ok(_) | Err(RunError::Write | RunError::Refused), _) => GuessEnd::Write,
+    }
+}

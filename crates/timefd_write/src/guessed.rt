@@ -1,0 +1,75 @@
+//! The descriptions that texts may be written by.
+
+ghost use Rattle.std.specs.Prelude.{◌≡◌, IfOk, string_bytes};
+ghost use Rattle.timefd_guess.specs.Found.{texts};
+ghost use Rattle.timefd_write.specs.Guessed as spec;
+
+use crate::message::tell;
+use crate::outcome::RunError;
+use std::alloc::{AllocError, Global};
+use std::io::Write;
+use timefd_guess::{Guess, guesses};
+
+/// Writes the descriptions that all texts may be written by, a line each, and answers whether there is one. The
+/// errors have how many texts don't tell day and month apart, unless that is left out.
+pub fn write_guesses<W: Write, E: Write>(
+    alloc: Global,
+    is_quiet: bool,
+    words: &[&str],
+    output: &mut W,
+    errors: &mut E,
+) -> Result<bool, RunError>
+    ensures { IfOk result (spec.WritesGuesses (texts words.now) (W.contents output.old)
+        (W.contents output.new)) }
+{
+    let found = guesses(alloc, words)?;
+    if !is_quiet {
+        tell_swapped(alloc, &found, words.len(), errors)?;
+    }
+    let lines = guess_lines(alloc, &found)?;
+    match output.write_all(lines.as_bytes()) {
+        Ok(()) => Ok(!found.is_empty()),
+        Err(_) => Err(RunError::Write),
+    }
+}
+
+// A line of each description.
+#[tactic(auto, using(crate::proofs::GuessLemmas::line_more, crate::proofs::GuessLemmas::lines_done))]
+fn guess_lines(alloc: Global, found: &[Guess]) -> Result<String, AllocError>
+    ensures { IfOk result (λ lines. string_bytes lines ≡ spec.guess_lines found.now) }
+{
+    let mut lines = String::new(alloc);
+    let mut rest = found;
+    'guesses: while let [guess, after @ ..] = rest {
+        lines.push_str(guess.description)?;
+        lines.push_str("\n")?;
+        rest = after;
+    }
+    Ok(lines)
+}
+
+// Tells how many texts don't tell day and month apart, of the first description that leaves some open.
+fn tell_swapped<E: Write>(
+    alloc: Global,
+    found: &[Guess],
+    count: usize,
+    errors: &mut E,
+) -> Result<(), AllocError> {
+    'guesses: for at in 0..found.len() {
+        let undecided = found[at].undecided;
+        if undecided > 0 {
+            let message = swapped_message(alloc, undecided, count)?;
+            tell(errors, message.as_bytes());
+            return Ok(());
+        }
+    }
+    Ok(())
+}
+
+fn swapped_message(alloc: Global, undecided: usize, count: usize) -> Result<String, AllocError>
+    ensures { IfOk result (λ message. string_bytes message ≡ spec.swapped_message undecided count) }
+{
+    format!(in alloc;
+        "timefd_format: day and month may be swapped: {undecided} of {count} texts decide nothing\n"
+    )
+}
