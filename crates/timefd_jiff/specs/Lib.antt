@@ -1,3 +1,5 @@
 pub mod Same
 pub mod Read
+pub mod Annotated
+pub mod Zones
 pub mod Laws

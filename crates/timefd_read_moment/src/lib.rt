@@ -2,6 +2,7 @@
 //! of a text.
 #![tactic(auto)]
 
+mod absent;
 mod agreed;
 mod date_times;
 mod dates;
@@ -16,14 +17,17 @@ mod local;
 mod moments;
 mod offsets;
 mod part;
+mod partial;
 mod shown;
 mod stamp;
 pub mod stamp_laws;
 mod stamped;
 mod times;
+mod wanted;
 mod way;
 mod year;
 
+pub use absent::{AbsentDay, absent_day};
 pub use date_times::date_time;
 pub use dates::date;
 pub use error::ValueError;
@@ -32,3 +36,4 @@ pub use moments::moment;
 pub use offsets::offset;
 pub use part::{DatePart, InstantPart, OffsetPart, Part, TimePart};
 pub use times::time;
+pub use wanted::{Wanted, moment_wanted};
