@@ -2,6 +2,8 @@ pub mod Words
 pub mod Asked
 pub mod Descriptions
 pub mod Seconds
+pub mod Zones
+pub mod Brackets
 pub mod Moments
 pub mod ReadBack
 pub mod Sources

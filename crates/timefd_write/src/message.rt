@@ -3,6 +3,7 @@
 ghost use Rattle.std.specs.Prelude.{◌≡◌, IfOk, string_bytes};
 ghost use Rattle.timefd_write.specs.Messages as spec;
 
+use crate::conflict::Conflict;
 use crate::header::HeaderError;
 use crate::moment::MomentError;
 use std::alloc::{AllocError, Global};
@@ -24,6 +25,29 @@ pub struct Manner {
 
 /// What is told of a line that is no text.
 pub const NOT_TEXT: &str = "timefd_format: a line is no UTF-8\n";
+
+// Why words are no moments.
+
+const NO_LOCAL_ZONE: &str =
+    "timefd_format: `now` is in the zone of TZ, which names none; set it, as in TZ=Europe/Berlin or \
+    TZ=UTC\n";
+
+const SECONDS: &str =
+    "after `@` stand whole seconds since 1970, as in @1700000000, of a year from -999999 to 999999";
+
+const BRACKETS: &str = "in brackets stands the name of one time zone and nothing else, as in \
+    2026-11-23T05:36:07+01:00[Europe/Berlin]";
+
+const NO_OFFSET: &str =
+    "a time zone in brackets is checked against a time and an offset; write both, as in \
+    2026-11-23T05:36:07+01:00[Europe/Berlin]";
+
+const NO_ZONE: &str = "there is no time zone of the name in brackets; names are as Europe/Berlin";
+
+const YEARS: &str = "offsets of time zones are known in the years -9999 to 9999";
+
+const NO_INSTANT: &str =
+    "`--zone` shows what has a date, a time and an offset, as 2026-11-23T05:36:07+01:00";
 
 /// Tells a message. Where it can't be written, nothing else is to be done.
 pub fn tell<E: Write>(errors: &mut E, message: &[u8]) {
@@ -64,11 +88,22 @@ pub fn unread_message(
 {
     match error {
         MomentError::Clock => String::from_str(alloc, "timefd_format: the clock can't be read\n"),
-        MomentError::Seconds => no_seconds(alloc, word),
-        MomentError::Brackets => brackets(alloc, word),
+        MomentError::LocalZone => String::from_str(alloc, NO_LOCAL_ZONE),
+        MomentError::Seconds => no_moment(alloc, word, SECONDS),
+        MomentError::Brackets => no_moment(alloc, word, BRACKETS),
+        MomentError::NoOffset => no_moment(alloc, word, NO_OFFSET),
+        MomentError::NoZone => no_moment(alloc, word, NO_ZONE),
+        MomentError::Conflict(conflict) => conflicting(alloc, word, conflict),
+        MomentError::Years => no_moment(alloc, word, YEARS),
+        MomentError::NoInstant => no_moment(alloc, word, NO_INSTANT),
+        MomentError::Memory => Err(AllocError),
         MomentError::Text(error) => {
             let word = safe(alloc, word)?;
             format!(in alloc; "timefd_format: `{word}` is no moment: {error}\n")
+        }
+        MomentError::Absent(day) => {
+            let sentence = format!(in alloc; "{day}")?;
+            not_read(alloc, line, word, &sentence)
         }
         MomentError::Unread(error) => {
             let sentence = unread_sentence(alloc, error)?;
@@ -81,25 +116,23 @@ pub fn unread_message(
     }
 }
 
-// Of a word after whose `@` no moment stands.
-fn no_seconds(alloc: Global, word: &str) -> Result<String, AllocError>
-    ensures { IfOk result (λ message. string_bytes message ≡ spec.no_seconds word.now) }
+// Of a word that is no moment for this reason.
+fn no_moment(alloc: Global, word: &str, reason: &str) -> Result<String, AllocError>
+    ensures { IfOk result (λ message. string_bytes message ≡ spec.no_moment word.now reason.now) }
 {
     let word = safe(alloc, word)?;
-    format!(in alloc;
-        "timefd_format: `{word}` is no moment: after `@` stand whole seconds since 1970, as in \
-        @1700000000, of a year from -999999 to 999999\n"
-    )
+    format!(in alloc; "timefd_format: `{word}` is no moment: {reason}\n")
 }
 
-// Of a word that would be a moment without what stands in brackets at its end.
-fn brackets(alloc: Global, word: &str) -> Result<String, AllocError>
-    ensures { IfOk result (λ message. string_bytes message ≡ spec.brackets word.now) }
+// Of a word whose offset isn't that of the time zone in its brackets.
+fn conflicting(alloc: Global, word: &str, conflict: Conflict) -> Result<String, AllocError>
+    ensures { IfOk result (λ message. string_bytes message ≡ spec.conflicting word.now conflict) }
 {
     let word = safe(alloc, word)?;
+    let (written, zone) = (conflict.written, conflict.zone);
     format!(in alloc;
-        "timefd_format: `{word}` is no moment: what stands in brackets isn't checked against the \
-        offset; leave it out, as in 2026-11-23T05:36:07+01:00\n"
+        "timefd_format: `{word}` is no moment: its offset is {written}, and the time zone in \
+        brackets has {zone} then\n"
     )
 }
 

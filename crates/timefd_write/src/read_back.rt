@@ -1,9 +1,10 @@
 //! The moment that a text shows by a description.
 
-ghost use Rattle.std.specs.Prelude.{IfOk, IfSome};
+ghost use Rattle.std.specs.Prelude.{Err, IfOk, IfSome};
+ghost use Rattle.timefd_read_moment.specs.Wanted.{IsMomentWanted};
 ghost use Rattle.timefd_read_dates.specs.Reads.{Fills, fields_of};
 ghost use Rattle.timefd_write.specs.ReadBack as spec;
-ghost use Rattle.timefd_write.specs.ReadBack.{AreLeavesOf, IsMadeOf, IsReadBack};
+ghost use Rattle.timefd_write.specs.ReadBack.{AreLeavesOf, IsMadeOf, IsNoMoment, IsReadBack};
 
 use crate::moment::MomentError;
 use std::alloc::{AllocError, Global};
@@ -13,7 +14,7 @@ use timefd_parse::BorrowedOutput;
 use timefd_read_dates::{
     Fields, NO_FIELDS, ReadError, fill_fields, fill_item_fields, fill_leaf_fields, leaves_in_turn,
 };
-use timefd_read_moment::moment;
+use timefd_read_moment::{ValueError, Wanted, absent_day, moment_wanted};
 
 /// The components and literals that a description is, where it is no more than those in turn. They
 /// are found once, and many texts read by them.
@@ -30,23 +31,38 @@ pub fn leaves_of<'d>(
 }
 
 /// The moment that a whole text shows by the description, or by the leaves that were found of it.
-/// An `Err` tells which part does not read, and the byte index where it begins; or why what was
-/// read is no moment.
+/// What isn't wanted of it may be unknown. An `Err` tells which part does not read, and the byte index
+/// where it begins; or why what was read is no moment.
 pub fn moment_read(
     description: &BorrowedOutput<'_>,
+    wanted: Wanted,
     leaves: Option<&[Leaf<'_>]>,
     text: &str,
 ) -> Result<Moment, MomentError>
     requires { AreLeavesOf description.now leaves }
-    ensures { IsReadBack description.now text.now result }
+    ensures { IsReadBack description.now wanted text.now result }
 {
     let mut fields = NO_FIELDS;
     match fill(description, leaves, text, &mut fields) {
-        Ok(()) => match moment(&fields) {
+        Ok(()) => match moment_wanted(&fields, wanted) {
             Ok(moment) => Ok(moment),
-            Err(error) => Err(MomentError::Value(error)),
+            Err(error) => Err(no_moment(&fields, wanted, error)),
         },
         Err(error) => Err(MomentError::Unread(error)),
+    }
+}
+
+// Why the fields, of which this is wanted, are those of no moment.
+fn no_moment(fields: &Fields, wanted: Wanted, error: ValueError) -> MomentError
+    requires { IsMomentWanted fields.now wanted (Err error) }
+    ensures { IsNoMoment fields.now wanted result }
+{
+    match error {
+        ValueError::Missing(_) => MomentError::Value(error),
+        ValueError::Contradiction(_) => match absent_day(fields) {
+            Some(day) => MomentError::Absent(day),
+            None => MomentError::Value(error),
+        },
     }
 }
 

@@ -16,8 +16,9 @@ pub const USAGE: &str = "usage: timefd_format [OPTION].. [--] DESCRIPTION [MOMEN
 
 Writes each moment by the format description, a line each. Without a moment it reads them from the
 standard input, one a line. A moment is a date, with a time of day and an offset where they are
-known, as 2026-11-23T05:36:07.25+01:00; the word now is that of the program's start, and @1700000000
-that many seconds after 1970 began, both in UTC.
+known, as 2026-11-23T05:36:07.25+01:00, which a zone may follow, as [Europe/Berlin]; the word now is
+that of the program's start in the zone of TZ, and @1700000000 that many seconds after 1970 began, in
+UTC.
 
   --language LANGUAGE            the language of the descriptions: 1, 2, 3 (if it isn't given),
                                  strftime of time, or python, c, gnu, chrono, jiff, ruby, java,
@@ -29,6 +30,8 @@ that many seconds after 1970 began, both in UTC.
                                  1, or its name in the first line, which is kept then
   --else keep|empty|fail         what stands where a moment isn't written: its text, nothing, or
                                  the run ends; else a line is left out, and a field is kept
+  --zone ZONE                    shows each moment on the clock of this time zone, as Europe/Berlin;
+                                 its date, time and offset have to be known
   --quiet, -q                    leaves out warnings: no component in a description, or text that
                                  another language reads as one
   --help, -h                     writes this
@@ -82,6 +85,12 @@ pub fn sentence(alloc: Global, error: OptionError<'_>) -> Result<String, AllocEr
         OptionError::NoOtherwise(word) => {
             let word = safe(alloc, word)?;
             format!(in alloc; "`{word}` is no value of `--else`: one of keep, empty, fail")
+        }
+        OptionError::MissingZone => {
+            String::from_str(
+                alloc,
+                "`--zone` wants a value: a time zone, as Europe/Berlin",
+            )
         }
         OptionError::MomentBesideColumn => String::from_str(
             alloc,

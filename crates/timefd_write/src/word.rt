@@ -35,6 +35,8 @@ pub enum Word {
     Csv,
     /// `--else`, whose value is the word after it.
     Else,
+    /// `--zone`, whose value is the word after it.
+    Zone,
     /// `--quiet` or `-q`.
     Quiet,
     /// `--help` or `-h`.
@@ -59,6 +61,7 @@ pub fn word_of(word: &str) -> Word
         "--read" => Word::Read,
         "--csv" => Word::Csv,
         "--else" => Word::Else,
+        "--zone" => Word::Zone,
         "--quiet" | "-q" => Word::Quiet,
         "--help" | "-h" => Word::Help,
         "--version" | "-V" => Word::Version,
