@@ -9,3 +9,4 @@ pub mod SecondsLemmas
 pub mod RunLemmas
 pub mod TableLemmas
 pub mod WarnedLemmas
+mod ExpectedLemmas

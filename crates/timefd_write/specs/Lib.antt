@@ -8,6 +8,7 @@ pub mod Moments
 pub mod ReadBack
 pub mod Sources
 pub mod Tallies
+pub mod Expected
 pub mod Messages
 pub mod Frames
 pub mod Fields

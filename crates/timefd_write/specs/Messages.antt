@@ -1,11 +1,12 @@
 -- What is told of words that aren't written, and of arguments that are none of the program's.
-use Rattle.std.specs.Prelude.{ℕ, ◌≡◌, ◌++◌, codes, Option, Some, None, ⊤}
+use Rattle.std.specs.Prelude.{ℕ, ◌≡◌, ◌⊎◌, ◌++◌, codes, Option, Some, None, ⊤}
 use Rattle.std.specs.Fmt.{decimal}
 use Rattle.timefd_component.specs.Tree.{Text}
 use Rattle.timefd_drawing.specs.Shown.{safe}
 use Rattle.timefd_format.specs.declared.unshown.Unshown.{Unshown}
 use Rattle.timefd_format.specs.Sentences.{unshown_sentence}
 use Rattle.timefd_moment.specs.Display.{offset_text}
+use Rattle.timefd_read_dates.specs.declared.fault.ReadError.{ReadError}
 use Rattle.timefd_read_moment.specs.Absent.{sentence as absent_sentence}
 use Rattle.timefd_read_moment.specs.Sentences.{sentence}
 use Rattle.timefd_read_text.specs.Sentences.{unread_sentence}
@@ -16,8 +17,10 @@ use Rattle.timefd_write.specs.declared.header.HeaderError.{HeaderError}
 use Rattle.timefd_write.specs.declared.header.HeaderError.TheVariants as header
 use Rattle.timefd_write.specs.declared.moment.MomentError.{MomentError}
 use Rattle.timefd_write.specs.declared.moment.MomentError.TheVariants as fails
+use Rattle.timefd_write.specs.declared.source.Source.{Source}
 use Rattle.timefd_write.specs.declared.word.LanguageOption.{LanguageOption}
 use Rattle.timefd_write.specs.declared.word.LanguageOption.TheVariants as options
+use Rattle.timefd_write.specs.Expected.{IsExpectedIn}
 use Rattle.timefd_write.specs.Words.{option_name}
 
 -- of a moment that a component shows nothing of
@@ -45,31 +48,41 @@ conflicting word c =
     codes "timefd_format: `" ++ (safe word ++ (codes "` is no moment: its offset is " ++ (offset_text c.written
     ++ (codes ", and the time zone in brackets has " ++ (offset_text c.zone ++ codes " then\n")))))
 
+abbrev pub expected_sentence : Text → ℕ → Text
+expected_sentence literal index =
+    codes "`" ++ (safe literal ++ (codes "` was expected at byte " ++ decimal index))
+
+-- Why a part of a word doesn't read: the literal is named that it doesn't go on with, unless that isn't found.
+abbrev pub IsStopSentence : Source → Text → ReadError → Text → Type 0
+IsStopSentence source word u why =
+    (why ≡ unread_sentence u)
+    ⊎ ((literal : Text) × IsExpectedIn source word literal × (why ≡ expected_sentence literal u.index))
+
 -- of a word that names or shows no moment: why a name is none, is in the words of the library jiff
-abbrev pub IsUnreadMessage : Option ℕ → Text → MomentError → Text → Type 0
-IsUnreadMessage line word fails.Clock message =
+abbrev pub IsUnreadMessage : Source → Option ℕ → Text → MomentError → Text → Type 0
+IsUnreadMessage source line word fails.Clock message =
     message ≡ codes "timefd_format: the clock can't be read\n"
-IsUnreadMessage line word fails.LocalZone message =
+IsUnreadMessage source line word fails.LocalZone message =
     message ≡ codes "timefd_format: `now` is in the zone of TZ, which names none; set it, as in TZ=Europe/Berlin or TZ=UTC\n"
-IsUnreadMessage line word fails.Seconds message =
+IsUnreadMessage source line word fails.Seconds message =
     message ≡ no_moment word (codes "after `@` stand whole seconds since 1970, as in @1700000000, of a year from -999999 to 999999")
-IsUnreadMessage line word fails.Brackets message =
+IsUnreadMessage source line word fails.Brackets message =
     message ≡ no_moment word (codes "in brackets stands the name of one time zone and nothing else, as in 2026-11-23T05:36:07+01:00[Europe/Berlin]")
-IsUnreadMessage line word fails.NoOffset message =
+IsUnreadMessage source line word fails.NoOffset message =
     message ≡ no_moment word (codes "a time zone in brackets is checked against a time and an offset; write both, as in 2026-11-23T05:36:07+01:00[Europe/Berlin]")
-IsUnreadMessage line word fails.NoZone message =
+IsUnreadMessage source line word fails.NoZone message =
     message ≡ no_moment word (codes "there is no time zone of the name in brackets; names are as Europe/Berlin")
-IsUnreadMessage line word (fails.Conflict c) message = message ≡ conflicting word c
-IsUnreadMessage line word fails.Years message =
+IsUnreadMessage source line word (fails.Conflict c) message = message ≡ conflicting word c
+IsUnreadMessage source line word fails.Years message =
     message ≡ no_moment word (codes "offsets of time zones are known in the years -9999 to 9999")
-IsUnreadMessage line word fails.NoInstant message =
+IsUnreadMessage source line word fails.NoInstant message =
     message ≡ no_moment word (codes "`--zone` shows what has a date, a time and an offset, as 2026-11-23T05:36:07+01:00")
-IsUnreadMessage line word fails.Memory message = ⊥
-IsUnreadMessage line word (fails.Absent day) message = message ≡ not_read line word (absent_sentence day)
-IsUnreadMessage line word (fails.Text e) message = ⊤
-IsUnreadMessage line word (fails.Unread u) message =
-    message ≡ not_read line word (unread_sentence u)
-IsUnreadMessage line word (fails.Value v) message = message ≡ not_read line word (sentence v)
+IsUnreadMessage source line word fails.Memory message = ⊥
+IsUnreadMessage source line word (fails.Absent day) message = message ≡ not_read line word (absent_sentence day)
+IsUnreadMessage source line word (fails.Text e) message = ⊤
+IsUnreadMessage source line word (fails.Unread u) message =
+    (why : Text) × IsStopSentence source word u why × (message ≡ not_read line word why)
+IsUnreadMessage source line word (fails.Value v) message = message ≡ not_read line word (sentence v)
 
 -- of a record without the column
 abbrev pub no_field_message : ℕ → Text

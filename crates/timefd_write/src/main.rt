@@ -12,6 +12,7 @@ mod converted;
 mod description;
 mod end;
 mod entry;
+mod expected;
 mod field;
 mod fields;
 mod frame;

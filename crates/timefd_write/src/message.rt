@@ -4,14 +4,17 @@ ghost use Rattle.std.specs.Prelude.{◌≡◌, IfOk, string_bytes};
 ghost use Rattle.timefd_write.specs.Messages as spec;
 
 use crate::conflict::Conflict;
+use crate::expected::expected_in;
 use crate::header::HeaderError;
 use crate::moment::MomentError;
+use crate::source::{Source, source_leaves};
 use std::alloc::{AllocError, Global};
 use std::io::Write;
 use timefd_diagnosis::Diagnostic;
 use timefd_drawing::shown::safe;
 use timefd_drawing::{Format, Origin, Style, drawn};
 use timefd_format::Unshown;
+use timefd_read_dates::{ReadError, Reason};
 use timefd_read_text::unread_sentence;
 
 /// How a run tells what is wrong with descriptions.
@@ -79,11 +82,12 @@ pub fn tell_fault<E: Write>(
 /// What is told of a word that names or shows no moment, with the number of its line.
 pub fn unread_message(
     alloc: Global,
+    source: &Source<'_>,
     line: Option<u64>,
     word: &str,
     error: MomentError,
 ) -> Result<String, AllocError>
-    ensures { IfOk result (λ message. spec.IsUnreadMessage line word.now error
+    ensures { IfOk result (λ message. spec.IsUnreadMessage source.now line word.now error
         (string_bytes message)) }
 {
     match error {
@@ -106,7 +110,7 @@ pub fn unread_message(
             not_read(alloc, line, word, &sentence)
         }
         MomentError::Unread(error) => {
-            let sentence = unread_sentence(alloc, error)?;
+            let sentence = stop_sentence(alloc, source, word, error)?;
             not_read(alloc, line, word, &sentence)
         }
         MomentError::Value(error) => {
@@ -114,6 +118,45 @@ pub fn unread_message(
             not_read(alloc, line, word, &sentence)
         }
     }
+}
+
+// Why a part of a word doesn't read: the literal that was expected, where it is found.
+fn stop_sentence(
+    alloc: Global,
+    source: &Source<'_>,
+    word: &str,
+    error: ReadError,
+) -> Result<String, AllocError>
+    ensures { IfOk result (λ text. spec.IsStopSentence source.now word.now error (string_bytes text)) }
+{
+    match error.reason {
+        Reason::Literal => literal_sentence(alloc, source, word, error),
+        Reason::Unread(_) | Reason::Contradiction(_) | Reason::Trailing => {
+            unread_sentence(alloc, error)
+        }
+    }
+}
+
+fn literal_sentence(
+    alloc: Global,
+    source: &Source<'_>,
+    word: &str,
+    error: ReadError,
+) -> Result<String, AllocError>
+    ensures { IfOk result (λ text. spec.IsStopSentence source.now word.now error (string_bytes text)) }
+{
+    let leaves = source_leaves(alloc, source)?;
+    match expected_in(source, leaves.as_deref(), word) {
+        Some(literal) => expected_sentence(alloc, literal, error.index),
+        None => unread_sentence(alloc, error),
+    }
+}
+
+fn expected_sentence(alloc: Global, literal: &str, index: usize) -> Result<String, AllocError>
+    ensures { IfOk result (λ text. string_bytes text ≡ spec.expected_sentence literal.now index) }
+{
+    let literal = safe(alloc, literal)?;
+    format!(in alloc; "`{literal}` was expected at byte {index}")
 }
 
 // Of a word that is no moment for this reason.
