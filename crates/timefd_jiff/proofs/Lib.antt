@@ -3,3 +3,4 @@ pub mod DayLemmas
 pub mod SignedLemmas
 pub mod ReadLemmas
 pub mod AnnotatedLemmas
+pub mod InForceLemmas
