@@ -1,6 +1,7 @@
 -- What words are, and the moments that they name or show.
-use Rattle.std.specs.Prelude.{◌≡◌, List, Option, Some, None, Result, ⊤}
+use Rattle.std.specs.Prelude.{◌≡◌, true, List, Option, Some, None, Result, ⊤}
 use denote.Ref.{Bor}
+use Rattle.jiff_tz.specs.declared.timezone.TimeZone.{TimeZone}
 use Rattle.timefd_component.specs.Tree.{Text}
 use Rattle.timefd_fault.specs.Faults.{Fault}
 use Rattle.timefd_language.specs.Grammar.{nesting_limit}
@@ -37,11 +38,28 @@ IsSourceOf clocks language (Some text) None = IsFaulty language text.now
 IsSourceOf clocks language text (Some source) =
     IsKindOf clocks.names language text source.kind × (source.zone ≡ clocks.zone)
 
--- the source of moments of which this is wanted
+-- all of a moment
+abbrev pub whole : Wanted
+whole = record {
+  date = true;
+  year = true;
+  month = true;
+  day = true;
+  weekday = true;
+  time = true;
+  offset = true;
+}
+
+-- What is wanted where this is shown. A clock in a time zone wants all of a moment.
+abbrev pub wanted_for : Option TimeZone → Wanted → Wanted
+wanted_for None shown = shown
+wanted_for (Some zone) shown = whole
+
+-- the source of moments of which this is shown
 abbrev pub wanting : Wanted → Source → Source
-wanting wanted source = record {
+wanting shown source = record {
   kind = source.kind;
-  wanted = wanted;
+  wanted = wanted_for source.zone shown;
   zone = source.zone;
 }
 

@@ -34,7 +34,7 @@ pub enum SourceKind<'a> {
 pub struct Source<'a> {
     /// What words are.
     pub kind: SourceKind<'a>,
-    /// What of a moment is wanted.
+    /// What of a moment is wanted, so that it can be written.
     pub wanted: Wanted,
     /// The time zone on whose clock a moment is shown. Without one it stays as it is.
     pub zone: Option<TimeZone<'a>>,
@@ -100,11 +100,25 @@ fn with_clocks<'a>(kind: SourceKind<'a>, clocks: Clocks<'a>) -> Source<'a>
     }
 }
 
-/// The source of moments of which this is wanted.
-pub fn wanting<'a>(source: Source<'a>, wanted: Wanted) -> Source<'a>
-    ensures { result ≡ spec.wanting wanted source.entry }
+/// The source of moments of which this is shown.
+pub fn wanting<'a>(source: Source<'a>, shown: Wanted) -> Source<'a>
+    ensures { result ≡ spec.wanting shown source.entry }
 {
-    Source { wanted, ..source }
+    Source {
+        kind: source.kind,
+        wanted: wanted_for(source.zone, shown),
+        zone: source.zone,
+    }
+}
+
+// What is wanted where this is shown. A time zone wants all of a moment.
+fn wanted_for(zone: Option<TimeZone<'_>>, shown: Wanted) -> Wanted
+    ensures { result ≡ spec.wanted_for zone.entry shown }
+{
+    match zone {
+        Some(_) => WHOLE,
+        None => shown,
+    }
 }
 
 /// The components and literals of the description that words are texts of, where it is no more than
