@@ -59,7 +59,6 @@ fn first_agreeing(fields: &Fields, years: u32, month: u16) -> Option<Date>
 }
 
 // This date, where it has all that was read.
-#[tactic(auto, using(crate::proofs::PartialLemmas::no_such, crate::proofs::PartialLemmas::other_part, crate::proofs::PartialLemmas::agrees))]
 fn agreeing(fields: &Fields, years: u32, month: u16, day: u16) -> Option<Date>
     requires { years ≤ 2000000 }
     ensures { IsAmong fields.now years month day (day + 1) result }
