@@ -270,10 +270,10 @@ static inline const char *timefd_part_name(uint32_t part) {
     case TIMEFD_PART_ISO_WEEK: return "ISO week";
     case TIMEFD_PART_SUNDAY_WEEK: return "week from Sunday";
     case TIMEFD_PART_MONDAY_WEEK: return "week from Monday";
-    case TIMEFD_PART_YEAR_LAST_TWO: return "two-digit year";
+    case TIMEFD_PART_YEAR_LAST_TWO: return "last two digits of the year";
     case TIMEFD_PART_CENTURY: return "century";
     case TIMEFD_PART_YEAR: return "year";
-    case TIMEFD_PART_ISO_YEAR_LAST_TWO: return "two-digit ISO year";
+    case TIMEFD_PART_ISO_YEAR_LAST_TWO: return "last two digits of the ISO year";
     case TIMEFD_PART_ISO_CENTURY: return "century of the ISO year";
     case TIMEFD_PART_ISO_YEAR: return "ISO year";
     case TIMEFD_PART_HOUR: return "hour";

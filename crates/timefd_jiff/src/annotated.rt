@@ -34,12 +34,12 @@ pub fn read_annotated(text: &str) -> Result<Annotated<'_>, Error>
     ensures { IsReadAnnotated (parse_pieces text.now) result }
 {
     match temporal::parse_pieces(text.as_bytes()) {
-        Ok(pieces) => Ok(annotated(pieces)),
+        Ok(pieces) => Ok(with_zone(pieces)),
         Err(error) => Err(error),
     }
 }
 
-fn annotated(pieces: Pieces<'_>) -> Annotated<'_>
+fn with_zone(pieces: Pieces<'_>) -> Annotated<'_>
     ensures { AreAnnotated (pieces_view pieces.entry) result }
 {
     let moment = of_pieces(pieces);

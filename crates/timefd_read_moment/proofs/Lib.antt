@@ -11,5 +11,3 @@ pub mod StampedLemmas
 pub mod InstantLemmas
 pub mod ValueLemmas
 pub mod StampLawLemmas
-pub mod PartialLemmas
-pub mod WantedLemmas

@@ -11,9 +11,6 @@ pub mod Locals
 pub mod Known
 pub mod Stamped
 pub mod Values
-pub mod Partial
-pub mod Wanted
-pub mod Absent
 pub mod Laws
 pub mod Sentences
 pub mod DateTimes

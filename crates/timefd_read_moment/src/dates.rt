@@ -50,7 +50,7 @@ fn compared(fields: &Fields, way: DateWay) -> Result<Date, ValueError>
     requires way { date_way fields.now ≡ Ok way }
     ensures { IsDateByParts fields.now result }
 {
-    match date_of_way(way) {
+    match date_in(way) {
         Some(date) => match date_contradiction(fields, date) {
             None => Ok(date),
             Some(part) => {
@@ -66,7 +66,7 @@ fn compared(fields: &Fields, way: DateWay) -> Result<Date, ValueError>
 }
 
 /// The date that has the fields of a way, where one has.
-pub(crate) fn date_of_way(way: DateWay) -> Option<Date>
+fn date_in(way: DateWay) -> Option<Date>
     requires { way_years way ≤ 2000000 }
     ensures { Selects (WayHas way) result }
 {
@@ -91,8 +91,7 @@ pub(crate) fn date_of_way(way: DateWay) -> Option<Date>
     }
 }
 
-/// The date of a year, a month and a day, where there is one.
-pub(crate) fn calendar_date(years: u32, month: u16, day: u16) -> Option<Date>
+fn calendar_date(years: u32, month: u16, day: u16) -> Option<Date>
     requires { years ≤ 2000000 }
     ensures { Selects (WayHas (by.Calendar years month day)) result }
 {

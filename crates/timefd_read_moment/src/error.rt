@@ -61,10 +61,10 @@ fn date_name(part: DatePart) -> &'static str
         DatePart::IsoWeek => "ISO week",
         DatePart::SundayWeek => "week from Sunday",
         DatePart::MondayWeek => "week from Monday",
-        DatePart::YearLastTwo => "two-digit year",
+        DatePart::YearLastTwo => "last two digits of the year",
         DatePart::Century => "century",
         DatePart::Year => "year",
-        DatePart::IsoYearLastTwo => "two-digit ISO year",
+        DatePart::IsoYearLastTwo => "last two digits of the ISO year",
         DatePart::IsoCentury => "century of the ISO year",
         DatePart::IsoYear => "ISO year",
     }

@@ -1,7 +1,6 @@
 //! What holds of the values of fields.
 
 ghost use Rattle.timefd_read_moment.specs.Laws.{DateBack, OffsetBack, OneDate, OneOffset, OneTime, TimeBack};
-ghost use Rattle.timefd_read_moment.specs.Wanted.{WantedAlike};
 
 /// Fields that determine a date are those of one at most.
 pub fn one_date()
@@ -34,10 +33,4 @@ pub fn time_back()
 #[tactic(auto, using(crate::proofs::LawLemmas::offset_back))]
 pub fn offset_back()
     ensures { OffsetBack }
-{}
-
-/// Where all that is wanted of a date was read, each date that has all that was read has it alike.
-#[tactic(auto, using(crate::proofs::WantedLemmas::wanted_alike))]
-pub fn wanted_alike()
-    ensures { WantedAlike }
 {}

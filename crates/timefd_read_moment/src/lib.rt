@@ -2,7 +2,6 @@
 //! of a text.
 #![tactic(auto)]
 
-mod absent;
 mod agreed;
 mod date_times;
 mod dates;
@@ -17,17 +16,14 @@ mod local;
 mod moments;
 mod offsets;
 mod part;
-mod partial;
 mod shown;
 mod stamp;
 pub mod stamp_laws;
 mod stamped;
 mod times;
-mod wanted;
 mod way;
 mod year;
 
-pub use absent::{AbsentDay, absent_day};
 pub use date_times::date_time;
 pub use dates::date;
 pub use error::ValueError;
@@ -36,4 +32,3 @@ pub use moments::moment;
 pub use offsets::offset;
 pub use part::{DatePart, InstantPart, OffsetPart, Part, TimePart};
 pub use times::time;
-pub use wanted::{Wanted, moment_wanted};

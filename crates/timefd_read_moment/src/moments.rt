@@ -48,7 +48,7 @@ fn moment_by_parts(fields: &Fields) -> Result<Moment, ValueError>
     }
 }
 
-pub(crate) fn date_in(fields: &Fields) -> Result<Option<Date>, ValueError>
+fn date_in(fields: &Fields) -> Result<Option<Date>, ValueError>
     ensures { IsDateIn fields.now result }
 {
     if !has_date(fields) {
@@ -60,7 +60,7 @@ pub(crate) fn date_in(fields: &Fields) -> Result<Option<Date>, ValueError>
     }
 }
 
-pub(crate) fn time_in(fields: &Fields) -> Result<Option<Time>, ValueError>
+fn time_in(fields: &Fields) -> Result<Option<Time>, ValueError>
     ensures { IsTimeIn fields.now result }
 {
     if !has_time(fields) {
@@ -72,7 +72,7 @@ pub(crate) fn time_in(fields: &Fields) -> Result<Option<Time>, ValueError>
     }
 }
 
-pub(crate) fn offset_in(fields: &Fields) -> Result<Option<UtcOffset>, ValueError>
+fn offset_in(fields: &Fields) -> Result<Option<UtcOffset>, ValueError>
     ensures { IsOffsetIn fields.now result }
 {
     if !has_offset(fields) {

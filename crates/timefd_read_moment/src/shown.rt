@@ -41,7 +41,7 @@ pub(crate) fn is_shown(read: Option<Signed>, is_negative: bool, whole: u128, par
 }
 
 /// How far a year is from the year 0.
-pub(crate) fn magnitude(years: u32) -> u32
+fn magnitude(years: u32) -> u32
     ensures { result ≡ magnitude years }
 {
     if years < 1_000_000 {

@@ -8,7 +8,6 @@ pub mod Codes
 pub mod Explanations
 pub mod Clock
 pub mod Dates
-pub mod Wanted
 pub mod Reads
 pub mod Twice
 pub mod Warns

@@ -34,7 +34,7 @@ pub(crate) fn has_undetermined_date(description: Description<'_, '_>) -> bool
         && !shows(description, Field::Timestamp)
 }
 
-pub(crate) fn shows_any_year(description: Description<'_, '_>) -> bool
+fn shows_any_year(description: Description<'_, '_>) -> bool
     ensures { result ≡ spec.shows_any_year (parts description.entry) }
 {
     shows(description, Field::Year)
@@ -42,7 +42,7 @@ pub(crate) fn shows_any_year(description: Description<'_, '_>) -> bool
         || shows(description, Field::YearLastTwo)
 }
 
-pub(crate) fn shows_any_iso_year(description: Description<'_, '_>) -> bool
+fn shows_any_iso_year(description: Description<'_, '_>) -> bool
     ensures { result ≡ spec.shows_any_iso_year (parts description.entry) }
 {
     shows(description, Field::IsoYear)
@@ -57,19 +57,19 @@ fn shows_any_day(description: Description<'_, '_>) -> bool
     shows(description, Field::Day) || shows(description, Field::Ordinal)
 }
 
-pub(crate) fn shows_month(description: Description<'_, '_>) -> bool
+fn shows_month(description: Description<'_, '_>) -> bool
     ensures { result ≡ spec.shows_month (parts description.entry) }
 {
     shows(description, Field::MonthName) || shows(description, Field::MonthNumber)
 }
 
-pub(crate) fn shows_weekday(description: Description<'_, '_>) -> bool
+fn shows_weekday(description: Description<'_, '_>) -> bool
     ensures { result ≡ spec.shows_weekday (parts description.entry) }
 {
     shows(description, Field::WeekdayName) || shows(description, Field::WeekdayNumber)
 }
 
-pub(crate) fn shows_week(description: Description<'_, '_>) -> bool
+fn shows_week(description: Description<'_, '_>) -> bool
     ensures { result ≡ spec.shows_week (parts description.entry) }
 {
     shows(description, Field::IsoWeek)

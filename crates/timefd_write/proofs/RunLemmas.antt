@@ -22,10 +22,7 @@ use Rattle.timefd_write.specs.declared.warned.Warned.{Warned}
 use Rattle.timefd_write.specs.declared.lines.LineRead.{LineRead}
 use Rattle.timefd_write.specs.declared.lines.LineRead.TheVariants.{Line, End}
 use Rattle.timefd_write.specs.Descriptions.{IsReading}
-use Rattle.timefd_lint_warnings.specs.Found.{output_parts}
-use Rattle.timefd_warnings.specs.Wanted.{wanted}
 use Rattle.timefd_write.specs.Runs.{IsRunFrom, IsRunOf}
-use Rattle.timefd_write.specs.Sources.{wanting}
 use Rattle.timefd_write.specs.Warned.{warned_by}
 use Rattle.timefd_write.specs.Written.{IsOne, IsRead, Runs, RunsOn, RunsOver}
 
@@ -185,16 +182,11 @@ lines_fail otherwise source o bytes left before behind tally failing sum so_far 
 )
 
 -- A run by the description that is read.
-pub ran : (column : Option Column) (otherwise : Otherwise) (source wanted_of : Source) (quiet : Bool) (languages : Languages) (text : Text)
+pub ran : (column : Option Column) (otherwise : Otherwise) (source : Source) (quiet : Bool) (languages : Languages) (text : Text)
     (words : List Text) (input before behind : Option Text) (r : Reading) (o : BorrowedOutput)
     (warned : Warned) (tally : Tally) → r ≡ readings.Description o
-    → IsReading languages.written text r → wanted_of ≡ wanting (wanted (output_parts o)) source
-    → warned ≡ warned_by quiet languages wanted_of o
-    → IsRunOf column otherwise wanted_of o words input before behind tally
+    → IsReading languages.written text r → warned ≡ warned_by quiet languages source o
+    → IsRunOf column otherwise source o words input before behind tally
     → IsRunFrom column otherwise source quiet languages text words input before behind (ends.Done warned tally)
-ran column otherwise source wanted_of quiet languages text words input before behind r o warned tally is reading whole told run = (
-  o,
-  subst (λ x. IsReading languages.written text x) is reading,
-  subst (λ s. warned ≡ warned_by quiet languages s o) whole told,
-  subst (λ s. IsRunOf column otherwise s o words input before behind tally) whole run,
-)
+ran column otherwise source quiet languages text words input before behind r o warned tally is reading told run =
+    (o, subst (λ x. IsReading languages.written text x) is reading, told, run)

@@ -5,6 +5,7 @@ pub mod Seconds
 pub mod Zones
 pub mod Brackets
 pub mod Moments
+pub mod Absent
 pub mod ReadBack
 pub mod Sources
 pub mod Tallies

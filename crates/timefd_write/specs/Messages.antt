@@ -7,7 +7,6 @@ use Rattle.timefd_format.specs.declared.unshown.Unshown.{Unshown}
 use Rattle.timefd_format.specs.Sentences.{unshown_sentence}
 use Rattle.timefd_moment.specs.Display.{offset_text}
 use Rattle.timefd_read_dates.specs.declared.fault.ReadError.{ReadError}
-use Rattle.timefd_read_moment.specs.Absent.{sentence as absent_sentence}
 use Rattle.timefd_read_moment.specs.Sentences.{sentence}
 use Rattle.timefd_read_text.specs.Sentences.{unread_sentence}
 use Rattle.timefd_write.specs.declared.asked.OptionError.{OptionError}
@@ -20,6 +19,7 @@ use Rattle.timefd_write.specs.declared.moment.MomentError.TheVariants as fails
 use Rattle.timefd_write.specs.declared.source.Source.{Source}
 use Rattle.timefd_write.specs.declared.word.LanguageOption.{LanguageOption}
 use Rattle.timefd_write.specs.declared.word.LanguageOption.TheVariants as options
+use Rattle.timefd_write.specs.Absent.{absent_sentence}
 use Rattle.timefd_write.specs.Expected.{IsExpectedIn}
 use Rattle.timefd_write.specs.Words.{option_name}
 

@@ -14,9 +14,8 @@ use Rattle.timefd_read_dates.specs.declared.fields.Fields.{Fields}
 use Rattle.timefd_read_dates.specs.Reads.{fields_of}
 use Rattle.timefd_read_moment.specs.declared.error.ValueError.TheVariants as error
 use Rattle.timefd_read_moment.specs.declared.part.Part.{Part}
-use Rattle.timefd_read_moment.specs.declared.wanted.Wanted.{Wanted}
-use Rattle.timefd_read_moment.specs.Absent.{IsAbsent}
-use Rattle.timefd_read_moment.specs.Wanted.{IsMomentWanted}
+use Rattle.timefd_read_moment.specs.Values.{IsMomentOf}
+use Rattle.timefd_write.specs.Absent.{absent_day}
 use Rattle.timefd_write.specs.declared.moment.MomentError.{MomentError}
 use Rattle.timefd_write.specs.declared.moment.MomentError.TheVariants as fails
 
@@ -34,21 +33,21 @@ abbrev pub AreLeavesOf : BorrowedOutput → Option (Bor (List Leaf)) → Type 0
 AreLeavesOf o None = ⊤
 AreLeavesOf o (Some leaves) = IsMadeOf o leaves.now
 
--- Why the fields, of which this is wanted, are those of no moment: a part is missing; or some disagree, and then
--- the day is named, where there is no such day.
-abbrev pub IsNoMoment : Fields → Wanted → MomentError → Type 0
-IsNoMoment f w (fails.Value (error.Missing p)) = IsMomentWanted f w (Err (error.Missing p))
-IsNoMoment f w (fails.Value (error.Contradiction p)) =
-    IsMomentWanted f w (Err (error.Contradiction p)) × IsAbsent f None
-IsNoMoment f w (fails.Absent day) =
-    ((p : Part) × IsMomentWanted f w (Err (error.Contradiction p))) × IsAbsent f (Some day)
-IsNoMoment f w _ = ⊥
+-- Why the fields are those of no moment: a part is missing; or some disagree, and then the day is named, where
+-- there is no such day.
+abbrev pub IsNoMoment : Fields → MomentError → Type 0
+IsNoMoment f (fails.Value (error.Missing p)) = IsMomentOf f (Err (error.Missing p))
+IsNoMoment f (fails.Value (error.Contradiction p)) =
+    IsMomentOf f (Err (error.Contradiction p)) × (absent_day f ≡ None)
+IsNoMoment f (fails.Absent day) =
+    ((p : Part) × IsMomentOf f (Err (error.Contradiction p))) × (absent_day f ≡ Some day)
+IsNoMoment f _ = ⊥
 
-abbrev pub IsOfFields : Result Fields ReadError → Wanted → Result Moment MomentError → Type 0
-IsOfFields (Ok f) w (Ok m) = IsMomentWanted f w (Ok m)
-IsOfFields (Ok f) w (Err e) = IsNoMoment f w e
-IsOfFields (Err u) w r = r ≡ Err (fails.Unread u)
+abbrev pub IsOfFields : Result Fields ReadError → Result Moment MomentError → Type 0
+IsOfFields (Ok f) (Ok m) = IsMomentOf f (Ok m)
+IsOfFields (Ok f) (Err e) = IsNoMoment f e
+IsOfFields (Err u) r = r ≡ Err (fails.Unread u)
 
--- The moment that the whole text shows by the description, as far as it is wanted, or the first fault.
-abbrev pub IsReadBack : BorrowedOutput → Wanted → Text → Result Moment MomentError → Type 0
-IsReadBack o w text r = IsOfFields (fields_of (tree_of o) text) w r
+-- The moment that the whole text shows by the description, or the first fault.
+abbrev pub IsReadBack : BorrowedOutput → Text → Result Moment MomentError → Type 0
+IsReadBack o text r = IsOfFields (fields_of (tree_of o) text) r

@@ -2,7 +2,6 @@
 use Rattle.std.specs.Prelude.{◌≡◌, ◌⊎◌, Bool, false, List, [], ◌∷◌, Option, Some, None}
 use denote.Ref.{Bor}
 use Rattle.timefd_component.specs.Tree.{Text}
-use Rattle.timefd_lint_warnings.specs.Found.{output_parts}
 use Rattle.timefd_parse.specs.declared.parsing.BorrowedOutput.{BorrowedOutput}
 use Rattle.timefd_write.specs.declared.column.Column.{Column}
 use Rattle.timefd_write.specs.declared.end.RunEnd.{RunEnd}
@@ -10,11 +9,10 @@ use Rattle.timefd_write.specs.declared.end.RunEnd.TheVariants as ends
 use Rattle.timefd_write.specs.declared.language.Languages.{Languages}
 use Rattle.timefd_write.specs.declared.otherwise.Otherwise.{Otherwise}
 use Rattle.timefd_write.specs.declared.outcome.Tally.{Tally}
-use Rattle.timefd_warnings.specs.Wanted.{wanted}
 use Rattle.timefd_write.specs.declared.source.Clocks.{Clocks}
 use Rattle.timefd_write.specs.declared.source.Source.{Source}
 use Rattle.timefd_write.specs.Descriptions.{IsDescribed}
-use Rattle.timefd_write.specs.Sources.{IsFaulty, IsSourceOf, wanting}
+use Rattle.timefd_write.specs.Sources.{IsFaulty, IsSourceOf}
 use Rattle.timefd_write.specs.Tables.{IsTable}
 use Rattle.timefd_write.specs.Warned.{warned_by}
 use Rattle.timefd_write.specs.Written.{Runs, RunsOver}
@@ -35,7 +33,7 @@ IsRunOf column otherwise source o [] input before behind tally =
 IsRunOf column otherwise source o (word ∷ words) input before behind tally =
     Runs false otherwise source o (word ∷ words) before behind tally
 
--- By the description that the text spells, which wants what it shows; where it is refused, nothing is written. The warnings that are told are
+-- By the description that the text spells; where it is refused, nothing is written. The warnings that are told are
 -- those of the descriptions, unless they are left out.
 abbrev pub IsRunFrom : Option Column → Otherwise → Source → Bool → Languages → Text → List Text → Option Text → Option Text
     → Option Text → RunEnd → Type 0
@@ -43,8 +41,8 @@ IsRunFrom column otherwise source quiet languages text words input before behind
     IsFaulty languages.written text × (behind ≡ before)
 IsRunFrom column otherwise source quiet languages text words input before behind (ends.Done warned tally) =
     (o : BorrowedOutput) × IsDescribed languages.written text o
-    × (warned ≡ warned_by quiet languages (wanting (wanted (output_parts o)) source) o)
-    × IsRunOf column otherwise (wanting (wanted (output_parts o)) source) o words input before behind tally
+    × (warned ≡ warned_by quiet languages source o)
+    × IsRunOf column otherwise source o words input before behind tally
 
 -- Where the description to read by is refused, nothing is written.
 abbrev pub IsRun : Option Column → Otherwise → Clocks → Bool → Languages → Option (Bor Text) → Text → List Text

@@ -1,7 +1,6 @@
 -- What words are, and the moments that they name or show.
-use Rattle.std.specs.Prelude.{◌≡◌, true, List, Option, Some, None, Result, ⊤}
+use Rattle.std.specs.Prelude.{◌≡◌, List, Option, Some, None, Result, ⊤}
 use denote.Ref.{Bor}
-use Rattle.jiff_tz.specs.declared.timezone.TimeZone.{TimeZone}
 use Rattle.timefd_component.specs.Tree.{Text}
 use Rattle.timefd_fault.specs.Faults.{Fault}
 use Rattle.timefd_language.specs.Grammar.{nesting_limit}
@@ -9,7 +8,6 @@ use Rattle.timefd_moment.specs.declared.moment.Moment.{Moment}
 use Rattle.timefd_node_list.specs.declared.leaves.Leaf.{Leaf}
 use Rattle.timefd_parse.specs.declared.language.Language.{Language}
 use Rattle.timefd_parse.specs.Language.{FaultIn}
-use Rattle.timefd_read_moment.specs.declared.wanted.Wanted.{Wanted}
 use Rattle.timefd_write.specs.declared.moment.MomentError.{MomentError}
 use Rattle.timefd_write.specs.declared.names.Names.{Names}
 use Rattle.timefd_write.specs.declared.source.Clocks.{Clocks}
@@ -38,38 +36,13 @@ IsSourceOf clocks language (Some text) None = IsFaulty language text.now
 IsSourceOf clocks language text (Some source) =
     IsKindOf clocks.names language text source.kind × (source.zone ≡ clocks.zone)
 
--- all of a moment
-abbrev pub whole : Wanted
-whole = record {
-  date = true;
-  year = true;
-  month = true;
-  day = true;
-  weekday = true;
-  time = true;
-  offset = true;
-}
-
--- What is wanted where this is shown. A clock in a time zone wants all of a moment.
-abbrev pub wanted_for : Option TimeZone → Wanted → Wanted
-wanted_for None shown = shown
-wanted_for (Some zone) shown = whole
-
--- the source of moments of which this is shown
-abbrev pub wanting : Wanted → Source → Source
-wanting shown source = record {
-  kind = source.kind;
-  wanted = wanted_for source.zone shown;
-  zone = source.zone;
-}
-
-abbrev pub IsFoundBy : SourceKind → Wanted → Text → Result Moment MomentError → Type 0
-IsFoundBy (kinds.Names n) wanted word r = IsNamed n word r
-IsFoundBy (kinds.Texts o) wanted word r = IsReadBack o wanted word r
+abbrev pub IsFoundBy : SourceKind → Text → Result Moment MomentError → Type 0
+IsFoundBy (kinds.Names n) word r = IsNamed n word r
+IsFoundBy (kinds.Texts o) word r = IsReadBack o word r
 
 -- what a word names, or shows by the description
 abbrev pub IsFoundIn : Source → Text → Result Moment MomentError → Type 0
-IsFoundIn source word r = IsFoundBy source.kind source.wanted word r
+IsFoundIn source word r = IsFoundBy source.kind word r
 
 -- The same on the clock of the zone, where there is one.
 abbrev pub IsMomentIn : Source → Text → Result Moment MomentError → Type 0

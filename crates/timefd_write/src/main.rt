@@ -3,6 +3,7 @@
 //! `docs/proof/COMMANDS.md` has the options, and what moments are read.
 #![tactic(auto)]
 
+mod absent;
 mod asked;
 mod bracket;
 mod clock;

@@ -3,6 +3,7 @@
 ghost use Rattle.std.specs.Prelude.{◌≡◌, IfOk, string_bytes};
 ghost use Rattle.timefd_write.specs.Messages as spec;
 
+use crate::absent::absent_sentence;
 use crate::conflict::Conflict;
 use crate::expected::expected_in;
 use crate::header::HeaderError;
@@ -106,7 +107,7 @@ pub fn unread_message(
             format!(in alloc; "timefd_format: `{word}` is no moment: {error}\n")
         }
         MomentError::Absent(day) => {
-            let sentence = format!(in alloc; "{day}")?;
+            let sentence = absent_sentence(alloc, day)?;
             not_read(alloc, line, word, &sentence)
         }
         MomentError::Unread(error) => {

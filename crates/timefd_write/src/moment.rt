@@ -2,6 +2,7 @@
 
 ghost use Rattle.timefd_write.specs.Moments.{IsChecked, IsNamed, IsWritten};
 
+use crate::absent::AbsentDay;
 use crate::bracket::{closes_once, ends_in_bracket, in_agreement};
 use crate::conflict::Conflict;
 use crate::names::Names;
@@ -10,7 +11,7 @@ use jiff_tz::TimeZoneDatabase;
 use timefd_jiff::{Annotated, Annotation, Error, read_annotated};
 use timefd_moment::Moment;
 use timefd_read_dates::ReadError;
-use timefd_read_moment::{AbsentDay, ValueError};
+use timefd_read_moment::ValueError;
 
 /// Why a word names no moment.
 #[derive(Clone, Copy)]

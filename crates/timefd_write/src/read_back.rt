@@ -1,11 +1,12 @@
 //! The moment that a text shows by a description.
 
 ghost use Rattle.std.specs.Prelude.{Err, IfOk, IfSome};
-ghost use Rattle.timefd_read_moment.specs.Wanted.{IsMomentWanted};
 ghost use Rattle.timefd_read_dates.specs.Reads.{Fills, fields_of};
+ghost use Rattle.timefd_read_moment.specs.Values.{IsMomentOf};
 ghost use Rattle.timefd_write.specs.ReadBack as spec;
 ghost use Rattle.timefd_write.specs.ReadBack.{AreLeavesOf, IsMadeOf, IsNoMoment, IsReadBack};
 
+use crate::absent::absent_day;
 use crate::moment::MomentError;
 use std::alloc::{AllocError, Global};
 use timefd_moment::Moment;
@@ -14,7 +15,7 @@ use timefd_parse::BorrowedOutput;
 use timefd_read_dates::{
     Fields, NO_FIELDS, ReadError, fill_fields, fill_item_fields, fill_leaf_fields, leaves_in_turn,
 };
-use timefd_read_moment::{ValueError, Wanted, absent_day, moment_wanted};
+use timefd_read_moment::{ValueError, moment};
 
 /// The components and literals that a description is, where it is no more than those in turn. They
 /// are found once, and many texts read by them.
@@ -31,31 +32,30 @@ pub fn leaves_of<'d>(
 }
 
 /// The moment that a whole text shows by the description, or by the leaves that were found of it.
-/// What isn't wanted of it may be unknown. An `Err` tells which part does not read, and the byte index
-/// where it begins; or why what was read is no moment.
+/// An `Err` tells which part does not read, and the byte index where it begins; or why what was
+/// read is no moment.
 pub fn moment_read(
     description: &BorrowedOutput<'_>,
-    wanted: Wanted,
     leaves: Option<&[Leaf<'_>]>,
     text: &str,
 ) -> Result<Moment, MomentError>
     requires { AreLeavesOf description.now leaves }
-    ensures { IsReadBack description.now wanted text.now result }
+    ensures { IsReadBack description.now text.now result }
 {
     let mut fields = NO_FIELDS;
     match fill(description, leaves, text, &mut fields) {
-        Ok(()) => match moment_wanted(&fields, wanted) {
+        Ok(()) => match moment(&fields) {
             Ok(moment) => Ok(moment),
-            Err(error) => Err(no_moment(&fields, wanted, error)),
+            Err(error) => Err(no_moment(&fields, error)),
         },
         Err(error) => Err(MomentError::Unread(error)),
     }
 }
 
-// Why the fields, of which this is wanted, are those of no moment.
-fn no_moment(fields: &Fields, wanted: Wanted, error: ValueError) -> MomentError
-    requires { IsMomentWanted fields.now wanted (Err error) }
-    ensures { IsNoMoment fields.now wanted result }
+// Why the fields are those of no moment.
+fn no_moment(fields: &Fields, error: ValueError) -> MomentError
+    requires { IsMomentOf fields.now (Err error) }
+    ensures { IsNoMoment fields.now result }
 {
     match error {
         ValueError::Missing(_) => MomentError::Value(error),

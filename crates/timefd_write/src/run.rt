@@ -1,10 +1,8 @@
 //! A whole run: from a description and words to lines.
 
-ghost use Rattle.std.specs.Prelude.{◌≡◌, IfErr, IfOk};
+ghost use Rattle.std.specs.Prelude.{IfErr, IfOk};
 ghost use Rattle.timefd_diagnosis.specs.Words.{texts};
 ghost use Rattle.timefd_write.specs.Frames.{EndsOnlyAsAsked};
-ghost use Rattle.timefd_lint_warnings.specs.Found.{output_parts};
-ghost use Rattle.timefd_warnings.specs.Wanted as shown;
 ghost use Rattle.timefd_write.specs.Runs.{IsInputRun, IsRun, IsRunFrom, IsRunOf};
 
 use crate::column::Column;
@@ -15,15 +13,13 @@ use crate::lines::write_lines;
 use crate::message::{Manner, tell_fault};
 use crate::otherwise::Otherwise;
 use crate::outcome::{RunError, Tally};
-use crate::source::{Clocks, Source, source_of, wanting};
+use crate::source::{Clocks, Source, source_of};
 use crate::table::write_table;
 use crate::warned::{WRITTEN, tell_warned};
 use crate::words::write_words;
 use std::alloc::Global;
 use std::io::{BufRead, Write};
 use timefd_parse::{BorrowedOutput, StrftimeTables};
-use timefd_read_moment::Wanted;
-use timefd_warnings::{Description, wanted};
 
 /// Writes the moments that the words name by the description, a line each; those of the lines of
 /// the input, where there is no word. With a description to read by, the words are texts of it.
@@ -60,7 +56,7 @@ pub fn run<I: BufRead, W: Write, E: Write>(
     )? {
         Some(source) => run_from(
             alloc,
-            source,
+            &source,
             manner,
             languages,
             description,
@@ -78,7 +74,7 @@ pub fn run<I: BufRead, W: Write, E: Write>(
 // Tells the warnings of the descriptions, and writes the moments that the words name or show.
 fn run_from<I: BufRead, W: Write, E: Write>(
     alloc: Global,
-    source: Source<'_>,
+    source: &Source<'_>,
     manner: Manner,
     languages: Languages,
     description: &str,
@@ -90,7 +86,7 @@ fn run_from<I: BufRead, W: Write, E: Write>(
     errors: &mut E,
 ) -> Result<RunEnd, RunError>
     ensures ends { IfErr result (EndsOnlyAsAsked otherwise) }
-    ensures run { IfOk result (IsRunFrom column.entry otherwise source.entry manner.is_quiet languages description.now
+    ensures run { IfOk result (IsRunFrom column.entry otherwise source.now manner.is_quiet languages description.now
         (texts words.now) (I.remaining input.old) (W.contents output.old)
         (W.contents output.new)) }
 {
@@ -108,11 +104,10 @@ fn run_from<I: BufRead, W: Write, E: Write>(
             Ok(RunEnd::Refused)
         }
         Reading::Description(description) => {
-            let source = wanting(source, wanted_by(&description));
-            let warned = tell_warned(alloc, manner, languages, &source, &description, errors)?;
+            let warned = tell_warned(alloc, manner, languages, source, &description, errors)?;
             let tally = write_all(
                 alloc,
-                &source,
+                source,
                 &description,
                 otherwise,
                 column,
@@ -122,18 +117,6 @@ fn run_from<I: BufRead, W: Write, E: Write>(
                 errors,
             )?;
             Ok(RunEnd::Done(warned, tally))
-        }
-    }
-}
-
-// What the description shows of a moment.
-fn wanted_by(description: &BorrowedOutput<'_>) -> Wanted
-    ensures { result ≡ shown.wanted (output_parts description.now) }
-{
-    match description {
-        BorrowedOutput::Items(items) => wanted(Description::Items(items)),
-        BorrowedOutput::Description(description) => {
-            wanted(Description::Version3(description.view()))
         }
     }
 }

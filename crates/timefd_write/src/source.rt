@@ -1,7 +1,6 @@
 //! What words are: names of moments, or texts of a description.
 
 ghost use Rattle.std.specs.Prelude.{◌≡◌, IfErr, IfOk, IfSome};
-ghost use Rattle.timefd_write.specs.Sources as spec;
 ghost use Rattle.timefd_write.specs.Sources.{AreLeavesIn, IsFoundIn, IsMomentIn, IsSourceOf, IsTextOf};
 
 use crate::description::{Reading, read};
@@ -18,7 +17,6 @@ use std::io::Write;
 use timefd_moment::Moment;
 use timefd_node_list::Leaf;
 use timefd_parse::{BorrowedOutput, Language, StrftimeTables};
-use timefd_read_moment::Wanted;
 
 /// What words are.
 #[derive(Drop)]
@@ -34,8 +32,6 @@ pub enum SourceKind<'a> {
 pub struct Source<'a> {
     /// What words are.
     pub kind: SourceKind<'a>,
-    /// What of a moment is wanted, so that it can be written.
-    pub wanted: Wanted,
     /// The time zone on whose clock a moment is shown. Without one it stays as it is.
     pub zone: Option<TimeZone<'a>>,
 }
@@ -48,17 +44,6 @@ pub struct Clocks<'a> {
     /// The time zone on whose clock moments are shown.
     pub zone: Option<TimeZone<'a>>,
 }
-
-// All of a moment.
-const WHOLE: Wanted = Wanted {
-    date: true,
-    year: true,
-    month: true,
-    day: true,
-    weekday: true,
-    time: true,
-    offset: true,
-};
 
 /// What the words of a run are: texts of the description that `--read` has, or names. `None` where
 /// that description is refused; its fault is then drawn for the errors. An `Err` says that memory
@@ -76,7 +61,10 @@ pub fn source_of<'a, E: Write>(
     ensures memory { IfErr result (λ error. error ≡ RunError.Memory) }
 {
     let Some(text) = description else {
-        return Ok(Some(with_clocks(SourceKind::Names(clocks.names), clocks)));
+        return Ok(Some(Source {
+            kind: SourceKind::Names(clocks.names),
+            zone: clocks.zone,
+        }));
     };
     match read(alloc, language, tables, text)? {
         Reading::Refused(diagnostic) => {
@@ -84,40 +72,11 @@ pub fn source_of<'a, E: Write>(
             Ok(None)
         }
         Reading::Description(description) => {
-            Ok(Some(with_clocks(SourceKind::Texts(description), clocks)))
+            Ok(Some(Source {
+                kind: SourceKind::Texts(description),
+                zone: clocks.zone,
+            }))
         }
-    }
-}
-
-fn with_clocks<'a>(kind: SourceKind<'a>, clocks: Clocks<'a>) -> Source<'a>
-    ensures kind { result.kind ≡ kind.entry }
-    ensures zone { result.zone ≡ clocks.entry.zone }
-{
-    Source {
-        kind,
-        wanted: WHOLE,
-        zone: clocks.zone,
-    }
-}
-
-/// The source of moments of which this is shown.
-pub fn wanting<'a>(source: Source<'a>, shown: Wanted) -> Source<'a>
-    ensures { result ≡ spec.wanting shown source.entry }
-{
-    Source {
-        kind: source.kind,
-        wanted: wanted_for(source.zone, shown),
-        zone: source.zone,
-    }
-}
-
-// What is wanted where this is shown. A time zone wants all of a moment.
-fn wanted_for(zone: Option<TimeZone<'_>>, shown: Wanted) -> Wanted
-    ensures { result ≡ spec.wanted_for zone.entry shown }
-{
-    match zone {
-        Some(_) => WHOLE,
-        None => shown,
     }
 }
 
@@ -165,6 +124,6 @@ fn moment_found(
 {
     match &source.kind {
         SourceKind::Names(names) => moment_named(*names, word),
-        SourceKind::Texts(description) => moment_read(description, source.wanted, leaves, word),
+        SourceKind::Texts(description) => moment_read(description, leaves, word),
     }
 }

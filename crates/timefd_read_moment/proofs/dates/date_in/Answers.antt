@@ -5,7 +5,7 @@ use Rattle.timefd_read_moment.specs.declared.way.DateWay.{DateWay}
 use Rattle.timefd_read_moment.specs.Dates.{Selects}
 use Rattle.timefd_read_moment.specs.Ways.{WayHas}
 use Rattle.timefd_read_moment.proofs.DateLemmas.{by_iso_week}
-use Rattle.timefd_read_moment.proofs.dates.date_of_way.Goals as goal
+use Rattle.timefd_read_moment.proofs.dates.date_in.Goals as goal
 
 pub returns-in-IsoWeek : goal.returns-in-IsoWeek
 returns-in-IsoWeek c =
