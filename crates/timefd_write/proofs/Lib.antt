@@ -9,4 +9,6 @@ pub mod SecondsLemmas
 pub mod RunLemmas
 pub mod TableLemmas
 pub mod WarnedLemmas
-mod ExpectedLemmas
+pub mod ExpectedLemmas
+pub mod MomentLemmas
+pub mod MessageLemmas

@@ -1,6 +1,6 @@
 //! Time zones in brackets.
 
-ghost use Rattle.std.specs.Prelude.{◌≡◌, codes, length, nat_eq};
+ghost use Rattle.std.specs.Prelude.{◌≡◌, ◌<◌, IfSome, codes, length, nat_eq};
 ghost use Rattle.std.specs.List.{ends_with, position_from};
 ghost use Rattle.timefd_write.specs.Brackets as spec;
 ghost use Rattle.timefd_write.specs.Brackets.{HasOffsetOf, IsCompared, IsInAgreement};
@@ -31,13 +31,15 @@ pub fn closes_once(word: &str) -> bool
 
 // Where the first closing bracket stands.
 fn first_closing(word: &str) -> Option<usize>
-    ensures { result ≡ position_from spec.is_closing 0 word.now }
+    ensures value { result ≡ position_from spec.is_closing 0 word.now }
+    ensures within { IfSome result (λ at. at < length word.now) }
 {
     word.as_bytes().iter().position(|byte| *byte == b']')
 }
 
 /// The moment, where the time zone of this name has its offset then. An `Err` says that it has none, that
 /// there is no such zone, or which offset the zone has.
+#[tactic(auto, using(crate::proofs::MomentLemmas::not_stored))]
 pub fn in_agreement(
     zones: &TimeZoneDatabase,
     name: &str,

@@ -81,6 +81,7 @@ pub fn tell_fault<E: Write>(
 }
 
 /// What is told of a word that names or shows no moment, with the number of its line.
+#[tactic(auto, using(crate::proofs::MessageLemmas::unread))]
 pub fn unread_message(
     alloc: Global,
     source: &Source<'_>,
@@ -122,6 +123,7 @@ pub fn unread_message(
 }
 
 // Why a part of a word doesn't read: the literal that was expected, where it is found.
+#[tactic(auto, using(crate::proofs::MessageLemmas::plain))]
 fn stop_sentence(
     alloc: Global,
     source: &Source<'_>,
@@ -138,6 +140,7 @@ fn stop_sentence(
     }
 }
 
+#[tactic(auto, using(crate::proofs::MessageLemmas::plain, crate::proofs::MessageLemmas::named))]
 fn literal_sentence(
     alloc: Global,
     source: &Source<'_>,

@@ -62,6 +62,7 @@ pub fn moment_named(names: Names<'_>, word: &str) -> Result<Moment, MomentError>
 }
 
 // The moment that a word writes.
+#[tactic(auto, using(crate::proofs::MomentLemmas::written_ok, crate::proofs::MomentLemmas::written_err))]
 fn moment_written(zones: &TimeZoneDatabase, word: &str) -> Result<Moment, MomentError>
     ensures { IsWritten zones.now word.now result }
 {

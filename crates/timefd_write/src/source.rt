@@ -96,6 +96,7 @@ pub fn source_leaves<'s>(
 
 /// The moment that a word names, or that it shows by the description or its leaves, on the clock of the time
 /// zone that the source has.
+#[tactic(auto, using(crate::proofs::MomentLemmas::shown_in))]
 pub fn moment_in(
     source: &Source<'_>,
     leaves: Option<&[Leaf<'_>]>,
