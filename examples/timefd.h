@@ -568,8 +568,8 @@ typedef struct timefd_date_answer {
        "23/11/2026" by "[day]/[month]/[year]" in version 3    TIMEFD_ACCEPTED, and the moment 2026-11-23
        "31/02/2026" by the same                               TIMEFD_CONTRADICTION, and TIMEFD_PART_DAY
 
-   All of the date is read, unless an `end` drops what follows. Each component takes as much as it can, so that two numbers
-   without a width want something between them; a name is read in any case where the description says so. An `optional` is skipped
+   All of the date is read, unless an `end` drops what follows. A number that is padded is read in its full width: `[day]` reads
+   "01", and not "1". Any other one takes as many digits as it can, so that two of them want something between them; a name is read in any case where the description says so. An `optional` is skipped
    where its member doesn't read, and of the members of a `first` the first one that reads is taken.
 
    A date, a time of day or an offset is known where something of it was read; after a Unix timestamp all three are. Where what

@@ -330,21 +330,21 @@ static inline size_t timefd_format_sentence(uint32_t kind, const char *text, con
 
 /* Writes why timefd_read_date_text read no moment, as timefd_format_sentence does.
 
-       puts(sentence);    the component `month` reads nothing at byte index 3 */
+       puts(sentence);    the component `month` was expected at byte 3 */
 static inline size_t timefd_read_date_sentence(uint32_t kind, const char *text, const timefd_date_answer *answer, char *sentence,
                                                size_t room) {
     const char *component = timefd_component_name(answer->component);
     const char *part = timefd_part_name(answer->part);
     switch (answer->reason) {
     case TIMEFD_READS_NOTHING:
-        return (size_t)snprintf(sentence, room, "the component `%s` reads nothing at byte index %zu", component, answer->value);
+        return (size_t)snprintf(sentence, room, "the component `%s` was expected at byte %zu", component, answer->value);
     case TIMEFD_READS_ANOTHER_VALUE:
-        return (size_t)snprintf(sentence, room, "the component `%s` reads another value at byte index %zu", component,
+        return (size_t)snprintf(sentence, room, "the component `%s` has a different value at byte %zu", component,
                                 answer->value);
     case TIMEFD_ANOTHER_TEXT:
-        return (size_t)snprintf(sentence, room, "the description has another text at byte index %zu", answer->value);
+        return (size_t)snprintf(sentence, room, "another text was expected at byte %zu", answer->value);
     case TIMEFD_TEXT_FOLLOWS:
-        return (size_t)snprintf(sentence, room, "the description ends at byte index %zu", answer->value);
+        return (size_t)snprintf(sentence, room, "nothing may follow at byte %zu", answer->value);
     }
     if (answer->status == TIMEFD_REFUSED) {
         return timefd_private_fault_sentence(kind, text, sentence, room);

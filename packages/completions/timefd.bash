@@ -43,8 +43,8 @@ _timefd_format() {
     local word value=
     for word in "${COMP_WORDS[@]:1:COMP_CWORD-1}"; do
         case $value$word in
-        --language | --to-language | --read | --csv | --else) value=$word ;;
-        --language* | --to-language* | --read* | --csv* | --else*) value= ;;
+        --language | --to-language | --read | --csv | --else | --zone) value=$word ;;
+        --language* | --to-language* | --read* | --csv* | --else* | --zone*) value= ;;
         --guess) return ;;
         -*) [ "$word" != -- ] || return ;;
         *)
@@ -58,7 +58,7 @@ _timefd_format() {
     --read | --csv) COMPREPLY=() ;;
     --else) mapfile -t COMPREPLY < <(compgen -W 'keep empty fail' -- "$2") ;;
     *)
-        word='--language --read --to-language --csv --else --guess --quiet --help --version --'
+        word='--language --read --to-language --csv --else --guess --zone --quiet --help --version --'
         mapfile -t COMPREPLY < <(compgen -W "$word" -- "$2")
         ;;
     esac

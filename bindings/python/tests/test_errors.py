@@ -76,7 +76,7 @@ class Names(unittest.TestCase):
         ]
         for text, wanted in rows:
             self.assertEqual(str(raised(timefd.format, text, datetime.time(5))), wanted)
-        self.assertEqual(str(raised(timefd.read, "[hour]", "x")), "hour reads nothing at byte index 0")
+        self.assertEqual(str(raised(timefd.read, "[hour]", "x")), "hour was expected at byte 0")
 
     def test_each_name_begins_a_bracket(self):
         more = {"ignore": " count:1"}

@@ -108,7 +108,7 @@ class Dates(unittest.TestCase):
                 timefd.read(text, moment)
             error = caught.exception
             self.assertEqual((error.why, error.component, error.index), (why, component, index))
-        self.assertEqual(str(error), "the description ends at byte index 2")
+        self.assertEqual(str(error), "nothing may follow at byte 2")
 
     def test_no_moments(self):
         with self.assertRaises(timefd.NoMoment) as caught:

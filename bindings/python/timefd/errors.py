@@ -172,14 +172,14 @@ class NotRead(Error):
         return _characters(self.moment, self.index)
 
     def __str__(self) -> str:
-        what = "the description" if self.component is None else self.component.in_brackets
+        name = None if self.component is None else self.component.in_brackets
         words = {
-            Unread.READS_NOTHING: "reads nothing",
-            Unread.READS_ANOTHER_VALUE: "reads another value",
-            Unread.ANOTHER_TEXT: "has another text",
-            Unread.TEXT_FOLLOWS: "ends",
+            Unread.READS_NOTHING: f"{name} was expected",
+            Unread.READS_ANOTHER_VALUE: f"{name} has a different value",
+            Unread.ANOTHER_TEXT: "another text was expected",
+            Unread.TEXT_FOLLOWS: "nothing may follow",
         }
-        return f"{what} {words[self.why]} at byte index {self.index}"
+        return f"{words[self.why]} at byte {self.index}"
 
 
 class NoMoment(Error):

@@ -30,7 +30,7 @@ use crate::version::Language;
 ///
 /// let error = timefd::read(Version::Three, "[day]/[month]/[year]", "23/1x/2026").unwrap_err();
 /// assert!(matches!(error, ReadError::Unread { index: 3, .. }));
-/// assert_eq!(error.to_string(), "the component `month` reads nothing at byte index 3");
+/// assert_eq!(error.to_string(), "the component `month` was expected at byte 3");
 ///
 /// let error = timefd::read(Language::Strftime, "%A, %F", "Tuesday, 2026-11-23").unwrap_err();
 /// assert_eq!(error, ReadError::Contradiction(MomentPart::Weekday));
@@ -130,13 +130,13 @@ impl fmt::Display for Unread {
     fn fmt(&self, f: &mut fmt::Formatter<'_>) -> fmt::Result {
         match *self {
             Self::ReadsNothing { component } => {
-                write!(f, "the component `{component}` reads nothing")
+                write!(f, "the component `{component}` was expected")
             }
             Self::ReadsAnotherValue { component } => {
-                write!(f, "the component `{component}` reads another value")
+                write!(f, "the component `{component}` has a different value")
             }
-            Self::AnotherText => f.write_str("the description has another text"),
-            Self::TextFollows => f.write_str("the description ends"),
+            Self::AnotherText => f.write_str("another text was expected"),
+            Self::TextFollows => f.write_str("nothing may follow"),
         }
     }
 }
@@ -145,7 +145,7 @@ impl fmt::Display for ReadError {
     fn fmt(&self, f: &mut fmt::Formatter<'_>) -> fmt::Result {
         match self {
             Self::Parse(error) => error.fmt(f),
-            Self::Unread { index, why } => write!(f, "{why} at byte index {index}"),
+            Self::Unread { index, why } => write!(f, "{why} at byte {index}"),
             Self::Missing(part) => write!(f, "the {} was not read", part.words()),
             Self::Contradiction(part) => {
                 write!(f, "the {} disagrees with what else was read", part.words())

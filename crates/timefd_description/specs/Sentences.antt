@@ -10,12 +10,12 @@ use Rattle.timefd_read_dates.specs.declared.fault.Reason.TheVariants as for
 -- Why it does not read, without a place.
 abbrev pub reason_sentence : Reason → Text
 reason_sentence (for.Unread c) =
-    codes "the component `" ++ (name c ++ codes "` reads nothing")
+    codes "the component `" ++ (name c ++ codes "` was expected")
 reason_sentence (for.Contradiction c) =
-    codes "the component `" ++ (name c ++ codes "` reads another value")
-reason_sentence for.Literal = codes "the description has another text"
-reason_sentence for.Trailing = codes "the description ends"
+    codes "the component `" ++ (name c ++ codes "` has a different value")
+reason_sentence for.Literal = codes "another text was expected"
+reason_sentence for.Trailing = codes "nothing may follow"
 
 -- The same with its place.
 abbrev pub unread_sentence : ReadError → Text
-unread_sentence u = reason_sentence u.reason ++ (codes " at byte index " ++ decimal u.index)
+unread_sentence u = reason_sentence u.reason ++ (codes " at byte " ++ decimal u.index)

@@ -7,30 +7,31 @@ use std::alloc::{AllocError, Global};
 use timefd_format::component_name;
 use timefd_read_dates::{ReadError, Reason};
 
-/// Why a part of a text does not read, and the byte index where it begins, as a sentence. An `Err`
-/// says that memory ran out.
+/// Why a part of a text doesn't read, and the byte where it begins: `another text was expected at byte
+/// 4`. An `Err` says that memory ran out.
 pub fn unread_sentence(alloc: Global, error: ReadError) -> Result<String, AllocError>
     ensures { IfOk result (λ text. string_bytes text ≡ spec.unread_sentence error) }
 {
     let reason = reason_sentence(alloc, error.reason)?;
     let index = error.index;
-    format!(in alloc; "{reason} at byte index {index}")
+    format!(in alloc; "{reason} at byte {index}")
 }
 
-/// The same without the place, so that a caller can tell that in words of its own behind it.
+/// Why it doesn't read, without the place, which a caller may say in words of its own: `another text was
+/// expected`. An `Err` says that memory ran out.
 pub fn reason_sentence(alloc: Global, reason: Reason) -> Result<String, AllocError>
     ensures { IfOk result (λ text. string_bytes text ≡ spec.reason_sentence reason) }
 {
     match reason {
         Reason::Unread(component) => {
             let name = component_name(component);
-            format!(in alloc; "the component `{name}` reads nothing")
+            format!(in alloc; "the component `{name}` was expected")
         }
         Reason::Contradiction(component) => {
             let name = component_name(component);
-            format!(in alloc; "the component `{name}` reads another value")
+            format!(in alloc; "the component `{name}` has a different value")
         }
-        Reason::Literal => String::from_str(alloc, "the description has another text"),
-        Reason::Trailing => String::from_str(alloc, "the description ends"),
+        Reason::Literal => String::from_str(alloc, "another text was expected"),
+        Reason::Trailing => String::from_str(alloc, "nothing may follow"),
     }
 }

@@ -24,7 +24,7 @@ pub fn read_moment(text: &str) -> Result<Moment, Error>
 }
 
 #[tactic(auto, using(crate::proofs::ReadLemmas::reads))]
-fn of_pieces(pieces: Pieces<'_>) -> Moment
+pub(crate) fn of_pieces(pieces: Pieces<'_>) -> Moment
     ensures { AreRead (pieces_view pieces.entry) result }
 {
     Moment {

@@ -10,3 +10,6 @@ pub mod RunLemmas
 pub mod TableLemmas
 pub mod WarnedLemmas
 pub mod GuessLemmas
+pub mod ExpectedLemmas
+pub mod MomentLemmas
+pub mod MessageLemmas

@@ -55,6 +55,7 @@ request wordings state description moments = Ok (asks.Run (record {
   description = description;
   column = state.column;
   otherwise = otherwise_of state;
+  zone = state.zone;
   moment_count = length moments;
   is_quiet = state.is_quiet;
 }))
@@ -132,6 +133,7 @@ first_by words.Read state word behind = before_read state
 first_by words.Csv state word behind = before_column state
 first_by words.Else state word behind = Next (record state { wanted = wants.Otherwise })
 first_by words.Guess state word behind = Done (guess state behind)
+first_by words.Zone state word behind = Next (record state { wanted = wants.Zone })
 first_by words.Quiet state word behind = Next (record state { is_quiet = true })
 first_by words.Help state word behind = Done (Ok asks.Help)
 first_by words.Version state word behind = Done (Ok asks.Version)
@@ -173,12 +175,16 @@ with_otherwise_by None state word = Done (Err (errors.NoOtherwise word))
 abbrev pub with_otherwise : State → Bor Text → Step
 with_otherwise state word = with_otherwise_by (otherwise_named word.now) state word
 
+abbrev pub with_zone : State → Bor Text → Step
+with_zone state word = Next (record state { zone = Some word; wanted = wants.Nothing })
+
 abbrev pub one_more_by : Wanted → State → Bor Text → List (Bor Text) → Step
 one_more_by wants.Nothing state word behind = first state word behind
 one_more_by (wants.Language option) state word behind = with_language state option word
 one_more_by wants.Read state word behind = with_read state word
 one_more_by wants.Column state word behind = with_column state word
 one_more_by wants.Otherwise state word behind = with_otherwise state word
+one_more_by wants.Zone state word behind = with_zone state word
 
 -- What one more word comes to.
 abbrev pub one_more : State → Bor Text → List (Bor Text) → Step
@@ -190,6 +196,7 @@ at_end (wants.Language option) = errors.MissingLanguage option
 at_end wants.Read = errors.MissingRead
 at_end wants.Column = errors.MissingColumn
 at_end wants.Otherwise = errors.MissingOtherwise
+at_end wants.Zone = errors.MissingZone
 
 abbrev pub go : (State → Answer) → Step → Answer
 go more (Next state) = more state
@@ -208,6 +215,7 @@ asked_of words =
       read = None;
       column = None;
       otherwise = None;
+      zone = None;
       is_quiet = false;
       wanted = wants.Nothing;
     }) words

@@ -2,10 +2,14 @@ pub mod Words
 pub mod Asked
 pub mod Descriptions
 pub mod Seconds
+pub mod Zones
+pub mod Brackets
 pub mod Moments
+pub mod Absent
 pub mod ReadBack
 pub mod Sources
 pub mod Tallies
+pub mod Expected
 pub mod Messages
 pub mod Frames
 pub mod Fields

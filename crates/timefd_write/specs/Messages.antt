@@ -1,20 +1,26 @@
 -- What is told of words that aren't written, and of arguments that are none of the program's.
-use Rattle.std.specs.Prelude.{ℕ, ◌≡◌, ◌++◌, codes, Option, Some, None, ⊤}
+use Rattle.std.specs.Prelude.{ℕ, ◌≡◌, ◌⊎◌, ◌++◌, codes, Option, Some, None, ⊤}
 use Rattle.std.specs.Fmt.{decimal}
 use Rattle.timefd_component.specs.Tree.{Text}
 use Rattle.timefd_drawing.specs.Shown.{safe}
 use Rattle.timefd_format.specs.declared.unshown.Unshown.{Unshown}
 use Rattle.timefd_format.specs.Sentences.{unshown_sentence}
+use Rattle.timefd_moment.specs.Display.{offset_text}
+use Rattle.timefd_read_dates.specs.declared.fault.ReadError.{ReadError}
 use Rattle.timefd_read_moment.specs.Sentences.{sentence}
 use Rattle.timefd_description.specs.Sentences.{unread_sentence}
 use Rattle.timefd_write.specs.declared.asked.OptionError.{OptionError}
 use Rattle.timefd_write.specs.declared.asked.OptionError.TheVariants as errors
+use Rattle.timefd_write.specs.declared.conflict.Conflict.{Conflict}
 use Rattle.timefd_write.specs.declared.header.HeaderError.{HeaderError}
 use Rattle.timefd_write.specs.declared.header.HeaderError.TheVariants as header
 use Rattle.timefd_write.specs.declared.moment.MomentError.{MomentError}
 use Rattle.timefd_write.specs.declared.moment.MomentError.TheVariants as fails
+use Rattle.timefd_write.specs.declared.source.Source.{Source}
 use Rattle.timefd_write.specs.declared.word.LanguageOption.{LanguageOption}
 use Rattle.timefd_write.specs.declared.word.LanguageOption.TheVariants as options
+use Rattle.timefd_write.specs.Absent.{absent_sentence}
+use Rattle.timefd_write.specs.Expected.{IsExpectedIn}
 use Rattle.timefd_write.specs.Words.{option_name}
 
 -- of a moment that a component shows nothing of
@@ -31,28 +37,52 @@ not_read (Some line) word why =
 not_read None word why =
     codes "timefd_format: `" ++ (safe word ++ (codes "` is not read: " ++ (why ++ codes "\n")))
 
--- of a word after whose `@` no moment stands
-abbrev pub no_seconds : Text → Text
-no_seconds word =
-    codes "timefd_format: `" ++ (safe word
-    ++ codes "` is no moment: after `@` stand whole seconds since 1970, as in @1700000000, of a year from -999999 to 999999\n")
+-- of a word that is no moment for this reason
+abbrev pub no_moment : Text → Text → Text
+no_moment word why =
+    codes "timefd_format: `" ++ (safe word ++ (codes "` is no moment: " ++ (why ++ codes "\n")))
 
--- of a word with something in brackets at its end
-abbrev pub brackets : Text → Text
-brackets word =
-    codes "timefd_format: `" ++ (safe word
-    ++ codes "` is no moment: what stands in brackets isn't checked against the offset; leave it out, as in 2026-11-23T05:36:07+01:00\n")
+-- of a word whose offset isn't that of the time zone in its brackets
+abbrev pub conflicting : Text → Conflict → Text
+conflicting word c =
+    codes "timefd_format: `" ++ (safe word ++ (codes "` is no moment: its offset is " ++ (offset_text c.written
+    ++ (codes ", and the time zone in brackets has " ++ (offset_text c.zone ++ codes " then\n")))))
+
+abbrev pub expected_sentence : Text → ℕ → Text
+expected_sentence literal index =
+    codes "`" ++ (safe literal ++ (codes "` was expected at byte " ++ decimal index))
+
+-- Why a part of a word doesn't read: the literal is named that it doesn't go on with, unless that isn't found.
+abbrev pub IsStopSentence : Source → Text → ReadError → Text → Type 0
+IsStopSentence source word u why =
+    (why ≡ unread_sentence u)
+    ⊎ ((literal : Text) × IsExpectedIn source word literal × (why ≡ expected_sentence literal u.index))
 
 -- of a word that names or shows no moment: why a name is none, is in the words of the library jiff
-abbrev pub IsUnreadMessage : Option ℕ → Text → MomentError → Text → Type 0
-IsUnreadMessage line word fails.Clock message =
+abbrev pub IsUnreadMessage : Source → Option ℕ → Text → MomentError → Text → Type 0
+IsUnreadMessage source line word fails.Clock message =
     message ≡ codes "timefd_format: the clock can't be read\n"
-IsUnreadMessage line word fails.Seconds message = message ≡ no_seconds word
-IsUnreadMessage line word fails.Brackets message = message ≡ brackets word
-IsUnreadMessage line word (fails.Text e) message = ⊤
-IsUnreadMessage line word (fails.Unread u) message =
-    message ≡ not_read line word (unread_sentence u)
-IsUnreadMessage line word (fails.Value v) message = message ≡ not_read line word (sentence v)
+IsUnreadMessage source line word fails.LocalZone message =
+    message ≡ codes "timefd_format: `now` is in the zone of TZ, which names none; set it, as in TZ=Europe/Berlin or TZ=UTC\n"
+IsUnreadMessage source line word fails.Seconds message =
+    message ≡ no_moment word (codes "after `@` stand whole seconds since 1970, as in @1700000000, of a year from -999999 to 999999")
+IsUnreadMessage source line word fails.Brackets message =
+    message ≡ no_moment word (codes "in brackets stands the name of one time zone and nothing else, as in 2026-11-23T05:36:07+01:00[Europe/Berlin]")
+IsUnreadMessage source line word fails.NoOffset message =
+    message ≡ no_moment word (codes "a time zone in brackets is checked against a time and an offset; write both, as in 2026-11-23T05:36:07+01:00[Europe/Berlin]")
+IsUnreadMessage source line word fails.NoZone message =
+    message ≡ no_moment word (codes "there is no time zone of the name in brackets; names are as Europe/Berlin")
+IsUnreadMessage source line word (fails.Conflict c) message = message ≡ conflicting word c
+IsUnreadMessage source line word fails.Years message =
+    message ≡ no_moment word (codes "offsets of time zones are known in the years -9999 to 9999")
+IsUnreadMessage source line word fails.NoInstant message =
+    message ≡ no_moment word (codes "`--zone` shows what has a date, a time and an offset, as 2026-11-23T05:36:07+01:00")
+IsUnreadMessage source line word fails.Memory message = ⊥
+IsUnreadMessage source line word (fails.Absent day) message = message ≡ not_read line word (absent_sentence day)
+IsUnreadMessage source line word (fails.Text e) message = ⊤
+IsUnreadMessage source line word (fails.Unread u) message =
+    (why : Text) × IsStopSentence source word u why × (message ≡ not_read line word why)
+IsUnreadMessage source line word (fails.Value v) message = message ≡ not_read line word (sentence v)
 
 -- of a record without the column
 abbrev pub no_field_message : ℕ → Text
@@ -105,6 +135,8 @@ option_sentence errors.MissingOtherwise =
     codes "`--else` wants a value: one of keep, empty, fail"
 option_sentence (errors.NoOtherwise word) =
     codes "`" ++ (safe word.now ++ codes "` is no value of `--else`: one of keep, empty, fail")
+option_sentence errors.MissingZone =
+    codes "`--zone` wants a value: a time zone, as Europe/Berlin"
 option_sentence errors.MomentBesideColumn =
     codes "`--csv` reads the standard input; no moment stands after the description then"
 option_sentence errors.NothingRead =

@@ -1,44 +1,62 @@
 -- The moments that words name.
-use Rattle.std.specs.Prelude.{◌≡◌, Bool, true, false, Option, Some, None, Result, Ok, Err, IsTrue, codes, bytes_eq, nat_eq}
+use Rattle.std.specs.Prelude.{◌≡◌, Bool, true, false, Option, Some, None, Result, Ok, Err, codes, bytes_eq, nat_eq}
 use Rattle.std.specs.List.{ends_with}
 use Rattle.jiff_core.specs.declared.error.Error.{Error}
 use Rattle.jiff_fmt.specs.Temporal.{PiecesParts, parse_pieces}
+use Rattle.jiff_tz.specs.declared.db.TimeZoneDatabase.{TimeZoneDatabase}
 use Rattle.timefd_component.specs.Tree.{Text}
-use Rattle.timefd_jiff.specs.Read.{AreRead}
+use Rattle.timefd_jiff.specs.declared.annotated.Annotated.{Annotated}
+use Rattle.timefd_jiff.specs.declared.annotated.Annotation.{Annotation}
+use Rattle.timefd_jiff.specs.declared.annotated.Annotation.TheVariants.{Named, Offset}
+use Rattle.timefd_jiff.specs.Annotated.{AreAnnotated}
 use Rattle.timefd_moment.specs.declared.moment.Moment.{Moment}
 use Rattle.timefd_write.specs.declared.moment.MomentError.{MomentError}
 use Rattle.timefd_write.specs.declared.moment.MomentError.TheVariants as fails
+use Rattle.timefd_write.specs.declared.names.Names.{Names}
+use Rattle.timefd_write.specs.declared.names.Now.{Now}
+use Rattle.timefd_write.specs.declared.names.Now.TheVariants.{Shown, NoClock, NoZone}
+use Rattle.timefd_write.specs.Brackets.{IsInAgreement, closes_once}
 use Rattle.timefd_write.specs.Seconds.{IsAtSeconds, after_at}
 
--- what the clock shows, if it can be read
-abbrev pub IsOfClock : Option Moment → Result Moment MomentError → Type 0
-IsOfClock (Some m) r = r ≡ Ok m
-IsOfClock None r = r ≡ Err fails.Clock
+-- what the clock shows, if it can be read, in the zone of `TZ`, if it names one
+abbrev pub IsOfNow : Now → Result Moment MomentError → Type 0
+IsOfNow (Shown m) r = r ≡ Ok m
+IsOfNow NoClock r = r ≡ Err fails.Clock
+IsOfNow NoZone r = r ≡ Err fails.LocalZone
 
--- The moment that is written, by jiff's grammar, or what is wrong with the text. What stands in
--- brackets at its end names a zone or a calendar, by which nothing is read: such a text is refused.
-abbrev pub IsOfText : Result PiecesParts Error → Bool → Result Moment MomentError → Type 0
-IsOfText (Err f) has_brackets (Ok m) = ⊥
-IsOfText (Err f) has_brackets (Err fails.Clock) = ⊥
-IsOfText (Err f) has_brackets (Err fails.Seconds) = ⊥
-IsOfText (Err f) has_brackets (Err fails.Brackets) = ⊥
-IsOfText (Err f) has_brackets (Err (fails.Text e)) = e ≡ f
-IsOfText (Err f) has_brackets (Err (fails.Unread e)) = ⊥
-IsOfText (Err f) has_brackets (Err (fails.Value e)) = ⊥
-IsOfText (Ok p) true r = r ≡ Err fails.Brackets
-IsOfText (Ok p) false (Ok m) = AreRead p m
-IsOfText (Ok p) false (Err e) = ⊥
+abbrev pub IsUnless : Bool → Moment → Result Moment MomentError → Type 0
+IsUnless true m r = r ≡ Err fails.Brackets
+IsUnless false m r = r ≡ Ok m
 
-abbrev pub IsWritten : Text → Result Moment MomentError → Type 0
-IsWritten word r = IsOfText (parse_pieces word) (ends_with nat_eq word (codes "]")) r
+abbrev pub IsAnnotatedIf : Bool → TimeZoneDatabase → Text → Moment → Result Moment MomentError → Type 0
+IsAnnotatedIf true zones name m r = IsInAgreement zones name m r
+IsAnnotatedIf false zones name m r = r ≡ Err fails.Brackets
 
-abbrev pub IsOfWord : Option Text → Text → Result Moment MomentError → Type 0
-IsOfWord (Some seconds) word r = IsAtSeconds seconds r
-IsOfWord None word r = IsWritten word r
+abbrev pub IsCheckedBy : Option Annotation → TimeZoneDatabase → Text → Moment → Result Moment MomentError → Type 0
+IsCheckedBy None zones word m r = IsUnless (ends_with nat_eq word (codes "]")) m r
+IsCheckedBy (Some (Named name)) zones word m r = IsAnnotatedIf (closes_once word) zones name.now m r
+IsCheckedBy (Some (Offset seconds)) zones word m r = r ≡ Err fails.Brackets
 
-abbrev pub IsNamedBy : Bool → Option Moment → Text → Result Moment MomentError → Type 0
-IsNamedBy true now word r = IsOfClock now r
-IsNamedBy false now word r = IsOfWord (after_at word) word r
+-- A time zone in brackets has to agree with the moment. What else stands in brackets is passed over by jiff's
+-- grammar, so it is refused.
+abbrev pub IsChecked : TimeZoneDatabase → Text → Annotated → Result Moment MomentError → Type 0
+IsChecked zones word a r = IsCheckedBy a.zone zones word a.moment r
 
-abbrev pub IsNamed : Option Moment → Text → Result Moment MomentError → Type 0
-IsNamed now word r = IsNamedBy (bytes_eq word (codes "now")) now word r
+-- The moment that is written, by jiff's grammar, or what is wrong with the text.
+abbrev pub IsOfText : Result PiecesParts Error → TimeZoneDatabase → Text → Result Moment MomentError → Type 0
+IsOfText (Err f) zones word r = r ≡ Err (fails.Text f)
+IsOfText (Ok p) zones word r = (a : Annotated) × AreAnnotated p a × IsChecked zones word a r
+
+abbrev pub IsWritten : TimeZoneDatabase → Text → Result Moment MomentError → Type 0
+IsWritten zones word r = IsOfText (parse_pieces word) zones word r
+
+abbrev pub IsOfWord : Option Text → TimeZoneDatabase → Text → Result Moment MomentError → Type 0
+IsOfWord (Some seconds) zones word r = IsAtSeconds seconds r
+IsOfWord None zones word r = IsWritten zones word r
+
+abbrev pub IsNamedBy : Bool → Names → Text → Result Moment MomentError → Type 0
+IsNamedBy true names word r = IsOfNow names.now r
+IsNamedBy false names word r = IsOfWord (after_at word) names.zones.now word r
+
+abbrev pub IsNamed : Names → Text → Result Moment MomentError → Type 0
+IsNamed names word r = IsNamedBy (bytes_eq word (codes "now")) names word r

@@ -12,7 +12,10 @@ use Rattle.timefd_parse.specs.declared.parsing.BorrowedOutput.TheVariants.{Items
 use Rattle.timefd_read_dates.specs.declared.fault.ReadError.{ReadError}
 use Rattle.timefd_read_dates.specs.declared.fields.Fields.{Fields}
 use Rattle.timefd_read_dates.specs.Reads.{fields_of}
+use Rattle.timefd_read_moment.specs.declared.error.ValueError.TheVariants as error
+use Rattle.timefd_read_moment.specs.declared.part.Part.{Part}
 use Rattle.timefd_read_moment.specs.Values.{IsMomentOf}
+use Rattle.timefd_write.specs.Absent.{absent_day}
 use Rattle.timefd_write.specs.declared.moment.MomentError.{MomentError}
 use Rattle.timefd_write.specs.declared.moment.MomentError.TheVariants as fails
 
@@ -30,21 +33,20 @@ abbrev pub AreLeavesOf : BorrowedOutput → Option (Bor (List Leaf)) → Type 0
 AreLeavesOf o None = ⊤
 AreLeavesOf o (Some leaves) = IsMadeOf o leaves.now
 
+-- Why the fields are those of no moment: a part is missing; or some disagree, and then the day is named, where
+-- there is no such day.
+abbrev pub IsNoMoment : Fields → MomentError → Type 0
+IsNoMoment f (fails.Value (error.Missing p)) = IsMomentOf f (Err (error.Missing p))
+IsNoMoment f (fails.Value (error.Contradiction p)) =
+    IsMomentOf f (Err (error.Contradiction p)) × (absent_day f ≡ None)
+IsNoMoment f (fails.Absent day) =
+    ((p : Part) × IsMomentOf f (Err (error.Contradiction p))) × (absent_day f ≡ Some day)
+IsNoMoment f _ = ⊥
+
 abbrev pub IsOfFields : Result Fields ReadError → Result Moment MomentError → Type 0
 IsOfFields (Ok f) (Ok m) = IsMomentOf f (Ok m)
-IsOfFields (Ok f) (Err fails.Clock) = ⊥
-IsOfFields (Ok f) (Err fails.Seconds) = ⊥
-IsOfFields (Ok f) (Err fails.Brackets) = ⊥
-IsOfFields (Ok f) (Err (fails.Text e)) = ⊥
-IsOfFields (Ok f) (Err (fails.Unread e)) = ⊥
-IsOfFields (Ok f) (Err (fails.Value e)) = IsMomentOf f (Err e)
-IsOfFields (Err u) (Ok m) = ⊥
-IsOfFields (Err u) (Err fails.Clock) = ⊥
-IsOfFields (Err u) (Err fails.Seconds) = ⊥
-IsOfFields (Err u) (Err fails.Brackets) = ⊥
-IsOfFields (Err u) (Err (fails.Text e)) = ⊥
-IsOfFields (Err u) (Err (fails.Unread e)) = e ≡ u
-IsOfFields (Err u) (Err (fails.Value e)) = ⊥
+IsOfFields (Ok f) (Err e) = IsNoMoment f e
+IsOfFields (Err u) r = r ≡ Err (fails.Unread u)
 
 -- The moment that the whole text shows by the description, or the first fault.
 abbrev pub IsReadBack : BorrowedOutput → Text → Result Moment MomentError → Type 0

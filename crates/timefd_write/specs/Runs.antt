@@ -2,7 +2,6 @@
 use Rattle.std.specs.Prelude.{◌≡◌, ◌⊎◌, Bool, false, List, [], ◌∷◌, Option, Some, None}
 use denote.Ref.{Bor}
 use Rattle.timefd_component.specs.Tree.{Text}
-use Rattle.timefd_moment.specs.declared.moment.Moment.{Moment}
 use Rattle.timefd_parse.specs.declared.parsing.BorrowedOutput.{BorrowedOutput}
 use Rattle.timefd_write.specs.declared.column.Column.{Column}
 use Rattle.timefd_write.specs.declared.end.RunEnd.{RunEnd}
@@ -10,6 +9,7 @@ use Rattle.timefd_write.specs.declared.end.RunEnd.TheVariants as ends
 use Rattle.timefd_write.specs.declared.language.Languages.{Languages}
 use Rattle.timefd_write.specs.declared.otherwise.Otherwise.{Otherwise}
 use Rattle.timefd_write.specs.declared.outcome.Tally.{Tally}
+use Rattle.timefd_write.specs.declared.source.Clocks.{Clocks}
 use Rattle.timefd_write.specs.declared.source.Source.{Source}
 use Rattle.timefd_write.specs.Descriptions.{IsDescribed}
 use Rattle.timefd_write.specs.Sources.{IsFaulty, IsSourceOf}
@@ -45,9 +45,9 @@ IsRunFrom column otherwise source quiet languages text words input before behind
     × IsRunOf column otherwise source o words input before behind tally
 
 -- Where the description to read by is refused, nothing is written.
-abbrev pub IsRun : Option Column → Otherwise → Option Moment → Bool → Languages → Option (Bor Text) → Text → List Text
+abbrev pub IsRun : Option Column → Otherwise → Clocks → Bool → Languages → Option (Bor Text) → Text → List Text
     → Option Text → Option Text → Option Text → RunEnd → Type 0
-IsRun column otherwise now quiet languages read text words input before behind end =
-    (IsSourceOf now languages.read read None × (behind ≡ before) × (end ≡ ends.Refused))
-    ⊎ ((source : Source) × IsSourceOf now languages.read read (Some source)
+IsRun column otherwise clocks quiet languages read text words input before behind end =
+    (IsSourceOf clocks languages.read read None × (behind ≡ before) × (end ≡ ends.Refused))
+    ⊎ ((source : Source) × IsSourceOf clocks languages.read read (Some source)
     × IsRunFrom column otherwise source quiet languages text words input before behind end)

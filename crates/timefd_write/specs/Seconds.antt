@@ -41,9 +41,5 @@ IsUnixTime text (Some u) = IsNumber text × (u ≡ unix_time_of text)
 -- The moment in UTC at these seconds. None is of a number whose year is from -999,999 to 999,999.
 abbrev pub IsAtSeconds : Text → Result Moment MomentError → Type 0
 IsAtSeconds text (Ok m) = IsNumber text × IsAt m (unix_time_of text)
-IsAtSeconds text (Err fails.Clock) = ⊥
-IsAtSeconds text (Err fails.Seconds) = IsNumber text → IsFalse (is_within (unix_time_of text))
-IsAtSeconds text (Err fails.Brackets) = ⊥
-IsAtSeconds text (Err (fails.Text e)) = ⊥
-IsAtSeconds text (Err (fails.Unread e)) = ⊥
-IsAtSeconds text (Err (fails.Value e)) = ⊥
+IsAtSeconds text (Err e) =
+    (e ≡ fails.Seconds) × (IsNumber text → IsFalse (is_within (unix_time_of text)))

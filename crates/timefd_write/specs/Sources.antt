@@ -9,33 +9,53 @@ use Rattle.timefd_node_list.specs.declared.leaves.Leaf.{Leaf}
 use Rattle.timefd_parse.specs.declared.language.Language.{Language}
 use Rattle.timefd_parse.specs.Language.{FaultIn}
 use Rattle.timefd_write.specs.declared.moment.MomentError.{MomentError}
+use Rattle.timefd_write.specs.declared.names.Names.{Names}
+use Rattle.timefd_write.specs.declared.source.Clocks.{Clocks}
 use Rattle.timefd_write.specs.declared.source.Source.{Source}
-use Rattle.timefd_write.specs.declared.source.Source.TheVariants.{Names, Texts}
+use Rattle.timefd_write.specs.declared.source.SourceKind.{SourceKind}
+use Rattle.timefd_write.specs.declared.source.SourceKind.TheVariants as kinds
 use Rattle.timefd_write.specs.Descriptions.{IsDescribed}
 use Rattle.timefd_write.specs.Moments.{IsNamed}
 use Rattle.timefd_write.specs.ReadBack.{IsMadeOf, IsReadBack}
+use Rattle.timefd_write.specs.Zones.{IsShownBy}
 
 -- A text is refused for the fault that the rules assign to it.
 abbrev pub IsFaulty : Language → Text → Type 0
 IsFaulty language text = (f : Fault) × FaultIn language nesting_limit text f
 
--- Words are texts of a description where one is given, and else names.
-abbrev pub IsSourceOf : Option Moment → Language → Option (Bor Text) → Option Source → Type 0
-IsSourceOf now language None None = ⊥
-IsSourceOf now language None (Some (Names n)) = n ≡ now
-IsSourceOf now language None (Some (Texts o)) = ⊥
-IsSourceOf now language (Some text) None = IsFaulty language text.now
-IsSourceOf now language (Some text) (Some (Names n)) = ⊥
-IsSourceOf now language (Some text) (Some (Texts o)) = IsDescribed language text.now o
+abbrev pub IsKindOf : Names → Language → Option (Bor Text) → SourceKind → Type 0
+IsKindOf names language None (kinds.Names n) = n ≡ names
+IsKindOf names language None (kinds.Texts o) = ⊥
+IsKindOf names language (Some text) (kinds.Names n) = ⊥
+IsKindOf names language (Some text) (kinds.Texts o) = IsDescribed language text.now o
 
+-- Words are texts of a description where one is given, and else names.
+abbrev pub IsSourceOf : Clocks → Language → Option (Bor Text) → Option Source → Type 0
+IsSourceOf clocks language None None = ⊥
+IsSourceOf clocks language (Some text) None = IsFaulty language text.now
+IsSourceOf clocks language text (Some source) =
+    IsKindOf clocks.names language text source.kind × (source.zone ≡ clocks.zone)
+
+abbrev pub IsFoundBy : SourceKind → Text → Result Moment MomentError → Type 0
+IsFoundBy (kinds.Names n) word r = IsNamed n word r
+IsFoundBy (kinds.Texts o) word r = IsReadBack o word r
+
+-- what a word names, or shows by the description
+abbrev pub IsFoundIn : Source → Text → Result Moment MomentError → Type 0
+IsFoundIn source word r = IsFoundBy source.kind word r
+
+-- The same on the clock of the zone, where there is one.
 abbrev pub IsMomentIn : Source → Text → Result Moment MomentError → Type 0
-IsMomentIn (Names now) word r = IsNamed now word r
-IsMomentIn (Texts o) word r = IsReadBack o word r
+IsMomentIn source word r =
+    (found : Result Moment MomentError) × IsFoundIn source word found × IsShownBy source.zone found r
+
+abbrev pub IsTextOfKind : SourceKind → List Leaf → Type 0
+IsTextOfKind (kinds.Names n) leaves = ⊥
+IsTextOfKind (kinds.Texts o) leaves = IsMadeOf o leaves
 
 -- The description that words are texts of is these components and literals in turn.
 abbrev pub IsTextOf : Source → List Leaf → Type 0
-IsTextOf (Names now) leaves = ⊥
-IsTextOf (Texts o) leaves = IsMadeOf o leaves
+IsTextOf source leaves = IsTextOfKind source.kind leaves
 
 -- The leaves, where some are given, are those of that description.
 abbrev pub AreLeavesIn : Source → Option (Bor (List Leaf)) → Type 0

@@ -20,7 +20,8 @@ use Rattle.timefd_warnings.specs.Levels.{all_at, with_level}
 use Rattle.timefd_warnings.specs.Warns.{warns}
 use Rattle.timefd_write.specs.declared.language.Languages.{Languages}
 use Rattle.timefd_write.specs.declared.source.Source.{Source}
-use Rattle.timefd_write.specs.declared.source.Source.TheVariants.{Names, Texts}
+use Rattle.timefd_write.specs.declared.source.SourceKind.{SourceKind}
+use Rattle.timefd_write.specs.declared.source.SourceKind.TheVariants.{Names, Texts}
 use Rattle.timefd_write.specs.declared.warned.Warned as told
 
 -- how components are written in the language
@@ -48,9 +49,12 @@ abbrev pub warned_of : Language → BorrowedOutput → Levels
 warned_of language o = warned_in (style_of language) (output_parts o)
 
 -- none of a description that there is not
+abbrev pub warned_of_kind : Language → SourceKind → Levels
+warned_of_kind language (Names now) = all_at Allowed
+warned_of_kind language (Texts o) = warned_of language o
+
 abbrev pub warned_of_source : Language → Source → Levels
-warned_of_source language (Names now) = all_at Allowed
-warned_of_source language (Texts o) = warned_of language o
+warned_of_source language source = warned_of_kind language source.kind
 
 -- Each description has those of its own language and parts, unless warnings are left out.
 abbrev pub warned_by : Bool → Languages → Source → BorrowedOutput → told.Warned

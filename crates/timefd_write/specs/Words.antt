@@ -37,6 +37,7 @@ word_of word =
     else if bytes_eq word (codes "--csv") then words.Csv
     else if bytes_eq word (codes "--else") then words.Else
     else if bytes_eq word (codes "--guess") then words.Guess
+    else if bytes_eq word (codes "--zone") then words.Zone
     else if bytes_eq word (codes "--quiet") then words.Quiet
     else if bytes_eq word (codes "-q") then words.Quiet
     else if bytes_eq word (codes "--help") then words.Help

@@ -22,6 +22,8 @@ pub struct Request<'a> {
     pub column: Option<Column<'a>>,
     /// What is written in place of a moment that has no line.
     pub otherwise: Otherwise,
+    /// The name of the time zone on whose clock moments are shown; none, where they stay as they are.
+    pub zone: Option<&'a str>,
     /// How many of the last words are moments: none, where the standard input is read.
     pub moment_count: usize,
     /// Whether warnings are left out.
@@ -73,6 +75,8 @@ pub enum OptionError<'a> {
     MissingOtherwise,
     /// The word is no value of `--else`.
     NoOtherwise(&'a str),
+    /// No word stands after `--zone`.
+    MissingZone,
     /// A moment stands after the description beside `--csv`.
     MomentBesideColumn,
     /// `--to-language` stands without `--read`.
@@ -91,6 +95,7 @@ enum Wanted {
     Read,
     Column,
     Otherwise,
+    Zone,
 }
 
 // What is known in front of a word.
@@ -101,6 +106,7 @@ struct State<'a> {
     read: Option<&'a str>,
     column: Option<Column<'a>>,
     otherwise: Option<Otherwise>,
+    zone: Option<&'a str>,
     is_quiet: bool,
     wanted: Wanted,
 }
@@ -123,6 +129,7 @@ pub fn asked_of<'a>(words: &'a [&'a str]) -> Result<Asked<'a>, OptionError<'a>>
         read: None,
         column: None,
         otherwise: None,
+        zone: None,
         is_quiet: false,
         wanted: Wanted::Nothing,
     };
@@ -147,6 +154,7 @@ fn at_end(wanted: Wanted) -> OptionError<'static>
         Wanted::Read => OptionError::MissingRead,
         Wanted::Column => OptionError::MissingColumn,
         Wanted::Otherwise => OptionError::MissingOtherwise,
+        Wanted::Zone => OptionError::MissingZone,
     }
 }
 
@@ -164,6 +172,11 @@ fn one_more<'a>(state: State<'a>, word: &'a str, behind: &'a [&'a str]) -> Step<
         }),
         Wanted::Column => with_column(state, word),
         Wanted::Otherwise => with_otherwise(state, word),
+        Wanted::Zone => Step::Next(State {
+            zone: Some(word),
+            wanted: Wanted::Nothing,
+            ..state
+        }),
     }
 }
 
@@ -239,6 +252,10 @@ fn first<'a>(state: State<'a>, word: &'a str, behind: &'a [&'a str]) -> Step<'a>
             ..state
         }),
         Word::Guess => Step::Done(guess(state, behind)),
+        Word::Zone => Step::Next(State {
+            wanted: Wanted::Zone,
+            ..state
+        }),
         Word::Quiet => Step::Next(State {
             is_quiet: true,
             ..state
@@ -354,6 +371,7 @@ fn requested<'a>(
             description,
             column: state.column,
             otherwise: otherwise_of(state),
+            zone: state.zone,
             moment_count: moments.len(),
             is_quiet: state.is_quiet,
         })),

@@ -1,15 +1,17 @@
 //! The moment that is now.
 
 ghost use Rattle.std.specs.Prelude.{IfSome};
-ghost use Rattle.timefd_moment.specs.Instants.{IsAt};
+ghost use Rattle.timefd_jiff.specs.Zones.{IsOnClock, instant};
 ghost use Rattle.timefd_moment.specs.declared.unix_time.UnixTime.{UnixTime as Instant};
 
+use jiff_tz::TimeZone;
 use std::time::{Clock, SystemTime};
+use timefd_jiff::moment_in_zone;
 use timefd_moment::{Moment, UnixTime};
 
-/// The moment that a clock shows, in UTC; `None` where it can't be read, or shows one before 1970.
-pub fn moment_now<C: Clock>(clock: &C) -> Option<Moment>
-    ensures { IfSome result (λ moment. (instant : Instant) × IsAt moment instant) }
+/// What a clock in the zone shows now; `None` where the clock can't be read, or shows a time before 1970.
+pub fn moment_now<C: Clock>(clock: &C, zone: &TimeZone<'_>) -> Option<Moment>
+    ensures { IfSome result (λ moment. (unix : Instant) × IsOnClock zone.now (instant unix) moment) }
 {
     let now = SystemTime::now(clock).ok()?;
     let since_1970 = now.duration_since(SystemTime::UNIX_EPOCH).ok()?;
@@ -17,5 +19,5 @@ pub fn moment_now<C: Clock>(clock: &C) -> Option<Moment>
         is_negative: false,
         nanoseconds: since_1970.as_nanos(),
     };
-    Moment::from_unix(unix).ok()
+    moment_in_zone(zone, unix).ok()
 }

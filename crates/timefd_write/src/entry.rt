@@ -97,7 +97,7 @@ fn write_one<W: Write, E: Write>(
             errors,
         ),
         Err(error) => {
-            let message = unread_message(alloc, entry.line, text, error)?;
+            let message = unread_message(alloc, source, entry.line, text, error)?;
             tell(errors, message.as_bytes());
             replace(otherwise, entry, output)?;
             Ok(Outcome::Unread(error))

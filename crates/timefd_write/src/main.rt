@@ -3,13 +3,17 @@
 //! `docs/proof/COMMANDS.md` has the options, and what moments are read.
 #![tactic(auto)]
 
+mod absent;
 mod asked;
+mod bracket;
 mod clock;
 mod column;
+mod conflict;
 mod converted;
 mod description;
 mod end;
 mod entry;
+mod expected;
 mod field;
 mod fields;
 mod frame;
@@ -21,6 +25,7 @@ mod line;
 mod lines;
 mod message;
 mod moment;
+mod names;
 mod otherwise;
 mod outcome;
 mod progress;
@@ -36,23 +41,29 @@ mod usage;
 mod warned;
 mod word;
 mod words;
+mod zone;
+mod zones;
 
 use asked::{Asked, GuessRequest, OptionError, Request, asked_of};
-use clock::moment_now;
 use converted::{Described, limits_sentence, own_description, refused_sentence};
 use end::RunEnd;
 use guess_run::{GuessEnd, guess_end};
+use jiff_tz::TimeZone;
 use language::Languages;
 use message::Manner;
+use names::Names;
 use outcome::RunError;
 use progress::{Progress, Watched};
 use run::run;
+use source::Clocks;
 use std::alloc::AllocError;
 use std::io::{BufReader, BufWriter, IsTerminal, Write};
 use std::process::ExitCode;
 use timefd_dialect::DialectError;
+use timefd_jiff::Error;
 use timefd_streams::{WordsError, all_words, lent, shows_colors};
 use to_read::{description_to_read, limits_told};
+use zones::{Zones, now_of};
 
 // The statuses of runs that did not come to their end.
 const REFUSED: u8 = 1;
@@ -146,7 +157,76 @@ fn tell_reading_limits(rt: &HostRuntime, read: &Described<'_>) -> Result<(), All
     Ok(())
 }
 
+// The time zones that the words of a run may name.
+fn zones_of(rt: &HostRuntime, request: Request<'_>, moments: &[&str]) -> Result<Zones, AllocError> {
+    if request.read.is_none() && moments.is_empty() {
+        return Zones::all(rt);
+    }
+    let mut zones = Zones::new(rt);
+    if request.read.is_none() {
+        for moment in moments {
+            if let Some(name) = in_brackets(moment) {
+                zones = zones.with(rt, name)?;
+            }
+        }
+    }
+    match request.zone {
+        Some(name) => zones.with(rt, name),
+        None => Ok(zones),
+    }
+}
+
+// What stands in brackets at the end of a word.
+fn in_brackets(word: &str) -> Option<&str> {
+    let (_, name) = word.strip_suffix(']')?.rsplit_once('[')?;
+    Some(name)
+}
+
 fn run_status(rt: &HostRuntime, request: Request<'_>, moments: &[&str]) -> u8 {
+    let Ok(zones) = zones_of(rt, request, moments) else {
+        return no_memory(rt);
+    };
+    let Some(name) = request.zone else {
+        return zoned_status(rt, request, moments, &zones, None);
+    };
+    match zones.database.get(name) {
+        Ok(zone) => zoned_status(rt, request, moments, &zones, Some(zone)),
+        Err(Error::TimeZoneNotFound) => unknown_zone(rt, &zones, name),
+        Err(_) => no_memory(rt),
+    }
+}
+
+// Says that there is no such time zone, and names the nearest one.
+fn unknown_zone(rt: &HostRuntime, zones: &Zones, name: &str) -> u8 {
+    match zones.unknown_sentence(rt.alloc(), name) {
+        Ok(sentence) => told(rt, WRONG_ARGUMENTS, &sentence),
+        Err(AllocError) => no_memory(rt),
+    }
+}
+
+fn zoned_status(
+    rt: &HostRuntime,
+    request: Request<'_>,
+    moments: &[&str],
+    zones: &Zones,
+    zone: Option<TimeZone<'_>>,
+) -> u8 {
+    let Ok(now) = now_of(rt) else {
+        return no_memory(rt);
+    };
+    let names = Names {
+        now,
+        zones: &zones.database,
+    };
+    clocked_status(rt, request, moments, Clocks { names, zone })
+}
+
+fn clocked_status(
+    rt: &HostRuntime,
+    request: Request<'_>,
+    moments: &[&str],
+    clocks: Clocks<'_>,
+) -> u8 {
     let written = match own_description(rt.alloc(), request.wordings.written, request.description) {
         Ok(written) => written,
         Err(error) => return not_converted(rt, error),
@@ -155,7 +235,7 @@ fn run_status(rt: &HostRuntime, request: Request<'_>, moments: &[&str]) -> u8 {
         return no_memory(rt);
     }
     let Some(text) = request.read else {
-        return described_status(rt, request, None, &written, moments);
+        return described_status(rt, request, clocks, None, &written, moments);
     };
     let read = match description_to_read(rt.alloc(), request.wordings.read, text) {
         Ok(read) => read,
@@ -164,7 +244,7 @@ fn run_status(rt: &HostRuntime, request: Request<'_>, moments: &[&str]) -> u8 {
     if !request.is_quiet && tell_reading_limits(rt, &read).is_err() {
         return no_memory(rt);
     }
-    described_status(rt, request, Some(&read), &written, moments)
+    described_status(rt, request, clocks, Some(&read), &written, moments)
 }
 
 fn guess_status(rt: &HostRuntime, request: GuessRequest, texts: &[&str]) -> u8 {
@@ -182,6 +262,7 @@ fn guess_status(rt: &HostRuntime, request: GuessRequest, texts: &[&str]) -> u8 {
 fn described_status(
     rt: &HostRuntime,
     request: Request<'_>,
+    clocks: Clocks<'_>,
     read: Option<&Described<'_>>,
     written: &Described<'_>,
     moments: &[&str],
@@ -190,7 +271,16 @@ fn described_status(
         return no_memory(rt);
     };
     let progress = Progress::new(rt);
-    let end = run_to(rt, request, read, written, moments, &progress, &mut output);
+    let end = run_to(
+        rt,
+        request,
+        clocks,
+        read,
+        written,
+        moments,
+        &progress,
+        &mut output,
+    );
     progress.end();
     match (end, output.flush()) {
         (Ok(end), Ok(())) => end_status(rt, end.status()),
@@ -203,6 +293,7 @@ fn described_status(
 fn run_to<W: Write>(
     rt: &HostRuntime,
     request: Request<'_>,
+    clocks: Clocks<'_>,
     read: Option<&Described<'_>>,
     written: &Described<'_>,
     moments: &[&str],
@@ -215,7 +306,7 @@ fn run_to<W: Write>(
     };
     run(
         rt.alloc(),
-        moment_now(rt),
+        clocks,
         Manner {
             is_colored: is_colored(rt),
             is_quiet: request.is_quiet,

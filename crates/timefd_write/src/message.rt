@@ -3,8 +3,12 @@
 ghost use Rattle.std.specs.Prelude.{◌≡◌, IfOk, string_bytes};
 ghost use Rattle.timefd_write.specs.Messages as spec;
 
+use crate::absent::absent_sentence;
+use crate::conflict::Conflict;
+use crate::expected::expected_in;
 use crate::header::HeaderError;
 use crate::moment::MomentError;
+use crate::source::{Source, source_leaves};
 use std::alloc::{AllocError, Global};
 use std::io::Write;
 use timefd_description::unread_sentence;
@@ -12,6 +16,7 @@ use timefd_diagnosis::Diagnostic;
 use timefd_drawing::shown::safe;
 use timefd_drawing::{Format, Origin, Style, drawn};
 use timefd_format::Unshown;
+use timefd_read_dates::{ReadError, Reason};
 
 /// How a run tells what is wrong with descriptions.
 #[derive(Clone, Copy)]
@@ -24,6 +29,29 @@ pub struct Manner {
 
 /// What is told of a line that is no text.
 pub const NOT_TEXT: &str = "timefd_format: a line is no UTF-8\n";
+
+// Why words are no moments.
+
+const NO_LOCAL_ZONE: &str =
+    "timefd_format: `now` is in the zone of TZ, which names none; set it, as in TZ=Europe/Berlin or \
+    TZ=UTC\n";
+
+const SECONDS: &str =
+    "after `@` stand whole seconds since 1970, as in @1700000000, of a year from -999999 to 999999";
+
+const BRACKETS: &str = "in brackets stands the name of one time zone and nothing else, as in \
+    2026-11-23T05:36:07+01:00[Europe/Berlin]";
+
+const NO_OFFSET: &str =
+    "a time zone in brackets is checked against a time and an offset; write both, as in \
+    2026-11-23T05:36:07+01:00[Europe/Berlin]";
+
+const NO_ZONE: &str = "there is no time zone of the name in brackets; names are as Europe/Berlin";
+
+const YEARS: &str = "offsets of time zones are known in the years -9999 to 9999";
+
+const NO_INSTANT: &str =
+    "`--zone` shows what has a date, a time and an offset, as 2026-11-23T05:36:07+01:00";
 
 /// Tells a message. Where it can't be written, nothing else is to be done.
 pub fn tell<E: Write>(errors: &mut E, message: &[u8]) {
@@ -53,25 +81,38 @@ pub fn tell_fault<E: Write>(
 }
 
 /// What is told of a word that names or shows no moment, with the number of its line.
+#[tactic(auto, using(crate::proofs::MessageLemmas::unread))]
 pub fn unread_message(
     alloc: Global,
+    source: &Source<'_>,
     line: Option<u64>,
     word: &str,
     error: MomentError,
 ) -> Result<String, AllocError>
-    ensures { IfOk result (λ message. spec.IsUnreadMessage line word.now error
+    ensures { IfOk result (λ message. spec.IsUnreadMessage source.now line word.now error
         (string_bytes message)) }
 {
     match error {
         MomentError::Clock => String::from_str(alloc, "timefd_format: the clock can't be read\n"),
-        MomentError::Seconds => no_seconds(alloc, word),
-        MomentError::Brackets => brackets(alloc, word),
+        MomentError::LocalZone => String::from_str(alloc, NO_LOCAL_ZONE),
+        MomentError::Seconds => no_moment(alloc, word, SECONDS),
+        MomentError::Brackets => no_moment(alloc, word, BRACKETS),
+        MomentError::NoOffset => no_moment(alloc, word, NO_OFFSET),
+        MomentError::NoZone => no_moment(alloc, word, NO_ZONE),
+        MomentError::Conflict(conflict) => conflicting(alloc, word, conflict),
+        MomentError::Years => no_moment(alloc, word, YEARS),
+        MomentError::NoInstant => no_moment(alloc, word, NO_INSTANT),
+        MomentError::Memory => Err(AllocError),
         MomentError::Text(error) => {
             let word = safe(alloc, word)?;
             format!(in alloc; "timefd_format: `{word}` is no moment: {error}\n")
         }
+        MomentError::Absent(day) => {
+            let sentence = absent_sentence(alloc, day)?;
+            not_read(alloc, line, word, &sentence)
+        }
         MomentError::Unread(error) => {
-            let sentence = unread_sentence(alloc, error)?;
+            let sentence = stop_sentence(alloc, source, word, error)?;
             not_read(alloc, line, word, &sentence)
         }
         MomentError::Value(error) => {
@@ -81,25 +122,64 @@ pub fn unread_message(
     }
 }
 
-// Of a word after whose `@` no moment stands.
-fn no_seconds(alloc: Global, word: &str) -> Result<String, AllocError>
-    ensures { IfOk result (λ message. string_bytes message ≡ spec.no_seconds word.now) }
+// Why a part of a word doesn't read: the literal that was expected, where it is found.
+#[tactic(auto, using(crate::proofs::MessageLemmas::plain))]
+fn stop_sentence(
+    alloc: Global,
+    source: &Source<'_>,
+    word: &str,
+    error: ReadError,
+) -> Result<String, AllocError>
+    ensures { IfOk result (λ text. spec.IsStopSentence source.now word.now error (string_bytes text)) }
 {
-    let word = safe(alloc, word)?;
-    format!(in alloc;
-        "timefd_format: `{word}` is no moment: after `@` stand whole seconds since 1970, as in \
-        @1700000000, of a year from -999999 to 999999\n"
-    )
+    match error.reason {
+        Reason::Literal => literal_sentence(alloc, source, word, error),
+        Reason::Unread(_) | Reason::Contradiction(_) | Reason::Trailing => {
+            unread_sentence(alloc, error)
+        }
+    }
 }
 
-// Of a word that would be a moment without what stands in brackets at its end.
-fn brackets(alloc: Global, word: &str) -> Result<String, AllocError>
-    ensures { IfOk result (λ message. string_bytes message ≡ spec.brackets word.now) }
+#[tactic(auto, using(crate::proofs::MessageLemmas::plain, crate::proofs::MessageLemmas::named))]
+fn literal_sentence(
+    alloc: Global,
+    source: &Source<'_>,
+    word: &str,
+    error: ReadError,
+) -> Result<String, AllocError>
+    ensures { IfOk result (λ text. spec.IsStopSentence source.now word.now error (string_bytes text)) }
+{
+    let leaves = source_leaves(alloc, source)?;
+    match expected_in(source, leaves.as_deref(), word) {
+        Some(literal) => expected_sentence(alloc, literal, error.index),
+        None => unread_sentence(alloc, error),
+    }
+}
+
+fn expected_sentence(alloc: Global, literal: &str, index: usize) -> Result<String, AllocError>
+    ensures { IfOk result (λ text. string_bytes text ≡ spec.expected_sentence literal.now index) }
+{
+    let literal = safe(alloc, literal)?;
+    format!(in alloc; "`{literal}` was expected at byte {index}")
+}
+
+// Of a word that is no moment for this reason.
+fn no_moment(alloc: Global, word: &str, reason: &str) -> Result<String, AllocError>
+    ensures { IfOk result (λ message. string_bytes message ≡ spec.no_moment word.now reason.now) }
 {
     let word = safe(alloc, word)?;
+    format!(in alloc; "timefd_format: `{word}` is no moment: {reason}\n")
+}
+
+// Of a word whose offset isn't that of the time zone in its brackets.
+fn conflicting(alloc: Global, word: &str, conflict: Conflict) -> Result<String, AllocError>
+    ensures { IfOk result (λ message. string_bytes message ≡ spec.conflicting word.now conflict) }
+{
+    let word = safe(alloc, word)?;
+    let (written, zone) = (conflict.written, conflict.zone);
     format!(in alloc;
-        "timefd_format: `{word}` is no moment: what stands in brackets isn't checked against the \
-        offset; leave it out, as in 2026-11-23T05:36:07+01:00\n"
+        "timefd_format: `{word}` is no moment: its offset is {written}, and the time zone in \
+        brackets has {zone} then\n"
     )
 }
 

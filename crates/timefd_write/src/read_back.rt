@@ -1,10 +1,12 @@
 //! The moment that a text shows by a description.
 
-ghost use Rattle.std.specs.Prelude.{IfOk, IfSome};
+ghost use Rattle.std.specs.Prelude.{Err, IfOk, IfSome};
 ghost use Rattle.timefd_read_dates.specs.Reads.{Fills, fields_of};
+ghost use Rattle.timefd_read_moment.specs.Values.{IsMomentOf};
 ghost use Rattle.timefd_write.specs.ReadBack as spec;
-ghost use Rattle.timefd_write.specs.ReadBack.{AreLeavesOf, IsMadeOf, IsReadBack};
+ghost use Rattle.timefd_write.specs.ReadBack.{AreLeavesOf, IsMadeOf, IsNoMoment, IsReadBack};
 
+use crate::absent::absent_day;
 use crate::moment::MomentError;
 use std::alloc::{AllocError, Global};
 use timefd_moment::Moment;
@@ -13,7 +15,7 @@ use timefd_parse::BorrowedOutput;
 use timefd_read_dates::{
     Fields, NO_FIELDS, ReadError, fill_fields, fill_item_fields, fill_leaf_fields, leaves_in_turn,
 };
-use timefd_read_moment::moment;
+use timefd_read_moment::{ValueError, moment};
 
 /// The components and literals that a description is, where it is no more than those in turn. They
 /// are found once, and many texts read by them.
@@ -44,9 +46,23 @@ pub fn moment_read(
     match fill(description, leaves, text, &mut fields) {
         Ok(()) => match moment(&fields) {
             Ok(moment) => Ok(moment),
-            Err(error) => Err(MomentError::Value(error)),
+            Err(error) => Err(no_moment(&fields, error)),
         },
         Err(error) => Err(MomentError::Unread(error)),
+    }
+}
+
+// Why the fields are those of no moment.
+fn no_moment(fields: &Fields, error: ValueError) -> MomentError
+    requires { IsMomentOf fields.now (Err error) }
+    ensures { IsNoMoment fields.now result }
+{
+    match error {
+        ValueError::Missing(_) => MomentError::Value(error),
+        ValueError::Contradiction(_) => match absent_day(fields) {
+            Some(day) => MomentError::Absent(day),
+            None => MomentError::Value(error),
+        },
     }
 }
 

@@ -13,13 +13,12 @@ use crate::lines::write_lines;
 use crate::message::{Manner, tell_fault};
 use crate::otherwise::Otherwise;
 use crate::outcome::{RunError, Tally};
-use crate::source::{Source, source_of};
+use crate::source::{Clocks, Source, source_of};
 use crate::table::write_table;
 use crate::warned::{WRITTEN, tell_warned};
 use crate::words::write_words;
 use std::alloc::Global;
 use std::io::{BufRead, Write};
-use timefd_moment::Moment;
 use timefd_parse::{BorrowedOutput, StrftimeTables};
 
 /// Writes the moments that the words name by the description, a line each; those of the lines of
@@ -28,7 +27,7 @@ use timefd_parse::{BorrowedOutput, StrftimeTables};
 /// errors have the warnings of the descriptions first.
 pub fn run<I: BufRead, W: Write, E: Write>(
     alloc: Global,
-    now: Option<Moment>,
+    clocks: Clocks<'_>,
     manner: Manner,
     languages: Languages,
     read: Option<&str>,
@@ -41,14 +40,14 @@ pub fn run<I: BufRead, W: Write, E: Write>(
     errors: &mut E,
 ) -> Result<RunEnd, RunError>
     ensures ends { IfErr result (EndsOnlyAsAsked otherwise) }
-    ensures run { IfOk result (IsRun column.entry otherwise now manner.is_quiet languages read.entry description.now
+    ensures run { IfOk result (IsRun column.entry otherwise clocks.entry manner.is_quiet languages read.entry description.now
         (texts words.now) (I.remaining input.old) (W.contents output.old)
         (W.contents output.new)) }
 {
     let tables = StrftimeTables::new();
     match source_of(
         alloc,
-        now,
+        clocks,
         manner.is_colored,
         languages.read,
         &tables,

@@ -1,14 +1,17 @@
 //! What words are: names of moments, or texts of a description.
 
 ghost use Rattle.std.specs.Prelude.{◌≡◌, IfErr, IfOk, IfSome};
-ghost use Rattle.timefd_write.specs.Sources.{AreLeavesIn, IsMomentIn, IsSourceOf, IsTextOf};
+ghost use Rattle.timefd_write.specs.Sources.{AreLeavesIn, IsFoundIn, IsMomentIn, IsSourceOf, IsTextOf};
 
 use crate::description::{Reading, read};
 use crate::message::tell_fault;
 use crate::moment::{MomentError, moment_named};
+use crate::names::Names;
 use crate::outcome::RunError;
 use crate::read_back::{leaves_of, moment_read};
 use crate::warned::READ;
+use crate::zone::in_zone;
+use jiff_tz::TimeZone;
 use std::alloc::{AllocError, Global};
 use std::io::Write;
 use timefd_moment::Moment;
@@ -17,11 +20,29 @@ use timefd_parse::{BorrowedOutput, Language, StrftimeTables};
 
 /// What words are.
 #[derive(Drop)]
-pub enum Source<'a> {
-    /// Names of moments, beside the one that is now.
-    Names(Option<Moment>),
+pub enum SourceKind<'a> {
+    /// Names of moments.
+    Names(Names<'a>),
     /// Texts of this description.
     Texts(BorrowedOutput<'a>),
+}
+
+/// What words are, and what is made of the moments that they name or show.
+#[derive(Drop)]
+pub struct Source<'a> {
+    /// What words are.
+    pub kind: SourceKind<'a>,
+    /// The time zone on whose clock a moment is shown. Without one it stays as it is.
+    pub zone: Option<TimeZone<'a>>,
+}
+
+/// What the moments of a run depend on, beside their words.
+#[derive(Clone, Copy)]
+pub struct Clocks<'a> {
+    /// What words name.
+    pub names: Names<'a>,
+    /// The time zone on whose clock moments are shown.
+    pub zone: Option<TimeZone<'a>>,
 }
 
 /// What the words of a run are: texts of the description that `--read` has, or names. `None` where
@@ -29,25 +50,33 @@ pub enum Source<'a> {
 /// ran out.
 pub fn source_of<'a, E: Write>(
     alloc: Global,
-    now: Option<Moment>,
+    clocks: Clocks<'a>,
     is_colored: bool,
     language: Language,
     tables: &'a StrftimeTables<'a>,
     description: Option<&'a str>,
     errors: &mut E,
 ) -> Result<Option<Source<'a>>, RunError>
-    ensures source { IfOk result (IsSourceOf now language description.entry) }
+    ensures source { IfOk result (IsSourceOf clocks.entry language description.entry) }
     ensures memory { IfErr result (λ error. error ≡ RunError.Memory) }
 {
     let Some(text) = description else {
-        return Ok(Some(Source::Names(now)));
+        return Ok(Some(Source {
+            kind: SourceKind::Names(clocks.names),
+            zone: clocks.zone,
+        }));
     };
     match read(alloc, language, tables, text)? {
         Reading::Refused(diagnostic) => {
             tell_fault(alloc, is_colored, READ, text, &diagnostic, errors)?;
             Ok(None)
         }
-        Reading::Description(description) => Ok(Some(Source::Texts(description))),
+        Reading::Description(description) => {
+            Ok(Some(Source {
+                kind: SourceKind::Texts(description),
+                zone: clocks.zone,
+            }))
+        }
     }
 }
 
@@ -59,13 +88,15 @@ pub fn source_leaves<'s>(
 ) -> Result<Option<Vec<Leaf<'s>>>, AllocError>
     ensures { IfOk result (λ found. IfSome found (λ leaves. IsTextOf source.now leaves.items)) }
 {
-    match source {
-        Source::Names(_) => Ok(None),
-        Source::Texts(description) => leaves_of(alloc, description),
+    match &source.kind {
+        SourceKind::Names(_) => Ok(None),
+        SourceKind::Texts(description) => leaves_of(alloc, description),
     }
 }
 
-/// The moment that a word names, or that it shows by the description or its leaves.
+/// The moment that a word names, or that it shows by the description or its leaves, on the clock of the time
+/// zone that the source has.
+#[tactic(auto, using(crate::proofs::MomentLemmas::shown_in))]
 pub fn moment_in(
     source: &Source<'_>,
     leaves: Option<&[Leaf<'_>]>,
@@ -74,8 +105,26 @@ pub fn moment_in(
     requires { AreLeavesIn source.now leaves }
     ensures { IsMomentIn source.now word.now result }
 {
-    match source {
-        Source::Names(now) => moment_named(*now, word),
-        Source::Texts(description) => moment_read(description, leaves, word),
+    match moment_found(source, leaves, word) {
+        Ok(moment) => match &source.zone {
+            Some(zone) => in_zone(zone, moment),
+            None => Ok(moment),
+        },
+        Err(error) => Err(error),
+    }
+}
+
+// The moment that a word names, or that it shows by the description or its leaves.
+fn moment_found(
+    source: &Source<'_>,
+    leaves: Option<&[Leaf<'_>]>,
+    word: &str,
+) -> Result<Moment, MomentError>
+    requires { AreLeavesIn source.now leaves }
+    ensures { IsFoundIn source.now word.now result }
+{
+    match &source.kind {
+        SourceKind::Names(names) => moment_named(*names, word),
+        SourceKind::Texts(description) => moment_read(description, leaves, word),
     }
 }

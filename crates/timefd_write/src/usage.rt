@@ -17,8 +17,9 @@ pub const USAGE: &str = "usage: timefd_format [OPTION].. [--] DESCRIPTION [MOMEN
 
 Writes each moment by the format description, a line each. Without a moment it reads them from the
 standard input, one a line. A moment is a date, with a time of day and an offset where they are
-known, as 2026-11-23T05:36:07.25+01:00; the word now is that of the program's start, and @1700000000
-that many seconds after 1970 began, both in UTC.
+known, as 2026-11-23T05:36:07.25+01:00, which a zone may follow, as [Europe/Berlin]; the word now is
+that of the program's start in the zone of TZ, and @1700000000 that many seconds after 1970 began, in
+UTC.
 
   --language LANGUAGE            the language of the descriptions: 1, 2, 3 (if it isn't given),
                                  strftime of time, or python, c, gnu, chrono, jiff, ruby, java,
@@ -33,6 +34,8 @@ that many seconds after 1970 began, both in UTC.
   --guess [TEXT]..               writes the descriptions of version 3 that read all the texts and write
                                  them back, likeliest first; without a text those that read all
                                  lines of the standard input
+  --zone ZONE                    shows each moment on the clock of this time zone, as Europe/Berlin;
+                                 its date, time and offset have to be known
   --quiet, -q                    leaves out warnings: no component in a description, or text that
                                  another language reads as one
   --help, -h                     writes this
@@ -86,6 +89,12 @@ pub fn sentence(alloc: Global, error: OptionError<'_>) -> Result<String, AllocEr
         OptionError::NoOtherwise(word) => {
             let word = safe(alloc, word)?;
             format!(in alloc; "`{word}` is no value of `--else`: one of keep, empty, fail")
+        }
+        OptionError::MissingZone => {
+            String::from_str(
+                alloc,
+                "`--zone` wants a value: a time zone, as Europe/Berlin",
+            )
         }
         OptionError::MomentBesideColumn => String::from_str(
             alloc,

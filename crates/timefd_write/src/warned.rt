@@ -7,7 +7,7 @@ ghost use Rattle.timefd_write.specs.Warned.{output_parts};
 
 use crate::language::Languages;
 use crate::message::{Manner, tell};
-use crate::source::Source;
+use crate::source::{Source, SourceKind};
 use std::alloc::{AllocError, Global};
 use std::io::Write;
 use timefd_drawing::{Format, Origin, Style};
@@ -105,9 +105,9 @@ fn warned_by(
 fn warned_of_source(language: Language, source: &Source<'_>) -> Levels
     ensures { result ≡ spec.warned_of_source language source.now }
 {
-    match source {
-        Source::Names(_) => Levels::all_at(Level::Allowed),
-        Source::Texts(description) => warned_of(language, description),
+    match &source.kind {
+        SourceKind::Names(_) => Levels::all_at(Level::Allowed),
+        SourceKind::Texts(description) => warned_of(language, description),
     }
 }
 

@@ -37,6 +37,8 @@ pub enum Word {
     Else,
     /// `--guess`, behind which all words are texts.
     Guess,
+    /// `--zone`, whose value is the word after it.
+    Zone,
     /// `--quiet` or `-q`.
     Quiet,
     /// `--help` or `-h`.
@@ -62,6 +64,7 @@ pub fn word_of(word: &str) -> Word
         "--csv" => Word::Csv,
         "--else" => Word::Else,
         "--guess" => Word::Guess,
+        "--zone" => Word::Zone,
         "--quiet" | "-q" => Word::Quiet,
         "--help" | "-h" => Word::Help,
         "--version" | "-V" => Word::Version,

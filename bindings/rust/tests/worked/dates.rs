@@ -125,10 +125,10 @@ fn dates_are_read() {
 
 /// Descriptions, dates, and the sentence of why they are not read.
 const UNREAD: &[(&str, &str, &str)] = &[
-    ("[month]", "1x", "the component `month` reads nothing at byte index 0"),
-    ("[day] [day]", "23 24", "the component `day` reads another value at byte index 3"),
-    ("é[day]/", "é23-", "the description has another text at byte index 4"),
-    ("[day]", "231", "the description ends at byte index 2"),
+    ("[month]", "1x", "the component `month` was expected at byte 0"),
+    ("[day] [day]", "23 24", "the component `day` has a different value at byte 3"),
+    ("é[day]/", "é23-", "another text was expected at byte 4"),
+    ("[day]", "231", "nothing may follow at byte 2"),
     ("[month]-[day]", "11-23", "the year was not read"),
     ("[year]-[month]-[day]", "2026-02-29", "the day disagrees with what else was read"),
 ];

@@ -65,16 +65,16 @@ fn other_texts_are_read() {
 
 /// Texts that are no moments, and why.
 const UNREAD: &[(&str, &str)] = &[
-    ("", "the component `year` reads nothing at byte index 0"),
-    ("Z", "the component `year` reads nothing at byte index 0"),
-    ("today", "the component `year` reads nothing at byte index 0"),
-    ("2026-13-23", "the component `month` reads nothing at byte index 5"),
+    ("", "the component `year` was expected at byte 0"),
+    ("Z", "the component `year` was expected at byte 0"),
+    ("today", "the component `year` was expected at byte 0"),
+    ("2026-13-23", "the component `month` was expected at byte 5"),
     ("2026-02-29", "the day disagrees with what else was read"),
-    ("2026-11-23T05:66:07", "the component `minute` reads nothing at byte index 14"),
-    ("2026-11-23T05:36:07+0100", "the description ends at byte index 19"),
-    ("2026-11-23é05:36:07", "the description ends at byte index 10"),
-    ("2026-11-23T05:36:07.", "the component `subsecond` reads nothing at byte index 20"),
-    ("05:36:07+27:00", "the component `offset_hour` reads nothing at byte index 8"),
+    ("2026-11-23T05:66:07", "the component `minute` was expected at byte 14"),
+    ("2026-11-23T05:36:07+0100", "nothing may follow at byte 19"),
+    ("2026-11-23é05:36:07", "nothing may follow at byte 10"),
+    ("2026-11-23T05:36:07.", "the component `subsecond` was expected at byte 20"),
+    ("05:36:07+27:00", "the component `offset_hour` was expected at byte 8"),
 ];
 
 #[test]

@@ -28,7 +28,7 @@ fn values_are_texts() {
 #[test]
 fn bad_values_are_refused() {
     let error = serde_json::from_str::<Date>(r#""2026-13-23""#).expect_err("there is no month 13");
-    let sentence = "the component `month` reads nothing at byte index 5 at line 1 column 12";
+    let sentence = "the component `month` was expected at byte 5 at line 1 column 12";
     assert_eq!(error.to_string(), sentence);
     let error = serde_json::from_str::<Moment>("5").expect_err("a number is no text");
     assert!(error.to_string().contains("expected a date, a time of day or both"), "{error}");

@@ -1,0 +1,22 @@
+-- Why a word isn't read.
+use Rattle.std.proofs.Common.{ℕ, ◌≡◌, inl, inr, Option, refl, subst}
+use Rattle.timefd_component.specs.Tree.{Text}
+use Rattle.timefd_read_dates.specs.declared.fault.ReadError.{ReadError}
+use Rattle.timefd_read_text.specs.Sentences.{unread_sentence}
+use Rattle.timefd_write.specs.declared.moment.MomentError.TheVariants as fails
+use Rattle.timefd_write.specs.declared.source.Source.{Source}
+use Rattle.timefd_write.specs.Expected.{IsExpectedIn}
+use Rattle.timefd_write.specs.Messages.{IsStopSentence, IsUnreadMessage, expected_sentence, not_read}
+
+pub plain : (source : Source) (word : Text) (u : ReadError) (why : Text) → why ≡ unread_sentence u
+    → IsStopSentence source word u why
+plain source word u why is = inl is
+
+pub named : (source : Source) (word : Text) (u : ReadError) (why literal : Text) → IsExpectedIn source word literal
+    → why ≡ expected_sentence literal u.index → IsStopSentence source word u why
+named source word u why literal expected is = inr (literal, expected, is)
+
+pub unread : (source : Source) (line : Option ℕ) (word : Text) (u : ReadError) (why message : Text)
+    → IsStopSentence source word u why → message ≡ not_read line word why
+    → IsUnreadMessage source line word (fails.Unread u) message
+unread source line word u why message stop is = (why, stop, is)

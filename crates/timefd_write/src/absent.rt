@@ -1,0 +1,91 @@
+//! Days that there are not, as 31 February.
+
+ghost use Rattle.std.specs.Prelude.{◌≡◌, ◌≤◌, IfOk, string_bytes};
+ghost use Rattle.timefd_write.specs.Absent as spec;
+
+use std::alloc::{AllocError, Global};
+use timefd_moment::{ComponentRange, Date};
+use timefd_read_dates::{Fields, Signed};
+
+/// A day that a month doesn't have: of February 2026 the day 31.
+#[derive(Clone, Copy)]
+pub struct AbsentDay {
+    /// The year, before the year 0 as a negative number.
+    pub year: i32,
+    /// The month, from 1.
+    pub month: u8,
+    /// The day.
+    pub day: u8,
+}
+
+/// The day that the fields have of a month which doesn't have it. `None` where it has, or where a year, a month
+/// and a day weren't all read.
+pub fn absent_day(fields: &Fields) -> Option<AbsentDay>
+    ensures { result ≡ spec.absent_day fields.now }
+{
+    match (fields.year, fields.month, fields.day) {
+        (Some(year), Some(month), Some(day)) => absent_of(year, month, day),
+        _ => None,
+    }
+}
+
+// That of these numbers, as far as dates may have them.
+fn absent_of(year: Signed, month: u16, day: u16) -> Option<AbsentDay>
+    ensures { result ≡ spec.absent_of year month day }
+{
+    if year.magnitude > 999_999 || month > 255 || day > 255 {
+        return None;
+    }
+    absent_if(signed_year(year), month as u8, day as u8)
+}
+
+fn signed_year(year: Signed) -> i32
+    requires { year.magnitude ≤ 999999 }
+    ensures { result ≡ spec.signed_year year }
+{
+    if year.is_negative {
+        -(year.magnitude as i32)
+    } else {
+        year.magnitude as i32
+    }
+}
+
+fn absent_if(year: i32, month: u8, day: u8) -> Option<AbsentDay>
+    ensures { result ≡ spec.absent_if year month day }
+{
+    match Date::from_calendar_date(year, month, day) {
+        Ok(_) => None,
+        Err(fault) => match fault {
+            ComponentRange::Day => Some(AbsentDay { year, month, day }),
+            _ => None,
+        },
+    }
+}
+
+/// `February 2026 has no day 31`. An `Err` says that memory ran out.
+pub fn absent_sentence(alloc: Global, absent: AbsentDay) -> Result<String, AllocError>
+    ensures { IfOk result (λ text. string_bytes text ≡ spec.absent_sentence absent) }
+{
+    let (month, year, day) = (month_name(absent.month), absent.year, absent.day);
+    format!(in alloc; "{month} {year} has no day {day}")
+}
+
+// The name of a month from 1.
+fn month_name(month: u8) -> &'static str
+    ensures { result.now ≡ spec.month_name month }
+{
+    match month {
+        1 => "January",
+        2 => "February",
+        3 => "March",
+        4 => "April",
+        5 => "May",
+        6 => "June",
+        7 => "July",
+        8 => "August",
+        9 => "September",
+        10 => "October",
+        11 => "November",
+        _ => "December",
+    }
+}

@@ -1,0 +1,34 @@
+//! Moments on the clock of a time zone.
+
+ghost use Rattle.std.specs.Prelude.{◌≡◌};
+ghost use Rattle.timefd_write.specs.Zones as spec;
+ghost use Rattle.timefd_write.specs.Zones.{IsInZone};
+
+use crate::moment::MomentError;
+use jiff_tz::TimeZone;
+use timefd_jiff::moment_in_zone;
+use timefd_moment::{Moment, UnixTime};
+
+/// The instant of a moment whose date, time and offset are known.
+pub fn instant_of(moment: Moment) -> Option<UnixTime>
+    ensures { result ≡ spec.instant_of moment }
+{
+    match (moment.date, moment.time, moment.offset) {
+        (Some(date), Some(time), Some(offset)) => Some(UnixTime::of(date, time, offset)),
+        _ => None,
+    }
+}
+
+/// What a clock in the zone shows at the instant of a moment. An `Err` says that it is no instant, or beyond
+/// the years in which zones are known.
+pub fn in_zone(zone: &TimeZone<'_>, moment: Moment) -> Result<Moment, MomentError>
+    ensures { IsInZone zone.now moment result }
+{
+    let Some(instant) = instant_of(moment) else {
+        return Err(MomentError::NoInstant);
+    };
+    match moment_in_zone(zone, instant) {
+        Ok(moment) => Ok(moment),
+        Err(_) => Err(MomentError::Years),
+    }
+}

@@ -1,0 +1,206 @@
+//! The time zones of the system, from its files.
+
+use crate::clock::moment_now;
+use crate::names::Now;
+use jiff_tz::{SystemTimeZone, TimeZone, TimeZoneDatabase};
+use std::alloc::{AllocError, Global};
+use std::io::{ErrorKind, Read};
+use std::{env, fs};
+use strsim::damerau_levenshtein;
+use timefd_drawing::shown::safe;
+use timefd_jiff::Error;
+
+// Where systems keep their zones.
+const FOLDERS: [&str; 3] = [
+    "/usr/share/zoneinfo",
+    "/usr/share/lib/zoneinfo",
+    "/etc/zoneinfo",
+];
+
+// The longest file that is read as a zone. Those of the Time Zone Database have a few kilobytes.
+const LONGEST: u64 = 1 << 20;
+
+/// Time zones that were read, all or some of them.
+#[derive(Drop)]
+pub struct Zones {
+    /// Those that were read.
+    pub database: TimeZoneDatabase,
+    /// Whether these are all.
+    is_whole: bool,
+}
+
+impl Zones {
+    /// None but `UTC`.
+    pub fn new(rt: &HostRuntime) -> Zones {
+        Zones {
+            database: TimeZoneDatabase::new(rt.alloc()),
+            is_whole: false,
+        }
+    }
+
+    /// All zones of the system.
+    pub fn all(rt: &HostRuntime) -> Result<Zones, AllocError> {
+        match TimeZoneDatabase::from_env(rt) {
+            Ok(database) => Ok(Zones {
+                database,
+                is_whole: true,
+            }),
+            Err(_) => Err(AllocError),
+        }
+    }
+
+    /// Reads the zone of this name, in any case, where the system has one. One file is read, where that is
+    /// its name, and else all are.
+    pub fn with(mut self, rt: &HostRuntime, name: &str) -> Result<Zones, AllocError> {
+        if self.is_whole || self.has(name)? {
+            return Ok(self);
+        }
+        insert_zone(rt, &mut self.database, name)?;
+        if self.has(name)? {
+            Ok(self)
+        } else {
+            Zones::all(rt)
+        }
+    }
+
+    /// What is told of a name that no zone has.
+    pub fn unknown_sentence(&self, alloc: Global, name: &str) -> Result<String, AllocError> {
+        let nearest = self.nearest(alloc, name)?;
+        let name = safe(alloc, name)?;
+        match nearest {
+            Some(nearest) => {
+                format!(in alloc; "there is no time zone `{name}`; the nearest one is {nearest}")
+            }
+            None => {
+                format!(in alloc;
+                    "there is no time zone `{name}`; names are as Europe/Berlin and Etc/GMT+5"
+                )
+            }
+        }
+    }
+
+    // The name to which the fewest edits lead, where that are few.
+    fn nearest(&self, alloc: Global, name: &str) -> Result<Option<&str>, AllocError> {
+        let mut fewest = name.len() / 3 + 1;
+        let mut found = None;
+        for candidate in self.database.available() {
+            let edits = damerau_levenshtein(alloc, name, candidate)?;
+            if edits < fewest {
+                fewest = edits;
+                found = Some(candidate);
+            }
+        }
+        Ok(found)
+    }
+
+    fn has(&self, name: &str) -> Result<bool, AllocError> {
+        match self.database.get(name) {
+            Ok(_) => Ok(true),
+            Err(Error::TimeZoneNotFound) => Ok(false),
+            Err(_) => Err(AllocError),
+        }
+    }
+}
+
+/// The moment that is now, on the clock of the zone that `TZ` names; where that isn't set, of the zone of
+/// `/etc/localtime`, and of UTC where there is no such file.
+pub fn now_of(rt: &HostRuntime) -> Result<Now, AllocError> {
+    match SystemTimeZone::read(rt) {
+        Ok(system) => now_in(rt, &system),
+        Err(Error::OutOfMemory) => Err(AllocError),
+        Err(Error::Io(ErrorKind::NotFound)) if !is_set(rt) => Ok(now_at(rt, &TimeZone::UTC)),
+        Err(_) => Ok(Now::NoZone),
+    }
+}
+
+// Whether `TZ` is set.
+fn is_set(rt: &HostRuntime) -> bool {
+    !matches!(env::var(rt, "TZ"), Err(env::VarError::NotPresent))
+}
+
+fn now_in(rt: &HostRuntime, system: &SystemTimeZone) -> Result<Now, AllocError> {
+    let mut zones = TimeZoneDatabase::new(rt.alloc());
+    if let SystemTimeZone::Name { name, .. } = system {
+        insert_zone(rt, &mut zones, name)?;
+    }
+    match system.time_zone(&zones) {
+        Ok(zone) => Ok(now_at(rt, &zone)),
+        Err(Error::OutOfMemory) => Err(AllocError),
+        Err(_) => Ok(Now::NoZone),
+    }
+}
+
+fn now_at(rt: &HostRuntime, zone: &TimeZone<'_>) -> Now {
+    match moment_now(rt, zone) {
+        Some(moment) => Now::Shown(moment),
+        None => Now::NoClock,
+    }
+}
+
+// Reads the zone's file into the database, from the first folder that has it.
+fn insert_zone(
+    rt: &HostRuntime,
+    zones: &mut TimeZoneDatabase,
+    name: &str,
+) -> Result<(), AllocError> {
+    if !is_file_name(name) {
+        return Ok(());
+    }
+    if let Ok(folder) = env::var(rt, "TZDIR") {
+        if insert_from(rt, zones, &folder, name)? {
+            return Ok(());
+        }
+    }
+    for folder in FOLDERS {
+        if insert_from(rt, zones, folder, name)? {
+            return Ok(());
+        }
+    }
+    Ok(())
+}
+
+// Whether a name may be that of a zone's file below a folder: `Etc/GMT+5`, and neither `../zone` nor `/zone`.
+fn is_file_name(name: &str) -> bool {
+    !name.starts_with('/')
+        && name.bytes().all(|byte| {
+            byte.is_ascii_alphanumeric() || matches!(byte, b'_' | b'-' | b'+' | b'/')
+        })
+}
+
+// Reads the zone's file in the folder into the database. The answer is whether there is one.
+fn insert_from(
+    rt: &HostRuntime,
+    zones: &mut TimeZoneDatabase,
+    folder: &str,
+    name: &str,
+) -> Result<bool, AllocError> {
+    let path = format!(in rt.alloc(); "{folder}/{name}")?;
+    let Some(bytes) = bytes_of(rt, &path)? else {
+        return Ok(false);
+    };
+    match zones.insert(name, &bytes) {
+        Ok(()) => Ok(true),
+        Err(Error::OutOfMemory) => Err(AllocError),
+        Err(_) => Ok(false),
+    }
+}
+
+// The bytes of a file that may be a zone's.
+fn bytes_of(rt: &HostRuntime, path: &str) -> Result<Option<Vec<u8>>, AllocError> {
+    let is_file = match fs::metadata(rt, path) {
+        Ok(metadata) => metadata.is_file(),
+        Err(_) => false,
+    };
+    if !is_file {
+        return Ok(None);
+    }
+    let Ok(file) = fs::open(rt, path) else {
+        return Ok(None);
+    };
+    let mut bytes = Vec::new(rt.alloc());
+    match file.take(LONGEST).read_to_end(&mut bytes) {
+        Ok(_) => Ok(Some(bytes)),
+        Err(error) if error.kind() == ErrorKind::OutOfMemory => Err(AllocError),
+        Err(_) => Ok(None),
+    }
+}
