@@ -11,7 +11,7 @@ use Rattle.timefd_language.specs.Names.{Row, row_of}
 use Rattle.timefd_language.specs.Verdict.{PlacedDescription, bad_modifiers, settings, made, is_formatted, only, component_verdict, verdict}
 use Rattle.timefd_language.specs.Grammar.{Pieces, no_pieces, run, escape, closing, bracket, Nested, no_nested, nested, spelling, nested_text, items, ArePieces, AreNested, parts_from}
 use Rattle.timefd_language.specs.Letters.{Flag, letters, item_of}
-use Rattle.timefd_language.specs.Strftime.{Directives, no_directives, plain, directive, is_plain, flag_text, directives_text, directive_items, AreDirectives, SpellsStrftime}
+use Rattle.timefd_language.specs.Strftime.{Directives, no_directives, plain, directive, is_plain, flag_text, directives_text, directive_items, AreDirectives}
 use Rattle.timefd_language.proofs.Lookup.{Each, each-passes}
 use Rattle.timefd_language.proofs.ModernPieces.{item_has}
 use Rattle.timefd_language.proofs.Roomy.{behind_ok, made_ok, verdict_has}
@@ -19,7 +19,7 @@ use Rattle.timefd_language.proofs.Sizes.{length_one}
 use Rattle.timefd_parse.specs.declared.language.Language.{Language}
 use Rattle.timefd_parse.specs.declared.language.Language.TheVariants.{Version, Strftime}
 use Rattle.timefd_parse.specs.Language.{SpellsIn}
-use Rattle.timefd_c_nodes.specs.Encoding.{literals_of, own_text}
+use Rattle.timefd_c_nodes.specs.Encoding.{literals_of}
 use Rattle.timefd_c_nodes.proofs.WriteLemmas.{literals-length}
 use Rattle.timefd_c_nodes.proofs.TreeLemmas.{walked_length, walked_all_length}
 use Rattle.timefd_c_read.specs.Reports.{parts}
@@ -261,61 +261,6 @@ strftime_within bytes list h =
         within.literals,
         ap length h.2,
         ap (λ l. bytes_in_all (trees l)) h.3,
-      );
-    }
-
--- An item of a letter adds at most two bytes to the literals, by itself.
-
-letters_short : (f : Flag) → Each (λ l. length (own_text (l.item f)) ≤ 2) letters
-letters_short f =
-    each-passes (λ l. nat_le (length (own_text (l.item f))) 2)
-    (λ l. length (own_text (l.item f)) ≤ 2) (λ l e. grind (arith, e)) letters refl
-
--- as many items as bytes at most, and as many bytes of literals, where members don't count
-pub record ItemsWithin (list : List Tree) (text : Text) : Type 0 where
-  pub nodes : length list ≤ length text
-  pub literals : length (literals_of list) ≤ length text
-
-items_of : (ds : Directives) → AreDirectives ds → ItemsWithin (directive_items ds) (directives_text ds)
-unfolding item_of
-items_of no_directives are = record { nodes = omega arith; literals = omega arith }
-items_of (plain bytes rest) are =
-    let more = items_of rest are.2 in
-    record {
-      nodes = omega (arith, length_one is_plain bytes (directives_text rest) are.0, more.nodes);
-      literals = omega (
-        arith,
-        length-append bytes (directives_text rest),
-        length-append bytes (literals_of (directive_items rest)),
-        more.literals,
-      );
-    }
-items_of (directive f b tree rest) are =
-    let item = item_has (λ t. length (own_text t) ≤ 2) letters f b tree (letters_short f) are.2 in
-    let more = items_of rest are.3 in
-    let whole = length-append (flag_text f) (b ∷ directives_text rest) in
-    record {
-      nodes = omega (arith, whole, more.nodes);
-      literals = omega (
-        arith,
-        whole,
-        item,
-        more.literals,
-        length-append (own_text tree) (literals_of (directive_items rest)),
-      );
-    }
-
-pub items_within : (bytes : Text) (list : List Tree) → SpellsStrftime bytes list
-    → ItemsWithin list bytes
-items_within bytes list h =
-    let within = items_of h.0 h.1 in
-    record {
-      nodes = omega (arith, within.nodes, ap length h.2, ap length h.3);
-      literals = omega (
-        arith,
-        within.literals,
-        ap length h.2,
-        ap (λ l. length (literals_of l)) h.3,
       );
     }
 

@@ -3,3 +3,4 @@ pub mod PieceLemmas
 pub mod ProgressLemmas
 pub mod ReportLemmas
 pub mod WholeLemmas
+pub mod RoomLemmas

@@ -1,10 +1,12 @@
 //! Texts of strftime.
 
-ghost use Rattle.std.specs.Prelude.{◌≡◌, ◌<◌, List, None, IfSome, MatchResult, length};
+ghost use Rattle.std.specs.Prelude.{◌≡◌, ◌<◌, List, None, IfSome, IsTrue, MatchResult, length};
 ghost use Rattle.std.specs.Result.{IfErr};
+ghost use Rattle.timefd_borrowed_fault.specs.BorrowedFaults.{IsRefusal};
 ghost use Rattle.timefd_component.specs.Reserved.{reserve};
 ghost use Rattle.timefd_component.specs.Tree.{Tree, compound, trees};
 ghost use Rattle.timefd_language.specs.FaultMeaning.{MemoryOr};
+ghost use Rattle.timefd_language.specs.Invalid.{IsInvalid};
 ghost use Rattle.timefd_language.specs.Strftime.{SpellsStrftime};
 ghost use Rattle.timefd_node_list.specs.Views.{walked};
 ghost use Rattle.timefd_c_nodes.specs.Writing.{IsPast, IsWritten};
@@ -31,8 +33,11 @@ pub fn read_strftime<'a, const AS_ONE: bool>(
     nodes: &mut [Node],
     literals: &mut [u8],
 ) -> Result<Report, BorrowedParseError<'a>>
-    ensures { IsReadAs Language.Strftime 0 text.now (IsStrftimeReport AS_ONE nodes.old nodes.new
+    ensures reads { IsReadAs Language.Strftime 0 text.now (IsStrftimeReport AS_ONE nodes.old nodes.new
         literals.old literals.new) result }
+
+    // A `usize` counts one node for each item.
+    ensures counted { IsTrue AS_ONE → IfErr result IsRefusal }
 {
     match write_pieces::<AS_ONE>(text, nodes, literals) {
         Ok(all) => Ok(report_of(
@@ -46,7 +51,7 @@ pub fn read_strftime<'a, const AS_ONE: bool>(
 }
 
 /// Writes the pieces of a text, as far as there is room. The error is its fault, or `Memory` where a
-/// `usize` doesn't count what is written.
+/// `usize` doesn't count what is written; with one node for a composite letter it always does.
 #[inline(always)]
 fn write_pieces<'a, const AS_ONE: bool>(
     text: &'a str,
@@ -57,6 +62,7 @@ fn write_pieces<'a, const AS_ONE: bool>(
         × PiecesAreWritten AS_ONE list nodes.old nodes.new literals.old literals.new p)
         (MemoryOr (IsStrftimeFaultIn text.now)) }
     ensures some { IfErr result (λ _. 0 < length text.now) }
+    ensures counted { IsTrue AS_ONE → IfErr result IsInvalid }
 {
     let mut progress = NOTHING;
     let mut rest = text;

@@ -33,3 +33,4 @@ pub mod StampedAgainLemmas
 pub mod AgainLemmas
 pub mod ExampleLemmas
 pub mod StampExampleLemmas
+pub mod FaultLemmas

@@ -9,3 +9,4 @@ pub mod WrittenValues
 pub mod ShortYears
 pub mod Examples
 pub mod WrittenExamples
+pub mod Faults
