@@ -4,3 +4,4 @@ pub mod ProgressLemmas
 pub mod ReportLemmas
 pub mod WholeLemmas
 pub mod RoomLemmas
+pub mod CountedLemmas

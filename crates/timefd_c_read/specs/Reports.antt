@@ -1,5 +1,5 @@
 -- What is said and written of a description that is read as nodes.
-use Rattle.std.specs.Prelude.{ℕ, ◌≡◌, ◌≤◌, ◌++◌, ◌↔◌, IsTrue, IfOk, IsOk, List, MatchResult, Result, [], ◌∷◌, length, drop}
+use Rattle.std.specs.Prelude.{ℕ, ◌≡◌, ◌≤◌, ◌++◌, ◌↔◌, Bool, true, false, IsTrue, IfOk, IsOk, List, MatchResult, Result, [], ◌∷◌, length, drop}
 use Rattle.std.specs.Result.{IfErr}
 use Rattle.timefd_borrowed_fault.specs.declared.borrowed_parse_error.BorrowedParseError.{BorrowedParseError}
 use Rattle.timefd_borrowed_fault.specs.BorrowedFaults.{IsLent, IsLentOf, IsMemory}
@@ -87,3 +87,11 @@ abbrev pub IsRead : Language → ℕ → Text → List Node → List Node → Te
 IsRead language limit text nodes_before nodes_after before after r =
     IsReadAs language limit text
     (λ list x. IsReport language list nodes_before nodes_after before after x) r
+
+-- Versions 1 and 2 take no memory, and a `usize` counts what they write. In strftime it may not count the
+-- members of composite letters, and what version 3 nests takes memory.
+abbrev pub takes_none : Language → Bool
+takes_none (Version One) = true
+takes_none (Version Two) = true
+takes_none (Version Three) = false
+takes_none Strftime = false

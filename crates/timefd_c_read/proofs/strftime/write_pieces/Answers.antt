@@ -3,7 +3,7 @@ use Rattle.std.proofs.lemmas.Result.{err_from_is_err_and}
 use Rattle.timefd_strftime.specs.PieceMeaning.{piece_tree}
 use Rattle.timefd_strftime.proofs.DirectiveLemmas.{IsNext, all_read, continues_more, fault_behind}
 use Rattle.timefd_c_read.proofs.PieceLemmas.{piece_counted, pieces_more}
-use Rattle.timefd_c_read.proofs.RoomLemmas.{fits_more}
+use Rattle.timefd_c_read.proofs.CountedLemmas.{fits_more}
 use Rattle.timefd_c_read.proofs.strftime.write_pieces.Goals as goal
 
 pub returns-in_err-piece-clause-pieces : goal.returns-in_err-piece-clause-pieces

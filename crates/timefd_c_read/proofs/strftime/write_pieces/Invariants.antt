@@ -2,7 +2,7 @@ use Rattle.std.proofs.Common.{◌≤◌, ◌==◌, not, List, length, IsUtf8}
 use Rattle.timefd_component.specs.Tree.{Tree}
 use Rattle.timefd_strftime.proofs.DirectiveLemmas.{Continues}
 use Rattle.timefd_c_read.specs.Pieces.{PiecesAreWritten}
-use Rattle.timefd_c_read.proofs.RoomLemmas.{FitsIf}
+use Rattle.timefd_c_read.proofs.CountedLemmas.{FitsIf}
 use Rattle.timefd_c_read.proofs.strftime.write_pieces.Given as goal
 
 -- the pieces so far, which are written

@@ -58,4 +58,9 @@ pieces-preserved c =
       written_more c.pieces.invariant.2 next.0 _ _ _ _ _ _ _ _ _ c.pieces.invariant.4
           (c.in-Some-write_leaf.ensures.some next.0 (leaf_tree _ _ _ _ _ _ leaf next.2))
           c.one_more-progress.ensures,
+      subst (λ (p : Progress). Fits p.end c.args.text.now c.in-Some.after.now)
+          (sym c.one_more-progress.ensures)
+          (leaf_fits c.args.version c.args.limit _ c.pieces.rest.now c.in-Some.after.now c.in-Some.piece next.0
+          c.pieces.progress.end _ _ _ _ _ next.1.leads next.1.shorter (leaf_tree _ _ _ _ _ _ leaf next.2)
+          (c.in-Some-write_leaf.ensures.some next.0 (leaf_tree _ _ _ _ _ _ leaf next.2)) c.pieces.invariant.5),
     )
