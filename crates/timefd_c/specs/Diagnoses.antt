@@ -1,10 +1,10 @@
 -- What is answered to C of a fault.
-use Rattle.std.specs.Prelude.{ℕ, ◌≡◌, ◌≤◌, ◌<◌, ◌++◌, true, false, IsTrue, Option, Some, None, length, drop}
+use Rattle.std.specs.Prelude.{ℕ, ◌≡◌, ◌≤◌, ◌<◌, ◌++◌, true, false, Option, Some, None, length, drop}
 use Rattle.timefd_component.specs.Tree.{Text}
 use Rattle.timefd_fault.specs.Faults.{Fault}
 use Rattle.timefd_parse.specs.declared.language.Language.{Language}
 use Rattle.timefd_diagnosis.specs.Codes.{code_of}
-use Rattle.timefd_diagnosis.specs.Helps.{IsHelpFor, nearest_in, seeks_nearest}
+use Rattle.timefd_diagnosis.specs.Helps.{IsHelpFor, nearest_in}
 use Rattle.timefd_diagnosis.specs.Spans.{end_of}
 use Rattle.timefd_diagnosis.specs.declared.code.Code.{Code}
 use Rattle.timefd_diagnosis.specs.declared.code.Code.TheVariants.{UnclosedBracket, UnknownName, InvalidModifier, MissingName, MissingModifier, InvalidEscape, UnescapedBracket, MissingSpace, MissingDescription, MissingAlternative, NestedTooDeep, SeveralDescriptions, OptionalItem, FirstItem, UnsupportedFlag, UnsupportedLetter, NestedInComponent, DuplicateModifier, RefusedModifier}
@@ -55,7 +55,7 @@ IsWordTold (Some word) before after len written =
 IsWordTold None before after len written = (after ≡ before) × (len ≡ 0) × (written ≡ 0)
 
 -- The code is that of the fault, the bytes at fault are those of the linter's diagnosis, and the word is
--- the nearest one that its help names. Memory runs out only where such a word is sought.
+-- the nearest one that its help names.
 pub record IsDiagnosed (language : Language) (text : Text) (f : Fault) (before after : Text)
     (d : FaultFields) : Type 0 where
   pub code : d.code ≡ code_number (code_of f.kind)
@@ -65,4 +65,3 @@ pub record IsDiagnosed (language : Language) (text : Text) (f : Fault) (before a
       × IsWordTold (nearest_in help) before after d.nearest_len d.nearest_written
   pub unsought : d.out_of_memory ≡ true
       → IsWordTold None before after d.nearest_len d.nearest_written
-  pub memory : d.out_of_memory ≡ true → IsTrue (seeks_nearest language f.kind)

@@ -18,8 +18,7 @@ use timefd_parse::{BorrowedFault, Language};
 pub struct FaultFields {
     /// The number of its code.
     pub code: u32,
-    /// Whether memory ran out while the nearest word was sought. Then it is not told. Only a name or a
-    /// modifier's word that is no word of a version has one sought.
+    /// Whether memory ran out while the nearest word was sought. Then it is not told.
     pub out_of_memory: bool,
     /// The index of the first of the bytes at fault, that of the fault itself.
     pub start: usize,

@@ -1,8 +1,8 @@
 -- What helps against a fault.
-use Rattle.std.specs.Prelude.{ℕ, ◌≡◌, Bool, false, None, Option, map, take, option_map}
+use Rattle.std.specs.Prelude.{ℕ, ◌≡◌, Bool, None, Option, map, take, option_map}
 use Rattle.std.specs.Char.{to_ascii_lowercase}
 use Rattle.timefd_component.specs.Tree.{Text}
-use Rattle.timefd_fault.specs.Faults.{Fault, Kind, invalid_name, invalid_modifier, invalid_combination, quotes}
+use Rattle.timefd_fault.specs.Faults.{Fault, Kind, invalid_name, invalid_modifier, invalid_combination}
 use Rattle.timefd_language.specs.declared.description_version.DescriptionVersion.{DescriptionVersion}
 use Rattle.timefd_language.specs.Bytes.{is_version_three}
 use Rattle.timefd_parse.specs.declared.language.Language.{Language}
@@ -60,11 +60,6 @@ IsHelpFor (Version v) text f help = IsVersionHelp v text f.index f.kind help
 IsHelpFor Strftime text f (Advice words) = words.now ≡ strftime_advice (code_of f.kind)
 IsHelpFor Strftime text f (LeaveOut key) = ⊥
 IsHelpFor Strftime text f (Words at allowed nearest) = ⊥
-
--- Whether a nearest word is sought, which takes memory: only where a version's fault quotes the text.
-abbrev pub seeks_nearest : Language → Kind → Bool
-seeks_nearest (Version v) kind = quotes kind
-seeks_nearest Strftime kind = false
 
 -- the nearest of the words that a help names, if it names one
 abbrev pub nearest_in : Help → Option Text

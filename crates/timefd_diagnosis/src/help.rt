@@ -1,12 +1,10 @@
 //! What to write in place of what is at fault.
 
-ghost use Rattle.std.specs.Prelude.{◌≡◌, IfOk, IsTrue, MatchOption, option_map};
-ghost use Rattle.std.specs.Result.{IfErr};
+ghost use Rattle.std.specs.Prelude.{◌≡◌, IfOk, MatchOption, option_map};
 ghost use Rattle.std.specs.Str.{IsCharBoundary};
 ghost use Rattle.timefd_borrowed_fault.specs.BorrowedFaults.{lent_fault};
 ghost use Rattle.timefd_borrowed_fault.specs.Placed.{IsPlaced};
-ghost use Rattle.timefd_diagnosis.specs.Helps.{HasNoModifierPlace, IsHelpFor, IsModifierPlace, IsWordsHelp, nearest_in, seeks_nearest};
-ghost use Rattle.timefd_fault.specs.Faults.{quotes};
+ghost use Rattle.timefd_diagnosis.specs.Helps.{HasNoModifierPlace, IsHelpFor, IsModifierPlace, IsWordsHelp, nearest_in};
 
 use crate::code::Code;
 use crate::cure::{advice, strftime_advice};
@@ -45,8 +43,7 @@ impl Help {
     }
 }
 
-/// What helps against a fault of a text. An `Err` says that memory ran out, which the nearest word alone
-/// takes.
+/// What helps against a fault of a text. An `Err` says that memory ran out.
 pub fn help_against(
     alloc: Global,
     language: Language,
@@ -55,7 +52,6 @@ pub fn help_against(
 ) -> Result<Help, AllocError>
     requires { IsPlaced text.now (lent_fault fault) }
     ensures help { IfOk result (IsHelpFor language text.now (lent_fault fault.entry)) }
-    ensures memory { IfErr result (λ _. IsTrue (seeks_nearest language (lent_fault fault.entry).kind)) }
 {
     match language {
         Language::Version(version) => version_help(alloc, version, text, fault),
@@ -70,8 +66,7 @@ fn version_help(
     fault: BorrowedFault<'_>,
 ) -> Result<Help, AllocError>
     requires { IsPlaced text.now (lent_fault fault) }
-    ensures help { IfOk result (IsHelpFor (Language.Version version) text.now (lent_fault fault.entry)) }
-    ensures memory { IfErr result (λ _. IsTrue (quotes (lent_fault fault.entry).kind)) }
+    ensures { IfOk result (IsHelpFor (Language.Version version) text.now (lent_fault fault.entry)) }
 {
     match fault.rule {
         Rule::UnknownName(name) => words_help(alloc, version.is_strict(), Place::Name, name),
