@@ -34,3 +34,5 @@ pub mod AgainLemmas
 pub mod ExampleLemmas
 pub mod StampExampleLemmas
 pub mod FaultLemmas
+pub mod ValueFaultLemmas
+pub mod StampFaultLemmas

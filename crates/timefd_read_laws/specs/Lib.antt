@@ -10,3 +10,4 @@ pub mod ShortYears
 pub mod Examples
 pub mod WrittenExamples
 pub mod Faults
+pub mod ValueFaults
