@@ -1,5 +1,5 @@
 -- A `usize` counts the nodes of a text, and the bytes of its literals, where each item has one node.
-use Rattle.std.proofs.Common.{ℕ, ◌≡◌, ◌+◌, ◌<◌, ◌≤◌, ◌^◌, ◌⊎◌, inl, inr, Bool, true, false, List, [], ◌∷◌, ◌++◌, length, length-append, refl, sym, ap, subst, arith}
+use Rattle.std.proofs.Common.{ℕ, ◌≡◌, ◌+◌, ◌*◌, ◌<◌, ◌≤◌, ◌^◌, ◌⊎◌, inl, inr, Bool, true, false, List, [], ◌∷◌, ◌++◌, length, length-append, refl, sym, ap, subst, arith}
 use Rattle.timefd_borrowed_fault.specs.declared.borrowed_parse_error.BorrowedParseError.{BorrowedParseError}
 use Rattle.timefd_borrowed_fault.specs.declared.borrowed_parse_error.BorrowedParseError.TheVariants as told
 use Rattle.timefd_borrowed_fault.specs.BorrowedFaults.{IsLent, IsRefusal}
@@ -27,20 +27,27 @@ use Rattle.timefd_strftime.specs.StrftimeReading.{BeginsWithPiece, IsStrftimeFau
 use Rattle.timefd_c_nodes.specs.declared.node.Node.{Node}
 use Rattle.timefd_c_nodes.specs.declared.place.Place.{Place}
 use Rattle.timefd_c_nodes.specs.declared.place.Written.{Written}
-use Rattle.timefd_c_nodes.specs.Encoding.{own_text}
+use Rattle.timefd_c_nodes.specs.Encoding.{literals_of, own_text}
+use Rattle.timefd_c_nodes.proofs.TreeLemmas.{walked_length}
 use Rattle.timefd_c_nodes.specs.Writing.{IsPast, IsWritten}
 use Rattle.timefd_c_read.specs.Pieces.{PieceIsPast, PieceIsWritten}
-use Rattle.timefd_c_read.proofs.RoomLemmas.{bytes_in, items_within, spelled_within}
+use Rattle.timefd_c_read.specs.Reports.{IsCounted}
+use Rattle.timefd_c_read.proofs.RoomLemmas.{bytes_in, items_within, spelled_within, strftime_within, walked_bytes}
 
 -- The place is within what was read of a text, of which so much is left.
 pub record Fits (end : Place) (text rest : Text) : Type 0 where
   pub nodes : end.nodes + length rest ≤ length text
   pub literals : end.literals + length rest ≤ length text
 
--- where a piece is one node
+-- the same with the members of composite letters
+pub record FitsMembers (end : Place) (text rest : Text) : Type 0 where
+  pub nodes : end.nodes + 7 * length rest ≤ 7 * length text
+  pub literals : end.literals + 3 * length rest ≤ 3 * length text
+
+-- where a piece is one node, or not
 abbrev pub FitsIf : Bool → Place → Text → Text → Type 0
 FitsIf true end text rest = Fits end text rest
-FitsIf false end text rest = Unit {0}
+FitsIf false end text rest = FitsMembers end text rest
 
 -- What stands in front of the rest is a piece, and has no fewer bytes than that adds to the literals.
 pub record IsFront (text : Text) (tree : Tree) (rest : Text) : Type 0 where
@@ -63,10 +70,35 @@ directive_front text piece rest begins =
       own = omega (arith, few.literals, length-append (own_text (piece_tree piece)) []);
     }
 
+-- what it adds with its members
+record IsMembersFront (text : Text) (tree : Tree) (rest : Text) : Type 0 where
+  front : Text
+  whole : text ≡ front ++ rest
+  nodes : length (walked tree) ≤ 7 * length front
+  literals : length (literals_of (walked tree)) ≤ 3 * length front
+
+members_front : (text : Text) (piece : StrftimePiece) (rest : Text) → BeginsWithPiece text piece rest
+    → IsMembersFront text (piece_tree piece) rest
+members_front text piece rest begins =
+    let led = begins.leads no_directives rest tt refl in
+    let few = strftime_within (directives_text led.0) (piece_tree piece ∷ []) (led.0, led.1, refl, sym led.3) in
+    record {
+      front = directives_text led.0;
+      whole = led.2;
+      nodes = omega (arith, few.nodes, walked_length (piece_tree piece));
+      literals = omega (arith, few.literals, walked_bytes (piece_tree piece));
+    }
+
 pub fits_more : (one : Bool) (text rest after : Text) (piece : StrftimePiece) (at : Place) (w : Written)
     (ns ms : List Node) (a b : Text) → BeginsWithPiece rest piece after
     → PieceIsWritten one piece at ns ms a b w → FitsIf one at text rest → FitsIf one w.end text after
-fits_more false text rest after piece at w ns ms a b begins is fits = tt
+fits_more false text rest after piece at w ns ms a b begins is fits =
+    let f = members_front rest piece after begins in
+    let cut = length-append f.front after in
+    record {
+      nodes = omega (arith, fits.nodes, is.within.node_at, f.nodes, ap length f.whole, cut);
+      literals = omega (arith, fits.literals, is.within.literal_at, f.literals, ap length f.whole, cut);
+    }
 fits_more true text rest after piece at w ns ms a b begins is fits =
     let f = directive_front rest piece after begins in
     let own = length-append (own_text (piece_tree piece)) [] in
@@ -77,9 +109,17 @@ fits_more true text rest after piece at w ns ms a b begins is fits =
     }
 
 -- A `usize` counts the place behind each piece.
-pub none_past : (text rest after : Text) (piece : StrftimePiece) (at : Place) → length text < 2 ^ 64
-    → BeginsWithPiece rest piece after → Fits at text rest → PieceIsPast true piece at → ⊥
-none_past text rest after piece at small begins fits past =
+pub none_past : (one : Bool) (text rest after : Text) (piece : StrftimePiece) (at : Place) → length text < 2 ^ 64
+    → IsCounted one (length text) → BeginsWithPiece rest piece after → FitsIf one at text rest
+    → PieceIsPast one piece at → ⊥
+none_past false text rest after piece at small counted begins fits past =
+    let f = members_front rest piece after begins in
+    let cut = length-append f.front after in
+    elim past [
+      | inl many ↦ omega (arith, counted, fits.nodes, many, f.nodes, ap length f.whole, cut)
+      | inr many ↦ omega (arith, counted, fits.literals, many, f.literals, ap length f.whole, cut)
+    ]
+none_past true text rest after piece at small counted begins fits past =
     let f = directive_front rest piece after begins in
     let own = length-append (own_text (piece_tree piece)) [] in
     let cut = length-append f.front after in

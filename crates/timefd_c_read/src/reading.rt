@@ -1,6 +1,6 @@
 //! Texts of each language, read as nodes.
 
-ghost use Rattle.std.specs.Prelude.{◌≡◌, ◌≤◌, [], List, IfOk, IsOk, IsTrue, MatchResult};
+ghost use Rattle.std.specs.Prelude.{◌≡◌, ◌≤◌, [], List, IfOk, IsOk, MatchResult, length};
 ghost use Rattle.std.specs.Result.{IfErr};
 ghost use Rattle.timefd_borrowed_fault.specs.BorrowedFaults.{IsLent, IsLentOf, IsMemory, IsRefusal};
 ghost use Rattle.timefd_component.specs.Tree.{Tree};
@@ -8,7 +8,7 @@ ghost use Rattle.timefd_fault.specs.Faults as spec;
 ghost use Rattle.timefd_language.specs.Grammar.{nesting_limit};
 ghost use Rattle.timefd_parse.specs.Language.{FaultIn, SpellsIn};
 ghost use Rattle.timefd_c_read.specs.Pieces.{IsReportOfPieces};
-ghost use Rattle.timefd_c_read.specs.Reports.{IsReport, takes_none};
+ghost use Rattle.timefd_c_read.specs.Reports.{IsReport, TakesNone};
 
 use crate::nested::read_version_three;
 use crate::report::Report;
@@ -44,9 +44,9 @@ pub fn read<'a>(
     ensures refused { (f : spec.Fault) → FaultIn language nesting_limit text.now f
         → MatchResult result (λ _. ⊥) (IsLent f) }
 
-    // The empty text takes no memory, and neither do versions 1 and 2.
+    // The empty text takes no memory, and neither do versions 1 and 2, nor strftime.
     ensures empty { text.now ≡ [] → IsOk result }
-    ensures memory { IsTrue (takes_none language) → IfErr result IsRefusal }
+    ensures memory { TakesNone language (length text.now) → IfErr result IsRefusal }
 {
     read_within(alloc, language, NESTING_LIMIT, text, nodes, literals)
 }
@@ -80,9 +80,9 @@ pub fn read_within<'a>(
     ensures refused { (f : spec.Fault) → FaultIn language limit text.now f
         → MatchResult result (λ _. ⊥) (IsLent f) }
 
-    // The empty text takes no memory, and neither do versions 1 and 2.
+    // The empty text takes no memory, and neither do versions 1 and 2, nor strftime.
     ensures empty { text.now ≡ [] → IsOk result }
-    ensures memory { IsTrue (takes_none language) → IfErr result IsRefusal }
+    ensures memory { TakesNone language (length text.now) → IfErr result IsRefusal }
 {
     match language {
         Language::Strftime => read_strftime::<false>(text, nodes, literals),

@@ -1,6 +1,6 @@
 //! Texts of strftime.
 
-ghost use Rattle.std.specs.Prelude.{◌≡◌, ◌<◌, List, None, IfSome, IsTrue, MatchResult, length};
+ghost use Rattle.std.specs.Prelude.{◌≡◌, ◌<◌, List, None, IfSome, MatchResult, length};
 ghost use Rattle.std.specs.Result.{IfErr};
 ghost use Rattle.timefd_borrowed_fault.specs.BorrowedFaults.{IsRefusal};
 ghost use Rattle.timefd_component.specs.Reserved.{reserve};
@@ -13,7 +13,7 @@ ghost use Rattle.timefd_c_nodes.specs.Writing.{IsPast, IsWritten};
 ghost use Rattle.timefd_strftime.specs.LetterMeaning.{composite_list};
 ghost use Rattle.timefd_strftime.specs.StrftimeReading.{IsStrftimeFaultIn};
 ghost use Rattle.timefd_c_read.specs.Pieces.{IsStrftimeReport, PieceIsPast, PieceIsWritten, PiecesAreWritten};
-ghost use Rattle.timefd_c_read.specs.Reports.{IsReadAs};
+ghost use Rattle.timefd_c_read.specs.Reports.{IsCounted, IsReadAs};
 
 use crate::composite::put_composite;
 use crate::leaf::write_component;
@@ -36,8 +36,7 @@ pub fn read_strftime<'a, const AS_ONE: bool>(
     ensures reads { IsReadAs Language.Strftime 0 text.now (IsStrftimeReport AS_ONE nodes.old nodes.new
         literals.old literals.new) result }
 
-    // A `usize` counts one node for each item.
-    ensures counted { IsTrue AS_ONE → IfErr result IsRefusal }
+    ensures counted { IsCounted AS_ONE (length text.now) → IfErr result IsRefusal }
 {
     match write_pieces::<AS_ONE>(text, nodes, literals) {
         Ok(all) => Ok(report_of(
@@ -62,7 +61,7 @@ fn write_pieces<'a, const AS_ONE: bool>(
         × PiecesAreWritten AS_ONE list nodes.old nodes.new literals.old literals.new p)
         (MemoryOr (IsStrftimeFaultIn text.now)) }
     ensures some { IfErr result (λ _. 0 < length text.now) }
-    ensures counted { IsTrue AS_ONE → IfErr result IsInvalid }
+    ensures counted { IsCounted AS_ONE (length text.now) → IfErr result IsInvalid }
 {
     let mut progress = NOTHING;
     let mut rest = text;
