@@ -164,8 +164,15 @@ leaf_fits v limit text rest after (pieces.Literal bytes) tree at w ns ms a b lea
         → IsWritten (walked (literal bytes.now)) (reserve (literal bytes.now)) at ns ms a b w → Fits w.end text after
     by f is = record {
       nodes = omega (arith, fits.nodes, is.within.node_at, f.some, ap length f.whole, length-append f.front after);
-      literals = omega (arith, fits.literals, is.within.literal_at, f.own, length-append bytes.now [],
-        ap length f.whole, length-append f.front after);
+      literals = omega (
+        arith,
+        fits.literals,
+        is.within.literal_at,
+        f.own,
+        length-append bytes.now [],
+        ap length f.whole,
+        length-append f.front after,
+      );
     }
 leaf_fits v limit text rest after (pieces.Component c count) tree at w ns ms a b leads less leaf is fits =
     by (piece_front v limit rest tree after leads less)
@@ -188,8 +195,16 @@ leaf_counted v limit text rest after (pieces.Literal bytes) tree at small leads 
   where
     by : IsFront rest (literal bytes.now) after → IsPast (walked (literal bytes.now)) at → ⊥
     by f (inl many) = omega (arith, small, fits.nodes, many, f.some, ap length f.whole, length-append f.front after)
-    by f (inr many) = omega (arith, small, fits.literals, many, f.own, length-append bytes.now [], ap length f.whole,
-      length-append f.front after)
+    by f (inr many) = omega (
+      arith,
+      small,
+      fits.literals,
+      many,
+      f.own,
+      length-append bytes.now [],
+      ap length f.whole,
+      length-append f.front after,
+    )
 leaf_counted v limit text rest after (pieces.Component c count) tree at small leads less leaf fits past =
     by (piece_front v limit rest tree after leads less) (subst (λ t. IsPast (walked t) at) leaf past)
   where

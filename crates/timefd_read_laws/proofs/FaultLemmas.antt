@@ -84,7 +84,7 @@ module _ (c : Component) (p : Point) where
       → ((q : Point) × Reads (component c) p q) ⊎ ((q : Point) × (r : Reason) × Stops (component c) p q r)
   component_agreed None reading len i w =
       let f : read (component c) p ≡ fault_at p (for.Contradiction (modern c)) =
-        ap (taken (modern c) p) i ∙ ap (agreed (modern c) p len) w in
+      ap (taken (modern c) p) i ∙ ap (agreed (modern c) p len) w in
       inr (p, for.Contradiction (modern c), (refl, (refl, ap is_some i, λ q is. excludes (component c) p p q _ f is)))
   component_agreed (Some f) reading len i w =
       inl (at (drop len p.rest) f, (reading, len, i, w, refl))
@@ -117,10 +117,19 @@ module _ (bytes : Text) (p : Point) where
 
   literal_answered : (t : Bool) → starts_with eqb p.rest bytes ≡ t
       → ((q : Point) × Reads (literal bytes) p q) ⊎ ((q : Point) × (r : Reason) × Stops (literal bytes) p q r)
-  literal_answered true is = inl (at (drop (length bytes) p.rest) p.fields,
-    ((starts_is unsigned_Decides p.rest bytes (starts_with eqb p.rest bytes) refl).0 is, refl))
-  literal_answered false is = inr (p, for.Literal, (refl, λ rest e. clash false
-    (sym is ∙ (starts_is unsigned_Decides p.rest bytes (starts_with eqb p.rest bytes) refl).1 rest e) refl))
+  literal_answered true is = inl (
+    at (drop (length bytes) p.rest) p.fields,
+    ((starts_is unsigned_Decides p.rest bytes (starts_with eqb p.rest bytes) refl).0 is, refl),
+  )
+  literal_answered false is = inr (
+    p,
+    for.Literal,
+    (
+      refl,
+      λ rest e. clash false
+          (sym is ∙ (starts_is unsigned_Decides p.rest bytes (starts_with eqb p.rest bytes) refl).1 rest e) refl,
+    ),
+  )
 
 -- what stops is answered as a fault
 
@@ -245,16 +254,18 @@ whole_answered t text f is = ap (whole (length text)) ((reads_exactly t (start t
 
 has_fault : (t : Tree) (text front rest : Text) (f : Fields) (r : Reason) → text ≡ front ++ rest
     → (Stops t (start text) (at rest f) r ⊎ Trails t text (at rest f) r) → (e : ReadError) × HasFault t text e
-has_fault t text front rest f r cut why = (record { reason = r; index = length front },
-  record { front = front; rest = rest; fields = f; cut = cut; place = refl; why = why })
+has_fault t text front rest f r cut why = (
+  record { reason = r; index = length front },
+  record { front = front; rest = rest; fields = f; cut = cut; place = refl; why = why },
+)
 
 whole_or_fault : (t : Tree) (text : Text)
     → ((f : Fields) × ReadsWhole t text f) ⊎ ((e : ReadError) × HasFault t text e)
 whole_or_fault t text = elim (answered t (start text)) [
   | inl a ↦ left a.0.rest a.0.fields a.1
   | inr a ↦
-    let cut = stops_front t (start text) a.0 a.1 a.2 in
-    inr (has_fault t text cut.0 a.0.rest a.0.fields a.1 cut.1 (inl a.2))
+      let cut = stops_front t (start text) a.0 a.1 a.2 in
+      inr (has_fault t text cut.0 a.0.rest a.0.fields a.1 cut.1 (inl a.2))
 ]
   where
     left : (rest : Text) (f : Fields) → Reads t (start text) (at rest f)

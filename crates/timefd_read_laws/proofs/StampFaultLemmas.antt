@@ -123,8 +123,8 @@ stamped_names f u (error.Contradiction p) has is = by (is_read f p) refl
     by true e = refl
     by false e =
         let none : stamp_fault f (zone_read f) ≡ Some p = is.1.1 (λ d t o at.
-          clash (moment_has f d t o p) (first_is (moment_has f d t o) moment_parts p (is.1.0 d t o at))
-          (moment_unread f d t o at.1 p e)) in
+        clash (moment_has f d t o p) (first_is (moment_has f d t o) moment_parts p (is.1.0 d t o at))
+        (moment_unread f d t o at.1 p e)) in
         sym e ∙ subst (λ o. IfSome o (λ q. is_read f q ≡ true)) none
         (stamp_was f (zone_read f) refl
         (finest_was f f.unix_nanosecond f.unix_microsecond f.unix_millisecond f.unix_second u refl refl refl refl has))
