@@ -76,31 +76,18 @@ nesting_at_first start text t rest ns finds s n =
       goes_on = λ spans h. held_stand start t text b.inside b.head rest spans n b.holds b.is_head cut h;
     }
 
--- where the first bracket of a nested description stands
-pub record OpensAt (start : ℕ) (text rest inner behind : Text) (at : ℕ) : Type 0 where
-  pub front : Text
-  pub white : Text
-  pub cut : text ≡ front ++ rest
-  pub opens : rest ≡ white ++ left ∷ (inner ++ right ∷ behind)
-  pub is : at ≡ start + length front + length white
-
-pub opens_at : (start : ℕ) (t : Tree) (text rest inner behind : Text) (old a : List Node)
+-- a nested description and its brackets end within the text
+pub nested_ends : (start : ℕ) (t : Tree) (text rest inner behind : Text) (old a : List Node)
     → BeginsNested Three rest inner behind → NestingAt start t text rest old a
-    → OpensAt start text rest inner behind (start + (length text - (length behind + length inner + 2)))
-opens_at start t text rest inner behind old a begins before = record {
-  front = before.front;
-  white = begins.white;
-  cut = before.cut;
-  opens = begins.whole;
-  is = omega (
-    arith,
-    ap length before.cut,
-    length-append before.front rest,
-    ap length begins.whole,
-    length-append begins.white (left ∷ (inner ++ right ∷ behind)),
-    length-append inner (right ∷ behind),
-  );
-}
+    → length behind + length inner + 2 ≤ length text
+nested_ends start t text rest inner behind old a begins before = omega (
+  arith,
+  ap length before.cut,
+  length-append before.front rest,
+  ap length begins.whole,
+  length-append begins.white (left ∷ (inner ++ right ∷ behind)),
+  length-append inner (right ∷ behind),
+)
 
 pub nesting_at_more : (start : ℕ) (t : Tree) (text rest inner behind : Text) (at : ℕ) (old a b : List Node)
     → BeginsNested Three rest inner behind

@@ -1,5 +1,5 @@
 -- Where nodes stand that are appended, one after another.
-use Rattle.std.proofs.Common.{ℕ, ◌≡◌, ◌∙◌, ◌+◌, ◌<◌, ◌≤◌, ◌^◌, List, [], ◌∷◌, ◌++◌, length, map, drop, get_or, Result, Ok, Err, OnOk, refl, sym, ap, subst, arith, append_assoc, append-nil, length-append}
+use Rattle.std.proofs.Common.{ℕ, Bool, ◌≡◌, ◌∙◌, ◌+◌, ◌<◌, ◌≤◌, ◌^◌, List, [], ◌∷◌, ◌++◌, length, map, drop, get_or, Result, Ok, Err, OnOk, refl, sym, ap, subst, arith, append_assoc, append-nil, length-append}
 use Rattle.std.proofs.lemmas.List.{drop_all, map-append}
 use Rattle.std.specs.Prelude.{⊤}
 use Rattle.timefd_component.specs.Tree.{Text, Tree, component, literal, compound, optional, first, Trees, no_trees, more_trees, trees, pack}
@@ -67,11 +67,11 @@ module _ {E : Type 0} (r : Result ⊤ E) (language : Language) (text : Text) (st
       (held t (three language text t (subst (λ x. SpellsIn language nesting_limit text (x ∷ [])) w s) nests)
       nests)
 
-  pub optional_at : {f : _} → IsWhat (what.Optional f) tree
+  pub optional_at : (f : Bool) → IsWhat (what.Optional f) tree
       → ((u : Tree) → Spells Three nesting_limit 0 text (u ∷ []) → Nests u
       → OnOk r (AddsAt (HeldStand u start text) one new))
       → OnOk r (AddsAt (PieceStands tree start text) old new)
-  optional_at {f = f} w held = nested_at (optional f w.0) (λ spans h. h) tt w.1 held
+  optional_at f w held = nested_at (optional f w.0) (λ spans h. h) tt w.1 held
 
   pub first_at : IsWhat what.First tree
       → ((u : Tree) → Spells Three nesting_limit 0 text (u ∷ []) → Nests u

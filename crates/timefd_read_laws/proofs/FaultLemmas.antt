@@ -19,6 +19,7 @@ use Rattle.timefd_read_dates.specs.Relations.{Reads, ReadsAll, ReadsComponent, R
 use Rattle.timefd_read_dates.specs.Rules.{rule_of}
 use Rattle.timefd_read_dates.proofs.FrontLemmas.{reads_fronts}
 use Rattle.timefd_read_dates.proofs.RelationLemmas.{reads_exactly}
+use Rattle.std.proofs.lemmas.Bool.{eqb-true}
 use Rattle.timefd_read_moment.proofs.ShownLemmas.{clash}
 use Rattle.timefd_read_laws.specs.Faults.{FaultsExactly, FieldsExactly, HasFault, HasOneAnswer, IsOtherwise, IsUnread, NoneReads, OneAnswer, ReadsWhole, Stops, StopsAmong, Trails, stands}
 
@@ -51,7 +52,7 @@ module _ (c : Component) (p : Point) where
   unread : (x : _) → input (rule_of (modern c)) p.rest ≡ x → is_some x ≡ false
       → taken (modern c) p x ≡ fault_at p (for.Unread (modern c))
   unread None i none = refl
-  unread (Some r) i none = absurd (clash true (sym none) refl)
+  unread (Some r) i none = absurd (clash true none refl)
 
   agreed_not : (f : Option Fields) (reading : _) (len : ℕ)
       → input (rule_of (modern c)) p.rest ≡ Some (reading, len) → with_reading p.fields reading ≡ f
@@ -64,7 +65,7 @@ module _ (c : Component) (p : Point) where
   contradicts : (x : _) → input (rule_of (modern c)) p.rest ≡ x → is_some x ≡ true
       → ((q : Point) → ReadsComponent (modern c) p q → ⊥)
       → taken (modern c) p x ≡ fault_at p (for.Contradiction (modern c))
-  contradicts None i some none = absurd (clash false (sym some) refl)
+  contradicts None i some none = absurd (clash false refl some)
   contradicts (Some r) i some none = agreed_not (with_reading p.fields r.0) r.0 r.1 i refl none
 
   component_stopped : (q : Point) (r : Reason) → Stops (component c) p q r → read (component c) p ≡ fault_at q r
@@ -97,12 +98,10 @@ module _ (c : Component) (p : Point) where
 -- literals
 
 module _ (bytes : Text) (p : Point) where
-  abbrev literal_if : Bool → Result Point _
-  literal_if t =
-      if t then Ok (record { rest = drop (length bytes) p.rest; fields = p.fields }) else fault_at p for.Literal
-
   literal_unread : (t : Bool) → starts_with eqb p.rest bytes ≡ t
-      → ((rest : Text) → p.rest ≡ bytes ++ rest → ⊥) → literal_if t ≡ fault_at p for.Literal
+      → ((rest : Text) → p.rest ≡ bytes ++ rest → ⊥)
+      → (if t then Ok (record { rest = drop (length bytes) p.rest; fields = p.fields })
+      else fault_at p for.Literal) ≡ fault_at p for.Literal
   literal_unread true is none =
       absurd (none (drop (length bytes) p.rest)
       ((starts_is unsigned_Decides p.rest bytes (starts_with eqb p.rest bytes) refl).0 is))
@@ -126,8 +125,8 @@ module _ (bytes : Text) (p : Point) where
     for.Literal,
     (
       refl,
-      λ rest e. clash false
-          (sym is ∙ (starts_is unsigned_Decides p.rest bytes (starts_with eqb p.rest bytes) refl).1 rest e) refl,
+      λ rest e. clash false refl
+          (sym is ∙ (starts_is unsigned_Decides p.rest bytes (starts_with eqb p.rest bytes) refl).1 rest e),
     ),
   )
 
@@ -166,44 +165,53 @@ IsAnswered t p = ((q : Point) × Reads t p q) ⊎ ((q : Point) × (r : Reason) �
 not_read : (t : Tree) (p q s : Point) (r : Reason) → Stops t p q r → Reads t p s → ⊥
 not_read t p q s r stops reads = excludes t p q s r (stopped t p q r stops) reads
 
+abbrev IsAnsweredAll : Trees → Point → Type 0
+IsAnsweredAll ts p = ((q : Point) × ReadsAll ts p q) ⊎ ((q : Point) × (r : Reason) × StopsAmong ts p q r)
+
+abbrev IsAnsweredFirst : Trees → Point → Type 0
+IsAnsweredFirst ts p = ((q : Point) × ReadsFirst ts p q) ⊎ NoneReads ts p
+
+optional_answered : (format : Bool) (t : Tree) (p : Point) → IsAnswered t p → IsAnswered (optional format t) p
+optional_answered format t p (inl a) = inl (a.0, inl a.1)
+optional_answered format t p (inr a) = inl (p, inr ((λ s is. not_read t p a.0 s a.1 a.2 is), refl))
+
+one_answered : (t : Tree) (ts : Trees) (p : Point) → IsAnswered t p → IsAnsweredFirst ts p
+    → IsAnswered (first (more_trees t ts)) p
+one_answered t ts p (inl a) others = inl (a.0, inl a.1)
+one_answered t ts p (inr a) (inl b) = inl (b.0, inr ((λ s is. not_read t p a.0 s a.1 a.2 is), b.1))
+one_answered t ts p (inr a) (inr none) = inr (a.0, a.1, (a.2, none))
+
+next_answered : (t : Tree) (ts : Trees) (p : Point) → IsAnswered t p → IsAnsweredFirst ts p
+    → IsAnsweredFirst (more_trees t ts) p
+next_answered t ts p (inl a) others = inl (a.0, inl a.1)
+next_answered t ts p (inr a) (inl b) = inl (b.0, inr ((λ s is. not_read t p a.0 s a.1 a.2 is), b.1))
+next_answered t ts p (inr a) (inr none) = inr ((λ s is. not_read t p a.0 s a.1 a.2 is), none)
+
+behind_answered : (t : Tree) (ts : Trees) (p : Point) → IsAnswered t p → ((q : Point) → IsAnsweredAll ts q)
+    → IsAnsweredAll (more_trees t ts) p
+behind_answered t ts p (inr a) others = inr (a.0, a.1, inl a.2)
+behind_answered t ts p (inl a) others = by (others a.0)
+  where
+    by : IsAnsweredAll ts a.0 → IsAnsweredAll (more_trees t ts) p
+    by (inl b) = inl (b.0, (a.0, a.1, b.1))
+    by (inr b) = inr (b.0, b.1, inr (a.0, a.1, b.2))
+
 mutual
   answered : (t : Tree) (p : Point) → IsAnswered t p
   answered (component c) p = component_answered c p (input (rule_of (modern c)) p.rest) refl
   answered (literal bytes) p = literal_answered bytes p (starts_with eqb p.rest bytes) refl
   answered (compound ts) p = answered_all ts p
-  answered (optional format t) p = elim (answered t p) [
-    | inl a ↦ inl (a.0, inl a.1)
-    | inr a ↦ inl (p, inr ((λ s. not_read t p a.0 s a.1 a.2), refl))
-  ]
+  answered (optional format t) p = optional_answered format t p (answered t p)
   answered (first no_trees) p = inl (p, refl)
-  answered (first (more_trees t ts)) p = elim (answered t p) [
-    | inl a ↦ inl (a.0, inl a.1)
-    | inr a ↦ elim (answered_first ts p) [
-      | inl b ↦ inl (b.0, inr ((λ s. not_read t p a.0 s a.1 a.2), b.1))
-      | inr none ↦ inr (a.0, a.1, (a.2, none))
-    ]
-  ]
+  answered (first (more_trees t ts)) p = one_answered t ts p (answered t p) (answered_first ts p)
 
-  answered_all : (ts : Trees) (p : Point)
-      → ((q : Point) × ReadsAll ts p q) ⊎ ((q : Point) × (r : Reason) × StopsAmong ts p q r)
+  answered_all : (ts : Trees) (p : Point) → IsAnsweredAll ts p
   answered_all no_trees p = inl (p, refl)
-  answered_all (more_trees t ts) p = elim (answered t p) [
-    | inl a ↦ elim (answered_all ts a.0) [
-      | inl b ↦ inl (b.0, (a.0, a.1, b.1))
-      | inr b ↦ inr (b.0, b.1, inr (a.0, a.1, b.2))
-    ]
-    | inr a ↦ inr (a.0, a.1, inl a.2)
-  ]
+  answered_all (more_trees t ts) p = behind_answered t ts p (answered t p) (λ q. answered_all ts q)
 
-  answered_first : (ts : Trees) (p : Point) → ((q : Point) × ReadsFirst ts p q) ⊎ NoneReads ts p
+  answered_first : (ts : Trees) (p : Point) → IsAnsweredFirst ts p
   answered_first no_trees p = inr tt
-  answered_first (more_trees t ts) p = elim (answered t p) [
-    | inl a ↦ inl (a.0, inl a.1)
-    | inr a ↦ elim (answered_first ts p) [
-      | inl b ↦ inl (b.0, inr ((λ s. not_read t p a.0 s a.1 a.2), b.1))
-      | inr none ↦ inr ((λ s. not_read t p a.0 s a.1 a.2), none)
-    ]
-  ]
+  answered_first (more_trees t ts) p = next_answered t ts p (answered t p) (answered_first ts p)
 
 -- What is read, or stops, is behind a front.
 
@@ -230,10 +238,25 @@ mutual
 
 -- The whole text is read, or has a fault.
 
+if_false : {A : Type 0} (b : Bool) (x y : A) → b ≡ false → (if b then x else y) ≡ y
+if_false true x y e = absurd (clash true e refl)
+if_false false x y e = refl
+
+not_zero : (n : ℕ) → (n ≡ 0 → ⊥) → (n == 0) ≡ false
+not_zero n some = by (n == 0) refl
+  where
+    by : (b : Bool) → (n == 0) ≡ b → b ≡ false
+    by true e = absurd (some (eqb-true n 0 e))
+    by false e = refl
+
+no_bytes : (text : Text) → length text ≡ 0 → text ≡ []
+no_bytes [] e = refl
+no_bytes (b ∷ text) e = absurd (omega (arith, e))
+
 ended_fault : (size : ℕ) (rest : Text) (f : Fields) → (rest ≡ [] → ⊥)
     → ended size rest f ≡ Err (record { reason = for.Trailing; index = size - length rest })
-ended_fault size [] f some = absurd (some refl)
-ended_fault size (b ∷ rest) f some = refl
+ended_fault size rest f some =
+    if_false (length rest == 0) _ _ (not_zero (length rest) (λ e. some (no_bytes rest e)))
 
 index_of : (text front rest : Text) → text ≡ front ++ rest → length text - length rest ≡ length front
 index_of text front rest cut = omega (arith, ap length cut, length-append front rest)
@@ -259,50 +282,62 @@ has_fault t text front rest f r cut why = (
   record { front = front; rest = rest; fields = f; cut = cut; place = refl; why = why },
 )
 
-whole_or_fault : (t : Tree) (text : Text)
-    → ((f : Fields) × ReadsWhole t text f) ⊎ ((e : ReadError) × HasFault t text e)
-whole_or_fault t text = elim (answered t (start text)) [
-  | inl a ↦ left a.0.rest a.0.fields a.1
-  | inr a ↦
-      let cut = stops_front t (start text) a.0 a.1 a.2 in
-      inr (has_fault t text cut.0 a.0.rest a.0.fields a.1 cut.1 (inl a.2))
-]
-  where
-    left : (rest : Text) (f : Fields) → Reads t (start text) (at rest f)
-        → ((f : Fields) × ReadsWhole t text f) ⊎ ((e : ReadError) × HasFault t text e)
-    left [] f is = inl (f, is)
-    left (b ∷ rest) f is =
-        let cut = reads_front t (start text) (at (b ∷ rest) f) is in
-        inr (has_fault t text cut.0 (b ∷ rest) f for.Trailing cut.1 (inr (refl, is, λ e. absurd cc)))
+abbrev IsWholeOrFault : Tree → Text → Type 0
+IsWholeOrFault t text = ((f : Fields) × ReadsWhole t text f) ⊎ ((e : ReadError) × HasFault t text e)
 
-same_fields : (f g : Fields) → Ok {E = ReadError} f ≡ Ok g → f ≡ g
-same_fields f g e = ap (in_ok f) e
+ended_or_trails : (t : Tree) (text rest : Text) (f : Fields) → Reads t (start text) (at rest f)
+    → IsWholeOrFault t text
+ended_or_trails t text [] f is = inl (f, is)
+ended_or_trails t text (b ∷ rest) f is =
+    let cut = reads_front t (start text) (at (b ∷ rest) f) is in
+    inr (has_fault t text cut.0 (b ∷ rest) f for.Trailing cut.1 (inr (refl, is, λ (e : b ∷ rest ≡ []). absurd cc)))
 
-same_fault : (d e : ReadError) → Err {T = Fields} d ≡ Err e → d ≡ e
-same_fault d e is = ap (in_err d) is
+whole_by : (t : Tree) (text : Text) → IsAnswered t (start text) → IsWholeOrFault t text
+whole_by t text (inl a) = ended_or_trails t text a.0.rest a.0.fields a.1
+whole_by t text (inr a) =
+    let cut = stops_front t (start text) a.0 a.1 a.2 in
+    inr (has_fault t text cut.0 a.0.rest a.0.fields a.1 cut.1 (inl a.2))
 
-answer_of : (t : Tree) (text : Text) (e : ReadError) → fields_of t text ≡ Err e → HasFault t text e
-answer_of t text e is = elim (whole_or_fault t text) [
-  | inl a ↦ absurd (unfaulty (fields_of t text) a.0 e is (whole_answered t text a.0 a.1))
-  | inr a ↦ subst (HasFault t text) (same_fault a.0 e (sym (fault_answered t text a.0 a.1) ∙ is)) a.1
-]
+whole_or_fault : (t : Tree) (text : Text) → IsWholeOrFault t text
+whole_or_fault t text = whole_by t text (answered t (start text))
 
-reading_of : (t : Tree) (text : Text) (f : Fields) → fields_of t text ≡ Ok f → ReadsWhole t text f
-reading_of t text f is = elim (whole_or_fault t text) [
-  | inl a ↦ subst (ReadsWhole t text) (same_fields a.0 f (sym (whole_answered t text a.0 a.1) ∙ is)) a.1
-  | inr a ↦ absurd (unfaulty (fields_of t text) f a.0 (fault_answered t text a.0 a.1) is)
-]
+same_fields : (r : Result Fields ReadError) (f g : Fields) → r ≡ Ok f → r ≡ Ok g → f ≡ g
+same_fields r f g a b = ap (in_ok f) (sym a ∙ b)
+
+same_fault : (r : Result Fields ReadError) (d e : ReadError) → r ≡ Err d → r ≡ Err e → d ≡ e
+same_fault r d e a b = ap (in_err d) (sym a ∙ b)
+
+answer_by : (t : Tree) (text : Text) (e : ReadError) → fields_of t text ≡ Err e → IsWholeOrFault t text
+    → HasFault t text e
+answer_by t text e is (inl a) =
+    absurd (unfaulty (fields_of t text) a.0 e is (whole_answered t text a.0 a.1))
+answer_by t text e is (inr a) =
+    subst (HasFault t text) (same_fault (fields_of t text) a.0 e (fault_answered t text a.0 a.1) is) a.1
+
+reading_by : (t : Tree) (text : Text) (f : Fields) → fields_of t text ≡ Ok f → IsWholeOrFault t text
+    → ReadsWhole t text f
+reading_by t text f is (inl a) =
+    subst (ReadsWhole t text) (same_fields (fields_of t text) a.0 f (whole_answered t text a.0 a.1) is) a.1
+reading_by t text f is (inr a) =
+    absurd (unfaulty (fields_of t text) f a.0 (fault_answered t text a.0 a.1) is)
 
 pub faults_exactly : FaultsExactly
-faults_exactly t text e = (fault_answered t text e, answer_of t text e)
+faults_exactly t text e = (
+  (λ h. fault_answered t text e h),
+  (λ is. answer_by t text e is (whole_or_fault t text)),
+)
 
 pub fields_exactly : FieldsExactly
-fields_exactly t text f = (whole_answered t text f, reading_of t text f)
+fields_exactly t text f = (
+  (λ h. whole_answered t text f h),
+  (λ is. reading_by t text f is (whole_or_fault t text)),
+)
 
 pub one_answer : OneAnswer
 one_answer t text = record {
   answered = whole_or_fault t text;
-  one_reading = λ f g a b. same_fields f g (sym (whole_answered t text f a) ∙ whole_answered t text g b);
-  one_fault = λ d e a b. same_fault d e (sym (fault_answered t text d a) ∙ fault_answered t text e b);
+  one_reading = λ f g a b.
+      same_fields (fields_of t text) f g (whole_answered t text f a) (whole_answered t text g b);
+  one_fault = λ d e a b. same_fault (fields_of t text) d e (fault_answered t text d a) (fault_answered t text e b);
   not_both = λ f e a b. unfaulty (fields_of t text) f e (fault_answered t text e b) (whole_answered t text f a);
 }

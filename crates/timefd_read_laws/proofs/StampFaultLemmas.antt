@@ -11,7 +11,6 @@ use Rattle.timefd_moment.specs.declared.unix_time.UnixTime.{UnixTime}
 use Rattle.timefd_moment.specs.Moments.{unix_time}
 use Rattle.timefd_read_moment.specs.declared.error.ValueError.{ValueError}
 use Rattle.timefd_read_moment.specs.declared.error.ValueError.TheVariants as error
-use Rattle.timefd_read_moment.specs.declared.offsets.Shift.{Shift}
 use Rattle.timefd_read_moment.specs.declared.part.InstantPart.{InstantPart}
 use Rattle.timefd_read_moment.specs.declared.part.OffsetPart.{OffsetPart}
 use Rattle.timefd_read_moment.specs.declared.part.Part.{Part}
@@ -19,42 +18,36 @@ use Rattle.timefd_read_moment.specs.declared.part.Part.TheVariants as part
 use Rattle.timefd_read_moment.specs.declared.part.TimePart.{TimePart}
 use Rattle.timefd_read_moment.specs.Faults.{shift_fault}
 use Rattle.timefd_read_moment.specs.Known.{has_date, has_offset, has_time}
-use Rattle.timefd_read_moment.specs.Offsets.{HasShift, IsOffsetOf, shift_read}
+use Rattle.timefd_read_moment.specs.Offsets.{HasShift, IsOffsetOf, shift_at, shift_read}
 use Rattle.timefd_read_moment.specs.Dates.{IsDateByParts}
 use Rattle.timefd_read_moment.specs.Shown.{first_false, is_count, is_flag, is_shown}
 use Rattle.timefd_read_moment.specs.Stamped.{IsAt, IsStamped, has_digits, moment_has, moment_parts, part_or_stamp, stamp_fault, stamp_has, time_shows, utc_shift, zone_if, zone_read}
 use Rattle.timefd_read_moment.specs.Stamps.{finest, finest_of, instant_by, instant_read}
-use Rattle.timefd_read_moment.specs.Times.{IsTimeByParts, number}
+use Rattle.timefd_read_moment.specs.Times.{IsTimeByParts, is_left_out, number}
 use Rattle.timefd_read_moment.specs.Values.{IsDateBy, IsErrorAfterDate, IsMomentBy, IsMomentByParts, IsPart, IsTimeBy}
 use Rattle.timefd_read_moment.proofs.ShownLemmas.{clash}
 use Rattle.timefd_read_laws.specs.ValueFaults.{ErrorsNameRead, NamesRead, is_read, offset_is_read}
-use Rattle.timefd_read_laws.proofs.ValueFaultLemmas.{ShiftOf, count_unread, date_names, date_unread, first_is, flag_unread, offset_missing, offset_names, offset_unread, shift_fault_read, shift_of, shown_unread, time_names}
+use Rattle.timefd_read_laws.proofs.ValueFaultLemmas.{OffsetOf, OffsetWas, count_unread, date_names, date_unread, first_is, flag_unread, offset_missing, offset_names, offset_of, offset_unread, shift_was, shown_unread, time_names}
 
--- Of an offset of which nothing was read the numbers are 0.
-none_of : (f : Fields) → has_offset f ≡ false → ShiftOf f utc_shift
-none_of f e = by f.offset_minute f.offset_second refl refl (parts (is_some f.offset_hour) (is_some f.offset_minute) (is_some f.offset_second) e)
-  where
-    parts : (a b c : Bool) → (a || b) || c ≡ false → (b ≡ false) × (c ≡ false)
-    parts true b c e = absurd (clash true e refl)
-    parts false true c e = absurd (clash true e refl)
-    parts false false true e = absurd (clash true e refl)
-    parts false false false e = (refl, refl)
+none_read : (a b c : Bool) → (a || b) || c ≡ false → (b ≡ false) × (c ≡ false)
+none_read true b c e = absurd (clash true e refl)
+none_read false true c e = absurd (clash true e refl)
+none_read false false true e = absurd (clash true e refl)
+none_read false false false e = (refl, refl)
 
-    zero : (o : Option ℕ) → is_some o ≡ false → number o ≡ 0
-    zero None e = refl
-    zero (Some n) e = absurd (clash true e refl)
+zero_number : (o : Option ℕ) → is_some o ≡ false → number o ≡ 0
+zero_number None e = refl
+zero_number (Some n) e = absurd (clash true e refl)
 
-    by : (m s : Option ℕ) → f.offset_minute ≡ m → f.offset_second ≡ s
-        → (is_some f.offset_minute ≡ false) × (is_some f.offset_second ≡ false) → ShiftOf f utc_shift
-    by m s a b h = record {
-      minute = zero f.offset_minute h.0;
-      second = zero f.offset_second h.1;
-      hour = λ great. absurd (clash false refl great);
+-- The numbers of the zone's offset are those that were read, or 0.
+zone_of : (f : Fields) (o : UtcOffset) (b : Bool) → has_offset f ≡ b → HasShift (zone_if b f) o → OffsetOf f o
+zone_of f o true has is = offset_of f o f.offset_hour is
+zone_of f o false has is =
+    let none = none_read (is_some f.offset_hour) (is_some f.offset_minute) (is_some f.offset_second) has in
+    record {
+      minute = zero_number f.offset_minute none.0 ∙ is.1;
+      second = zero_number f.offset_second none.1 ∙ is.2;
     }
-
-zone_of : (f : Fields) (b : Bool) (s : Shift) → has_offset f ≡ b → zone_if b f ≡ Ok s → ShiftOf f s
-zone_of f true s has e = shift_of f f.offset_hour s refl e
-zone_of f false s has e = let is : utc_shift ≡ s = cc in subst (ShiftOf f) is (none_of f has)
 
 zone_missing : (f : Fields) (b : Bool) (p : OffsetPart) → zone_if b f ≡ Err p → offset_is_read f p ≡ false
 zone_missing f true p e = offset_missing f f.offset_hour p refl e
@@ -80,15 +73,10 @@ module _ (f : Fields) (d : Date) (t : Time) (o : UtcOffset) where
   stamp_unread InstantPart.Microsecond e = shown_unread f.unix_microsecond _ _ _ e
   stamp_unread InstantPart.Nanosecond e = shown_unread f.unix_nanosecond _ _ _ e
 
-  zone_unread : (r : Result Shift OffsetPart) → zone_read f ≡ r → HasShift r o → (p : OffsetPart)
-      → offset_is_read f p ≡ false → moment_has f d t o (part.Offset p) ≡ true
-  zone_unread (Ok s) e h p un = offset_unread f o p s (zone_of f (has_offset f) s refl e) h un
-  zone_unread (Err q) e h p un = absurd h
-
   moment_unread : HasShift (zone_read f) o → (p : Part) → is_read f p ≡ false → moment_has f d t o p ≡ true
   moment_unread h (part.Date p) e = date_unread f d p e
   moment_unread h (part.Time p) e = time_unread p e
-  moment_unread h (part.Offset p) e = zone_unread (zone_read f) refl h p e
+  moment_unread h (part.Offset p) e = offset_unread f o p (zone_of f o (has_offset f) refl h) e
   moment_unread h (part.Instant p) e = stamp_unread p e
 
 -- the finest timestamp was read, where one was
@@ -106,10 +94,29 @@ part_was : (f : Fields) (o : Option OffsetPart) → IfSome o (λ q. offset_is_re
 part_was f (Some p) was stamp = was
 part_was f None was stamp = stamp
 
-stamp_was : (f : Fields) (r : Result Shift OffsetPart) → zone_read f ≡ r
-    → is_read f (part.Instant (finest f)) ≡ true → IfSome (stamp_fault f r) (λ q. is_read f q ≡ true)
-stamp_was f (Ok s) e stamp = part_was f (shift_fault s) (shift_fault_read f s (zone_of f (has_offset f) s refl e)) stamp
-stamp_was f (Err p) e stamp = tt
+abbrev IsReadIf : Fields → Option Part → Type 0
+IsReadIf f o = IfSome o (λ q. is_read f q ≡ true)
+
+stamp_from : (f : Fields) (h : Signed) (b : Bool) → f.offset_hour ≡ Some h
+    → is_read f (part.Instant (finest f)) ≡ true
+    → IsReadIf f (stamp_fault f (if b then Err OffsetPart.Minute else Ok (record {
+      is_negative = h.is_negative;
+      hour = h.magnitude;
+      minute = number f.offset_minute;
+      second = number f.offset_second;
+    })))
+stamp_from f h true is stamp = tt
+stamp_from f h false is stamp = part_was f _ (shift_was f h is) stamp
+
+stamp_at : (f : Fields) (h : Option Signed) → f.offset_hour ≡ h → is_read f (part.Instant (finest f)) ≡ true
+    → IsReadIf f (stamp_fault f (shift_at f h))
+stamp_at f None is stamp = tt
+stamp_at f (Some h) is stamp = stamp_from f h (is_left_out f.offset_minute (is_some f.offset_second)) is stamp
+
+stamp_was : (f : Fields) (b : Bool) → is_read f (part.Instant (finest f)) ≡ true
+    → IsReadIf f (stamp_fault f (zone_if b f))
+stamp_was f true stamp = stamp_at f f.offset_hour refl stamp
+stamp_was f false stamp = stamp
 
 stamped_names : (f : Fields) (u : UnixTime) (e : ValueError) → instant_read f ≡ Some u → IsStamped f u (Err e)
     → NamesRead f e
@@ -126,7 +133,7 @@ stamped_names f u (error.Contradiction p) has is = by (is_read f p) refl
         clash (moment_has f d t o p) (first_is (moment_has f d t o) moment_parts p (is.1.0 d t o at))
         (moment_unread f d t o at.1 p e)) in
         sym e ∙ subst (λ o. IfSome o (λ q. is_read f q ≡ true)) none
-        (stamp_was f (zone_read f) refl
+        (stamp_was f (has_offset f)
         (finest_was f f.unix_nanosecond f.unix_microsecond f.unix_millisecond f.unix_second u refl refl refl refl has))
 
 -- of a part of a moment, where something was read of it

@@ -1,5 +1,5 @@
 -- The errors of dates, times of day and offsets name what was read, or what was not.
-use Rattle.std.proofs.Common.{ℕ, ◌≡◌, ◌∙◌, ◌≤◌, ◌<◌, ◌+◌, ◌%◌, ◌==◌, ◌&&◌, ◌||◌, ◌⊎◌, inl, inr, Bool, true, false, nat_le, nat_lt, if◌then◌else◌, List, [], ◌∷◌, Option, Some, None, Result, Ok, Err, IsTrue, refl, sym, ap, subst, arith}
+use Rattle.std.proofs.Common.{ℕ, ◌≡◌, ◌∙◌, ◌≤◌, ◌<◌, ◌+◌, ◌/◌, ◌%◌, ◌==◌, ◌&&◌, ◌||◌, ◌⊎◌, inl, inr, Bool, true, false, nat_le, nat_lt, if◌then◌else◌, List, [], ◌∷◌, Option, Some, None, Result, Ok, Err, IsTrue, refl, sym, ap, subst, arith}
 use Rattle.std.specs.Prelude.{IfSome, is_some, ⊤}
 use Rattle.std.proofs.lemmas.Bool.{eq-eqb, ltb-true}
 use Rattle.timefd_read_dates.specs.declared.fields.Fields.{Fields}
@@ -10,15 +10,11 @@ use Rattle.timefd_moment.specs.declared.time.Time.{Time}
 use Rattle.timefd_moment.specs.declared.offset.UtcOffset.{UtcOffset}
 use Rattle.timefd_read_moment.specs.declared.error.ValueError.{ValueError}
 use Rattle.timefd_read_moment.specs.declared.error.ValueError.TheVariants as error
-use Rattle.timefd_read_moment.specs.declared.offsets.Shift.{Shift}
 use Rattle.timefd_read_moment.specs.declared.part.DatePart.{DatePart}
 use Rattle.timefd_read_moment.specs.declared.part.OffsetPart.{OffsetPart}
 use Rattle.timefd_read_moment.specs.declared.part.Part.{Part}
 use Rattle.timefd_read_moment.specs.declared.part.Part.TheVariants as part
 use Rattle.timefd_read_moment.specs.declared.part.TimePart.{TimePart}
-use Rattle.timefd_read_moment.specs.declared.times.Clock.{Clock}
-use Rattle.timefd_read_moment.specs.declared.way.DateWay.{DateWay}
-use Rattle.timefd_read_moment.specs.declared.way.DateWay.TheVariants as by
 use Rattle.timefd_read_moment.specs.Dates as dates
 use Rattle.timefd_read_moment.specs.Dates.{HasWay, IsDateByParts}
 use Rattle.timefd_read_moment.specs.Faults.{IsNamed, clock_fault, date_fault, is_above, is_beyond, iso_year_fault, month_fault, offset_fault, shift_fault, time_fault, way_fault, weekday_fault, year_fault}
@@ -101,39 +97,42 @@ fine_read (Some k) n e = refl
 
 -- Dates.
 
-unless_is : (q p : DatePart) (w : Option DateWay) → unless q w ≡ Err p → (w ≡ None) × (q ≡ p)
+unless_is : (q p : DatePart) (w : _) → unless q w ≡ Err p → (w ≡ None) × (q ≡ p)
 unless_is q p None e = (refl, cc)
-unless_is q p (Some w) e = absurd cc
+unless_is q p (Some w) e = absurd (unfailing e)
+  where
+    unfailing : {A E : Type 0} {a : A} {b : E} → Ok a ≡ Err b → ⊥
+    unfailing e = cc
 
-or_none : (a b : Option DateWay) → or_else a b ≡ None → (a ≡ None) × (b ≡ None)
+or_none : (a b : _) → or_else a b ≡ None → (a ≡ None) × (b ≡ None)
 or_none None b e = (refl, e)
-or_none (Some w) b e = absurd cc
+or_none (Some w) b e = absurd (clash true (ap is_some e) refl)
 
 calendar_lacks : (y m d : Option ℕ) → calendar y m d ≡ None → is_some y ≡ true → is_some m ≡ true → is_some d ≡ false
 calendar_lacks None m d e y n = absurd (clash false refl y)
 calendar_lacks (Some y) None d e k m = absurd (clash false refl m)
 calendar_lacks (Some y) (Some m) None e k n = refl
-calendar_lacks (Some y) (Some m) (Some d) e k n = absurd cc
+calendar_lacks (Some y) (Some m) (Some d) e k n = absurd (clash true (ap is_some e) refl)
 
 iso_lacks : (y w d : Option ℕ) → iso_week y w d ≡ None → is_some y ≡ true → is_some w ≡ true → is_some d ≡ false
 iso_lacks None w d e y n = absurd (clash false refl y)
 iso_lacks (Some y) None d e k w = absurd (clash false refl w)
 iso_lacks (Some y) (Some w) None e k n = refl
-iso_lacks (Some y) (Some w) (Some d) e k n = absurd cc
+iso_lacks (Some y) (Some w) (Some d) e k n = absurd (clash true (ap is_some e) refl)
 
 sunday_lacks : (y w d : Option ℕ) → sunday_week y w d ≡ None → is_some y ≡ true → is_some w ≡ true
     → is_some d ≡ false
 sunday_lacks None w d e y n = absurd (clash false refl y)
 sunday_lacks (Some y) None d e k w = absurd (clash false refl w)
 sunday_lacks (Some y) (Some w) None e k n = refl
-sunday_lacks (Some y) (Some w) (Some d) e k n = absurd cc
+sunday_lacks (Some y) (Some w) (Some d) e k n = absurd (clash true (ap is_some e) refl)
 
 monday_lacks : (y w d : Option ℕ) → monday_week y w d ≡ None → is_some y ≡ true → is_some w ≡ true
     → is_some d ≡ false
 monday_lacks None w d e y n = absurd (clash false refl y)
 monday_lacks (Some y) None d e k w = absurd (clash false refl w)
 monday_lacks (Some y) (Some w) None e k n = refl
-monday_lacks (Some y) (Some w) (Some d) e k n = absurd cc
+monday_lacks (Some y) (Some w) (Some d) e k n = absurd (clash true (ap is_some e) refl)
 
 no_year : (y c : Option Signed) (n : Option ℕ) → is_some (years_read y c n) ≡ false → is_some y ≡ false
 no_year None c n e = refl
@@ -189,66 +188,6 @@ date_missing f p e =
     subst (λ q. date_is_read f q ≡ false) is.1
     (lacking f y iy one.0 three.0 four.0 four.1 (λ h. h) (λ h. h))
 
--- what was read of a way beside its year
-abbrev WayRead : Fields → DateWay → Type 0
-WayRead f (by.Calendar y m n) = (is_some f.month ≡ true) × (is_some f.day ≡ true)
-WayRead f (by.Ordinal y n) = is_some f.ordinal ≡ true
-WayRead f (by.IsoWeek y w n) = (is_some f.iso_week ≡ true) × (is_some f.weekday ≡ true)
-WayRead f (by.SundayWeek y w n) = (is_some f.sunday_week ≡ true) × (is_some f.weekday ≡ true)
-WayRead f (by.MondayWeek y w n) = (is_some f.monday_week ≡ true) × (is_some f.weekday ≡ true)
-
-calendar_read : (f : Fields) (y m d : Option ℕ) → f.month ≡ m → f.day ≡ d → IfSome (calendar y m d) (WayRead f)
-calendar_read f None m d e g = tt
-calendar_read f (Some y) None d e g = tt
-calendar_read f (Some y) (Some m) None e g = tt
-calendar_read f (Some y) (Some m) (Some d) e g = (ap is_some e, ap is_some g)
-
-ordinal_read : (f : Fields) (y n : Option ℕ) → f.ordinal ≡ n → IfSome (ordinal y n) (WayRead f)
-ordinal_read f None n e = tt
-ordinal_read f (Some y) None e = tt
-ordinal_read f (Some y) (Some n) e = ap is_some e
-
-iso_read : (f : Fields) (y w d : Option ℕ) → f.iso_week ≡ w → f.weekday ≡ d → IfSome (iso_week y w d) (WayRead f)
-iso_read f None w d e g = tt
-iso_read f (Some y) None d e g = tt
-iso_read f (Some y) (Some w) None e g = tt
-iso_read f (Some y) (Some w) (Some d) e g = (ap is_some e, ap is_some g)
-
-sunday_read : (f : Fields) (y w d : Option ℕ) → f.sunday_week ≡ w → f.weekday ≡ d
-    → IfSome (sunday_week y w d) (WayRead f)
-sunday_read f None w d e g = tt
-sunday_read f (Some y) None d e g = tt
-sunday_read f (Some y) (Some w) None e g = tt
-sunday_read f (Some y) (Some w) (Some d) e g = (ap is_some e, ap is_some g)
-
-monday_read : (f : Fields) (y w d : Option ℕ) → f.monday_week ≡ w → f.weekday ≡ d
-    → IfSome (monday_week y w d) (WayRead f)
-monday_read f None w d e g = tt
-monday_read f (Some y) None d e g = tt
-monday_read f (Some y) (Some w) None e g = tt
-monday_read f (Some y) (Some w) (Some d) e g = (ap is_some e, ap is_some g)
-
-either : (P : DateWay → Type 0) (a b : Option DateWay) → IfSome a P → IfSome b P → IfSome (or_else a b) P
-either P None b p q = q
-either P (Some w) b p q = p
-
-ok_is : (part : DatePart) (o : Option DateWay) (w : DateWay) (P : DateWay → Type 0) → unless part o ≡ Ok w
-    → IfSome o P → P w
-ok_is part None w P e p = absurd cc
-ok_is part (Some v) w P e p = let same : v ≡ w = cc in subst P same p
-
-way_read : (f : Fields) (w : DateWay) → date_way f ≡ Ok w → WayRead f w
-way_read f w e =
-    let y = years_read f.year f.century f.year_last_two in
-    let iy = years_read f.iso_year f.iso_century f.iso_year_last_two in
-    ok_is (lack f (is_some y) (is_some iy)) (way_of f y iy) w (WayRead f) e
-    (either (WayRead f) (calendar y f.month f.day) _ (calendar_read f y f.month f.day refl refl)
-    (either (WayRead f) (ordinal y f.ordinal) _ (ordinal_read f y f.ordinal refl)
-    (either (WayRead f) (iso_week iy f.iso_week f.weekday) _ (iso_read f iy f.iso_week f.weekday refl refl)
-    (either (WayRead f) (sunday_week y f.sunday_week f.weekday) _
-    (sunday_read f y f.sunday_week f.weekday refl refl)
-    (monday_read f y f.monday_week f.weekday refl refl)))))
-
 module _ (f : Fields) where
   abbrev Was : DatePart → Type 0
   Was p = date_is_read f p ≡ true
@@ -265,16 +204,58 @@ module _ (f : Fields) where
       (λ e. chosen Was (is_beyond f.iso_century 9999) _ _ (λ e. beyond_read f.iso_century 9999 e)
         (λ e. chosen Was (is_above f.iso_year_last_two 99) _ _ (λ e. above_read f.iso_year_last_two 99 e) (λ e. was)))
 
-  way_was : (w : DateWay) → WayRead f w → Was (way_fault f w)
-  way_was (by.Calendar y m n) r =
-      year_was (month_fault m) (chosen Was ((m == 0) || nat_lt 12 m) _ _ (λ e. r.0) (λ e. r.1))
-  way_was (by.Ordinal y n) r = year_was DatePart.Ordinal r
-  way_was (by.IsoWeek y w n) r =
-      iso_year_was (weekday_fault n DatePart.IsoWeek) (chosen Was (nat_lt 6 n) _ _ (λ e. r.1) (λ e. r.0))
-  way_was (by.SundayWeek y w n) r =
-      year_was (weekday_fault n DatePart.SundayWeek) (chosen Was (nat_lt 6 n) _ _ (λ e. r.1) (λ e. r.0))
-  way_was (by.MondayWeek y w n) r =
-      year_was (weekday_fault n DatePart.MondayWeek) (chosen Was (nat_lt 6 n) _ _ (λ e. r.1) (λ e. r.0))
+  calendar_was : (q : DatePart) (y m n : Option ℕ) → f.month ≡ m → f.day ≡ n
+      → IfSome (date_fault f (unless q (calendar y m n))) Was
+  calendar_was q None m n e g = tt
+  calendar_was q (Some y) None n e g = tt
+  calendar_was q (Some y) (Some m) None e g = tt
+  calendar_was q (Some y) (Some m) (Some n) e g =
+      year_was (month_fault m) (chosen Was ((m == 0) || nat_lt 12 m) _ _ (λ h. ap is_some e) (λ h. ap is_some g))
+
+  ordinal_was : (q : DatePart) (y n : Option ℕ) → f.ordinal ≡ n → IfSome (date_fault f (unless q (ordinal y n))) Was
+  ordinal_was q None n e = tt
+  ordinal_was q (Some y) None e = tt
+  ordinal_was q (Some y) (Some n) e = year_was DatePart.Ordinal (ap is_some e)
+
+  iso_was : (q : DatePart) (y w n : Option ℕ) → f.iso_week ≡ w → f.weekday ≡ n
+      → IfSome (date_fault f (unless q (iso_week y w n))) Was
+  iso_was q None w n e g = tt
+  iso_was q (Some y) None n e g = tt
+  iso_was q (Some y) (Some w) None e g = tt
+  iso_was q (Some y) (Some w) (Some n) e g =
+      iso_year_was (weekday_fault n DatePart.IsoWeek) (chosen Was (nat_lt 6 n) _ _ (λ h. ap is_some g) (λ h. ap is_some e))
+
+  sunday_was : (q : DatePart) (y w n : Option ℕ) → f.sunday_week ≡ w → f.weekday ≡ n
+      → IfSome (date_fault f (unless q (sunday_week y w n))) Was
+  sunday_was q None w n e g = tt
+  sunday_was q (Some y) None n e g = tt
+  sunday_was q (Some y) (Some w) None e g = tt
+  sunday_was q (Some y) (Some w) (Some n) e g =
+      year_was (weekday_fault n DatePart.SundayWeek) (chosen Was (nat_lt 6 n) _ _ (λ h. ap is_some g) (λ h. ap is_some e))
+
+  monday_was : (q : DatePart) (y w n : Option ℕ) → f.monday_week ≡ w → f.weekday ≡ n
+      → IfSome (date_fault f (unless q (monday_week y w n))) Was
+  monday_was q None w n e g = tt
+  monday_was q (Some y) None n e g = tt
+  monday_was q (Some y) (Some w) None e g = tt
+  monday_was q (Some y) (Some w) (Some n) e g =
+      year_was (weekday_fault n DatePart.MondayWeek) (chosen Was (nat_lt 6 n) _ _ (λ h. ap is_some g) (λ h. ap is_some e))
+
+  either : (q : DatePart) (a b : _) → IfSome (date_fault f (unless q a)) Was → IfSome (date_fault f (unless q b)) Was
+      → IfSome (date_fault f (unless q (or_else a b))) Was
+  either q None b h k = k
+  either q (Some w) b h k = h
+
+  date_fault_read : IfSome (date_fault f (date_way f)) Was
+  date_fault_read =
+      let y = years_read f.year f.century f.year_last_two in
+      let iy = years_read f.iso_year f.iso_century f.iso_year_last_two in
+      let q = lack f (is_some y) (is_some iy) in
+      either q (calendar y f.month f.day) _ (calendar_was q y f.month f.day refl refl)
+      (either q (ordinal y f.ordinal) _ (ordinal_was q y f.ordinal refl)
+      (either q (iso_week iy f.iso_week f.weekday) _ (iso_was q iy f.iso_week f.weekday refl refl)
+      (either q (sunday_week y f.sunday_week f.weekday) (monday_week y f.monday_week f.weekday)
+      (sunday_was q y f.sunday_week f.weekday refl refl) (monday_was q y f.monday_week f.weekday refl refl))))
 
 pub date_unread : (f : Fields) (d : Date) (p : DatePart) → date_is_read f p ≡ false → date_has f d p ≡ true
 date_unread f d DatePart.Day e = count_unread f.day _ e
@@ -291,11 +272,6 @@ date_unread f d DatePart.IsoYearLastTwo e = count_unread f.iso_year_last_two _ e
 date_unread f d DatePart.IsoCentury e = shown_unread f.iso_century _ _ _ e
 date_unread f d DatePart.IsoYear e = shown_unread f.iso_year _ _ _ e
 
-date_fault_read : (f : Fields) (r : Result DateWay DatePart) → date_way f ≡ r
-    → IfSome (date_fault f r) (λ q. date_is_read f q ≡ true)
-date_fault_read f (Ok w) e = way_was f w (way_read f w e)
-date_fault_read f (Err p) e = tt
-
 pub date_names : (f : Fields) (e : ValueError) → IsDateByParts f (Err e) → NamesRead f e
 date_names f (error.Missing (part.Date p)) is = date_missing f p is
 date_names f (error.Missing (part.Time p)) is = absurd is
@@ -303,62 +279,46 @@ date_names f (error.Missing (part.Offset p)) is = absurd is
 date_names f (error.Missing (part.Instant p)) is = absurd is
 date_names f (error.Contradiction (part.Date p)) is =
     named_read (HasWay (date_way f)) (date_has f) date_parts (date_fault f (date_way f)) (date_is_read f) p is.2
-    (λ d h e. date_unread f d p e) (date_fault_read f (date_way f) refl)
+    (λ d h e. date_unread f d p e) (date_fault_read f)
 date_names f (error.Contradiction (part.Time p)) is = absurd is.2
 date_names f (error.Contradiction (part.Offset p)) is = absurd is.2
 date_names f (error.Contradiction (part.Instant p)) is = absurd is.2
 
 -- Times of day.
 
--- the numbers of a clock are those that were read
-record ClockOf (f : Fields) (c : Clock) : Type 0 where
-  minute : number f.minute ≡ c.minute
-  second : number f.second ≡ c.second
-  nanosecond : nanosecond_read f.subsecond ≡ c.nanosecond
-  hour : hour_read f.hour f.hour_12 f.is_afternoon ≡ Some c.hour
+-- the numbers of the time that has what was read
+record TimeOf (f : Fields) (t : Time) : Type 0 where
+  minute : number f.minute ≡ t.minute
+  second : number f.second ≡ t.second
+  nanosecond : nanosecond_read f.subsecond ≡ t.nanosecond
 
-clock_numbers : (f : Fields) (h : ℕ) (c : Clock) (a b : Bool)
-    → (if a then Err TimePart.Minute else (if b then Err TimePart.Second else Ok (record {
+time_from : (f : Fields) (t : Time) (h : ℕ) (a b : Bool)
+    → HasClock (if a then Err TimePart.Minute else (if b then Err TimePart.Second else Ok (record {
       hour = h;
       minute = number f.minute;
       second = number f.second;
       nanosecond = nanosecond_read f.subsecond;
-    }))) ≡ Ok c → hour_read f.hour f.hour_12 f.is_afternoon ≡ Some h → ClockOf f c
-clock_numbers f h c true b e is = absurd cc
-clock_numbers f h c false true e is = absurd cc
-clock_numbers f h c false false e is = record {
-  minute = ap (in_ok_by (λ (x : Clock). x.minute)) e;
-  second = ap (in_ok_by (λ (x : Clock). x.second)) e;
-  nanosecond = ap (in_ok_by (λ (x : Clock). x.nanosecond)) e;
-  hour = is ∙ ap (λ r. Some (in_ok_by (λ (x : Clock). x.hour) r)) e;
-}
-  where
-    in_ok_by : (Clock → ℕ) → Result Clock TimePart → ℕ
-    unfolding in_ok_by
-    in_ok_by g (Ok x) = g x
-    in_ok_by g (Err p) = 0
+    }))) t → TimeOf f t
+time_from f t h true b is = absurd is
+time_from f t h false true is = absurd is
+time_from f t h false false is = record { minute = is.1; second = is.2; nanosecond = is.3 }
 
-clock_of : (f : Fields) (o : Option ℕ) (c : Clock) → hour_read f.hour f.hour_12 f.is_afternoon ≡ o
-    → clock_at f o ≡ Ok c → ClockOf f c
-clock_of f None c is e = absurd cc
-clock_of f (Some h) c is e =
-    clock_numbers f h c (is_left_out f.minute (has_second f)) (is_left_out f.second (is_some f.subsecond)) e is
+time_at : (f : Fields) (t : Time) (o : Option ℕ) → HasClock (clock_at f o) t → TimeOf f t
+time_at f t None is = absurd is
+time_at f t (Some h) is =
+    time_from f t h (is_left_out f.minute (has_second f)) (is_left_out f.second (is_some f.subsecond)) is
 
-clock_by : (f : Fields) (r : Result Clock TimePart) → clock_read f ≡ r → (t : Time) → HasClock r t
-    → (number f.minute ≡ t.minute) × (number f.second ≡ t.second) × (nanosecond_read f.subsecond ≡ t.nanosecond)
-clock_by f (Ok c) e t h =
-    let c = clock_of f (hour_read f.hour f.hour_12 f.is_afternoon) c refl e in
-    (c.minute ∙ h.1, c.second ∙ h.2, c.nanosecond ∙ h.3)
-clock_by f (Err p) e t h = absurd h
+time_of : (f : Fields) (t : Time) → HasClock (clock_read f) t → TimeOf f t
+time_of f t is = time_at f t (hour_read f.hour f.hour_12 f.is_afternoon) is
 
 time_unread : (f : Fields) (t : Time) (p : TimePart) → HasClock (clock_read f) t → time_is_read f p ≡ false
     → time_has f t p ≡ true
 time_unread f t TimePart.Hour h e = count_unread f.hour _ e
 time_unread f t TimePart.Hour12 h e = count_unread f.hour_12 _ e
 time_unread f t TimePart.Period h e = flag_unread f.is_afternoon _ e
-time_unread f t TimePart.Minute h e = zero_unread f.minute _ e (clock_by f (clock_read f) refl t h).0
-time_unread f t TimePart.Second h e = zero_unread f.second _ e (clock_by f (clock_read f) refl t h).1
-time_unread f t TimePart.Subsecond h e = fraction_unread f.subsecond _ e (clock_by f (clock_read f) refl t h).2
+time_unread f t TimePart.Minute h e = zero_unread f.minute _ e (time_of f t h).minute
+time_unread f t TimePart.Second h e = zero_unread f.second _ e (time_of f t h).second
+time_unread f t TimePart.Subsecond h e = fraction_unread f.subsecond _ e (time_of f t h).nanosecond
 
 -- an hour that no day has was read as one of the 24-hour clock
 hour_was : (h h12 : Option ℕ) (p : Option Bool) (n : ℕ) → hour_read h h12 p ≡ Some n → nat_lt 23 n ≡ true
@@ -374,17 +334,39 @@ hour_was None (Some h) (Some false) n e great =
 abbrev TimeWas : Fields → Option TimePart → Type 0
 TimeWas f o = IfSome o (λ q. time_is_read f q ≡ true)
 
-time_fault_read : (f : Fields) (r : Result Clock TimePart) → clock_read f ≡ r → TimeWas f (time_fault r)
-time_fault_read f (Err p) e = tt
-time_fault_read f (Ok c) e =
-    let of = clock_of f (hour_read f.hour f.hour_12 f.is_afternoon) c refl e in
-    chosen (TimeWas f) (nat_lt 23 c.hour) _ _ (λ g. hour_was f.hour f.hour_12 f.is_afternoon c.hour of.hour g)
-    (λ g. chosen (TimeWas f) (nat_lt 59 c.minute) _ _
-      (λ g. great_read f.minute 59 (ap (nat_lt 59) of.minute ∙ g))
-      (λ g. chosen (TimeWas f) (nat_lt 59 c.second) _ _
-        (λ g. great_read f.second 59 (ap (nat_lt 59) of.second ∙ g))
-        (λ g. chosen (TimeWas f) (nat_lt 999999999 c.nanosecond) _ _
-          (λ g. fine_read f.subsecond 999999999 (ap (nat_lt 999999999) of.nanosecond ∙ g)) (λ g. tt))))
+clock_was : (f : Fields) (h : ℕ) → hour_read f.hour f.hour_12 f.is_afternoon ≡ Some h
+    → TimeWas f (clock_fault (record {
+      hour = h;
+      minute = number f.minute;
+      second = number f.second;
+      nanosecond = nanosecond_read f.subsecond;
+    }))
+clock_was f h is =
+    chosen (TimeWas f) (nat_lt 23 h) _ _ (λ g. hour_was f.hour f.hour_12 f.is_afternoon h is g)
+    (λ g. chosen (TimeWas f) (nat_lt 59 (number f.minute)) _ _ (λ g. great_read f.minute 59 g)
+      (λ g. chosen (TimeWas f) (nat_lt 59 (number f.second)) _ _ (λ g. great_read f.second 59 g)
+        (λ g. chosen (TimeWas f) (nat_lt 999999999 (nanosecond_read f.subsecond)) _ _
+          (λ g. fine_read f.subsecond 999999999 g) (λ g. tt))))
+
+fault_from : (f : Fields) (h : ℕ) (a b : Bool) → hour_read f.hour f.hour_12 f.is_afternoon ≡ Some h
+    → TimeWas f (time_fault (if a then Err TimePart.Minute else (if b then Err TimePart.Second else Ok (record {
+      hour = h;
+      minute = number f.minute;
+      second = number f.second;
+      nanosecond = nanosecond_read f.subsecond;
+    }))))
+fault_from f h true b is = tt
+fault_from f h false true is = tt
+fault_from f h false false is = clock_was f h is
+
+fault_at_hour : (f : Fields) (o : Option ℕ) → hour_read f.hour f.hour_12 f.is_afternoon ≡ o
+    → TimeWas f (time_fault (clock_at f o))
+fault_at_hour f None is = tt
+fault_at_hour f (Some h) is =
+    fault_from f h (is_left_out f.minute (has_second f)) (is_left_out f.second (is_some f.subsecond)) is
+
+time_fault_read : (f : Fields) → TimeWas f (time_fault (clock_read f))
+time_fault_read f = fault_at_hour f (hour_read f.hour f.hour_12 f.is_afternoon) refl
 
 -- what is left out was not read
 left_out : (o : Option ℕ) (b : Bool) → is_left_out o b ≡ true → is_some o ≡ false
@@ -403,21 +385,18 @@ no_hour f None None p a b c e =
     else (if is_some f.is_afternoon then TimePart.Hour12 else TimePart.Hour)) ≡ false) (sym (ap is_some b))
     (chosen (λ q. time_is_read f q ≡ false) (is_some f.is_afternoon) _ _ (λ g. ap is_some b) (λ g. ap is_some a))
 
-no_finer : (f : Fields) (p : TimePart) (h : ℕ) (a b : Bool) → is_left_out f.minute (has_second f) ≡ a
-    → is_left_out f.second (is_some f.subsecond) ≡ b
-    → (if a then Err TimePart.Minute else (if b then Err TimePart.Second else Ok (record {
-      hour = h;
-      minute = number f.minute;
-      second = number f.second;
-      nanosecond = nanosecond_read f.subsecond;
-    }))) ≡ Err p → time_is_read f p ≡ false
-no_finer f p h true b m s e =
-    let is : TimePart.Minute ≡ p = cc in
-    subst (λ q. time_is_read f q ≡ false) is (left_out f.minute (has_second f) m)
-no_finer f p h false true m s e =
-    let is : TimePart.Second ≡ p = cc in
-    subst (λ q. time_is_read f q ≡ false) is (left_out f.second (is_some f.subsecond) s)
-no_finer f p h false false m s e = absurd cc
+two_errors : {X : Type 0} (a b : Bool) (c : X) (p : TimePart)
+    → (if a then Err TimePart.Minute else (if b then Err TimePart.Second else Ok c)) ≡ Err p
+    → ((a ≡ true) × (TimePart.Minute ≡ p)) ⊎ ((b ≡ true) × (TimePart.Second ≡ p))
+two_errors true b c p e = inl (refl, cc)
+two_errors false true c p e = inr (refl, cc)
+two_errors false false c p e = absurd cc
+
+no_finer : (f : Fields) (p : TimePart)
+    → ((is_left_out f.minute (has_second f) ≡ true) × (TimePart.Minute ≡ p))
+    ⊎ ((is_left_out f.second (is_some f.subsecond) ≡ true) × (TimePart.Second ≡ p)) → time_is_read f p ≡ false
+no_finer f p (inl is) = subst (λ q. time_is_read f q ≡ false) is.1 (left_out f.minute (has_second f) is.0)
+no_finer f p (inr is) = subst (λ q. time_is_read f q ≡ false) is.1 (left_out f.second (is_some f.subsecond) is.0)
 
 time_missing : (f : Fields) (o : Option ℕ) (p : TimePart) → hour_read f.hour f.hour_12 f.is_afternoon ≡ o
     → clock_at f o ≡ Err p → time_is_read f p ≡ false
@@ -425,7 +404,7 @@ time_missing f None p is e =
     let same : lack_of_hour f ≡ p = cc in
     subst (λ q. time_is_read f q ≡ false) same (no_hour f f.hour f.hour_12 f.is_afternoon refl refl refl is)
 time_missing f (Some h) p is e =
-    no_finer f p h (is_left_out f.minute (has_second f)) (is_left_out f.second (is_some f.subsecond)) refl refl e
+    no_finer f p (two_errors (is_left_out f.minute (has_second f)) (is_left_out f.second (is_some f.subsecond)) _ p e)
 
 pub time_names : (f : Fields) (e : ValueError) → IsTimeByParts f (Err e) → NamesRead f e
 time_names f (error.Missing (part.Date p)) is = absurd is
@@ -435,82 +414,79 @@ time_names f (error.Missing (part.Instant p)) is = absurd is
 time_names f (error.Contradiction (part.Date p)) is = absurd is.2
 time_names f (error.Contradiction (part.Time p)) is =
     named_read (HasClock (clock_read f)) (time_has f) time_parts (time_fault (clock_read f)) (time_is_read f) p is.2
-    (λ t h e. time_unread f t p h e) (time_fault_read f (clock_read f) refl)
+    (λ t h e. time_unread f t p h e) (time_fault_read f)
 time_names f (error.Contradiction (part.Offset p)) is = absurd is.2
 time_names f (error.Contradiction (part.Instant p)) is = absurd is.2
 
 -- Offsets.
 
--- the numbers of a shift are those that were read
-pub record ShiftOf (f : Fields) (s : Shift) : Type 0 where
-  pub minute : number f.offset_minute ≡ s.minute
-  pub second : number f.offset_second ≡ s.second
-  pub hour : nat_lt 25 s.hour ≡ true → is_some f.offset_hour ≡ true
+-- the numbers of the offset that has what was read
+pub record OffsetOf (f : Fields) (o : UtcOffset) : Type 0 where
+  pub minute : number f.offset_minute ≡ o.seconds / 60 % 60
+  pub second : number f.offset_second ≡ o.seconds % 60
 
-pub shift_of : (f : Fields) (o : Option Signed) (s : Shift) → f.offset_hour ≡ o → shift_at f o ≡ Ok s → ShiftOf f s
-shift_of f None s is e = absurd cc
-shift_of f (Some h) s is e = by (is_left_out f.offset_minute (is_some f.offset_second)) e
-  where
-    in_ok_by : (Shift → ℕ) → Result Shift OffsetPart → ℕ
-    unfolding in_ok_by
-    in_ok_by g (Ok x) = g x
-    in_ok_by g (Err p) = 0
-
-    by : (b : Bool) → (if b then Err OffsetPart.Minute else Ok (record {
+offset_from : (f : Fields) (o : UtcOffset) (h : Signed) (b : Bool)
+    → HasShift (if b then Err OffsetPart.Minute else Ok (record {
       is_negative = h.is_negative;
       hour = h.magnitude;
       minute = number f.offset_minute;
       second = number f.offset_second;
-    })) ≡ Ok s → ShiftOf f s
-    by true g = absurd cc
-    by false g = record {
-      minute = ap (in_ok_by (λ (x : Shift). x.minute)) g;
-      second = ap (in_ok_by (λ (x : Shift). x.second)) g;
-      hour = λ great. ap is_some is;
-    }
+    })) o → OffsetOf f o
+offset_from f o h true is = absurd is
+offset_from f o h false is = record { minute = is.1; second = is.2 }
+
+pub offset_of : (f : Fields) (o : UtcOffset) (h : Option Signed) → HasShift (shift_at f h) o → OffsetOf f o
+offset_of f o None is = absurd is
+offset_of f o (Some h) is = offset_from f o h (is_left_out f.offset_minute (is_some f.offset_second)) is
+
+one_error : {X : Type 0} (b : Bool) (c : X) (p : OffsetPart) → (if b then Err OffsetPart.Minute else Ok c) ≡ Err p
+    → (b ≡ true) × (OffsetPart.Minute ≡ p)
+one_error true c p e = (refl, cc)
+one_error false c p e = absurd cc
 
 pub offset_missing : (f : Fields) (o : Option Signed) (p : OffsetPart) → f.offset_hour ≡ o → shift_at f o ≡ Err p
     → offset_is_read f p ≡ false
 offset_missing f None p is e =
     let same : OffsetPart.Hour ≡ p = cc in subst (λ q. offset_is_read f q ≡ false) same (ap is_some is)
-offset_missing f (Some h) p is e = by (is_left_out f.offset_minute (is_some f.offset_second)) refl e
-  where
-    by : (b : Bool) → is_left_out f.offset_minute (is_some f.offset_second) ≡ b
-        → (if b then Err OffsetPart.Minute else Ok (record {
-          is_negative = h.is_negative;
-          hour = h.magnitude;
-          minute = number f.offset_minute;
-          second = number f.offset_second;
-        })) ≡ Err p → offset_is_read f p ≡ false
-    by true m g =
-        let same : OffsetPart.Minute ≡ p = cc in
-        subst (λ q. offset_is_read f q ≡ false) same (left_out f.offset_minute (is_some f.offset_second) m)
-    by false m g = absurd cc
+offset_missing f (Some h) p is e =
+    let one = one_error (is_left_out f.offset_minute (is_some f.offset_second)) _ p e in
+    subst (λ q. offset_is_read f q ≡ false) one.1
+    (left_out f.offset_minute (is_some f.offset_second) one.0)
 
-pub offset_unread : (f : Fields) (o : UtcOffset) (p : OffsetPart) (s : Shift) → ShiftOf f s → ShiftHas s o
-    → offset_is_read f p ≡ false → offset_has f o p ≡ true
-offset_unread f o OffsetPart.Hour s of h e = shown_unread f.offset_hour _ _ _ e
-offset_unread f o OffsetPart.Minute s of h e = zero_unread f.offset_minute _ e (of.minute ∙ h.1)
-offset_unread f o OffsetPart.Second s of h e = zero_unread f.offset_second _ e (of.second ∙ h.2)
+pub offset_unread : (f : Fields) (o : UtcOffset) (p : OffsetPart) → OffsetOf f o → offset_is_read f p ≡ false
+    → offset_has f o p ≡ true
+offset_unread f o OffsetPart.Hour of e = shown_unread f.offset_hour _ _ _ e
+offset_unread f o OffsetPart.Minute of e = zero_unread f.offset_minute _ e of.minute
+offset_unread f o OffsetPart.Second of e = zero_unread f.offset_second _ e of.second
 
-pub shift_fault_read : (f : Fields) (s : Shift) → ShiftOf f s
-    → IfSome (shift_fault s) (λ q. offset_is_read f q ≡ true)
-shift_fault_read f s of =
-    chosen (λ o. IfSome o (λ q. offset_is_read f q ≡ true)) (nat_lt 25 s.hour) _ _ of.hour
-    (λ g. chosen (λ o. IfSome o (λ q. offset_is_read f q ≡ true)) (nat_lt 59 s.minute) _ _
-      (λ g. great_read f.offset_minute 59 (ap (nat_lt 59) of.minute ∙ g))
-      (λ g. chosen (λ o. IfSome o (λ q. offset_is_read f q ≡ true)) (nat_lt 59 s.second) _ _
-        (λ g. great_read f.offset_second 59 (ap (nat_lt 59) of.second ∙ g)) (λ g. tt)))
+abbrev pub OffsetWas : Fields → Option OffsetPart → Type 0
+OffsetWas f o = IfSome o (λ q. offset_is_read f q ≡ true)
 
-shift_unread : (f : Fields) (r : Result Shift OffsetPart) → shift_read f ≡ r → (o : UtcOffset) (p : OffsetPart)
-    → HasShift r o → offset_is_read f p ≡ false → offset_has f o p ≡ true
-shift_unread f (Ok s) e o p h un = offset_unread f o p s (shift_of f f.offset_hour s refl e) h un
-shift_unread f (Err q) e o p h un = absurd h
+pub shift_was : (f : Fields) (h : Signed) → f.offset_hour ≡ Some h → OffsetWas f (shift_fault (record {
+  is_negative = h.is_negative;
+  hour = h.magnitude;
+  minute = number f.offset_minute;
+  second = number f.offset_second;
+}))
+shift_was f h is =
+    chosen (OffsetWas f) (nat_lt 25 h.magnitude) _ _ (λ g. ap is_some is)
+    (λ g. chosen (OffsetWas f) (nat_lt 59 (number f.offset_minute)) _ _ (λ g. great_read f.offset_minute 59 g)
+      (λ g. chosen (OffsetWas f) (nat_lt 59 (number f.offset_second)) _ _ (λ g. great_read f.offset_second 59 g)
+        (λ g. tt)))
 
-offset_fault_read : (f : Fields) (r : Result Shift OffsetPart) → shift_read f ≡ r
-    → IfSome (offset_fault r) (λ q. offset_is_read f q ≡ true)
-offset_fault_read f (Ok s) e = shift_fault_read f s (shift_of f f.offset_hour s refl e)
-offset_fault_read f (Err p) e = tt
+offset_fault_from : (f : Fields) (h : Signed) (b : Bool) → f.offset_hour ≡ Some h
+    → OffsetWas f (offset_fault (if b then Err OffsetPart.Minute else Ok (record {
+      is_negative = h.is_negative;
+      hour = h.magnitude;
+      minute = number f.offset_minute;
+      second = number f.offset_second;
+    })))
+offset_fault_from f h true is = tt
+offset_fault_from f h false is = shift_was f h is
+
+offset_fault_at : (f : Fields) (h : Option Signed) → f.offset_hour ≡ h → OffsetWas f (offset_fault (shift_at f h))
+offset_fault_at f None is = tt
+offset_fault_at f (Some h) is = offset_fault_from f h (is_left_out f.offset_minute (is_some f.offset_second)) is
 
 pub offset_names : (f : Fields) (e : ValueError) → IsOffsetOf f (Err e) → NamesRead f e
 offset_names f (error.Missing (part.Date p)) is = absurd is
@@ -521,5 +497,5 @@ offset_names f (error.Contradiction (part.Date p)) is = absurd is.2
 offset_names f (error.Contradiction (part.Time p)) is = absurd is.2
 offset_names f (error.Contradiction (part.Offset p)) is =
     named_read (HasShift (shift_read f)) (offset_has f) offset_parts (offset_fault (shift_read f)) (offset_is_read f) p
-    is.2 (λ o h e. shift_unread f (shift_read f) refl o p h e) (offset_fault_read f (shift_read f) refl)
+    is.2 (λ o h e. offset_unread f o p (offset_of f o f.offset_hour h) e) (offset_fault_at f f.offset_hour refl)
 offset_names f (error.Contradiction (part.Instant p)) is = absurd is.2
