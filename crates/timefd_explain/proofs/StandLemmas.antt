@@ -1,5 +1,5 @@
 -- Where nodes stand that are appended, one after another.
-use Rattle.std.proofs.Common.{ℕ, Bool, ◌≡◌, ◌∙◌, ◌+◌, ◌<◌, ◌≤◌, ◌^◌, List, [], ◌∷◌, ◌++◌, length, map, drop, get_or, Result, Ok, Err, OnOk, refl, sym, ap, subst, arith, append_assoc, append-nil, length-append}
+use Rattle.std.proofs.Common.{ℕ, zero, suc, Bool, ◌≡◌, ◌∙◌, ◌+◌, ◌<◌, ◌≤◌, ◌^◌, List, [], ◌∷◌, ◌++◌, length, map, drop, get_or, Result, Ok, Err, OnOk, refl, sym, ap, subst, arith, append_assoc, append-nil, length-append}
 use Rattle.std.proofs.lemmas.List.{drop_all, map-append}
 use Rattle.std.specs.Prelude.{⊤}
 use Rattle.timefd_component.specs.Tree.{Text, Tree, component, literal, compound, optional, first, Trees, no_trees, more_trees, trees, pack}
@@ -326,3 +326,14 @@ described_at list begins at inner a b c is spells one two = record {
 
 pub span_is : (a b c d : ℕ) → a ≡ c → b ≡ d → span a b ≡ span c d
 span_is a b c d e f = ap (λ x. span x b) e ∙ ap (λ x. span c x) f
+
+same_item : {A : Type 0} (xs : List A) (at : ℕ) (a b : A) → at < length xs → get_or xs at a ≡ get_or xs at b
+same_item [] at a b below = absurd (omega (arith, below))
+same_item (x ∷ xs) zero a b below = refl
+same_item (x ∷ xs) (suc at) a b below = same_item xs at a b (omega (arith, below))
+
+-- a piece that is taken twice has one length
+pub same_long : (ss : List Shown) (at : ℕ) (s t : Shown) → at < length ss → s ≡ get_or ss at s
+    → length (get_or ss at t).text.now ≡ length s.text.now
+same_long ss at s t below is =
+    ap (λ (x : Shown). length x.text.now) (same_item ss at t s below ∙ sym is)

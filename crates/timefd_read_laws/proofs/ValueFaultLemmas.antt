@@ -39,11 +39,12 @@ chosen P false x y p q = q refl
 -- A part that isn't the first one that is otherwise is not named.
 pub first_is : {A : Type 0} (has : A → Bool) (ps : List A) (p : A) → first_false has ps ≡ Some p → has p ≡ false
 first_is has [] p e = absurd cc
-first_is has (q ∷ ps) p e = by (has q) refl e
+first_is has (q ∷ ps) p e = by (has q) refl e (λ f. first_is has ps p f)
   where
-    by : (b : Bool) → has q ≡ b → (if b then first_false has ps else Some q) ≡ Some p → has p ≡ false
-    by true is e = first_is has ps p e
-    by false is e = let same : q ≡ p = cc in sym (ap has same) ∙ is
+    by : (b : Bool) → has q ≡ b → (if b then first_false has ps else Some q) ≡ Some p
+        → (first_false has ps ≡ Some p → has p ≡ false) → has p ≡ false
+    by true is e more = more e
+    by false is e more = let same : q ≡ p = cc in sym (ap has same) ∙ is
 
 -- What is named is read: each value has what wasn't read, and where there is none a part is named that was.
 pub named_read : {A P : Type 0} (Has : A → Type 0) (has : A → P → Bool) (ps : List P) (fault : Option P)

@@ -38,7 +38,7 @@ pieces-preserved g c =
       subst (λ (p : Progress). FitsIf _ p.end c.args.text.now c.in-Some.after.now)
           (sym c.one_more-progress.ensures)
           (fits_more _ _ c.pieces.rest.now c.in-Some.after.now c.in-Some.piece c.pieces.progress.end
-          c.in-Some-write_piece.field-0 _ _ _ _ next c.in-Some-write_piece.ensures.some c.pieces.invariant.5),
+          c.in-Some-write_piece.written _ _ _ _ next c.in-Some-write_piece.ensures.some c.pieces.invariant.5),
     )
 
 pub returns-in_default-write_piece-clause-counted : goal.returns-in_default-write_piece-clause-counted

@@ -4,7 +4,7 @@ use Rattle.timefd_explain.proofs.NestedLemmas.{described_adds, nesting_end, nest
 use Rattle.timefd_explain.proofs.PieceLemmas.{first_adds, optional_adds, several_adds}
 use Rattle.timefd_explain.proofs.ShownLemmas.{piece_within}
 use Rattle.timefd_explain.proofs.NestedStandLemmas.{nested_ends, nesting_at_end, nesting_at_first, nesting_at_more}
-use Rattle.timefd_explain.proofs.StandLemmas.{described_at, first_at, optional_at, several_at, span_is, walked_at_end, walked_at_more, walked_at_within}
+use Rattle.timefd_explain.proofs.StandLemmas.{described_at, first_at, optional_at, same_long, several_at, span_is, walked_at_end, walked_at_more, walked_at_within}
 use Rattle.timefd_explain.proofs.WalkLemmas.{walked_end, walked_more}
 use Rattle.timefd_explain.proofs.tree.+tree.Goals as goal
 
@@ -122,7 +122,8 @@ push_pieces-pieces-preserved t c = (
       walked_at_more c.args.language list c.args.begins c.args.text.now c.as_slice-shown.result.now c.pieces.at
       c.index-shown-at.result c.pieces.start c.saturating_add-start.result c.args.nodes.now.items
       c.pieces.nodes.items c.push_piece.new.nodes.items c.pieces-test.true c.index-shown-at.is
-      (omega (arith, within, room))
+      (omega (arith, within, room, same_long c.as_slice-shown.result.now c.pieces.at c.index-shown-at.result
+        c.index-shown-at-in-pieces.result c.pieces-test.true c.index-shown-at.is))
       (λ tree spells shown. c.in_ok-push_piece.ensures.places tree (omega (arith, within, room)) spells shown)
       before,
 )
