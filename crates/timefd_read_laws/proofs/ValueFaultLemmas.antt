@@ -57,7 +57,7 @@ named_read Has has ps fault is_read p named unread read = by (is_read p) refl
     by true is = refl
     by false is =
         let none : fault ≡ Some p = named.1 (λ a h.
-          clash (has a p) (first_is (has a) ps p (named.0 a h)) (unread a h is)) in
+        clash (has a p) (first_is (has a) ps p (named.0 a h)) (unread a h is)) in
         sym is ∙ subst (λ o. IfSome o (λ q. is_read q ≡ true)) none read
 
 pub count_unread : (o : Option ℕ) (n : ℕ) → is_some o ≡ false → is_count o n ≡ true
@@ -165,17 +165,17 @@ module _ (f : Fields) (y iy : Option ℕ) (no_date : calendar y f.month f.day �
   lacking =
       chosen Unread (is_some f.iso_week) _ _
       (λ week. chosen Unread (is_some iy) DatePart.Weekday DatePart.IsoYear
-        (λ h. iso_lacks iy f.iso_week f.weekday no_iso h week)
-        (λ h. no_year f.iso_year f.iso_century f.iso_year_last_two (no_iy h)))
+      (λ h. iso_lacks iy f.iso_week f.weekday no_iso h week)
+      (λ h. no_year f.iso_year f.iso_century f.iso_year_last_two (no_iy h)))
       (λ week. chosen Unread (is_some y) _ _
-        (λ h. chosen Unread (is_some f.month) _ _
-          (λ m. calendar_lacks y f.month f.day no_date h m)
-          (λ m. no_weeks (is_some f.sunday_week) (is_some f.monday_week) refl refl h m))
-        (λ h. chosen Unread (is_some iy) _ _ (λ k. week)
-          (λ k. chosen Unread (is_some f.century) _ _
-            (λ c. no_last_two f.year f.century f.year_last_two (no_y h) c)
-            (λ c. chosen Unread (is_some f.year_last_two) _ _ (λ n. c)
-              (λ n. no_year f.year f.century f.year_last_two (no_y h))))))
+      (λ h. chosen Unread (is_some f.month) _ _
+      (λ m. calendar_lacks y f.month f.day no_date h m)
+      (λ m. no_weeks (is_some f.sunday_week) (is_some f.monday_week) refl refl h m))
+      (λ h. chosen Unread (is_some iy) _ _ (λ k. week)
+      (λ k. chosen Unread (is_some f.century) _ _
+      (λ c. no_last_two f.year f.century f.year_last_two (no_y h) c)
+      (λ c. chosen Unread (is_some f.year_last_two) _ _ (λ n. c)
+      (λ n. no_year f.year f.century f.year_last_two (no_y h))))))
 
 date_missing : (f : Fields) (p : DatePart) → date_way f ≡ Err p → date_is_read f p ≡ false
 date_missing f p e =
@@ -197,13 +197,13 @@ module _ (f : Fields) where
   year_was other was =
       chosen Was (is_beyond f.year 999999) _ _ (λ e. beyond_read f.year 999999 e)
       (λ e. chosen Was (is_beyond f.century 9999) _ _ (λ e. beyond_read f.century 9999 e)
-        (λ e. chosen Was (is_above f.year_last_two 99) _ _ (λ e. above_read f.year_last_two 99 e) (λ e. was)))
+      (λ e. chosen Was (is_above f.year_last_two 99) _ _ (λ e. above_read f.year_last_two 99 e) (λ e. was)))
 
   iso_year_was : (other : DatePart) → Was other → Was (iso_year_fault f other)
   iso_year_was other was =
       chosen Was (is_beyond f.iso_year 999999) _ _ (λ e. beyond_read f.iso_year 999999 e)
       (λ e. chosen Was (is_beyond f.iso_century 9999) _ _ (λ e. beyond_read f.iso_century 9999 e)
-        (λ e. chosen Was (is_above f.iso_year_last_two 99) _ _ (λ e. above_read f.iso_year_last_two 99 e) (λ e. was)))
+      (λ e. chosen Was (is_above f.iso_year_last_two 99) _ _ (λ e. above_read f.iso_year_last_two 99 e) (λ e. was)))
 
   calendar_was : (q : DatePart) (y m n : Option ℕ) → f.month ≡ m → f.day ≡ n
       → IfSome (date_fault f (unless q (calendar y m n))) Was
@@ -345,9 +345,9 @@ clock_was : (f : Fields) (h : ℕ) → hour_read f.hour f.hour_12 f.is_afternoon
 clock_was f h is =
     chosen (TimeWas f) (nat_lt 23 h) _ _ (λ g. hour_was f.hour f.hour_12 f.is_afternoon h is g)
     (λ g. chosen (TimeWas f) (nat_lt 59 (number f.minute)) _ _ (λ g. great_read f.minute 59 g)
-      (λ g. chosen (TimeWas f) (nat_lt 59 (number f.second)) _ _ (λ g. great_read f.second 59 g)
-        (λ g. chosen (TimeWas f) (nat_lt 999999999 (nanosecond_read f.subsecond)) _ _
-          (λ g. fine_read f.subsecond 999999999 g) (λ g. tt))))
+    (λ g. chosen (TimeWas f) (nat_lt 59 (number f.second)) _ _ (λ g. great_read f.second 59 g)
+    (λ g. chosen (TimeWas f) (nat_lt 999999999 (nanosecond_read f.subsecond)) _ _
+    (λ g. fine_read f.subsecond 999999999 g) (λ g. tt))))
 
 fault_from : (f : Fields) (h : ℕ) (a b : Bool) → hour_read f.hour f.hour_12 f.is_afternoon ≡ Some h
     → TimeWas f (time_fault (if a then Err TimePart.Minute else (if b then Err TimePart.Second else Ok (record {
@@ -472,8 +472,8 @@ pub shift_was : (f : Fields) (h : Signed) → f.offset_hour ≡ Some h → Offse
 shift_was f h is =
     chosen (OffsetWas f) (nat_lt 25 h.magnitude) _ _ (λ g. ap is_some is)
     (λ g. chosen (OffsetWas f) (nat_lt 59 (number f.offset_minute)) _ _ (λ g. great_read f.offset_minute 59 g)
-      (λ g. chosen (OffsetWas f) (nat_lt 59 (number f.offset_second)) _ _ (λ g. great_read f.offset_second 59 g)
-        (λ g. tt)))
+    (λ g. chosen (OffsetWas f) (nat_lt 59 (number f.offset_second)) _ _ (λ g. great_read f.offset_second 59 g)
+    (λ g. tt)))
 
 offset_fault_from : (f : Fields) (h : Signed) (b : Bool) → f.offset_hour ≡ Some h
     → OffsetWas f (offset_fault (if b then Err OffsetPart.Minute else Ok (record {

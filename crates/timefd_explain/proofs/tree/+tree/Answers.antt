@@ -122,8 +122,13 @@ push_pieces-pieces-preserved t c = (
       walked_at_more c.args.language list c.args.begins c.args.text.now c.as_slice-shown.result.now c.pieces.at
       c.index-shown-at.result c.pieces.start c.saturating_add-start.result c.args.nodes.now.items
       c.pieces.nodes.items c.push_piece.new.nodes.items c.pieces-test.true c.index-shown-at.is
-      (omega (arith, within, room, same_long c.as_slice-shown.result.now c.pieces.at c.index-shown-at.result
-        c.index-shown-at-in-pieces.result c.pieces-test.true c.index-shown-at.is))
+      (omega (
+        arith,
+        within,
+        room,
+        same_long c.as_slice-shown.result.now c.pieces.at c.index-shown-at.result
+            c.index-shown-at-in-pieces.result c.pieces-test.true c.index-shown-at.is,
+      ))
       (λ tree spells shown. c.in_ok-push_piece.ensures.places tree (omega (arith, within, room)) spells shown)
       before,
 )
