@@ -14,14 +14,14 @@ use Rattle.timefd_c_nodes.specs.Encoding.{literals_of, own_text, texts_of}
 use Rattle.timefd_c_read.specs.declared.report.Report.{Report}
 use Rattle.timefd_c_read.specs.Composites.{piece_text}
 use Rattle.timefd_c_read.specs.Pieces.{IsReportOfPieces}
-use Rattle.timefd_c.specs.declared.answer.TheConstants.{ACCEPTED, NO_MEMORY, REFUSED}
+use Rattle.timefd_c.specs.declared.answer.TheConstants.{ACCEPTED, REFUSED}
 use Rattle.timefd_c.specs.Answers.{Describes}
 use Rattle.timefd_c.specs.Composites.{ReadsComposites}
 use Rattle.timefd_c.specs.Reading.{report_in}
 use Rattle.timefd_c.proofs.AnswerLemmas as answers
 use Rattle.timefd_c.proofs.LongestLemmas.{is_longest}
 use Rattle.timefd_c.proofs.ReadingLemmas.{silent, told}
-use Rattle.timefd_c.proofs.RoomLemmas.{items_within}
+use Rattle.timefd_c_read.proofs.RoomLemmas.{items_within}
 
 -- the literals of pieces are those of their trees
 piece_texts : (pieces : List StrftimePiece) → texts_of piece_text pieces ≡ literals_of (map piece_tree pieces)
@@ -56,6 +56,7 @@ composites_reported bytes ns ms a b r utf8 found spelled no_fault =
       nodes_kept = λ accepted refused memory. absurd (accepted refl);
       literals_kept = λ accepted refused memory. absurd (accepted refl);
       none_counted = λ accepted. absurd (accepted refl);
+      memory = λ e. omega (arith, e);
     }
 
 pub composites_faulted : (bytes : Text) (ns ms : List Node) (a b : Text) (f : Fault) → IsUtf8 bytes
@@ -75,29 +76,8 @@ composites_faulted bytes ns ms a b f utf8 has not_spelled one not_empty = record
   nodes_kept = λ accepted refused. absurd (refused refl);
   literals_kept = λ accepted refused. absurd (refused refl);
   none_counted = λ accepted. (refl, refl, refl, refl);
+  memory = λ e. omega (arith, e);
 }
   where
     not_accepted : REFUSED ≡ ACCEPTED → ⊥
-    not_accepted e = omega (arith, e)
-
--- memory ran out, or a `usize` doesn't count what is written
-pub composites_unread : (bytes : Text) (ns ms : List Node) (a b : Text) → IsUtf8 bytes
-    → ((f : Fault) → FaultIn Strftime nesting_limit bytes f → ⊥) → (bytes ≡ [] → ⊥)
-    → ReadsComposites bytes ns ms a b (silent NO_MEMORY 0)
-composites_unread bytes ns ms a b utf8 no_fault not_empty = record {
-  answers = answers.unread (Some Strftime) nesting_limit bytes (List Tree)
-      (Describes (Some Strftime) bytes)
-      (λ list. IsReportOfPieces list ns ms a b (report_in (silent NO_MEMORY 0)))
-      (answers.some_not_none Strftime) (λ some invalid. invalid utf8) (λ f h. no_fault f h.1)
-      (λ some nil. not_empty nil);
-  nodes = λ e. absurd (not_accepted e);
-  nodes_within = omega arith;
-  literals_within = omega arith;
-  longest = λ e. absurd (not_accepted e);
-  nodes_kept = λ accepted refused memory. absurd (memory refl);
-  literals_kept = λ accepted refused memory. absurd (memory refl);
-  none_counted = λ accepted. (refl, refl, refl, refl);
-}
-  where
-    not_accepted : NO_MEMORY ≡ ACCEPTED → ⊥
     not_accepted e = omega (arith, e)

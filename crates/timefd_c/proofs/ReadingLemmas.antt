@@ -129,6 +129,7 @@ reported language limit bytes ns ms a b r utf8 found spelled no_fault = record {
   nodes_kept = λ accepted refused memory. absurd (accepted refl);
   literals_kept = λ accepted refused memory. absurd (accepted refl);
   none_counted = λ accepted. absurd (accepted refl);
+  memory = λ l is none e. omega (arith, e);
 }
 
 -- a text with a fault, of which the status and its index are answered
@@ -152,6 +153,7 @@ faulted language limit bytes ns ms a b f utf8 has not_spelled one not_empty = re
   nodes_kept = λ accepted refused. absurd (refused refl);
   literals_kept = λ accepted refused. absurd (refused refl);
   none_counted = λ accepted. (refl, refl, refl, refl);
+  memory = λ l is none e. omega (arith, e);
 }
   where
     not_accepted : REFUSED ≡ ACCEPTED → ⊥

@@ -31,3 +31,5 @@ pub record ReadsComposites (bytes : Text) (nodes_before nodes_after : List Node)
       → answer.status ≢ NO_MEMORY → after ≡ before
   pub none_counted : answer.status ≢ ACCEPTED → (answer.nodes ≡ 0) × (answer.literals ≡ 0)
       × IsFalse answer.written × (answer.bytes ≡ 0)
+  -- It takes no memory, so none runs out.
+  pub memory : answer.status ≢ NO_MEMORY

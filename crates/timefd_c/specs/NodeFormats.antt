@@ -1,6 +1,6 @@
 -- What is answered to C of nodes that are to write a moment.
-use Rattle.std.specs.Prelude.{ℕ, ◌≡◌, ◌≤◌, ◌<◌, ◌++◌, List, Some, None, Result, Ok, Err, length, drop}
-use Rattle.timefd_c.specs.declared.answer.TheConstants.{ACCEPTED}
+use Rattle.std.specs.Prelude.{ℕ, ◌≡◌, ◌≢◌, ◌≤◌, ◌<◌, ◌++◌, List, Some, None, Result, Ok, Err, length, drop}
+use Rattle.timefd_c.specs.declared.answer.TheConstants.{ACCEPTED, NO_MEMORY}
 use Rattle.timefd_c.specs.declared.format_answer.FormatAnswer.{FormatAnswer}
 use Rattle.timefd_c.specs.declared.format_answer.TheConstants.{NO_DESCRIPTION}
 use Rattle.timefd_c.specs.declared.moment.MomentFields.{MomentFields}
@@ -36,6 +36,8 @@ pub record FormatsNodesBy (nodes : List Node) (literals : Text) (m : Moment) (be
       → (answer ≡ silent NO_DESCRIPTION at) × (after ≡ before)
   pub shows : node_fault literals nodes ≡ None
       → ShowsBy (written_all m (trees (node_trees literals nodes))) before after answer
+  -- It takes no memory, so none runs out.
+  pub memory : answer.status ≢ NO_MEMORY
 
 -- The same of the numbers of a moment. Where one of them is out of its range that is answered, whatever
 -- the nodes are.
@@ -45,3 +47,4 @@ pub record FormatsNodes (nodes : List Node) (literals : Text) (fields : MomentFi
       → (answer ≡ range_answer e) × (after ≡ before)
   pub formats : range_fault fields ≡ None
       → (m : Moment) × IsMoment fields m × FormatsNodesBy nodes literals m before after answer
+  pub memory : answer.status ≢ NO_MEMORY

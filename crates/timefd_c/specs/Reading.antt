@@ -11,7 +11,7 @@ use Rattle.timefd_c.specs.declared.answer.ReadAnswer.{ReadAnswer}
 use Rattle.timefd_c_read.specs.declared.report.Report.{Report}
 use Rattle.timefd_c.specs.Answers.{DescribesWithin, IsAnswer}
 use Rattle.timefd_c_nodes.specs.Decoding.{read_nodes}
-use Rattle.timefd_c_read.specs.Reports.{IsReport, tops}
+use Rattle.timefd_c_read.specs.Reports.{IsReport, TakesNone, tops}
 
 -- what the answer reports
 abbrev pub report_in : ReadAnswer → Report
@@ -90,3 +90,5 @@ pub record Reads (language : Option Language) (limit : ℕ) (bytes : Text)
       → answer.status ≢ NO_MEMORY → after ≡ before
   pub none_counted : answer.status ≢ ACCEPTED → (answer.nodes ≡ 0) × (answer.literals ≡ 0)
       × IsFalse answer.written × (answer.bytes ≡ 0)
+  -- Only what version 3 nests takes memory.
+  pub memory : (l : Language) → language ≡ Some l → TakesNone l (length bytes) → answer.status ≢ NO_MEMORY

@@ -2,7 +2,7 @@
 
 ghost use Rattle.timefd_c.specs.Composites.{ReadsComposites};
 
-use crate::answer::{ACCEPTED, NO_MEMORY, NOT_UTF8, REFUSED, ReadAnswer};
+use crate::answer::{ACCEPTED, NOT_UTF8, REFUSED, ReadAnswer};
 use timefd_c_nodes::Node;
 use timefd_c_read::{read_composites, text_of};
 use timefd_parse::BorrowedParseError;
@@ -31,6 +31,6 @@ pub extern "C" fn timefd_read_composites(
             bytes: report.bytes,
         },
         Err(BorrowedParseError::Invalid(fault)) => ReadAnswer::plain(REFUSED, fault.index),
-        Err(BorrowedParseError::Memory(_)) => ReadAnswer::plain(NO_MEMORY, 0),
+        Err(BorrowedParseError::Memory(_)) => unreachable!(),
     }
 }

@@ -3,3 +3,5 @@ pub mod PieceLemmas
 pub mod ProgressLemmas
 pub mod ReportLemmas
 pub mod WholeLemmas
+pub mod RoomLemmas
+pub mod CountedLemmas

@@ -1,5 +1,5 @@
 -- What is said and written of a description that is read as nodes.
-use Rattle.std.specs.Prelude.{ℕ, ◌≡◌, ◌≤◌, ◌++◌, ◌↔◌, IsTrue, IfOk, IsOk, List, MatchResult, Result, [], ◌∷◌, length, drop}
+use Rattle.std.specs.Prelude.{ℕ, ◌≡◌, ◌*◌, ◌^◌, ◌<◌, ◌≤◌, ◌++◌, ◌↔◌, ⊤, Bool, true, false, IsTrue, IfOk, IsOk, List, MatchResult, Result, [], ◌∷◌, length, drop}
 use Rattle.std.specs.Result.{IfErr}
 use Rattle.timefd_fault.specs.declared.borrowed_parse_error.BorrowedParseError.{BorrowedParseError}
 use Rattle.timefd_fault.specs.BorrowedFaults.{IsLent, IsLentOf, IsMemory}
@@ -87,3 +87,16 @@ abbrev pub IsRead : Language → ℕ → Text → List Node → List Node → Te
 IsRead language limit text nodes_before nodes_after before after r =
     IsReadAs language limit text
     (λ list x. IsReport language list nodes_before nodes_after before after x) r
+
+-- A `usize` counts the nodes of a text of strftime with so many bytes: one for each letter, or up to fourteen for
+-- two bytes.
+abbrev pub IsCounted : Bool → ℕ → Type 0
+IsCounted true len = ⊤
+IsCounted false len = 7 * len < 2 ^ 64
+
+-- A text with so many bytes takes no memory, and a `usize` counts its nodes. What version 3 nests takes some.
+abbrev pub TakesNone : Language → ℕ → Type 0
+TakesNone (Version One) len = ⊤
+TakesNone (Version Two) len = ⊤
+TakesNone (Version Three) len = ⊥
+TakesNone Strftime len = IsCounted false len

@@ -1,14 +1,14 @@
 //! Texts of each language, read as nodes.
 
-ghost use Rattle.std.specs.Prelude.{◌≡◌, ◌≤◌, [], List, IfOk, IsOk, MatchResult};
+ghost use Rattle.std.specs.Prelude.{◌≡◌, ◌≤◌, [], List, IfOk, IsOk, MatchResult, length};
 ghost use Rattle.std.specs.Result.{IfErr};
-ghost use Rattle.timefd_fault.specs.BorrowedFaults.{IsLent, IsLentOf, IsMemory};
+ghost use Rattle.timefd_fault.specs.BorrowedFaults.{IsLent, IsLentOf, IsMemory, IsRefusal};
 ghost use Rattle.timefd_component.specs.Tree.{Tree};
 ghost use Rattle.timefd_fault.specs.Faults as spec;
 ghost use Rattle.timefd_language.specs.Grammar.{nesting_limit};
 ghost use Rattle.timefd_parse.specs.Language.{FaultIn, SpellsIn};
 ghost use Rattle.timefd_c_read.specs.Pieces.{IsReportOfPieces};
-ghost use Rattle.timefd_c_read.specs.Reports.{IsReport};
+ghost use Rattle.timefd_c_read.specs.Reports.{IsReport, TakesNone};
 
 use crate::nested::read_version_three;
 use crate::report::Report;
@@ -44,8 +44,9 @@ pub fn read<'a>(
     ensures refused { (f : spec.Fault) → FaultIn language nesting_limit text.now f
         → MatchResult result (λ _. ⊥) (IsLent f) }
 
-    // The empty text takes no memory.
+    // The empty text takes no memory, and neither do versions 1 and 2, nor strftime.
     ensures empty { text.now ≡ [] → IsOk result }
+    ensures memory { TakesNone language (length text.now) → IfErr result IsRefusal }
 {
     read_within(alloc, language, NESTING_LIMIT, text, nodes, literals)
 }
@@ -79,8 +80,9 @@ pub fn read_within<'a>(
     ensures refused { (f : spec.Fault) → FaultIn language limit text.now f
         → MatchResult result (λ _. ⊥) (IsLent f) }
 
-    // The empty text takes no memory.
+    // The empty text takes no memory, and neither do versions 1 and 2, nor strftime.
     ensures empty { text.now ≡ [] → IsOk result }
+    ensures memory { TakesNone language (length text.now) → IfErr result IsRefusal }
 {
     match language {
         Language::Strftime => read_strftime::<false>(text, nodes, literals),
@@ -97,8 +99,7 @@ pub fn read_within<'a>(
 /// list stands among the nodes that `read` writes of `COMPOSITES`, which is a text of strftime itself. It
 /// takes no memory.
 ///
-/// The error is `Invalid` with the fault of the text, or `Memory` where a `usize` doesn't count what is
-/// written.
+/// The error is `Invalid` with the fault of the text.
 pub fn read_composites<'a>(
     text: &'a str,
     nodes: &mut [Node],
@@ -110,12 +111,13 @@ pub fn read_composites<'a>(
         × IsReportOfPieces list nodes.old nodes.new literals.old literals.new r) }
     ensures fault { IfErr result (IsLentOf (FaultIn Language.Strftime 0 text.now)) }
 
-    // What is spelled is accepted, unless it isn't counted, and what has a fault is refused for it.
+    // What is spelled is accepted, and what has a fault is refused for it.
     ensures spelled { (list : List Tree) → SpellsIn Language.Strftime 0 text.now list
         → MatchResult result (IsReportOfPieces list nodes.old nodes.new literals.old literals.new) IsMemory }
     ensures refused { (f : spec.Fault) → FaultIn Language.Strftime 0 text.now f
         → MatchResult result (λ _. ⊥) (IsLent f) }
     ensures empty { text.now ≡ [] → IsOk result }
+    ensures memory { IfErr result IsRefusal }
 {
     read_strftime::<true>(text, nodes, literals)
 }

@@ -2,16 +2,17 @@
 
 ghost use Rattle.std.specs.Prelude.{◌≡◌, ◌<◌, List, None, IfSome, MatchResult, length};
 ghost use Rattle.std.specs.Result.{IfErr};
+ghost use Rattle.timefd_fault.specs.BorrowedFaults.{IsRefusal};
 ghost use Rattle.timefd_component.specs.Reserved.{reserve};
 ghost use Rattle.timefd_component.specs.Tree.{Tree, compound, trees};
-ghost use Rattle.timefd_fault.specs.ReadErrors.{MemoryOr};
+ghost use Rattle.timefd_fault.specs.ReadErrors.{MemoryOr, IsInvalid};
 ghost use Rattle.timefd_language.specs.Strftime.{SpellsStrftime};
 ghost use Rattle.timefd_node_list.specs.Views.{walked};
 ghost use Rattle.timefd_c_nodes.specs.Writing.{IsPast, IsWritten};
 ghost use Rattle.timefd_strftime.specs.LetterMeaning.{composite_list};
 ghost use Rattle.timefd_strftime.specs.StrftimeReading.{IsStrftimeFaultIn};
 ghost use Rattle.timefd_c_read.specs.Pieces.{IsStrftimeReport, PieceIsPast, PieceIsWritten, PiecesAreWritten};
-ghost use Rattle.timefd_c_read.specs.Reports.{IsReadAs};
+ghost use Rattle.timefd_c_read.specs.Reports.{IsCounted, IsReadAs};
 
 use crate::composite::put_composite;
 use crate::leaf::write_component;
@@ -31,8 +32,10 @@ pub fn read_strftime<'a, const AS_ONE: bool>(
     nodes: &mut [Node],
     literals: &mut [u8],
 ) -> Result<Report, BorrowedParseError<'a>>
-    ensures { IsReadAs Language.Strftime 0 text.now (IsStrftimeReport AS_ONE nodes.old nodes.new
+    ensures reads { IsReadAs Language.Strftime 0 text.now (IsStrftimeReport AS_ONE nodes.old nodes.new
         literals.old literals.new) result }
+
+    ensures counted { IsCounted AS_ONE (length text.now) → IfErr result IsRefusal }
 {
     match write_pieces::<AS_ONE>(text, nodes, literals) {
         Ok(all) => Ok(report_of(
@@ -46,7 +49,7 @@ pub fn read_strftime<'a, const AS_ONE: bool>(
 }
 
 /// Writes the pieces of a text, as far as there is room. The error is its fault, or `Memory` where a
-/// `usize` doesn't count what is written.
+/// `usize` doesn't count what is written; with one node for a composite letter it always does.
 #[inline(always)]
 fn write_pieces<'a, const AS_ONE: bool>(
     text: &'a str,
@@ -57,6 +60,7 @@ fn write_pieces<'a, const AS_ONE: bool>(
         × PiecesAreWritten AS_ONE list nodes.old nodes.new literals.old literals.new p)
         (MemoryOr (IsStrftimeFaultIn text.now)) }
     ensures some { IfErr result (λ _. 0 < length text.now) }
+    ensures counted { IsCounted AS_ONE (length text.now) → IfErr result IsInvalid }
 {
     let mut progress = NOTHING;
     let mut rest = text;

@@ -2,9 +2,10 @@
 
 ghost use Rattle.std.specs.Prelude.{◌≡◌, ◌<◌, [], List, IsFalse, MatchResult, length};
 ghost use Rattle.std.specs.Result.{IfErr};
+ghost use Rattle.timefd_fault.specs.BorrowedFaults.{IsRefusal};
 ghost use Rattle.timefd_component.specs.Tree.{Tree};
 ghost use Rattle.timefd_language.specs.Bytes.{is_version_three};
-ghost use Rattle.timefd_fault.specs.ReadErrors.{MemoryOr};
+ghost use Rattle.timefd_fault.specs.ReadErrors.{MemoryOr, IsInvalid};
 ghost use Rattle.timefd_parse.specs.Read.{IsFaultIn, PiecesToEnd};
 ghost use Rattle.timefd_c_read.specs.Progress.{HasWritten};
 ghost use Rattle.timefd_c_read.specs.Reports.{IsRead};
@@ -30,8 +31,9 @@ pub fn read_version<'a>(
     literals: &mut [u8],
 ) -> Result<Report, BorrowedParseError<'a>>
     requires { IsFalse (is_version_three version) }
-    ensures { IsRead (Language.Version version) limit text.now nodes.old nodes.new literals.old
+    ensures reads { IsRead (Language.Version version) limit text.now nodes.old nodes.new literals.old
         literals.new result }
+    ensures memory { IfErr result IsRefusal }
 {
     match write_pieces(alloc, version, limit, text, nodes, literals) {
         Ok(all) => Ok(report_of(
@@ -44,8 +46,8 @@ pub fn read_version<'a>(
     }
 }
 
-/// Writes the pieces of a text, as far as there is room. The error is its fault, or `Memory` where a
-/// `usize` doesn't count what is written.
+/// Writes the pieces of a text, as far as there is room. The error is its fault: a `usize` counts what is
+/// written.
 fn write_pieces<'a>(
     alloc: Global,
     version: DescriptionVersion,
@@ -60,6 +62,7 @@ fn write_pieces<'a>(
         × HasWritten list nodes.old nodes.new literals.old literals.new p)
         (MemoryOr (IsFaultIn version limit 0 text.now)) }
     ensures some { IfErr result (λ _. 0 < length text.now) }
+    ensures counted { IfErr result IsInvalid }
 {
     let mut builder = DescriptionBuilder::new(alloc);
     let mut progress = NOTHING;

@@ -7,6 +7,7 @@ use Rattle.timefd_editor.specs.Positions.{range_of}
 use Rattle.timefd_explain.specs.declared.node.Node.{Node}
 use Rattle.timefd_explain.specs.Examples.{Examples, HasExample}
 use Rattle.timefd_explain.specs.Parts.{AreParts, all_parts}
+use Rattle.timefd_explain.specs.Stands.{NodesStand}
 use Rattle.timefd_language.specs.Grammar.{nesting_limit}
 use Rattle.timefd_lint_sources.specs.declared.told.End.{End}
 use Rattle.timefd_lint_sources.specs.declared.told.End.TheVariants.{PassedOver, Accepted, Refused, NotText}
@@ -79,9 +80,10 @@ pub record IsHoverIn (s : Source) (index : ℕ) (h : Hover) : Type 0 where
   pub example : HasExample node
   pub shown : IsHoverOf s.text.now description node h
 
--- The nodes show the parts of what a text spells.
+-- The nodes show the parts of what a text spells, and stand where these do.
 pub record AreNodesOf (language : Language) (text : Text) (nodes : List Node) : Type 0 where
   pub parts : (list : List Tree) → SpellsIn language nesting_limit text list → AreParts (all_parts 0 (trees list)) nodes
+  pub places : (list : List Tree) → SpellsIn language nesting_limit text list → NodesStand language (trees list) text nodes
   pub examples : Examples nodes
 
 abbrev pub IsShownOf : Text → Description → Option Node → Option Hover → Type 0

@@ -7,4 +7,6 @@ pub mod HeadLemmas
 pub mod WalkLemmas
 pub mod NestedLemmas
 pub mod PieceLemmas
+pub mod StandLemmas
+pub mod NestedStandLemmas
 pub mod LineLemmas

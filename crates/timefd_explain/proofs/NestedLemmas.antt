@@ -55,7 +55,7 @@ first_byte : (a b : ℕ) (x y : Text) → a ∷ x ≡ b ∷ y → a ≡ b
 first_byte a b x y e = cc
 
 -- the end of a bracket begins with no description
-no_description : (rest white inner behind : Text) → ZeroOrMore is_white white
+pub no_description : (rest white inner behind : Text) → ZeroOrMore is_white white
     → rest ≡ white ++ right ∷ [] → BeginsNested Three rest inner behind → ⊥
 no_description rest white inner behind all e begins =
     let same = same_cut is_white rest white (right ∷ []) begins.white

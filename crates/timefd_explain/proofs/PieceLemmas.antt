@@ -19,7 +19,7 @@ use Rattle.timefd_explain.proofs.PartLemmas.{adds_one, adds_both}
 
 -- what nests is of version 3, and a compound of strftime
 
-three : (language : Language) (text : Text) (t : Tree)
+pub three : (language : Language) (text : Text) (t : Tree)
     → SpellsIn language nesting_limit text (t ∷ []) → Nests t
     → Spells Three nesting_limit 0 text (t ∷ [])
 three (Version v) text t s n =
@@ -27,13 +27,13 @@ three (Version v) text t s n =
     s
 three Strftime text t s n = absurd (strftime_flat text t s n)
 
-letter : (language : Language) (text : Text) (ts : Trees)
+pub letter : (language : Language) (text : Text) (ts : Trees)
     → SpellsIn language nesting_limit text (compound ts ∷ []) → SpellsStrftime text (compound ts ∷ [])
 letter (Version v) text ts s =
     absurd ((spelled_flat v nesting_limit text (compound ts ∷ []) s).0 tt)
 letter Strftime text ts s = s
 
-on_ok : {A E : Type 0} (r : Result A E) (P Q : Type 0) → (P → Q) → OnOk r P → OnOk r Q
+pub on_ok : {A E : Type 0} (r : Result A E) (P Q : Type 0) → (P → Q) → OnOk r P → OnOk r Q
 on_ok (Ok x) P Q f p = f p
 on_ok (Err e) P Q f p = tt
 

@@ -35,7 +35,7 @@ walked_first language d text list ss ns shows = record {
   adds = adds_none ns;
 }
 
-from_place : {A : Type 0} (xs : List A) (at : ℕ) (x : A) → at < length xs → x ≡ get_or xs at x
+pub from_place : {A : Type 0} (xs : List A) (at : ℕ) (x : A) → at < length xs → x ≡ get_or xs at x
     → drop at xs ≡ x ∷ drop (at + 1) xs
 from_place xs at x below is =
     let head : drop at xs ≡ get_or xs at x ∷ drop (at + 1) xs =

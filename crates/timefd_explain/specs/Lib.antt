@@ -3,4 +3,5 @@ pub mod Shown
 pub mod Examples
 pub mod Parts
 pub mod Inside
+pub mod Stands
 pub mod Lines

@@ -1,5 +1,5 @@
 -- The lines that show the nodes of a text.
-use Rattle.std.specs.Prelude.{ℕ, zero, suc, ◌≡◌, ◌-◌, ◌^◌, List, [], ◌∷◌, ◌++◌, codes, decimal, string_bytes, Option, Some, None}
+use Rattle.std.specs.Prelude.{ℕ, zero, suc, Bool, true, false, ◌≡◌, ◌-◌, ◌^◌, List, [], ◌∷◌, ◌++◌, codes, decimal, string_bytes, Option, Some, None}
 use denote.Ref.{Bor}
 use Rattle.std.specs.Fmt.{format_spec, styled_decimal}
 use Rattle.std.specs.Str.Pattern.{GetsRange}
@@ -12,6 +12,7 @@ use Rattle.timefd_parse.specs.Language.{SpellsIn}
 use Rattle.timefd_parse.specs.declared.language.Language.{Language}
 use Rattle.timefd_explain.specs.Examples.{Examples}
 use Rattle.timefd_explain.specs.Parts.{AreParts, all_parts}
+use Rattle.timefd_explain.specs.Stands.{NodesStand}
 use Rattle.timefd_explain.specs.declared.node.Node.{Node}
 
 -- a number, in five columns at least
@@ -60,12 +61,14 @@ IsTree file number text nodes bytes tree = (lines : Text) × AreLines text nodes
     × (tree ≡ safe file ++ (codes ":" ++ (decimal number ++ (codes ": " ++ (safe text ++ (codes "\n"
     ++ (lines ++ (in_columns bytes ++ codes "  in all\n"))))))))
 
--- These are the nodes of the text, and the bytes that it reserves.
+-- These are the nodes of the text, where its parts stand, and the bytes that it reserves.
 pub record IsExplanation (language : Language) (text : Text) (nodes : List Node) (bytes : ℕ) : Type 0 where
   pub sum : (list : List Tree) → SpellsIn language nesting_limit text list
       → bytes ≡ kept_bytes (reserve_all (trees list))
   pub parts : (list : List Tree) → SpellsIn language nesting_limit text list
       → AreParts (all_parts 0 (trees list)) nodes
+  pub places : (list : List Tree) → SpellsIn language nesting_limit text list
+      → NodesStand language (trees list) text nodes
   pub examples : Examples nodes
 
 -- The tree is that of the text.
@@ -74,3 +77,8 @@ pub record IsExplained (language : Language) (file : Text) (number : ℕ) (text 
   pub bytes : ℕ
   pub explanation : IsExplanation language text nodes bytes
   pub drawn : IsTree file number text nodes bytes tree
+
+-- That of a text is written where it is asked for, and else nothing.
+abbrev pub IsExplainedIf : Bool → Language → Text → ℕ → Text → Text → Type 0
+IsExplainedIf true language file number text tree = IsExplained language file number text tree
+IsExplainedIf false language file number text tree = tree ≡ []

@@ -9,6 +9,7 @@ ghost use Rattle.timefd_parse.specs.Language.{SpellsIn};
 ghost use Rattle.timefd_explain.specs.Examples.{Examples};
 ghost use Rattle.timefd_explain.specs.Lines.{IsExplained, IsTree};
 ghost use Rattle.timefd_explain.specs.Parts.{AreParts, all_parts};
+ghost use Rattle.timefd_explain.specs.Stands.{NodesStand};
 
 use crate::line::push_lines;
 use crate::node::Node;
@@ -46,6 +47,10 @@ pub fn explanation_of(
     // Its nodes stand one for one for the parts of what the text spells.
     ensures parts { (list : List Tree) → SpellsIn language nesting_limit text.now list
         → IfOk result (λ found. AreParts (all_parts 0 (trees list)) found.nodes.items) }
+
+    // They stand where these parts do.
+    ensures places { (list : List Tree) → SpellsIn language nesting_limit text.now list
+        → IfOk result (λ found. NodesStand language (trees list) text.now found.nodes.items) }
 
     // Each node, however deep, has its example.
     ensures examples { IfOk result (λ found. Examples found.nodes.items) }

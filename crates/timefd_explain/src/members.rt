@@ -8,6 +8,7 @@ ghost use Rattle.timefd_language.specs.Strftime.{SpellsStrftime};
 ghost use Rattle.timefd_explain.specs.Examples.{Examples};
 ghost use Rattle.timefd_explain.specs.Parts.{Adds, capped};
 ghost use Rattle.timefd_explain.specs.Parts as spec;
+ghost use Rattle.timefd_explain.specs.Stands.{AddsAt, members_at};
 
 use crate::node::{Node, Place, node_of};
 use crate::piece::item_what;
@@ -29,6 +30,8 @@ pub fn push_members(
     ensures parts { (d : ℕ) (ts : Trees) → depth ≡ capped d
         → SpellsStrftime text.now (compound ts ∷ [])
         → OnOk result (Adds (spec.members d ts) nodes.old.items nodes.new.items) }
+    ensures places { (ts : Trees) → SpellsStrftime text.now (compound ts ∷ [])
+        → OnOk result (AddsAt (λ spans. spans ≡ members_at start ts) nodes.old.items nodes.new.items) }
 {
     let tables = StrftimeTables::new();
     match parse_strftime_borrowed(alloc, &tables, text) {
@@ -51,6 +54,8 @@ fn push_composite(
     ensures parts { (d : ℕ) (ts : Trees) → depth ≡ capped d
         → item_trees items.now ≡ compound ts ∷ []
         → OnOk result (Adds (spec.members d ts) nodes.old.items nodes.new.items) }
+    ensures places { (ts : Trees) → item_trees items.now ≡ compound ts ∷ []
+        → OnOk result (AddsAt (λ spans. spans ≡ members_at start ts) nodes.old.items nodes.new.items) }
 {
     if items.is_empty() {
         return Ok(());
@@ -74,6 +79,8 @@ fn push_items(
     ensures examples { OnOk result (Examples nodes.old.items → Examples nodes.new.items) }
     ensures parts { (d : ℕ) → depth ≡ capped d
         → OnOk result (Adds (spec.members d (trees (item_trees members.now)))
+        nodes.old.items nodes.new.items) }
+    ensures places { OnOk result (AddsAt (λ spans. spans ≡ members_at start (trees (item_trees members.now)))
         nodes.old.items nodes.new.items) }
 {
     let place = Place {

@@ -1,6 +1,6 @@
 //! A node of a description, as it is shown.
 
-ghost use Rattle.std.specs.Prelude.{ℕ, ◌≡◌, IfOk, string_bytes};
+ghost use Rattle.std.specs.Prelude.{ℕ, ◌≡◌, ◌+◌, IfOk, length, string_bytes};
 ghost use Rattle.timefd_component.specs.Reserved.{reserve};
 ghost use Rattle.timefd_component.specs.Tree.{Tree};
 ghost use Rattle.timefd_node_list.specs.Nodes.{kept_bytes};
@@ -79,6 +79,8 @@ pub fn node_of(
     ensures node { IfOk result HasExample }
     ensures piece { (d : ℕ) (tree : Tree) → place.entry.depth ≡ capped d → IsWhat what.now tree
         → bytes ≡ kept_bytes (reserve tree) → IfOk result (IsPiece d tree) }
+    ensures start { IfOk result (λ node. node.start ≡ place.entry.start) }
+    ensures end { IfOk result (λ node. node.end ≡ capped (place.entry.start + length place.entry.text.now)) }
 {
     let words = words_in(alloc, language, place.text, what)?;
     let example = example_of(alloc, what)?;

@@ -1,6 +1,6 @@
 //! The tree of an accepted text, a line a node.
 
-ghost use Rattle.std.specs.Prelude.{ℕ, ◌≡◌, ◌≤◌, List, [], ◌∷◌, ◌++◌, length, IfOk, OnOk};
+ghost use Rattle.std.specs.Prelude.{ℕ, ◌≡◌, ◌≤◌, ◌<◌, ◌+◌, ◌^◌, List, [], ◌∷◌, ◌++◌, length, IfOk, OnOk};
 ghost use Rattle.timefd_component.specs.Reserved.{reserve, reserve_all};
 ghost use Rattle.timefd_component.specs.Tree.{Text, Tree, pack, trees};
 ghost use Rattle.timefd_language.specs.Grammar.{Spells, nesting_limit};
@@ -13,6 +13,7 @@ ghost use Rattle.timefd_explain.specs.Inside.{EndsHead, Nests, held_parts};
 ghost use Rattle.timefd_explain.specs.Parts.{Adds, all_parts, capped, described, description};
 ghost use Rattle.timefd_explain.specs.Parts as spec;
 ghost use Rattle.timefd_explain.specs.Shown.{IsShown};
+ghost use Rattle.timefd_explain.specs.Stands.{AddsAt, DescriptionStands, HeldStand, PieceStands, PiecesStand, around};
 
 use crate::members::push_members;
 use crate::node::{Node, NodeKind, Place, node_of};
@@ -46,6 +47,12 @@ pub fn push_pieces(
     ensures parts { (d : ℕ) (list : List Tree) → depth ≡ capped d
         → SpellsIn language nesting_limit text.now list
         → OnOk result (Adds (all_parts d (trees list)) nodes.old.items nodes.new.items) }
+
+    // They stand where the pieces do.
+    ensures places { (list : List Tree) → begins + length text.now < 2 ^ 64
+        → SpellsIn language nesting_limit text.now list
+        → OnOk result (AddsAt (PiecesStand language (trees list) begins text.now)
+        nodes.old.items nodes.new.items) }
 {
     let pieces = pieces_of(alloc, language, text)?;
     let shown = pieces.as_slice();
@@ -72,6 +79,10 @@ fn push_piece(
     ensures parts { (d : ℕ) (tree : Tree) → depth ≡ capped d
         → SpellsIn language nesting_limit piece.now.text.now (tree ∷ []) → IsShown piece.now tree
         → OnOk result (Adds (spec.parts d tree) nodes.old.items nodes.new.items) }
+    ensures places { (tree : Tree) → start + length piece.now.text.now < 2 ^ 64
+        → SpellsIn language nesting_limit piece.now.text.now (tree ∷ []) → IsShown piece.now tree
+        → OnOk result (AddsAt (PieceStands tree start piece.now.text.now)
+        nodes.old.items nodes.new.items) }
 {
     let Shown { text, bytes, what } = piece;
     let place = Place { depth, start, text };
@@ -99,6 +110,9 @@ fn push_nested(
     ensures parts { (d : ℕ) (tree : Tree) → depth ≡ capped d
         → Spells Three nesting_limit 0 text.now (tree ∷ []) → Nests tree
         → OnOk result (Adds (held_parts d tree) nodes.old.items nodes.new.items) }
+    ensures places { (tree : Tree) → start + length text.now < 2 ^ 64
+        → Spells Three nesting_limit 0 text.now (tree ∷ []) → Nests tree
+        → OnOk result (AddsAt (HeldStand tree start text.now) nodes.old.items nodes.new.items) }
 {
     let mut rest = behind_head(text);
     'nested: while let Some((inner, behind)) = first_nested(
@@ -143,6 +157,10 @@ fn push_described(
     ensures parts { (d : ℕ) (list : List Tree) → depth ≡ capped d
         → Spells Three nesting_limit 0 inner.now list
         → OnOk result (Adds (described d (pack list)) nodes.old.items nodes.new.items) }
+    ensures places { (at : ℕ) (list : List Tree) → begins ≡ at + 1 → at + length inner.now + 2 < 2 ^ 64
+        → Spells Three nesting_limit 0 inner.now list
+        → OnOk result (AddsAt (DescriptionStands (pack list) at inner.now)
+        nodes.old.items nodes.new.items) }
 {
     push_description(alloc, nodes, depth, begins, inner)?;
     let language = Language::Version(DescriptionVersion::Three);
@@ -164,6 +182,9 @@ fn push_description(
     ensures parts { (d : ℕ) (list : List Tree) → depth ≡ capped d
         → Spells Three nesting_limit 0 inner.now list
         → OnOk result (Adds (description d (pack list) ∷ []) nodes.old.items nodes.new.items) }
+    ensures places { (at : ℕ) → begins ≡ at + 1 → at + length inner.now + 2 < 2 ^ 64
+        → OnOk result (AddsAt (λ spans. spans ≡ around at inner.now ∷ [])
+        nodes.old.items nodes.new.items) }
 {
     let node = Node {
         depth,

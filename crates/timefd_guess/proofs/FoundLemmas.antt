@@ -5,10 +5,10 @@ use Rattle.std.specs.declared.alloc.AllocError.{AllocError}
 use Rattle.std.proofs.lemmas.List.Elements.{All-nil, All-cons, All-append, All-take}
 use denote.Ref.{Bor}
 use Rattle.timefd_component.specs.Tree.{Text, Tree, pack}
-use Rattle.timefd_borrowed_fault.specs.BorrowedFaults.{IsLentOf, lent_fault}
-use Rattle.timefd_borrowed_fault.specs.declared.borrowed_fault.BorrowedFault.{BorrowedFault}
-use Rattle.timefd_borrowed_fault.specs.declared.borrowed_parse_error.BorrowedParseError.{BorrowedParseError}
-use Rattle.timefd_borrowed_fault.specs.declared.borrowed_parse_error.BorrowedParseError.TheVariants.{Invalid}
+use Rattle.timefd_fault.specs.BorrowedFaults.{IsLentOf, lent_fault}
+use Rattle.timefd_fault.specs.declared.borrowed_fault.BorrowedFault.{BorrowedFault}
+use Rattle.timefd_fault.specs.declared.borrowed_parse_error.BorrowedParseError.{BorrowedParseError}
+use Rattle.timefd_fault.specs.declared.borrowed_parse_error.BorrowedParseError.TheVariants.{Invalid}
 use Rattle.timefd_guess.specs.Candidates.{Entry, entries, entry_of, rows_of, rows_in}
 use Rattle.timefd_guess.specs.declared.candidates.Group.{Group}
 use Rattle.timefd_guess.specs.Found.{texts, Adds, IsRead, IsWritten, ReadBy, ComesBack, AllComeBack, Counts, one_if, ReadsAll, IsOffered, IsGuess, Appends, AreFound, IsReadBack, ReadsBack}

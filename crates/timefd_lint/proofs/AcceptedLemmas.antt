@@ -1,11 +1,11 @@
 -- What is told of a text that is accepted.
-use Rattle.std.proofs.Common.{◌≡◌, true, List, [], ◌++◌, Option, ap, append-nil, refl, sym, ◌∙◌}
+use Rattle.std.proofs.Common.{◌≡◌, true, false, List, [], ◌++◌, Option, ap, append-nil, refl, subst, sym, ◌∙◌}
 use Rattle.std.specs.Prelude.{IsUtf8}
 use Rattle.std.specs.Io.KnownBytes.{Appends}
 use Rattle.std.proofs.KnownBytes.{Appends-nil, Appends-trans}
-use Rattle.std.proofs.lemmas.Bool.{true≢false}
 use Rattle.timefd_component.specs.Tree.{Text, Tree}
 use Rattle.timefd_drawing.specs.declared.position.Origin.{Origin}
+use Rattle.timefd_explain.specs.Lines.{IsExplained, IsExplainedIf}
 use Rattle.timefd_language.specs.Grammar.{nesting_limit}
 use Rattle.timefd_parse.specs.declared.language.Language.{Language}
 use Rattle.timefd_parse.specs.Language.{SpellsIn}
@@ -19,18 +19,25 @@ use Rattle.timefd_lint_warnings.specs.Found.{found_by}
 use Rattle.timefd_lint.specs.Lines.{IsEndOf}
 use Rattle.timefd_lint.specs.Told.{Says, WritesTree}
 
-pub tree_written : (telling : Telling) (before behind : Option Text) (tree : Text)
-    → telling.explains ≡ true → Appends before behind tree → WritesTree telling before behind
-tree_written telling before behind tree is written =
-    (tree, λ differs. absurd (true≢false (sym is ∙ differs)), written)
+pub tree_written : (language : Language) (telling : Telling) (origin : Origin) (text : Text)
+    (before behind : Option Text) (tree : Text) → telling.explains ≡ true
+    → IsExplained language origin.file.now origin.line text tree → Appends before behind tree
+    → WritesTree language telling origin text before behind
+tree_written language telling origin text before behind tree is explained written =
+    (tree, subst (λ b. IsExplainedIf b language origin.file.now origin.line text tree) (sym is) explained, written)
 
-pub no_tree : (telling : Telling) (known : Option Text) → WritesTree telling known known
-no_tree telling known = ([], λ _. refl, Appends-nil known)
+pub no_tree : (language : Language) (telling : Telling) (origin : Origin) (text : Text) (known : Option Text)
+    → telling.explains ≡ false → WritesTree language telling origin text known known
+no_tree language telling origin text known is = (
+  [],
+  subst (λ b. IsExplainedIf b language origin.file.now origin.line text []) (sym is) refl,
+  Appends-nil known,
+)
 
 -- Behind the tree stand the warnings.
 pub tree_and_warnings : (language : Language) (telling : Telling) (origin : Origin) (text : Text)
     (found : Levels) (before between behind : Option Text) (told : Text)
-    → WritesTree telling before between
+    → WritesTree language telling origin text before between
     → told ≡ warning_messages telling.style origin found → Appends between behind told
     → Says language telling origin text (Accepted found) before behind
 tree_and_warnings language telling origin text found before between behind told tree are written = (
@@ -41,7 +48,7 @@ tree_and_warnings language telling origin text found before between behind told 
 
 -- It stands alone where each warning is allowed.
 pub tree_alone : (language : Language) (telling : Telling) (origin : Origin) (text : Text)
-    (found : Levels) (before behind : Option Text) → WritesTree telling before behind
+    (found : Levels) (before behind : Option Text) → WritesTree language telling origin text before behind
     → found ≡ all_at Allowed → Says language telling origin text (Accepted found) before behind
 tree_alone language telling origin text found before behind tree is =
     let none : warning_messages telling.style origin found ≡ [] =

@@ -15,6 +15,7 @@ use Rattle.timefd_lint.specs.declared.tally.Tally.{Tally}
 use Rattle.timefd_drawing.specs.declared.draw.Style.{Style}
 use Rattle.timefd_drawing.specs.declared.position.Origin.{Origin}
 use Rattle.timefd_drawing.specs.Drawing.{drawn_all}
+use Rattle.timefd_explain.specs.Lines.{IsExplainedIf}
 use Rattle.timefd_warnings.specs.declared.levels.Level.TheVariants.{Warned, Denied}
 use Rattle.timefd_warnings.specs.declared.levels.Levels.{Levels}
 use Rattle.timefd_warnings.specs.Levels.{count as warning_count}
@@ -26,17 +27,22 @@ use Rattle.timefd_lint.specs.Failures.{IsUnreadNote, note_of}
 use Rattle.timefd_lint.specs.Lines.{IsEndOf, IsLineEnd}
 use Rattle.timefd_lint.specs.Marks.{IsNote, has_mark}
 
+-- the tree of a text, byte for byte, if it is asked for
+abbrev pub IsTreeOf : Language → Telling → Origin → Text → Text → Type 0
+IsTreeOf language telling origin text tree =
+    IsExplainedIf telling.explains language origin.file.now origin.line text tree
+
 -- What is written of an accepted text is its tree, if that is asked for, and then each warning that it
 -- has and that is told, at its place and in the order of their codes, and nothing else.
-abbrev pub IsTreeAndWarnings : Telling → Origin → Levels → Text → Type 0
-IsTreeAndWarnings telling origin found message = (tree : Text)
+abbrev pub IsTreeAndWarnings : Language → Telling → Origin → Levels → Text → Text → Type 0
+IsTreeAndWarnings language telling origin found text message = (tree : Text)
     × (message ≡ tree ++ warning_messages telling.style origin found)
-    × (IsFalse telling.explains → tree ≡ [])
+    × IsTreeOf language telling origin text tree
 
 -- The tree of a text is written, if it is asked for, and nothing else is.
-abbrev pub WritesTree : Telling → Option Text → Option Text → Type 0
-WritesTree telling before behind = (tree : Text) × (IsFalse telling.explains → tree ≡ [])
-    × Appends before behind tree
+abbrev pub WritesTree : Language → Telling → Origin → Text → Option Text → Option Text → Type 0
+WritesTree language telling origin text before behind = (tree : Text)
+    × IsTreeOf language telling origin text tree × Appends before behind tree
 
 -- What is written of a refused text is the drawing of what is wrong with it, and those of what
 -- further, each at its place.
@@ -52,7 +58,7 @@ IsFailureNote style file message = (failure : Failure) × (message ≡ note_of s
 abbrev pub IsMessageOn : Language → Telling → Origin → Text → TextEnd → Text → Type 0
 IsMessageOn language telling origin text PassedOver message = message ≡ []
 IsMessageOn language telling origin text (Accepted found) message =
-    IsTreeAndWarnings telling origin found message
+    IsTreeAndWarnings language telling origin found text message
 IsMessageOn language telling origin text Refused message =
     IsDrawing language telling.style origin text message
 IsMessageOn language telling origin text NotText message =

@@ -189,7 +189,8 @@ fn write_tree<W: Write>(
     writer: &mut W,
 ) -> Result<(), RunError>
     ensures { OnOk result
-        (WritesTree options.entry.telling (W.contents writer.old) (W.contents writer.new)) }
+        (WritesTree options.entry.language options.entry.telling origin.entry text.now
+        (W.contents writer.old) (W.contents writer.new)) }
 {
     if options.telling.explains {
         let tree = explained(alloc, options.language, origin, text)?;

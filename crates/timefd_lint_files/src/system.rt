@@ -1,6 +1,7 @@
 //! What has files and folders.
 
-ghost use Rattle.std.specs.Prelude.{List, Bool, IfOk, ⊤};
+ghost use Rattle.std.specs.Fs.{IsDir, IsFile};
+ghost use Rattle.std.specs.Prelude.{◌≡◌, ◌↔◌, List, Bool, IfOk, ⊤};
 ghost use Rattle.std.specs.Result.{IfErr};
 ghost use Rattle.std.specs.declared.io.ErrorKind.{ErrorKind};
 ghost use Rattle.timefd_lint_files.specs.Errors.{IsReadError};
@@ -67,7 +68,10 @@ impl From<std::io::Error> for ReadError {
     }
 }
 
-fn kind_of(file_type: FileType) -> Kind {
+fn kind_of(file_type: FileType) -> Kind
+    ensures file { result ≡ Kind.File ↔ IsFile file_type }
+    ensures folder { result ≡ Kind.Folder ↔ IsDir file_type }
+{
     if file_type.is_dir() {
         Kind::Folder
     } else if file_type.is_file() {

@@ -13,6 +13,7 @@ use Rattle.timefd_diagnosis.specs.declared.diagnostic.Diagnostic.{Diagnostic}
 use Rattle.timefd_diagnosis.specs.Diagnoses.{IsDiagnosis}
 use Rattle.timefd_diagnosis.specs.Further.{AreDiagnosed, AreFurther, most_further, without}
 use Rattle.timefd_drawing.specs.Positions.{told_column, line_number}
+use Rattle.timefd_explain.specs.Lines.{IsExplainedIf}
 use Rattle.timefd_sources.specs.declared.description.Description.{Description}
 use Rattle.timefd_sources.specs.declared.told.Items.TheVariants.{Taken, Refused as RefusedItems}
 use Rattle.timefd_warnings.specs.declared.levels.Level.TheVariants.{Allowed}
@@ -26,7 +27,7 @@ use Rattle.timefd_lint_sources.specs.declared.told.Telling.{Telling}
 use Rattle.timefd_lint_sources.specs.declared.told.Told.{Told}
 use Rattle.timefd_lint_warnings.specs.Found.{found_by}
 use Rattle.timefd_lint_sources.specs.Judged.{is_passed_over, language_in, text_of, told_further, unless_item}
-use Rattle.timefd_lint_sources.specs.Told.{IsMessageOn, IsTold, IsTree, drawing_of, note_of, origin_of}
+use Rattle.timefd_lint_sources.specs.Told.{IsMessageOn, IsTold, drawing_of, note_of, origin_of}
 
 pub passed_over : (telling : Telling) (s : Source) (d : Description)
     → is_passed_over d.dialect (text_of d) ≡ true → IsTold telling s d PassedOver []
@@ -119,13 +120,18 @@ with_list telling s d text list end message judges utf8 same spelled is told =
 
 -- The warnings stand behind the tree, at the literal.
 pub tree_and_warnings : (telling : Telling) (s : Source) (d : Description) (found : Levels)
-    (tree told message : Text) (line col : ℕ) → IsTree telling.explains tree
+    (language : Language) (text tree told message : Text) (line col : ℕ)
+    → IsExplainedIf telling.explains language s.file.now line text tree → language ≡ language_in d → text ≡ text_of d
     → line ≡ line_number 1 s.text.now d.piece.start → col ≡ told_column telling.style.format s.text.now d.piece.start
     → told ≡ messages_at telling.style (record { file = s.file; line = line }) col found
     → message ≡ tree ++ told → IsMessageOn telling s d (Accepted found) message
-tree_and_warnings telling s d found tree told message line col asked at_line at_column are is = (
+tree_and_warnings telling s d found language text tree told message line col asked named same at_line at_column are is = (
   tree,
-  asked,
+  subst (λ l. IsExplainedIf telling.explains l s.file.now (line_number 1 s.text.now d.piece.start) (text_of d) tree)
+      named
+      (subst (λ t. IsExplainedIf telling.explains language s.file.now (line_number 1 s.text.now d.piece.start) t tree)
+      same
+      (subst (λ n. IsExplainedIf telling.explains language s.file.now n text tree) at_line asked)),
   is ∙ ap (λ t. tree ++ t)
       (are
       ∙ ap (λ l. messages_at telling.style (record { file = s.file; line = l }) col found) at_line
@@ -135,7 +141,11 @@ tree_and_warnings telling s d found tree told message line col asked at_line at_
 -- Where neither trees nor warnings are asked for, nothing is told.
 pub nothing_told : (telling : Telling) (s : Source) (d : Description) → telling.explains ≡ false
     → IsMessageOn telling s d (Accepted (all_at Allowed)) []
-nothing_told telling s d quiet = ([], (λ _. refl), refl)
+nothing_told telling s d quiet = (
+  [],
+  subst (λ b. IsExplainedIf b (language_in d) s.file.now (origin_of s d).line (text_of d) []) (sym quiet) refl,
+  refl,
+)
 
 -- The further faults that are told.
 pub further_told : {E : Type 0} (d : Description) (language : Language) (text : Text) (f : Fault)

@@ -1,12 +1,13 @@
 -- What is told of the descriptions of a source.
 use Rattle.std.specs.List.{All}
-use Rattle.std.specs.Prelude.{ℕ, ◌≡◌, Bool, List, [], ◌∷◌, ◌++◌, codes, map, IsFalse, ⊤}
+use Rattle.std.specs.Prelude.{ℕ, ◌≡◌, List, [], ◌∷◌, ◌++◌, codes, map, ⊤}
 use Rattle.timefd_component.specs.Tree.{Text}
 use Rattle.timefd_diagnosis.specs.declared.diagnostic.Diagnostic.{Diagnostic}
 use Rattle.timefd_drawing.specs.declared.draw.Style.{Style}
 use Rattle.timefd_drawing.specs.declared.position.Origin.{Origin}
 use Rattle.timefd_drawing.specs.Drawing.{drawn_all, note}
 use Rattle.timefd_drawing.specs.Positions.{told_column, line_number}
+use Rattle.timefd_explain.specs.Lines.{IsExplainedIf}
 use Rattle.timefd_sources.specs.declared.description.Description.{Description}
 use Rattle.timefd_keys.specs.Found as keys
 use Rattle.timefd_sources.specs.Found.{AreDescriptionsOf, AreInOrder, StandsIn, place_of}
@@ -20,7 +21,7 @@ use Rattle.timefd_lint_sources.specs.declared.told.Finder.TheVariants.{Rust, Key
 use Rattle.timefd_lint_sources.specs.declared.told.Source.{Source}
 use Rattle.timefd_lint_sources.specs.declared.told.Telling.{Telling}
 use Rattle.timefd_lint_sources.specs.Items.{AreJudgedAs, IsJudgedAs}
-use Rattle.timefd_lint_sources.specs.Judged.{AreDiagnosedOf, IsEndOf, text_of}
+use Rattle.timefd_lint_sources.specs.Judged.{AreDiagnosedOf, IsEndOf, language_in, text_of}
 
 -- Where a source begins, and the line in which the literal of a description does.
 abbrev pub whole_origin : Source → Origin
@@ -43,14 +44,15 @@ placed_in d g = record {
   named = g.named;
 }
 
--- A tree where it is asked for, and else nothing.
-abbrev pub IsTree : Bool → Text → Type 0
-IsTree explains tree = IsFalse explains → tree ≡ []
+-- The tree of a description, byte for byte, where it is asked for; and else nothing.
+abbrev pub IsTreeOf : Telling → Source → Description → Text → Type 0
+IsTreeOf telling s d tree =
+    IsExplainedIf telling.explains (language_in d) s.file.now (origin_of s d).line (text_of d) tree
 
 -- What is told of an accepted description is its tree, if that is asked for, and then each warning
 -- that it has and that is told, at its literal, in the order of their codes.
 abbrev pub IsTreeAndWarnings : Telling → Source → Description → Levels → Text → Type 0
-IsTreeAndWarnings telling s d found message = (tree : Text) × IsTree telling.explains tree
+IsTreeAndWarnings telling s d found message = (tree : Text) × IsTreeOf telling s d tree
     × (message ≡ tree ++ messages_at telling.style (origin_of s d) (column_of telling.style s d) found)
 
 -- What is told of a refused one is the drawing of what is wrong with it, and those of what further,

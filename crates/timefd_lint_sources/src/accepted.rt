@@ -6,7 +6,9 @@ ghost use Rattle.timefd_language.specs.Grammar.{nesting_limit};
 ghost use Rattle.timefd_parse.specs.Language.{SpellsIn};
 ghost use Rattle.timefd_lint_sources.specs.declared.told.End.TheVariants as ends;
 ghost use Rattle.timefd_lint_warnings.specs.Found.{found_by};
-ghost use Rattle.timefd_lint_sources.specs.Told.{IsMessageOn, IsTree};
+ghost use Rattle.timefd_explain.specs.Lines.{IsExplainedIf};
+ghost use Rattle.timefd_lint_sources.specs.Judged.{language_in, text_of};
+ghost use Rattle.timefd_lint_sources.specs.Told.{IsMessageOn};
 
 use crate::position::told_position_of;
 use crate::told::{End, Source, Telling, Told};
@@ -28,6 +30,8 @@ pub fn accepted(
     language: Language,
     text: &str,
 ) -> Result<Told, AllocError>
+    requires language { language ≡ language_in description.now }
+    requires text { text.now ≡ text_of description.now }
     ensures end { (list : List Tree) → SpellsIn language nesting_limit text.now list
         → IfOk result (λ told. told.end ≡ ends.Accepted (found_by telling.levels language list)) }
     ensures message { IfOk result (λ told. IsMessageOn telling source.entry description.now
@@ -52,6 +56,8 @@ fn explained_and_warned(
     language: Language,
     text: &str,
 ) -> Result<Told, AllocError>
+    requires language { language ≡ language_in description.now }
+    requires text { text.now ≡ text_of description.now }
     ensures end { (list : List Tree) → SpellsIn language nesting_limit text.now list
         → IfOk result (λ told. told.end ≡ ends.Accepted (found_by telling.levels language list)) }
     ensures message { IfOk result (λ told. IsMessageOn telling source.entry description.now
@@ -81,7 +87,8 @@ fn tree_of(
     origin: Origin<'_>,
     text: &str,
 ) -> Result<Vec<u8>, AllocError>
-    ensures { IfOk result (λ tree. IsTree explains tree.items) }
+    ensures { IfOk result (λ tree. IsExplainedIf explains language origin.entry.file.now origin.entry.line
+        text.now tree.items) }
 {
     if explains {
         let tree = explained(alloc, language, origin, text)?;

@@ -33,3 +33,6 @@ pub mod StampedAgainLemmas
 pub mod AgainLemmas
 pub mod ExampleLemmas
 pub mod StampExampleLemmas
+pub mod FaultLemmas
+pub mod ValueFaultLemmas
+pub mod StampFaultLemmas

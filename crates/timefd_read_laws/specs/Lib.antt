@@ -9,3 +9,5 @@ pub mod WrittenValues
 pub mod ShortYears
 pub mod Examples
 pub mod WrittenExamples
+pub mod Faults
+pub mod ValueFaults

@@ -1,8 +1,9 @@
-//! What is written of a moment is read back as that moment.
+//! What is written of a moment is read back as that moment; what is not read has one fault.
 #![tactic(auto)]
 
 pub mod again_laws;
 pub mod examples;
+pub mod fault_laws;
 pub mod laws;
 pub mod stamped_laws;
 pub mod value_laws;

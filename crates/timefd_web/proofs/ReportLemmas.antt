@@ -12,6 +12,7 @@ use Rattle.timefd_diagnosis.specs.declared.diagnostic.Diagnostic.{Diagnostic}
 use Rattle.timefd_diagnosis.specs.Diagnoses.{IsDiagnosis}
 use Rattle.timefd_explain.specs.Examples.{Examples}
 use Rattle.timefd_explain.specs.Parts.{AreParts, all_parts}
+use Rattle.timefd_explain.specs.Stands.{NodesStand}
 use Rattle.timefd_explain.specs.declared.explain.Explanation.{Explanation}
 use Rattle.timefd_fault.specs.Faults.{fault_of}
 use Rattle.timefd_format.specs.Written.{written_all}
@@ -48,17 +49,19 @@ module _ (language : Language) (moment : Moment) (text : Text) (r : Result (Vec 
 
   pub accepted_by : (list : List Tree) (e : Explanation) (w : Option (String Global)) (l : Later)
       → e.bytes ≡ kept_bytes (reserve_all (trees list))
-      → AreParts (all_parts 0 (trees list)) e.nodes.items → Examples e.nodes.items
+      → AreParts (all_parts 0 (trees list)) e.nodes.items
+      → NodesStand language (trees list) text e.nodes.items → Examples e.nodes.items
       → IsWritten (written_all moment (trees list)) w → IsLater language text l
       → IfOk r (λ object. object.items ≡ accepted_object e w l)
       → IfOk r (λ object. IsAccepted language moment text list object.items)
-  accepted_by list e w l reserved parts examples written later is =
+  accepted_by list e w l reserved parts places examples written later is =
       IfOk-weaker r _ _ (λ object said. record {
         explanation = e;
         shown = w;
         later = l;
         reserved = reserved;
         parts = parts;
+        places = places;
         examples = examples;
         written = written;
         is_later = later;

@@ -10,6 +10,7 @@ use Rattle.timefd_diagnosis.specs.declared.diagnostic.Diagnostic.{Diagnostic}
 use Rattle.timefd_diagnosis.specs.Diagnoses.{IsDiagnosis}
 use Rattle.timefd_explain.specs.Examples.{Examples}
 use Rattle.timefd_explain.specs.Parts.{AreParts, all_parts}
+use Rattle.timefd_explain.specs.Stands.{NodesStand}
 use Rattle.timefd_explain.specs.declared.explain.Explanation.{Explanation}
 use Rattle.timefd_fault.specs.Faults.{fault_of}
 use Rattle.timefd_format.specs.declared.unshown.Unshown.{Unshown}
@@ -53,7 +54,8 @@ IsLater (Version Three) text l =
 IsLater Strftime text l = (l.version_2 ≡ None) × IsPrintedOf text (string_bytes l.version_3)
 
 -- It says that the text is accepted: how many bytes it reserves, its nodes, which stand one for one for
--- the parts of what it spells, with their examples, what it writes of the moment, and its later texts.
+-- the parts of what it spells, and where these stand, with their examples; what it writes of the moment,
+-- and its later texts.
 pub record IsAccepted (language : Language) (moment : Moment) (text : Text) (list : List Tree)
     (object : Text) : Type 0 where
   pub explanation : Explanation
@@ -61,6 +63,7 @@ pub record IsAccepted (language : Language) (moment : Moment) (text : Text) (lis
   pub later : Later
   pub reserved : explanation.bytes ≡ kept_bytes (reserve_all (trees list))
   pub parts : AreParts (all_parts 0 (trees list)) explanation.nodes.items
+  pub places : NodesStand language (trees list) text explanation.nodes.items
   pub examples : Examples explanation.nodes.items
   pub written : IsWritten (written_all moment (trees list)) shown
   pub is_later : IsLater language text later

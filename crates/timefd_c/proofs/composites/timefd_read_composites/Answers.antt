@@ -1,10 +1,10 @@
 use Rattle.std.proofs.Common.{◌≡◌, IsUtf8, false, true, subst, sym}
-use Rattle.timefd_fault.specs.BorrowedFaults.{lent_fault, IsLent, IsLentOf, IsMemory}
+use Rattle.timefd_fault.specs.BorrowedFaults.{lent_fault, IsLent, IsLentOf, IsMemory, IsRefusal}
 use Rattle.timefd_language.specs.Grammar.{nesting_limit}
 use Rattle.timefd_parse.specs.declared.language.Language.TheVariants.{Strftime}
 use Rattle.timefd_parse.specs.Language.{FaultIn}
 use Rattle.timefd_c.specs.Composites.{ReadsComposites}
-use Rattle.timefd_c.proofs.CompositeLemmas.{composites_faulted, composites_reported, composites_unread}
+use Rattle.timefd_c.proofs.CompositeLemmas.{composites_faulted, composites_reported}
 use Rattle.timefd_c.proofs.ReadingLemmas.{told}
 use Rattle.timefd_c.proofs.composites.timefd_read_composites.Goals as goal
 
@@ -44,20 +44,6 @@ returns-in-Err-Invalid c =
           (λ nil. let no : false ≡ true = r.empty nil in absurd cc)));
     }
 
-pub returns-in-Err-Memory : goal.returns-in-Err-Memory
-returns-in-Err-Memory c =
-    let text = c.in-Ok.ensures.cases in
-    let r = c.in-Err-Memory.ensures in
-    let is = c.in-Err-Memory.field-0-is in
-    let bytes = c.in-Ok.text.now in
-    let ns = c.args.nodes.now in
-    let a = c.args.literals.now in
-    let ms = c.read_composites.new.nodes in
-    let b = c.read_composites.new.literals in
-    record {
-      reads = subst (λ t. ReadsComposites t ns ms a b c.plain-in-Err-Memory.result) text.0
-          (subst (ReadsComposites bytes ns ms a b) (sym c.plain-in-Err-Memory.ensures)
-          (composites_unread bytes ns ms a b (subst IsUtf8 (sym text.0) text.1)
-          (λ f h. subst (IsLent f) is (r.refused f h))
-          (λ nil. let no : false ≡ true = r.empty nil in absurd cc)));
-    }
+-- It takes no memory.
+pub unreachable-requires : goal.unreachable-requires
+unreachable-requires c = subst IsRefusal c.in-Err-Memory.field-0-is c.in-Err-Memory.ensures.memory

@@ -12,18 +12,19 @@ returns-in-Three-clause-refused c = λ f has.
 
 pub returns-in-Strftime-clause-refused : goal.returns-in-Strftime-clause-refused
 returns-in-Strftime-clause-refused c = λ f has.
-    c.read_strftime.ensures.refused f
+    c.read_strftime.ensures.reads.refused f
     (subst (λ l. FaultIn l c.args.limit c.args.text.now f) c.in-Strftime.is has)
 
 pub returns-in_default : goal.returns-in_default
 returns-in_default c =
     let is = subst (λ l. IsRead l c.args.limit c.args.text.now c.args.nodes.now c.read_version.new.nodes
     c.args.literals.now c.read_version.new.literals c.read_version.result) (sym c.in-Version.is)
-    c.read_version.ensures in
+    c.read_version.ensures.reads in
     record {
       found = is.found;
       fault = is.fault;
       spelled = is.spelled;
       refused = is.refused;
       empty = is.empty;
+      memory = λ none. c.read_version.ensures.memory;
     }

@@ -1,8 +1,10 @@
-use Rattle.std.proofs.Common.{◌∷◌, ◌++◌, [], arith, subst}
+use Rattle.std.proofs.Common.{◌∷◌, ◌++◌, [], arith, refl, subst, sym}
 use Rattle.std.proofs.lemmas.Result.{err_from_is_err_and}
 use Rattle.timefd_strftime.specs.PieceMeaning.{piece_tree}
 use Rattle.timefd_strftime.proofs.DirectiveLemmas.{IsNext, all_read, continues_more, fault_behind}
 use Rattle.timefd_c_read.proofs.PieceLemmas.{piece_counted, pieces_more}
+use Rattle.timefd_c_read.specs.declared.progress.Progress.{Progress}
+use Rattle.timefd_c_read.proofs.CountedLemmas.{FitsIf, fits_more, none_past}
 use Rattle.timefd_c_read.proofs.strftime.write_pieces.Goals as goal
 
 pub returns-in_err-piece-clause-pieces : goal.returns-in_err-piece-clause-pieces
@@ -33,4 +35,14 @@ pieces-preserved g c =
       continues_more _ _ _ _ _ c.pieces.invariant.3 next.leads,
       pieces_more _ c.pieces.invariant.2 c.in-Some.piece _ _ _ _ _ _ _ _ _
           c.pieces.invariant.4 c.in-Some-write_piece.ensures.some c.one_more-progress.ensures,
+      subst (λ (p : Progress). FitsIf _ p.end c.args.text.now c.in-Some.after.now)
+          (sym c.one_more-progress.ensures)
+          (fits_more _ _ c.pieces.rest.now c.in-Some.after.now c.in-Some.piece c.pieces.progress.end
+          c.in-Some-write_piece.written _ _ _ _ next c.in-Some-write_piece.ensures.some c.pieces.invariant.5),
     )
+
+pub returns-in_default-write_piece-clause-counted : goal.returns-in_default-write_piece-clause-counted
+returns-in_default-write_piece-clause-counted g c = λ counted.
+    let next = subst (IsNext c.pieces.rest.now) c.in-Some.is c.in_ok-piece.ensures in
+    none_past _ c.args.text.now c.pieces.rest.now c.in-Some.after.now c.in-Some.piece c.pieces.progress.end
+    (omega (arith, c.type_inv.text)) counted next c.pieces.invariant.5 (c.in_default-write_piece.ensures.none refl)

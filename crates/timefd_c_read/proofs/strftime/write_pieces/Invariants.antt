@@ -2,6 +2,7 @@ use Rattle.std.proofs.Common.{◌≤◌, ◌==◌, not, List, length, IsUtf8}
 use Rattle.timefd_component.specs.Tree.{Tree}
 use Rattle.timefd_strftime.proofs.DirectiveLemmas.{Continues}
 use Rattle.timefd_c_read.specs.Pieces.{PiecesAreWritten}
+use Rattle.timefd_c_read.proofs.CountedLemmas.{FitsIf}
 use Rattle.timefd_c_read.proofs.strftime.write_pieces.Given as goal
 
 -- the pieces so far, which are written
@@ -10,6 +11,7 @@ invariant-pieces g l =
     IsUtf8 l.rest × (length l.rest ≤ length l.text) × (done : List Tree)
     × Continues l.text done l.rest
     × PiecesAreWritten (not (g.row.AS_ONE == 0)) done l.fn.nodes l.nodes l.fn.literals l.literals l.progress
+    × FitsIf (not (g.row.AS_ONE == 0)) l.progress.end l.text l.rest
 
 abbrev pub decreases-pieces : goal.decreases-pieces
 decreases-pieces g l = length l.rest

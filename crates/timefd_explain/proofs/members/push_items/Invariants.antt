@@ -2,6 +2,7 @@ use Rattle.std.proofs.Common.{ℕ, ◌≡◌, drop}
 use Rattle.timefd_format_item.specs.Meaning.{item_trees}
 use Rattle.timefd_explain.specs.Examples.{Examples}
 use Rattle.timefd_explain.specs.Parts.{capped}
+use Rattle.timefd_explain.proofs.StandLemmas.{ListedAt}
 use Rattle.timefd_explain.proofs.WalkLemmas.{Listed}
 use Rattle.timefd_explain.proofs.members.push_items.Given as goal
 
@@ -11,3 +12,4 @@ invariant-loop-member l =
     × ((d : ℕ) → l.depth ≡ capped d
     → Listed d (item_trees l.members) (drop l.member-index l.members) l.fn.nodes.items
     l.nodes.items)
+    × ListedAt l.start (item_trees l.members) (drop l.member-index l.members) l.fn.nodes.items l.nodes.items

@@ -20,3 +20,13 @@ pub returns-in-Err-Invalid-clause-parts : goal.returns-in-Err-Invalid-clause-par
 returns-in-Err-Invalid-clause-parts c = λ d ts is s.
     absurd (subst MemoryAlone c.in-Err-Invalid.field-0-is
     (c.in-Err-Invalid.ensures.spelled (compound ts ∷ []) s))
+
+pub returns-in-Ok-clause-places : goal.returns-in-Ok-clause-places
+returns-in-Ok-clause-places c = λ ts s.
+    c.push_composite.ensures.places ts
+    (ap item_trees c.deref.ensures.value ∙ c.in-Ok.ensures.spelled (compound ts ∷ []) s)
+
+pub returns-in-Err-Invalid-clause-places : goal.returns-in-Err-Invalid-clause-places
+returns-in-Err-Invalid-clause-places c = λ ts s.
+    absurd (subst MemoryAlone c.in-Err-Invalid.field-0-is
+    (c.in-Err-Invalid.ensures.spelled (compound ts ∷ []) s))

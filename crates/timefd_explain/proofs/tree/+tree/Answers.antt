@@ -1,8 +1,10 @@
-use Rattle.std.proofs.Common.{arith, rules, ◌≤◌, ap, length, subst}
+use Rattle.std.proofs.Common.{arith, rules, ℕ, ◌+◌, ◌-◌, ◌≤◌, ap, length, refl, subst}
 use Rattle.timefd_explain.specs.Shown.{IsWhat, texts}
 use Rattle.timefd_explain.proofs.NestedLemmas.{described_adds, nesting_end, nesting_first, nesting_more}
 use Rattle.timefd_explain.proofs.PieceLemmas.{first_adds, optional_adds, several_adds}
 use Rattle.timefd_explain.proofs.ShownLemmas.{piece_within}
+use Rattle.timefd_explain.proofs.NestedStandLemmas.{nested_ends, nesting_at_end, nesting_at_first, nesting_at_more}
+use Rattle.timefd_explain.proofs.StandLemmas.{described_at, first_at, optional_at, same_long, several_at, span_is, walked_at_end, walked_at_more, walked_at_within}
 use Rattle.timefd_explain.proofs.WalkLemmas.{walked_end, walked_more}
 use Rattle.timefd_explain.proofs.tree.+tree.Goals as goal
 
@@ -23,6 +25,9 @@ push_nested-nested-init t c = (
   λ d tree is s n.
       nesting_first d c.args.text.now tree c.behind_head-rest.result.now c.args.nodes.now.items
       c.behind_head-rest.ensures.behind s n,
+  λ tree s n room.
+      nesting_at_first c.args.start c.args.text.now tree c.behind_head-rest.result.now c.args.nodes.now.items
+      c.behind_head-rest.ensures.behind s n,
 )
 
 pub push_nested-nested-preserved : goal.push_nested-nested-preserved
@@ -37,6 +42,17 @@ push_nested-nested-preserved t c = (
       (λ white w x list all spells e. c.in-Some.ensures.nested white w x list all spells e)
       (λ list spells. c.in_ok-push_described.ensures.parts d list is spells)
       (c.nested.invariant.3 d tree is s n),
+  λ tree s n room.
+      let before = c.nested.invariant.4 tree s n room in
+      let ends = nested_ends c.args.start tree c.args.text.now c.nested.rest.now c.in-Some.inner.now
+      c.in-Some.behind.now c.args.nodes.now.items c.nested.nodes.items c.in-Some.ensures.found before in
+      let at : ℕ = c.args.start + (length c.args.text.now - (length c.in-Some.behind.now + length c.in-Some.inner.now + 2)) in
+      nesting_at_more c.args.start tree c.args.text.now c.nested.rest.now c.in-Some.inner.now
+      c.in-Some.behind.now at c.args.nodes.now.items c.nested.nodes.items c.push_described.new.nodes.items
+      c.in-Some.ensures.found
+      (λ white w x list all spells e. c.in-Some.ensures.nested white w x list all spells e) refl
+      (λ list spells. c.in_ok-push_described.ensures.places at list (omega (arith, ends, room))
+      (omega (arith, ends, room)) spells) before,
 )
 
 pub push_nested-returns-clause-parts : goal.push_nested-returns-clause-parts
@@ -98,10 +114,82 @@ push_pieces-pieces-preserved t c = (
       c.push_piece.new.nodes.items c.pieces-test.true c.index-shown-at.is
       (λ tree spells shown. c.in_ok-push_piece.ensures.parts d tree is spells shown)
       (c.pieces.invariant.1 d list is s),
+  λ list room s.
+      let before = c.pieces.invariant.2 list room s in
+      let within = walked_at_within c.args.language list c.args.begins c.args.text.now
+      c.as_slice-shown.result.now c.pieces.at c.index-shown-at.result c.pieces.start c.args.nodes.now.items
+      c.pieces.nodes.items c.pieces-test.true c.index-shown-at.is before in
+      walked_at_more c.args.language list c.args.begins c.args.text.now c.as_slice-shown.result.now c.pieces.at
+      c.index-shown-at.result c.pieces.start c.saturating_add-start.result c.args.nodes.now.items
+      c.pieces.nodes.items c.push_piece.new.nodes.items c.pieces-test.true c.index-shown-at.is
+      (omega (
+        arith,
+        within,
+        room,
+        same_long c.as_slice-shown.result.now c.pieces.at c.index-shown-at.result
+            c.index-shown-at-in-pieces.result c.pieces-test.true c.index-shown-at.is,
+      ))
+      (λ tree spells shown. c.in_ok-push_piece.ensures.places tree (omega (arith, within, room)) spells shown)
+      before,
 )
+
+pub push_pieces-returns-clause-places : goal.push_pieces-returns-clause-places
+push_pieces-returns-clause-places t c = λ list room s.
+    walked_at_end c.args.language list c.args.begins c.args.text.now c.as_slice-shown.result.now c.pieces.at
+    c.pieces.start c.args.nodes.now.items c.pieces.nodes.items c.pieces-test.false
+    (c.pieces.invariant.2 list room s)
 
 pub push_pieces-returns-clause-parts : goal.push_pieces-returns-clause-parts
 push_pieces-returns-clause-parts t c = λ d list is s.
     walked_end c.args.language d list c.as_slice-shown.result.now c.pieces.at
     c.args.nodes.now.items c.pieces.nodes.items c.pieces-test.false
     (c.pieces.invariant.1 d list is s)
+
+-- Where they stand.
+
+pub push_described-returns-clause-places : goal.push_described-returns-clause-places
+push_described-returns-clause-places t c = λ at list is room s.
+    described_at list c.args.begins at c.args.inner.now c.args.nodes.now.items
+    c.push_description.new.nodes.items c.push_pieces.new.nodes.items is s
+    (c.in_ok-push_description.ensures.places at is room)
+    (c.in_ok-push_pieces.ensures.places list (omega (arith, is, room)) s)
+
+pub push_nested-returns-clause-places : goal.push_nested-returns-clause-places
+push_nested-returns-clause-places t c = λ tree room s n.
+    nesting_at_end c.args.start tree c.args.text.now c.nested.rest.now c.args.nodes.now.items
+    c.nested.nodes.items
+    (λ white w x list all spells e. c.in_default.ensures.nested white w x list all spells e)
+    (c.nested.invariant.4 tree s n room)
+
+pub push_piece-returns-in-Optional-clause-places : goal.push_piece-returns-in-Optional-clause-places
+push_piece-returns-in-Optional-clause-places t c = λ tree room s shown.
+    optional_at c.push_nested.result c.args.language c.args.piece.now.text.now c.args.start tree
+    c.in_ok-node_of.field-0 c.args.nodes.now.items c.push.new.self.items c.push_nested.new.nodes.items s
+    c.in_ok-push.ensures.items
+    (span_is c.in_ok-node_of.field-0.start c.in_ok-node_of.field-0.end c.args.start
+    (c.args.start + length c.args.piece.now.text.now) c.in_ok-node_of.ensures.start
+    (omega (arith, c.in_ok-node_of.ensures.end, room))) c.in-Optional.field-0
+    (subst (λ w. IsWhat w tree) c.in-Optional.is shown.what)
+    (λ u spells nests. c.push_nested.ensures.places u room spells nests)
+
+pub push_piece-returns-in-First-clause-places : goal.push_piece-returns-in-First-clause-places
+push_piece-returns-in-First-clause-places t c = λ tree room s shown.
+    first_at c.push_nested-in-First.result c.args.language c.args.piece.now.text.now c.args.start tree
+    c.in_ok-node_of.field-0 c.args.nodes.now.items c.push.new.self.items c.push_nested-in-First.new.nodes.items s
+    c.in_ok-push.ensures.items
+    (span_is c.in_ok-node_of.field-0.start c.in_ok-node_of.field-0.end c.args.start
+    (c.args.start + length c.args.piece.now.text.now) c.in_ok-node_of.ensures.start
+    (omega (arith, c.in_ok-node_of.ensures.end, room)))
+    (subst (λ w. IsWhat w tree) c.in-First.is shown.what)
+    (λ u spells nests. c.push_nested-in-First.ensures.places u room spells nests)
+
+pub push_piece-returns-in-Several-clause-places : goal.push_piece-returns-in-Several-clause-places
+push_piece-returns-in-Several-clause-places t c = λ tree room s shown.
+    several_at c.push_members.result c.args.language c.args.piece.now.text.now c.args.start tree
+    c.in_ok-node_of.field-0 c.args.nodes.now.items c.push.new.self.items c.push_members.new.nodes.items s
+    c.in_ok-push.ensures.items
+    (span_is c.in_ok-node_of.field-0.start c.in_ok-node_of.field-0.end c.args.start
+    (c.args.start + length c.args.piece.now.text.now) c.in_ok-node_of.ensures.start
+    (omega (arith, c.in_ok-node_of.ensures.end, room)))
+    (subst (λ w. IsWhat w tree) c.in-Several.is shown.what)
+    (λ ts spells. c.push_members.ensures.places ts spells)

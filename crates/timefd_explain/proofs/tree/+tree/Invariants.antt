@@ -1,4 +1,4 @@
-use Rattle.std.proofs.Common.{ℕ, ◌≡◌, ◌+◌, ◌*◌, ◌≤◌, List, [], ◌∷◌, drop, length}
+use Rattle.std.proofs.Common.{ℕ, ◌≡◌, ◌+◌, ◌*◌, ◌^◌, ◌<◌, ◌≤◌, List, [], ◌∷◌, drop, length}
 use denote.Text.{Utf8}
 use denote.Shadow.{shadow}
 use Rattle.timefd_component.specs.Tree.{Tree}
@@ -9,6 +9,8 @@ use Rattle.timefd_explain.specs.Examples.{Examples}
 use Rattle.timefd_explain.specs.Inside.{Nests}
 use Rattle.timefd_explain.specs.Parts.{capped}
 use Rattle.timefd_explain.proofs.NestedLemmas.{Nesting}
+use Rattle.timefd_explain.proofs.NestedStandLemmas.{NestingAt}
+use Rattle.timefd_explain.proofs.StandLemmas.{WalkedAt}
 use Rattle.timefd_explain.proofs.WalkLemmas.{Walked}
 use Rattle.timefd_explain.proofs.tree.+tree.Given as goal
 
@@ -32,6 +34,8 @@ invariant-push_nested-nested l =
     × (Examples l.fn.nodes.items → Examples l.nodes.items)
     × ((d : ℕ) (t : Tree) → l.depth ≡ capped d → Spells Three nesting_limit 0 l.text (t ∷ [])
     → Nests t → Nesting d t l.rest l.fn.nodes.items l.nodes.items)
+    × ((t : Tree) → Spells Three nesting_limit 0 l.text (t ∷ []) → Nests t
+    → l.start + length l.text < 2 ^ 64 → NestingAt l.start t l.text l.rest l.fn.nodes.items l.nodes.items)
 
 abbrev pub decreases-push_nested-nested : goal.decreases-push_nested-nested
 decreases-push_nested-nested l = length l.rest
@@ -42,3 +46,5 @@ invariant-push_pieces-pieces l =
     × ((d : ℕ) (list : List Tree) → l.depth ≡ capped d
     → SpellsIn l.language nesting_limit l.text list
     → Walked l.language d list (drop l.at l.shown) l.fn.nodes.items l.nodes.items)
+    × ((list : List Tree) → l.begins + length l.text < 2 ^ 64 → SpellsIn l.language nesting_limit l.text list
+    → WalkedAt l.language list l.begins l.text (drop l.at l.shown) l.start l.fn.nodes.items l.nodes.items)
