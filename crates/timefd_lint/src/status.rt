@@ -1,5 +1,6 @@
 //! Statuses of runs that did not come to their end, and what is said with them on the standard error.
 
+use crate::said::say;
 use crate::{folders, usage};
 use std::alloc::AllocError;
 use timefd_lint_files::Reason;
@@ -19,7 +20,9 @@ pub const NOT_TEXT: u8 = 5;
 
 /// Says on the standard error why the status is no verdict, and answers the status.
 pub fn told(rt: &HostRuntime, status: u8, sentence: &str) -> u8 {
-    let _ = eprintln!(rt; "timefd_lint: {sentence}");
+    if let Ok(sentence) = format!(in rt.alloc(); "timefd_lint: {sentence}") {
+        let _ = say(rt.alloc(), &sentence, &mut rt.stderr());
+    }
     status
 }
 
