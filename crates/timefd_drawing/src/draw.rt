@@ -6,13 +6,13 @@ ghost use Rattle.timefd_drawing.specs.Drawing as spec;
 
 use crate::as_sarif::sarif;
 use crate::counter::{Counter, none_counted};
-use crate::github::{Command, annotation};
+use crate::github::{Command, annotation, fault_annotation};
 use crate::help_text::help_text;
 use crate::human::human;
 use crate::json::{Detail, Entry, note_object, object};
 use crate::lines::{push_error_line, push_place_line, short_line};
 use crate::position::{Origin, Position, position_from};
-use crate::sarif::note_result;
+use crate::sarif::{note_result, with_help};
 use crate::sentence::told_sentence;
 use std::alloc::{AllocError, Global};
 use timefd_diagnosis::{Diagnostic, code_of};
@@ -194,16 +194,19 @@ fn github(
     ensures { IfOk result (λ line. line.items
         ≡ spec.github is_further origin.entry text.now diagnostic.now) }
 {
-    let Position { line, column } = position_from(alloc, origin.line, text, from, diagnostic.span.start)?;
+    let start = position_from(alloc, origin.line, text, from, diagnostic.span.start)?;
+    let end = position_from(alloc, origin.line, text, from, diagnostic.span.end)?;
     let sentence = told_sentence(alloc, is_further, &diagnostic.fault)?;
+    let help = help_text(alloc, diagnostic.help)?;
+    let message = with_help(alloc, &sentence, &help)?;
     let entry = Entry {
         code: code_of(diagnostic),
         file: origin.file,
-        line,
-        column: column as u64,
-        message: &sentence,
+        line: start.line,
+        column: start.column as u64,
+        message: &message,
     };
-    annotation(alloc, Command::Error, entry)
+    fault_annotation(alloc, entry, end)
 }
 
 fn json(

@@ -10,3 +10,4 @@ pub mod Logs
 pub mod ErrorCodes
 pub mod Rules
 pub mod Pages
+pub mod CodeNames

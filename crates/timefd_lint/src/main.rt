@@ -4,6 +4,7 @@
 #![tactic(auto)]
 
 mod by_hand;
+mod code_names;
 mod color;
 mod config;
 mod error_code;
@@ -42,15 +43,17 @@ use line::RunError;
 use log::write_log;
 use options::{Options, run_options};
 use output::{Audience, Screen};
-use page::{Subject, explained_in, page_on};
+use page::{Subject, explained_in, name_explained, page_on};
 use progress::Progress;
 use running::run_in_form;
 use rust::are_sources;
 use said::say;
 use session::session_status;
+use source::is_absent;
 use sought::sought;
 use status::{
-    FAILED, NOT_TEXT, WRONG_ARGUMENTS, no_memory, told, walk_failed, write_failed, wrong_arguments,
+    FAILED, NOT_TEXT, WRONG_ARGUMENTS, no_memory, told, unknown_code, walk_failed, write_failed,
+    wrong_arguments,
 };
 use std::alloc::{AllocError, Global};
 use std::io::{BufWriter, IsTerminal, Write};
@@ -62,7 +65,7 @@ use timefd_keys::Key;
 use timefd_lint_config::{OwnedKey, same_keys, with_keys};
 use timefd_lint_files::{WalkError, expanded};
 use timefd_lint_options::{
-    Asked, OptionError, Settings, is_log, keys_of, lines_conflict, options_of,
+    Asked, OptionError, Settings, arranged, is_log, keys_of, lines_conflict, options_of,
 };
 use timefd_streams::{WordsError, all_words, lent};
 
@@ -84,9 +87,17 @@ fn page_status(rt: &HostRuntime, subject: Subject) -> u8 {
 
 // The status of what the words behind the program's name ask for.
 fn words_status(rt: &HostRuntime, words: &[&str]) -> u8 {
-    match explained_in(words) {
-        Some(subject) => page_status(rt, subject),
-        None => options_status(rt, words),
+    if let Some(subject) = explained_in(words) {
+        return page_status(rt, subject);
+    }
+    if let Some(name) = name_explained(words) {
+        if is_absent(rt, name) {
+            return unknown_code(rt, name);
+        }
+    }
+    match arranged(rt.alloc(), words) {
+        Ok(words) => options_status(rt, &words),
+        Err(AllocError) => no_memory(rt),
     }
 }
 

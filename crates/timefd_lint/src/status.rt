@@ -1,7 +1,7 @@
 //! Statuses of runs that did not come to their end, and what is said with them on the standard error.
 
 use crate::said::say;
-use crate::{folders, usage};
+use crate::{code_names, folders, usage};
 use std::alloc::AllocError;
 use timefd_lint_files::Reason;
 use timefd_lint_options::OptionError;
@@ -48,6 +48,14 @@ pub fn wrong_arguments(rt: &HostRuntime, error: OptionError<'_>) -> u8 {
 pub fn walk_failed(rt: &HostRuntime, path: &str, reason: Reason) -> u8 {
     match folders::sentence(rt.alloc(), path, reason) {
         Ok(sentence) => told(rt, FAILED, &sentence),
+        Err(AllocError) => no_memory(rt),
+    }
+}
+
+/// Says that there is no code of a name.
+pub fn unknown_code(rt: &HostRuntime, name: &str) -> u8 {
+    match code_names::unknown_sentence(rt.alloc(), name) {
+        Ok(sentence) => told(rt, WRONG_ARGUMENTS, &sentence),
         Err(AllocError) => no_memory(rt),
     }
 }
