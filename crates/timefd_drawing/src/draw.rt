@@ -221,7 +221,13 @@ fn json(
     ensures { IfOk result (λ object. object.items
         ≡ spec.json is_further origin.entry text.now diagnostic.now) }
 {
-    let Position { line, column } = position_from(alloc, origin.line, text, from, diagnostic.span.start)?;
+    let Position { line, column } = position_from(
+        alloc,
+        origin.line,
+        text,
+        from,
+        diagnostic.span.start,
+    )?;
     let message = format!(in alloc; "{}", diagnostic.fault)?;
     let help = help_text(alloc, diagnostic.help)?;
     let entry = Entry {

@@ -47,13 +47,14 @@ pub fn fault_annotation(
         ≡ spec.fault_annotation_of entry.entry end.line end.column) }
     ensures some { IfOk result (λ line. line.items ≢ []) }
 {
+    let Entry { line, column, .. } = entry;
     let file = safe(alloc, entry.file)?;
     let mut out = Vec::new(alloc);
     out.extend_from_slice(opening(Command::Error).as_bytes())?;
     push_property(&mut out, " file=", &file)?;
-    push_number(alloc, &mut out, ",line=", entry.line)?;
+    push_number(alloc, &mut out, ",line=", line)?;
     push_number(alloc, &mut out, ",endLine=", end.line)?;
-    push_number(alloc, &mut out, ",col=", entry.column)?;
+    push_number(alloc, &mut out, ",col=", column)?;
     push_number(alloc, &mut out, ",endColumn=", end.column as u64)?;
     push_property(&mut out, ",title=", entry.code)?;
     out.extend_from_slice(b"::")?;

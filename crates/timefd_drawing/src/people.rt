@@ -16,12 +16,7 @@ use std::io::{Result, Write};
 /// stands for it; where it is coloured, the colours of messages are obeyed too. Bytes that are no UTF-8 are
 /// shown as U+FFFD. An `Err` says that the writer failed or that memory ran out.
 #[tactic(auto, using(crate::proofs::PeopleLemmas::shown_as_it_is, crate::proofs::PeopleLemmas::all_seen))]
-pub fn show<W: Write>(
-    alloc: Global,
-    is_colored: bool,
-    text: &[u8],
-    writer: &mut W,
-) -> Result<()>
+pub fn show<W: Write>(alloc: Global, is_colored: bool, text: &[u8], writer: &mut W) -> Result<()>
     ensures exact { OnOk result (Appends (W.contents writer.old) (W.contents writer.new)
         (for_people is_colored text.now)) }
     ensures seen { AllSeen is_colored (chars (for_people is_colored text.now)) }
@@ -37,7 +32,9 @@ pub fn show<W: Write>(
 fn are_plain(bytes: &[u8]) -> bool
     ensures { result ≡ list_all spec.is_plain bytes.now }
 {
-    bytes.iter().all(|byte| matches!(*byte, b'\n' | b' '..=b'~'))
+    bytes
+        .iter()
+        .all(|byte| matches!(*byte, b'\n' | b' '..=b'~'))
 }
 
 fn shown_text(

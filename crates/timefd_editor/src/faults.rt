@@ -66,11 +66,7 @@ fn push_fault(
 }
 
 // What is said of a fault: a sentence, and what helps.
-fn words_on(
-    alloc: Global,
-    is_further: bool,
-    diagnostic: &Diagnostic,
-) -> Result<String, AllocError>
+fn words_on(alloc: Global, is_further: bool, diagnostic: &Diagnostic) -> Result<String, AllocError>
     ensures { IfOk result (λ words. string_bytes words ≡ fault_words is_further diagnostic.now) }
 {
     let sentence = told_sentence(alloc, is_further, &diagnostic.fault)?;

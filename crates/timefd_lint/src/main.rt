@@ -49,8 +49,8 @@ use running::run_in_form;
 use rust::are_sources;
 use said::say;
 use session::session_status;
-use source::is_absent;
 use sought::sought;
+use source::is_absent;
 use status::{
     FAILED, NOT_TEXT, WRONG_ARGUMENTS, no_memory, told, unknown_code, walk_failed, write_failed,
     wrong_arguments,
@@ -190,11 +190,25 @@ fn run_status(rt: &HostRuntime, settings: Settings<'_>, options: Options<'_>) ->
     if rt.stdout().is_terminal() {
         let colored = options.telling.style.is_colored;
         let mut screen = Screen::new(rt, colored, &progress);
-        return run_to(rt, settings, options, Audience::People, &progress, &mut screen);
+        return run_to(
+            rt,
+            settings,
+            options,
+            Audience::People,
+            &progress,
+            &mut screen,
+        );
     }
     match BufWriter::new(rt.alloc(), rt.stdout()) {
         Ok(mut writer) => {
-            run_to(rt, settings, options, Audience::Programs, &progress, &mut writer)
+            run_to(
+                rt,
+                settings,
+                options,
+                Audience::Programs,
+                &progress,
+                &mut writer,
+            )
         }
         Err(_) => no_memory(rt),
     }

@@ -49,7 +49,12 @@ impl<'a> Progress<'a> {
     // Shows a line in the place of the one before.
     fn show(&self, line: &str) {
         self.clear();
-        let _ = show(self.rt.alloc(), false, line.as_bytes(), &mut self.rt.stderr());
+        let _ = show(
+            self.rt.alloc(),
+            false,
+            line.as_bytes(),
+            &mut self.rt.stderr(),
+        );
         self.stands.set(true);
     }
 }
@@ -66,11 +71,7 @@ pub struct Watched<'a> {
 
 impl<'a> Watched<'a> {
     /// A run over so many files, which begins now.
-    pub fn new(
-        rt: &'a HostRuntime,
-        progress: &'a Progress<'a>,
-        file_count: usize,
-    ) -> Watched<'a> {
+    pub fn new(rt: &'a HostRuntime, progress: &'a Progress<'a>, file_count: usize) -> Watched<'a> {
         Watched {
             rt,
             progress,

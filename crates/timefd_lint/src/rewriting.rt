@@ -191,7 +191,11 @@ fn shown_or_written<R: Files, W: Write, E: Write>(
     }
     let file = safe(alloc, name)?;
     if found.counts.refused > 0 && !rewriting.is_partial {
-        let _ = say(alloc, &refused(alloc, rewriting.writes, &file, found)?, errors);
+        let _ = say(
+            alloc,
+            &refused(alloc, rewriting.writes, &file, found)?,
+            errors,
+        );
         return Ok(());
     }
     if rewriting.writes {
@@ -238,12 +242,7 @@ fn noun(unit: Unit, count: u64) -> &'static str {
 }
 
 // Why a file some of whose lines or descriptions are refused is left out.
-fn refused(
-    alloc: Global,
-    writes: bool,
-    file: &str,
-    found: &Found,
-) -> Result<String, AllocError> {
+fn refused(alloc: Global, writes: bool, file: &str, found: &Found) -> Result<String, AllocError> {
     let Counts { lines, refused, .. } = found.counts;
     let noun = noun(found.unit, lines);
     let are = if refused == 1 { "is" } else { "are" };

@@ -55,7 +55,7 @@ has_equals word = nat_lt (position_or_len is_equals word) (length word)
 abbrev pub parts_of : Text → List Text
 parts_of word =
     if has_equals word then (if has_value (word_of (option_of word))
-        then both (option_of word) (value_of word) else alone word)
+    then both (option_of word) (value_of word) else alone word)
     else alone word
 
 abbrev pub options_by : Word → Text → List Text

@@ -129,12 +129,8 @@ fn push_file<'a>(names: &mut Vec<&'a str>, is: Word, word: &'a str) -> Result<()
 {
     match is {
         Word::File => push(names, word),
-        Word::Flag(_)
-        | Word::Valued(_)
-        | Word::Help
-        | Word::Version
-        | Word::End
-        | Word::Unknown => Ok(()),
+        Word::Flag(_) | Word::Valued(_) | Word::Help | Word::Version | Word::End | Word::Unknown =>
+            Ok(()),
     }
 }
 

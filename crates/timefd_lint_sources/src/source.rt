@@ -73,7 +73,15 @@ pub fn tell_all(
     let mut from = none_counted(FIRST_LINE);
     for description in descriptions {
         from = counted(FIRST_LINE, source.text, from, description.piece.start);
-        push_told(alloc, telling, source, from, description, &mut ends, &mut message)?;
+        push_told(
+            alloc,
+            telling,
+            source,
+            from,
+            description,
+            &mut ends,
+            &mut message,
+        )?;
     }
     Ok(Report { ends, message })
 }
