@@ -38,7 +38,7 @@ pub fn counted(first: u64, text: &str, from: Counter, index: usize) -> Counter
 }
 
 /// The number of the line at an index.
-#[tactic(auto, using(crate::proofs::CounterLemmas::counted_anew, crate::proofs::CounterLemmas::counted_on))]
+#[tactic(auto, using(crate::proofs::CounterLemmas::counted_on))]
 pub fn line_at(first: u64, text: &str, from: Counter, at: usize) -> u64
     requires counted { IsCounted first text.now from }
     requires within { at ≤ length text.now }

@@ -19,7 +19,7 @@ use std::io::{Result, Write};
 pub fn show<W: Write>(alloc: Global, is_colored: bool, text: &[u8], writer: &mut W) -> Result<()>
     ensures exact { OnOk result (Appends (W.contents writer.old) (W.contents writer.new)
         (for_people is_colored text.now)) }
-    ensures seen { AllSeen is_colored (chars (for_people is_colored text.now)) }
+    ensures seen { OnOk result (AllSeen is_colored (chars (for_people is_colored text.now))) }
 {
     if are_plain(text) {
         return writer.write_all(text);
@@ -42,7 +42,8 @@ fn shown_text(
     is_colored: bool,
     bytes: &[u8],
 ) -> std::result::Result<String, AllocError>
-    ensures { IfOk result (λ shown. string_bytes shown ≡ for_people is_colored bytes.now) }
+    ensures text { IfOk result (λ shown. string_bytes shown ≡ for_people is_colored bytes.now) }
+    ensures seen { OnOk result (AllSeen is_colored (chars (for_people is_colored bytes.now))) }
 {
     let text = String::from_utf8_lossy(alloc, bytes)?;
     let all: Vec<char> = text.chars().collect(alloc)?;

@@ -11,3 +11,6 @@ pub mod ErrorCodes
 pub mod Rules
 pub mod Pages
 pub mod CodeNames
+pub mod Unwalked
+pub mod Identities
+pub mod Sought
