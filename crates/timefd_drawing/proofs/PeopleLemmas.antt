@@ -1,12 +1,14 @@
 -- What people see holds nothing that a terminal would obey but newlines and colours.
 use Rattle.std.proofs.Common.{true≢false, ℕ, suc, ◌≡◌, ◌<◌, ◌≤◌, Bool, true, false, nat_le, not, ◌&&◌, ◌||◌, ◌==◌, List, [], ◌∷◌, ◌++◌, chars, length, refl, sym, ap, subst, ◌∙◌, inl, inr, arith, eqb-true, IsUtf8}
-use Rattle.std.specs.Prelude.{if◌then◌else◌}
+use Rattle.std.specs.Prelude.{String, if◌then◌else◌, string_bytes}
 use Rattle.std.proofs.lemmas.Bool.{and_parts, cases_Bool}
-use Rattle.std.proofs.lemmas.Str.{IsUtf8-from_ascii, chars-IsAscii, chars-encodes, encode_ascii, scalars-chars, utf8_lossy-IsUtf8}
+use Rattle.std.proofs.lemmas.List.{append-nil, append_assoc}
+use Rattle.std.proofs.lemmas.Str.{IsUtf8-from_ascii, IsUtf8-string_bytes, chars-IsAscii, chars-encodes, encode_ascii, scalars-chars, utf8_lossy-IsUtf8}
 use Rattle.std.proofs.lemmas.Str.Ascii.{IsAscii-cons, IsAscii-nil}
 use Rattle.std.specs.Char.{encode_utf8}
 use Rattle.std.specs.List.{list_all}
 use Rattle.std.specs.Str.{IsAscii, all_scalars, encode_utf8_all}
+use Rattle.std.specs.Str.Lossy.{utf8_lossy}
 use Rattle.timefd_component.specs.Tree.{Text}
 use Rattle.timefd_drawing.specs.People.{AllSeen, all_seen_of, begins_bold, begins_color, begins_plain, for_people, is_color, is_paint, is_plain, seen_of}
 use Rattle.timefd_drawing.specs.Shown.{is_hidden, is_printable, shown}
@@ -36,8 +38,8 @@ color_plain c is = elim (cases_Bool (c == 49)) [
   | inr not_one ↦ elim (cases_Bool (c == 51)) [
     | inl three ↦ subst (λ x. is_plain x ≡ true) (sym (eqb-true c 51 three)) refl
     | inr not_three ↦ subst (λ x. is_plain x ≡ true) (sym (eqb-true c 54
-    (other_true (c == 51) (c == 54) not_three
-    (other_true (c == 49) ((c == 51) || (c == 54)) not_one is)))) refl
+        (other_true (c == 51) (c == 54) not_three
+        (other_true (c == 49) ((c == 51) || (c == 54)) not_one is)))) refl
   ]
 ]
 
@@ -47,9 +49,9 @@ seen_itself : (colored : Bool) (c : ℕ) (after : List ℕ) → is_plain c ≡ t
 seen_itself colored c after is = elim (cases_Bool ((c == 10) || is_paint colored c after)) [
   | inl kept ↦ rw kept refl
   | inr other ↦
-  let ends = bounds c (other_true (c == 10) (is_printable c)
-  (first_false (c == 10) (is_paint colored c after) other) is) in
-  rw other (itself c ends.0 ends.1)
+      let ends = bounds c (other_true (c == 10) (is_printable c)
+      (first_false (c == 10) (is_paint colored c after) other) is) in
+      rw other (itself c ends.0 ends.1)
 ]
 
 plain_bound : (b : ℕ) → is_plain b ≡ true → b < 0x80
@@ -161,7 +163,7 @@ paint_stays colored c after is =
     both_true some.0 (both_true escape.0 (elim (cases_Bool (begins_plain after)) [
       | inl plain ↦ or_first (plain_stays colored after plain)
       | inr other ↦ or_other (begins_plain (all_seen_of colored after)) (bold_stays colored after
-      (other_true (begins_plain after) (begins_bold after) other escape.1))
+          (other_true (begins_plain after) (begins_bold after) other escape.1))
     ]))
 
 one_seen : (colored : Bool) (c : ℕ) (after : List ℕ)
@@ -171,7 +173,7 @@ one_seen colored c after = elim (cases_Bool ((c == 10) || is_paint colored c aft
   | inl kept ↦ rw kept (or_other (not (is_hidden c)) (elim (cases_Bool (c == 10)) [
     | inl newline ↦ or_first newline
     | inr other ↦ or_other (c == 10) (paint_stays colored c after
-    (other_true (c == 10) (is_paint colored c after) other kept))
+        (other_true (c == 10) (is_paint colored c after) other kept))
   ]))
   | inr other ↦ rw other (or_first (ap not (shown_is_clear c)))
 ]
@@ -186,3 +188,31 @@ pub all_seen : (colored : Bool) (text : Text) → IsUtf8 text
 all_seen colored text utf8 =
     subst (AllSeen colored) (sym (chars-encodes (all_seen_of colored (chars text))
     (seen_scalars colored (chars text) (scalars-chars text utf8)))) (all_are_seen colored (chars text))
+
+-- All is seen of bytes that are shown as they are, and of any others.
+pub plain_seen : (colored : Bool) (text : Text) → list_all is_plain text ≡ true
+    → AllSeen colored (chars (for_people colored text))
+plain_seen colored text are =
+    let utf8 : IsUtf8 text = IsUtf8-from_ascii text (all_ascii text are) in
+    subst (λ t. AllSeen colored (chars (encode_utf8_all (all_seen_of colored (chars t)))))
+    (sym (utf8_lossy-IsUtf8 text utf8)) (all_seen colored text utf8)
+
+pub lossy_seen : {Z : Type 0} (colored : Bool) (bytes : Text) (s : String Z)
+    → string_bytes s ≡ utf8_lossy bytes → AllSeen colored (chars (for_people colored bytes))
+lossy_seen colored bytes s is =
+    all_seen colored (utf8_lossy bytes) (subst IsUtf8 is (IsUtf8-string_bytes s))
+
+-- One character more, and the last one.
+pub one_more : (colored : Bool) (c : ℕ) (after rest : List ℕ) (old new all : Text)
+    → rest ≡ c ∷ after → new ≡ old ++ encode_utf8 (seen_of colored c after)
+    → old ++ encode_utf8_all (all_seen_of colored rest) ≡ all
+    → new ++ encode_utf8_all (all_seen_of colored after) ≡ all
+one_more colored c after rest old new all split pushed so_far =
+    ap (λ t. t ++ encode_utf8_all (all_seen_of colored after)) pushed ∙
+    (append_assoc old (encode_utf8 (seen_of colored c after)) (encode_utf8_all (all_seen_of colored after)) ∙
+    (ap (λ cs. old ++ encode_utf8_all (all_seen_of colored cs)) (sym split) ∙ so_far))
+
+pub at_last : (colored : Bool) (rest : List ℕ) (old all : Text) → rest ≡ []
+    → old ++ encode_utf8_all (all_seen_of colored rest) ≡ all → old ≡ all
+at_last colored rest old all none so_far =
+    sym (append-nil old) ∙ (ap (λ cs. old ++ encode_utf8_all (all_seen_of colored cs)) (sym none) ∙ so_far)

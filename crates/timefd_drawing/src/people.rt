@@ -15,7 +15,7 @@ use std::io::{Result, Write};
 /// Writes a text to people. Of all but newlines that a terminal would obey or show nothing of, they see what
 /// stands for it; where it is coloured, the colours of messages are obeyed too. Bytes that are no UTF-8 are
 /// shown as U+FFFD. An `Err` says that the writer failed or that memory ran out.
-#[tactic(auto, using(crate::proofs::PeopleLemmas::shown_as_it_is, crate::proofs::PeopleLemmas::all_seen))]
+#[tactic(auto, using(crate::proofs::PeopleLemmas::shown_as_it_is, crate::proofs::PeopleLemmas::plain_seen))]
 pub fn show<W: Write>(alloc: Global, is_colored: bool, text: &[u8], writer: &mut W) -> Result<()>
     ensures exact { OnOk result (Appends (W.contents writer.old) (W.contents writer.new)
         (for_people is_colored text.now)) }
@@ -37,6 +37,7 @@ fn are_plain(bytes: &[u8]) -> bool
         .all(|byte| matches!(*byte, b'\n' | b' '..=b'~'))
 }
 
+#[tactic(auto, using(crate::proofs::PeopleLemmas::lossy_seen))]
 fn shown_text(
     alloc: Global,
     is_colored: bool,
@@ -53,6 +54,7 @@ fn shown_text(
 }
 
 // Appends what people see of each character.
+#[tactic(auto, using(crate::proofs::PeopleLemmas::one_more, crate::proofs::PeopleLemmas::at_last))]
 fn push_seen(
     is_colored: bool,
     text: &[char],
