@@ -25,8 +25,8 @@ other_true false b none one = one
 both_true : {a b : Bool} → a ≡ true → b ≡ true → (a && b) ≡ true
 both_true {a} {b} p q = rw p q
 
-or_first : {a b : Bool} → a ≡ true → (a || b) ≡ true
-or_first {a} {b} p = rw p refl
+or_first : {a : Bool} (b : Bool) → a ≡ true → (a || b) ≡ true
+or_first {a} b p = rw p refl
 
 or_other : (a : Bool) {b : Bool} → b ≡ true → (a || b) ≡ true
 or_other true p = refl
@@ -161,7 +161,7 @@ paint_stays colored c after is =
     let some = and_parts colored ((c == 27) && begins_color after) is in
     let escape = and_parts (c == 27) (begins_color after) some.1 in
     both_true some.0 (both_true escape.0 (elim (cases_Bool (begins_plain after)) [
-      | inl plain ↦ or_first (plain_stays colored after plain)
+      | inl plain ↦ or_first (begins_bold (all_seen_of colored after)) (plain_stays colored after plain)
       | inr other ↦ or_other (begins_plain (all_seen_of colored after)) (bold_stays colored after
           (other_true (begins_plain after) (begins_bold after) other escape.1))
     ]))
@@ -171,11 +171,11 @@ one_seen : (colored : Bool) (c : ℕ) (after : List ℕ)
     || is_paint colored (seen_of colored c after) (all_seen_of colored after))) ≡ true
 one_seen colored c after = elim (cases_Bool ((c == 10) || is_paint colored c after)) [
   | inl kept ↦ rw kept (or_other (not (is_hidden c)) (elim (cases_Bool (c == 10)) [
-    | inl newline ↦ or_first newline
+    | inl newline ↦ or_first (is_paint colored c (all_seen_of colored after)) newline
     | inr other ↦ or_other (c == 10) (paint_stays colored c after
         (other_true (c == 10) (is_paint colored c after) other kept))
   ]))
-  | inr other ↦ rw other (or_first (ap not (shown_is_clear c)))
+  | inr other ↦ rw other (or_first _ (ap not (shown_is_clear c)))
 ]
 
 all_are_seen : (colored : Bool) (cs : List ℕ) → AllSeen colored (all_seen_of colored cs)

@@ -47,20 +47,31 @@ pub fn fault_annotation(
         ≡ spec.fault_annotation_of entry.entry end.line end.column) }
     ensures some { IfOk result (λ line. line.items ≢ []) }
 {
-    let Entry { line, column, .. } = entry;
     let file = safe(alloc, entry.file)?;
     let mut out = Vec::new(alloc);
     out.extend_from_slice(opening(Command::Error).as_bytes())?;
     push_property(&mut out, " file=", &file)?;
-    push_number(alloc, &mut out, ",line=", line)?;
-    push_number(alloc, &mut out, ",endLine=", end.line)?;
-    push_number(alloc, &mut out, ",col=", column)?;
-    push_number(alloc, &mut out, ",endColumn=", end.column as u64)?;
+    push_lines(alloc, &mut out, entry.line, end.line)?;
+    push_columns(alloc, &mut out, entry.column, end.column as u64)?;
     push_property(&mut out, ",title=", entry.code)?;
     out.extend_from_slice(b"::")?;
     push_message(&mut out, entry.message)?;
     out.extend_from_slice(b"\n")?;
     Ok(out)
+}
+
+fn push_lines(alloc: Global, out: &mut Vec<u8>, line: u64, end: u64) -> Result<(), AllocError>
+    ensures { OnOk result (out.new.items ≡ out.old.items ++ spec.line_fields line end) }
+{
+    push_number(alloc, out, ",line=", line)?;
+    push_number(alloc, out, ",endLine=", end)
+}
+
+fn push_columns(alloc: Global, out: &mut Vec<u8>, column: u64, end: u64) -> Result<(), AllocError>
+    ensures { OnOk result (out.new.items ≡ out.old.items ++ spec.column_fields column end) }
+{
+    push_number(alloc, out, ",col=", column)?;
+    push_number(alloc, out, ",endColumn=", end)
 }
 
 // What the line of a command begins with.

@@ -37,7 +37,6 @@ fn are_plain(bytes: &[u8]) -> bool
         .all(|byte| matches!(*byte, b'\n' | b' '..=b'~'))
 }
 
-#[tactic(auto, using(crate::proofs::PeopleLemmas::lossy_seen))]
 fn shown_text(
     alloc: Global,
     is_colored: bool,
@@ -47,10 +46,16 @@ fn shown_text(
     ensures seen { OnOk result (AllSeen is_colored (chars (for_people is_colored bytes.now))) }
 {
     let text = String::from_utf8_lossy(alloc, bytes)?;
-    let all: Vec<char> = text.chars().collect(alloc)?;
+    let all = chars_of(alloc, &text)?;
     let mut shown = String::with_capacity(alloc, text.len())?;
     push_seen(is_colored, &all, &mut shown)?;
     Ok(shown)
+}
+
+fn chars_of(alloc: Global, text: &str) -> std::result::Result<Vec<char>, AllocError>
+    ensures { IfOk result (λ all. all.items ≡ chars text.now) }
+{
+    text.chars().collect(alloc)
 }
 
 // Appends what people see of each character.

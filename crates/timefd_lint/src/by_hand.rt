@@ -31,7 +31,7 @@ pub fn notes(
     }
     let descriptions = descriptions_of(alloc, source)?;
     let mut from = none_counted(FIRST_LINE);
-    for (description, outcome) in descriptions.iter().zip(outcomes) {
+    'notes: for (description, outcome) in descriptions.iter().zip(outcomes) {
         if wants_hand(*outcome) {
             from = counted(FIRST_LINE, source, from, description.piece.start);
             let Some(why) = why(alloc, change, version, source, description, *outcome)? else {
