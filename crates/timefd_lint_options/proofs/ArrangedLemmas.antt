@@ -5,7 +5,7 @@ use denote.Ref.{Bor}
 use Rattle.timefd_component.specs.Tree.{Text}
 use Rattle.timefd_diagnosis.specs.Words.{texts}
 use Rattle.timefd_lint_options.specs.declared.order.Place.{Place}
-use Rattle.timefd_lint_options.specs.declared.order.Place.TheVariants as at
+use Rattle.timefd_lint_options.specs.declared.order.Place.TheVariants as places
 use Rattle.timefd_lint_options.specs.Arranged.{alone, arranged, both, end_and, ended as ended_with, names_at, names_in, next, options_at, options_in, place_after}
 
 pub none : (old : List (Bor Text)) → texts old ≡ texts old ++ []
@@ -29,11 +29,11 @@ ended old mid new names first is =
 
 -- What is left adds the rest.
 pub record IsArrangedTo (all : List Text) (place : Place) (rest options names : List Text) : Type 0 where
-  pub options : options ++ options_in place rest ≡ options_in at.Option all
-  pub names : names ++ names_in place rest ≡ names_in at.Option all
-  pub place : place_after place rest ≡ place_after at.Option all
+  pub options : options ++ options_in place rest ≡ options_in places.Option all
+  pub names : names ++ names_in place rest ≡ names_in places.Option all
+  pub place : place_after place rest ≡ place_after places.Option all
 
-pub at_first : (all : List Text) → IsArrangedTo all at.Option all [] []
+pub at_first : (all : List Text) → IsArrangedTo all places.Option all [] []
 at_first all = record { options = refl; names = refl; place = refl }
 
 pub one_more : (all : List Text) (place place' : Place) (word : Bor Text) (more rest : List (Bor Text))
@@ -63,12 +63,12 @@ pub at_last : (all : List Text) (place : Place) (rest : List (Bor Text)) (option
     → new ≡ options ++ ended_with place names → new ≡ arranged all
 at_last all place rest options names new none so_far is =
     let left : texts rest ≡ [] = ap texts none in
-    let os : options ≡ options_in at.Option all =
+    let os : options ≡ options_in places.Option all =
     sym (append-nil options) ∙ (ap (λ ws. options ++ options_in place ws) (sym left) ∙ so_far.options) in
-    let ns : names ≡ names_in at.Option all =
+    let ns : names ≡ names_in places.Option all =
     sym (append-nil names) ∙ (ap (λ ws. names ++ names_in place ws) (sym left) ∙ so_far.names) in
-    let pl : place ≡ place_after at.Option all =
+    let pl : place ≡ place_after places.Option all =
     ap (place_after place) (sym left) ∙ so_far.place in
     is ∙ (ap (λ o. o ++ ended_with place names) os ∙
-    (ap (λ p. options_in at.Option all ++ ended_with p names) pl ∙
-    ap (λ n. options_in at.Option all ++ ended_with (place_after at.Option all) n) ns))
+    (ap (λ p. options_in places.Option all ++ ended_with p names) pl ∙
+    ap (λ n. options_in places.Option all ++ ended_with (place_after places.Option all) n) ns))

@@ -3,7 +3,7 @@ use Rattle.std.specs.Prelude.{ℕ, Bool, true, false, ◌==◌, nat_lt, List, []
 use Rattle.std.specs.List.{after_first, before_first, position_or_len}
 use Rattle.timefd_component.specs.Tree.{Text}
 use Rattle.timefd_lint_options.specs.declared.order.Place.{Place}
-use Rattle.timefd_lint_options.specs.declared.order.Place.TheVariants as at
+use Rattle.timefd_lint_options.specs.declared.order.Place.TheVariants as places
 use Rattle.timefd_lint_options.specs.declared.word.Word.{Word}
 use Rattle.timefd_lint_options.specs.declared.word.Word.TheVariants.{Flag, Valued as HasValue, Help, Version, End, Unknown, File}
 use Rattle.timefd_lint_options.specs.Words.{word_of}
@@ -16,18 +16,18 @@ both option value = option ∷ value ∷ []
 
 -- Behind an option with a value stands the value, and behind `--` stand names of files.
 abbrev pub next_to : Word → Place
-next_to (Flag flag) = at.Option
-next_to (HasValue option) = at.Value
-next_to Help = at.Option
-next_to Version = at.Option
-next_to End = at.Name
-next_to Unknown = at.Option
-next_to File = at.Option
+next_to (Flag flag) = places.Option
+next_to (HasValue option) = places.Value
+next_to Help = places.Option
+next_to Version = places.Option
+next_to End = places.Name
+next_to Unknown = places.Option
+next_to File = places.Option
 
 abbrev pub next : Place → Text → Place
-next at.Option word = next_to (word_of word)
-next at.Value word = at.Option
-next at.Name word = at.Name
+next places.Option word = next_to (word_of word)
+next places.Value word = places.Option
+next places.Name word = places.Name
 
 abbrev pub has_value : Word → Bool
 has_value (Flag flag) = false
@@ -69,9 +69,9 @@ options_by File word = []
 
 -- what a word adds to the options and their values
 abbrev pub options_at : Place → Text → List Text
-options_at at.Option word = options_by (word_of word) word
-options_at at.Value word = alone word
-options_at at.Name word = []
+options_at places.Option word = options_by (word_of word) word
+options_at places.Value word = alone word
+options_at places.Name word = []
 
 abbrev pub names_by : Word → Text → List Text
 names_by (Flag flag) word = []
@@ -84,9 +84,9 @@ names_by File word = alone word
 
 -- and what to the names of files
 abbrev pub names_at : Place → Text → List Text
-names_at at.Option word = names_by (word_of word) word
-names_at at.Value word = []
-names_at at.Name word = alone word
+names_at places.Option word = names_by (word_of word) word
+names_at places.Value word = []
+names_at places.Name word = alone word
 
 abbrev pub options_in : Place → List Text → List Text
 options_in place [] = []
@@ -106,12 +106,12 @@ end_and names = codes "--" ∷ names
 
 -- what stands behind the options: nothing, where the last lacks its value
 abbrev pub ended : Place → List Text → List Text
-ended at.Option names = end_and names
-ended at.Value names = []
-ended at.Name names = end_and names
+ended places.Option names = end_and names
+ended places.Value names = []
+ended places.Name names = end_and names
 
 -- First all options, each with its value, then `--`, and then the names of files.
 abbrev pub arranged : List Text → List Text
 arranged words =
-    options_in at.Option words
-    ++ ended (place_after at.Option words) (names_in at.Option words)
+    options_in places.Option words
+    ++ ended (place_after places.Option words) (names_in places.Option words)
