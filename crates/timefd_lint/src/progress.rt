@@ -48,7 +48,7 @@ impl<'a> Progress<'a> {
 
     // Shows a line in the place of the one before.
     fn show(&self, line: &str) {
-        self.clear();
+        let _ = self.rt.stderr().write_all(CLEAR);
         let _ = show(
             self.rt.alloc(),
             false,
