@@ -1,5 +1,7 @@
 pub mod ShownLemmas
+pub mod PeopleLemmas
 pub mod PositionLemmas
+pub mod CounterLemmas
 pub mod DrawLemmas
 pub mod JsonLemmas
 pub mod SarifLemmas

@@ -43,7 +43,7 @@ picture_is_clear c low =
     (AllPass-from_list_all (λ n. not (is_hidden (0x2400 + n))) (range_with_len 0 0x20) pictures c 0
     (omega (arith, length-range_with_len 0 0x20))))
 
-shown_is_clear : (c : ℕ) → is_hidden (shown c) ≡ false
+pub shown_is_clear : (c : ℕ) → is_hidden (shown c) ≡ false
 shown_is_clear c =
     by_cases (λ d. is_hidden d ≡ false) c (picture_is_clear c) refl refl (λ clear. clear)
 
@@ -51,7 +51,7 @@ scalar_of : (c : ℕ) → c < 0xD800 → all_scalars (c ∷ []) ≡ true
 scalar_of c low = grind (arith, nat_tests)
 
 -- what is shown of characters are characters
-shown_scalar : (c : ℕ) → all_scalars (c ∷ []) ≡ true → all_scalars (shown c ∷ []) ≡ true
+pub shown_scalar : (c : ℕ) → all_scalars (c ∷ []) ≡ true → all_scalars (shown c ∷ []) ≡ true
 shown_scalar c is =
     by_cases (λ d. all_scalars (d ∷ []) ≡ true) c (λ low. scalar_of (0x2400 + c) (omega arith)) refl
     refl (λ clear. is)
@@ -97,7 +97,7 @@ prints c low high =
     (c - 0x20) 0 (omega (arith, length-range_with_len 0 0x5F)))))
 
 -- What prints is shown as it is.
-itself : (c : ℕ) → 0x20 ≤ c → c < 0x7F → shown c ≡ c
+pub itself : (c : ℕ) → 0x20 ≤ c → c < 0x7F → shown c ≡ c
 itself c low high =
     let other : (c == 0x7F) ≡ false = grind (arith, nat_tests) in
     rw (le-ltb c 0x20 low) (rw other (rw (prints c low high) refl))

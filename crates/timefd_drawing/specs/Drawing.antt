@@ -13,7 +13,7 @@ use Rattle.timefd_drawing.specs.declared.draw.Format.TheVariants.{Human, Json, S
 use Rattle.timefd_drawing.specs.declared.draw.Style.{Style}
 use Rattle.timefd_drawing.specs.declared.github.Command.TheVariants.{Error}
 use Rattle.timefd_drawing.specs.declared.position.Origin.{Origin}
-use Rattle.timefd_drawing.specs.Github.{annotation}
+use Rattle.timefd_drawing.specs.Github.{annotation, fault_annotation}
 use Rattle.timefd_drawing.specs.HelpText.{help_text}
 use Rattle.timefd_drawing.specs.Json.{object, note_object}
 use Rattle.timefd_drawing.specs.Lines.{error_line, place_line, bar_line, text_line, caret_line, help_lines, short_line}
@@ -69,11 +69,13 @@ json further origin text d =
     (column text d.span.start) (error_sentence d.fault) d.span.start d.span.end (help_text d.help)
     (nearest_in d.help)
 
--- The same place and sentence as in a line for editors, as an error.
+-- The same place and sentence as in a line for editors, with the place of what stands behind the fault, and with the
+-- help.
 abbrev pub github : Bool → Origin → Text → Diagnostic → Text
 github further origin text d =
-    annotation Error (code d) origin.file.now (line_number origin.line text d.span.start)
-    (column text d.span.start) (told_sentence further (fault_of d.fault))
+    fault_annotation (code d) origin.file.now (line_number origin.line text d.span.start)
+    (column text d.span.start) (line_number origin.line text d.span.end) (column text d.span.end)
+    (sarifs.with_help (told_sentence further (fault_of d.fault)) (help_text d.help))
 
 -- The same sentence and help as in an object, with the place of what is at fault up to what stands behind it.
 abbrev pub sarif : Bool → Origin → Text → Diagnostic → Text

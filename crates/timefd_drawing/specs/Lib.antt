@@ -1,8 +1,10 @@
 pub mod Shown
+pub mod People
 pub mod Json
 pub mod Github
 pub mod Sarif
 pub mod Positions
+pub mod Counted
 pub mod HelpText
 pub mod Sentence
 pub mod Lines

@@ -33,10 +33,14 @@ last_line (b ∷ text) = if list_any is_newline (b ∷ text) then last_line text
 abbrev pub first_line : Text → Text
 first_line text = before_first is_newline text
 
--- The number of the line that an index of a text is in, where the text begins in this one: as many
--- more as newlines stand in front. A number that has no room is the largest that has.
+-- The number of the line behind a text that begins in this one: as many more as it has newlines. A
+-- number that has no room is the largest that has.
+abbrev pub line_behind : ℕ → Text → ℕ
+line_behind first text = min (first + newlines text) (2 ^ 64 - 1)
+
+-- the number of the line that an index of a text is in, where the text begins in this one
 abbrev pub line_number : ℕ → Text → ℕ → ℕ
-line_number first text at = min (first + newlines (front at text)) (2 ^ 64 - 1)
+line_number first text at = line_behind first (front at text)
 
 -- what stands in front of an index in its line
 abbrev pub before : ℕ → Text → Text

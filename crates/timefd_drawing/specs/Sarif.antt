@@ -1,5 +1,6 @@
 -- Results of SARIF.
-use Rattle.std.specs.Prelude.{ℕ, ◌+◌, ◌-◌, ◌/◌, ◌%◌, Bool, true, false, ◌||◌, ◌==◌, [], ◌∷◌, ◌++◌, Option, None, Some, codes, flat_map, nat_lt, option_map, if◌then◌else◌}
+use Rattle.std.specs.Prelude.{ℕ, ◌+◌, ◌-◌, ◌/◌, ◌%◌, Bool, true, false, ◌||◌, ◌==◌, [], ◌∷◌, ◌++◌, Option, None, Some, codes, drop, flat_map, nat_eq, nat_lt, option_map, if◌then◌else◌}
+use Rattle.std.specs.List.{starts_with}
 use Rattle.timefd_component.specs.Tree.{Text}
 use Rattle.timefd_drawing.specs.declared.json.Entry.{Entry}
 use Rattle.timefd_drawing.specs.declared.sarif.Fault.{Fault}
@@ -21,9 +22,16 @@ hex_digit n = if nat_lt n 10 then 48 + n else 65 + (n - 10)
 abbrev pub uri_byte : ℕ → Text
 uri_byte byte = if is_plain byte then byte ∷ [] else 37 ∷ hex_digit (byte / 16) ∷ hex_digit (byte % 16) ∷ []
 
--- a path as a reference to a URI
+abbrev pub encoded : Text → Text
+encoded path = flat_map uri_byte path
+
+-- A path as a URI: an absolute one has the scheme of files, and any other is relative to the folder that the program
+-- runs in.
 abbrev pub uri : Text → Text
-uri path = flat_map uri_byte path
+uri path =
+    if starts_with nat_eq path (codes "/") then codes "file://" ++ encoded path
+    else if starts_with nat_eq path (codes "./") then encoded (drop 2 path)
+    else encoded path
 
 abbrev pub uri_field : Text → Text → Text
 uri_field front path = front ++ uri path

@@ -1,11 +1,13 @@
 //! A diagnostic as a result of SARIF.
 
 ghost use Rattle.std.specs.Prelude.{◌≡◌, ◌≢◌, [], IfOk};
+ghost use Rattle.timefd_drawing.specs.Counted.{IsCounted};
 ghost use Rattle.timefd_drawing.specs.Drawing as spec;
 
+use crate::counter::Counter;
 use crate::help_text::help_text;
 use crate::json::Entry;
-use crate::position::{Origin, char_position_of};
+use crate::position::{Origin, char_position_from};
 use crate::sarif::{Fault, result, with_help};
 use std::alloc::{AllocError, Global};
 use timefd_diagnosis::{Diagnostic, code_of};
@@ -16,14 +18,16 @@ pub fn sarif(
     is_further: bool,
     origin: Origin<'_>,
     text: &str,
+    from: Counter,
     diagnostic: &Diagnostic,
 ) -> Result<Vec<u8>, AllocError>
+    requires { IsCounted origin.line text.now from }
     ensures exact { IfOk result (λ told. told.items
         ≡ spec.sarif is_further origin.entry text.now diagnostic.now) }
     ensures some { IfOk result (λ told. told.items ≢ []) }
 {
-    let start = char_position_of(origin.line, text, diagnostic.span.start);
-    let end = char_position_of(origin.line, text, diagnostic.span.end);
+    let start = char_position_from(origin.line, text, from, diagnostic.span.start);
+    let end = char_position_from(origin.line, text, from, diagnostic.span.end);
     let sentence = format!(in alloc; "{}", diagnostic.fault)?;
     let help = help_text(alloc, diagnostic.help)?;
     let message = with_help(alloc, &sentence, &help)?;

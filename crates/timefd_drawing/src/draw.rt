@@ -1,16 +1,18 @@
 //! A diagnostic as it is written.
 
 ghost use Rattle.std.specs.Prelude.{◌≡◌, ◌≢◌, ◌++◌, [], flat_map, IfOk, OnOk, string_bytes};
+ghost use Rattle.timefd_drawing.specs.Counted.{IsCounted};
 ghost use Rattle.timefd_drawing.specs.Drawing as spec;
 
 use crate::as_sarif::sarif;
-use crate::github::{Command, annotation};
+use crate::counter::{Counter, none_counted};
+use crate::github::{Command, annotation, fault_annotation};
 use crate::help_text::help_text;
 use crate::human::human;
 use crate::json::{Detail, Entry, note_object, object};
 use crate::lines::{push_error_line, push_place_line, short_line};
-use crate::position::{Origin, Position, position_of};
-use crate::sarif::note_result;
+use crate::position::{Origin, Position, position_from};
+use crate::sarif::{note_result, with_help};
 use crate::sentence::told_sentence;
 use std::alloc::{AllocError, Global};
 use timefd_diagnosis::{Diagnostic, code_of};
@@ -51,7 +53,8 @@ pub fn drawn(
         ≡ spec.drawn style origin.entry text.now diagnostic.now) }
     ensures some { IfOk result (λ message. message.items ≢ []) }
 {
-    drawn_as(alloc, false, style, origin, text, diagnostic)
+    let from = none_counted(origin.line);
+    drawn_as(alloc, false, style, origin, text, from, diagnostic)
 }
 
 // The same of one that was found with the errors before it left out, and is marked as such.
@@ -60,12 +63,14 @@ fn drawn_further(
     style: Style,
     origin: Origin<'_>,
     text: &str,
+    from: Counter,
     diagnostic: &Diagnostic,
 ) -> Result<Vec<u8>, AllocError>
+    requires { IsCounted origin.line text.now from }
     ensures { IfOk result (λ message. message.items
         ≡ spec.drawn_further style origin.entry text.now diagnostic.now) }
 {
-    drawn_as(alloc, true, style, origin, text, diagnostic)
+    drawn_as(alloc, true, style, origin, text, from, diagnostic)
 }
 
 /// The first diagnostic of a text, and behind it each further one.
@@ -80,8 +85,26 @@ pub fn drawn_all(
     ensures { IfOk result (λ message. message.items
         ≡ spec.drawn_all style origin.entry text.now diagnostic.now further.now) }
 {
-    let mut message = drawn(alloc, style, origin, text, diagnostic)?;
-    push_further(alloc, style, origin, text, further, &mut message)?;
+    let from = none_counted(origin.line);
+    drawn_all_from(alloc, style, origin, text, from, diagnostic, further)
+}
+
+/// The same, with lines counted on from what is counted of the text.
+pub fn drawn_all_from(
+    alloc: Global,
+    style: Style,
+    origin: Origin<'_>,
+    text: &str,
+    from: Counter,
+    diagnostic: &Diagnostic,
+    further: &[Diagnostic],
+) -> Result<Vec<u8>, AllocError>
+    requires { IsCounted origin.line text.now from }
+    ensures { IfOk result (λ message. message.items
+        ≡ spec.drawn_all style origin.entry text.now diagnostic.now further.now) }
+{
+    let mut message = drawn_as(alloc, false, style, origin, text, from, diagnostic)?;
+    push_further(alloc, style, origin, text, from, further, &mut message)?;
     Ok(message)
 }
 
@@ -90,14 +113,16 @@ fn push_further(
     style: Style,
     origin: Origin<'_>,
     text: &str,
+    from: Counter,
     further: &[Diagnostic],
     message: &mut Vec<u8>,
 ) -> Result<(), AllocError>
+    requires { IsCounted origin.line text.now from }
     ensures { OnOk result (message.new.items ≡ message.old.items
         ++ flat_map (spec.drawn_further style origin.entry text.now) further.now) }
 {
     for diagnostic in further {
-        let more = drawn_further(alloc, style, origin, text, diagnostic)?;
+        let more = drawn_further(alloc, style, origin, text, from, diagnostic)?;
         message.extend_from_slice(&more)?;
     }
     Ok(())
@@ -109,8 +134,10 @@ fn drawn_as(
     style: Style,
     origin: Origin<'_>,
     text: &str,
+    from: Counter,
     diagnostic: &Diagnostic,
 ) -> Result<Vec<u8>, AllocError>
+    requires { IsCounted origin.line text.now from }
     ensures exact { IfOk result (λ message. message.items
         ≡ spec.drawn_as is_further style origin.entry text.now diagnostic.now) }
     ensures some { IfOk result (λ message. message.items ≢ []) }
@@ -123,17 +150,18 @@ fn drawn_as(
                 style.is_colored,
                 origin,
                 text,
+                from,
                 diagnostic,
             )?;
             Ok(drawing.into_bytes())
         }
         Format::Short => {
-            let line = short(alloc, is_further, origin, text, diagnostic)?;
+            let line = short(alloc, is_further, origin, text, from, diagnostic)?;
             Ok(line.into_bytes())
         }
-        Format::Json => json(alloc, is_further, origin, text, diagnostic),
-        Format::Github => github(alloc, is_further, origin, text, diagnostic),
-        Format::Sarif => sarif(alloc, is_further, origin, text, diagnostic),
+        Format::Json => json(alloc, is_further, origin, text, from, diagnostic),
+        Format::Github => github(alloc, is_further, origin, text, from, diagnostic),
+        Format::Sarif => sarif(alloc, is_further, origin, text, from, diagnostic),
     }
 }
 
@@ -142,12 +170,14 @@ fn short(
     is_further: bool,
     origin: Origin<'_>,
     text: &str,
+    from: Counter,
     diagnostic: &Diagnostic,
 ) -> Result<String, AllocError>
+    requires { IsCounted origin.line text.now from }
     ensures { IfOk result (λ line. string_bytes line
         ≡ spec.short is_further origin.entry text.now diagnostic.now) }
 {
-    let place = position_of(alloc, origin.line, text, diagnostic.span.start)?;
+    let place = position_from(alloc, origin.line, text, from, diagnostic.span.start)?;
     let sentence = told_sentence(alloc, is_further, &diagnostic.fault)?;
     short_line(alloc, origin.file, place, &sentence)
 }
@@ -157,21 +187,26 @@ fn github(
     is_further: bool,
     origin: Origin<'_>,
     text: &str,
+    from: Counter,
     diagnostic: &Diagnostic,
 ) -> Result<Vec<u8>, AllocError>
+    requires { IsCounted origin.line text.now from }
     ensures { IfOk result (λ line. line.items
         ≡ spec.github is_further origin.entry text.now diagnostic.now) }
 {
-    let Position { line, column } = position_of(alloc, origin.line, text, diagnostic.span.start)?;
+    let start = position_from(alloc, origin.line, text, from, diagnostic.span.start)?;
+    let end = position_from(alloc, origin.line, text, from, diagnostic.span.end)?;
     let sentence = told_sentence(alloc, is_further, &diagnostic.fault)?;
+    let help = help_text(alloc, diagnostic.help)?;
+    let message = with_help(alloc, &sentence, &help)?;
     let entry = Entry {
         code: code_of(diagnostic),
         file: origin.file,
-        line,
-        column: column as u64,
-        message: &sentence,
+        line: start.line,
+        column: start.column as u64,
+        message: &message,
     };
-    annotation(alloc, Command::Error, entry)
+    fault_annotation(alloc, entry, end)
 }
 
 fn json(
@@ -179,12 +214,20 @@ fn json(
     is_further: bool,
     origin: Origin<'_>,
     text: &str,
+    from: Counter,
     diagnostic: &Diagnostic,
 ) -> Result<Vec<u8>, AllocError>
+    requires { IsCounted origin.line text.now from }
     ensures { IfOk result (λ object. object.items
         ≡ spec.json is_further origin.entry text.now diagnostic.now) }
 {
-    let Position { line, column } = position_of(alloc, origin.line, text, diagnostic.span.start)?;
+    let Position { line, column } = position_from(
+        alloc,
+        origin.line,
+        text,
+        from,
+        diagnostic.span.start,
+    )?;
     let message = format!(in alloc; "{}", diagnostic.fault)?;
     let help = help_text(alloc, diagnostic.help)?;
     let entry = Entry {

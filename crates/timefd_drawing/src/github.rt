@@ -4,6 +4,7 @@ ghost use Rattle.std.specs.Prelude.{◌≡◌, ◌≢◌, ◌++◌, [], IfOk, On
 ghost use Rattle.timefd_drawing.specs.Github as spec;
 
 use crate::json::{Entry, push_number};
+use crate::position::Position;
 use crate::shown::safe;
 use std::alloc::{AllocError, Global};
 
@@ -32,6 +33,45 @@ pub fn annotation(alloc: Global, command: Command, entry: Entry<'_>) -> Result<V
     push_message(&mut out, entry.message)?;
     out.extend_from_slice(b"\n")?;
     Ok(out)
+}
+
+/// The annotation on a fault, with the place of what stands behind it:
+/// `::error file=FILE,line=LINE,endLine=LINE,col=COLUMN,endColumn=COLUMN,title=CODE::MESSAGE`. An `Err` says that
+/// memory ran out.
+pub fn fault_annotation(
+    alloc: Global,
+    entry: Entry<'_>,
+    end: Position,
+) -> Result<Vec<u8>, AllocError>
+    ensures exact { IfOk result (λ line. line.items
+        ≡ spec.fault_annotation_of entry.entry end.line end.column) }
+    ensures some { IfOk result (λ line. line.items ≢ []) }
+{
+    let file = safe(alloc, entry.file)?;
+    let mut out = Vec::new(alloc);
+    out.extend_from_slice(opening(Command::Error).as_bytes())?;
+    push_property(&mut out, " file=", &file)?;
+    push_lines(alloc, &mut out, entry.line, end.line)?;
+    push_columns(alloc, &mut out, entry.column, end.column as u64)?;
+    push_property(&mut out, ",title=", entry.code)?;
+    out.extend_from_slice(b"::")?;
+    push_message(&mut out, entry.message)?;
+    out.extend_from_slice(b"\n")?;
+    Ok(out)
+}
+
+fn push_lines(alloc: Global, out: &mut Vec<u8>, line: u64, end: u64) -> Result<(), AllocError>
+    ensures { OnOk result (out.new.items ≡ out.old.items ++ spec.line_fields line end) }
+{
+    push_number(alloc, out, ",line=", line)?;
+    push_number(alloc, out, ",endLine=", end)
+}
+
+fn push_columns(alloc: Global, out: &mut Vec<u8>, column: u64, end: u64) -> Result<(), AllocError>
+    ensures { OnOk result (out.new.items ≡ out.old.items ++ spec.column_fields column end) }
+{
+    push_number(alloc, out, ",col=", column)?;
+    push_number(alloc, out, ",endColumn=", end)
 }
 
 // What the line of a command begins with.

@@ -1,15 +1,17 @@
 //! A diagnostic as it is drawn.
 
 ghost use Rattle.std.specs.Prelude.{◌≡◌, ◌++◌, IfOk, OnOk, string_bytes};
+ghost use Rattle.timefd_drawing.specs.Counted.{IsCounted};
 ghost use Rattle.timefd_drawing.specs.Drawing as spec;
 ghost use Rattle.timefd_drawing.specs.Lines as lines;
 
+use crate::counter::Counter;
 use crate::help_text::help_text;
 use crate::lines::{
     push_bar_line, push_caret_line, push_error_line, push_help_lines, push_place_line,
     push_text_line,
 };
-use crate::position::{Line, Origin, line_of, position_of};
+use crate::position::{Line, Origin, line_of, position_from};
 use crate::rows::{carets, digit_count, spaces};
 use crate::sentence::shown_sentence;
 use crate::shown::{is_shown_as_it_is, shown_end, shown_start};
@@ -30,12 +32,14 @@ pub fn human(
     is_colored: bool,
     origin: Origin<'_>,
     text: &str,
+    from: Counter,
     diagnostic: &Diagnostic,
 ) -> Result<String, AllocError>
+    requires { IsCounted origin.line text.now from }
     ensures { IfOk result (λ drawing. string_bytes drawing
         ≡ spec.human is_further is_colored origin.entry text.now diagnostic.now) }
 {
-    let place = position_of(alloc, origin.line, text, diagnostic.span.start)?;
+    let place = position_from(alloc, origin.line, text, from, diagnostic.span.start)?;
     let margin = margin(alloc, place.line)?;
     let sentence = shown_sentence(alloc, &diagnostic.fault)?;
     let words = help_text(alloc, diagnostic.help)?;

@@ -3,6 +3,7 @@
 #![tactic(auto)]
 
 mod as_sarif;
+mod counter;
 mod draw;
 pub mod github;
 pub mod help_text;
@@ -10,12 +11,14 @@ mod human;
 pub mod json;
 pub mod laws;
 mod lines;
+pub mod people;
 mod position;
 mod rows;
 pub mod sarif;
 mod sentence;
 pub mod shown;
 
-pub use draw::{Format, Style, drawn, drawn_all, note};
-pub use position::{Origin, Position, char_position_of, position_of};
+pub use counter::{Counter, counted, none_counted};
+pub use draw::{Format, Style, drawn, drawn_all, drawn_all_from, note};
+pub use position::{Origin, Position, char_position_from, position_from, position_of};
 pub use sentence::told_sentence;

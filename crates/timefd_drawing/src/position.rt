@@ -1,8 +1,10 @@
 //! Where a byte of a text stands in a file, and how a line is cut at a span.
 
 ghost use Rattle.std.specs.Prelude.{◌≡◌, IfOk};
+ghost use Rattle.timefd_drawing.specs.Counted.{IsCounted};
 ghost use Rattle.timefd_drawing.specs.Positions as spec;
 
+use crate::counter::{Counter, line_at, none_counted};
 use crate::shown::{char_count, columns};
 use std::alloc::{AllocError, Global};
 use timefd_diagnosis::Span;
@@ -43,21 +45,39 @@ pub fn position_of(
     ensures line { IfOk result (λ place. place.line ≡ spec.line_number first text.now index) }
     ensures column { IfOk result (λ place. place.column ≡ spec.column text.now index) }
 {
+    position_from(alloc, first, text, none_counted(first), index)
+}
+
+/// The same place, with its line counted on from what is counted.
+#[tactic(auto, using(crate::proofs::CounterLemmas::in_front))]
+pub fn position_from(
+    alloc: Global,
+    first: u64,
+    text: &str,
+    from: Counter,
+    index: usize,
+) -> Result<Position, AllocError>
+    requires { IsCounted first text.now from }
+    ensures line { IfOk result (λ place. place.line ≡ spec.line_number first text.now index) }
+    ensures column { IfOk result (λ place. place.column ≡ spec.column text.now index) }
+{
     let (front, _) = cut_at(text, index);
     Ok(Position {
-        line: first.saturating_add(newlines(front) as u64),
+        line: line_at(first, text, from, front.len()),
         column: columns(alloc, last_line(front))? + 1,
     })
 }
 
 /// The same place where the column counts the characters in front.
-pub fn char_position_of(first: u64, text: &str, index: usize) -> Position
+#[tactic(auto, using(crate::proofs::CounterLemmas::in_front))]
+pub fn char_position_from(first: u64, text: &str, from: Counter, index: usize) -> Position
+    requires { IsCounted first text.now from }
     ensures line { result.line ≡ spec.line_number first text.now index }
     ensures column { result.column ≡ spec.char_column text.now index }
 {
     let (front, _) = cut_at(text, index);
     Position {
-        line: first.saturating_add(newlines(front) as u64),
+        line: line_at(first, text, from, front.len()),
         column: char_count(last_line(front)).saturating_add(1),
     }
 }
@@ -77,8 +97,8 @@ pub fn line_of(text: &str, span: Span) -> Line<'_>
     }
 }
 
-// What stands in front of a byte index, and what is behind; inside of a character a text isn't cut.
-fn cut_at(text: &str, index: usize) -> (&str, &str)
+/// What stands in front of a byte index, and what is behind; inside of a character a text isn't cut.
+pub fn cut_at(text: &str, index: usize) -> (&str, &str)
     ensures front { result.0.now ≡ spec.front index text.now }
     ensures behind { result.1.now ≡ spec.behind index text.now }
 {
@@ -86,12 +106,6 @@ fn cut_at(text: &str, index: usize) -> (&str, &str)
         Some(parts) => parts,
         None => (text, ""),
     }
-}
-
-fn newlines(text: &str) -> usize
-    ensures { result ≡ spec.newlines text.now }
-{
-    text.bytes().filter(|byte| *byte == b'\n').count()
 }
 
 // What stands behind the last newline.

@@ -127,13 +127,26 @@ fn push_uri(out: &mut Vec<u8>, front: &str, path: &str) -> Result<(), AllocError
     ensures { OnOk result (out.new.items ≡ out.old.items ++ (front.now ++ spec.uri path.now)) }
 {
     out.extend_from_slice(front.as_bytes())?;
-    push_path(out, path)
+    push_path(out, path.as_bytes())
 }
 
-fn push_path(out: &mut Vec<u8>, path: &str) -> Result<(), AllocError>
+fn push_path(out: &mut Vec<u8>, path: &[u8]) -> Result<(), AllocError>
     ensures { OnOk result (out.new.items ≡ out.old.items ++ spec.uri path.now) }
 {
-    for byte in path.as_bytes() {
+    if path.starts_with(b"/") {
+        out.extend_from_slice(b"file://")?;
+        return push_encoded(out, path);
+    }
+    if path.starts_with(b"./") {
+        return push_encoded(out, &path[2..]);
+    }
+    push_encoded(out, path)
+}
+
+fn push_encoded(out: &mut Vec<u8>, path: &[u8]) -> Result<(), AllocError>
+    ensures { OnOk result (out.new.items ≡ out.old.items ++ spec.encoded path.now) }
+{
+    for byte in path {
         push_uri_byte(out, *byte)?;
     }
     Ok(())

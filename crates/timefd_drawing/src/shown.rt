@@ -39,9 +39,9 @@ pub fn is_hidden(c: char) -> bool
     )
 }
 
-// What stands for a character: the picture of a control character of ASCII, the replacement
-// character for any other that is hidden, and else the character itself.
-fn shown_char(c: char) -> char
+/// What stands for a character: the picture of a control character of ASCII, the replacement
+/// character for any other that is hidden, and else the character itself.
+pub fn shown_char(c: char) -> char
     ensures { result ≡ spec.shown c }
 {
     match c {

@@ -6,14 +6,13 @@ use Rattle.timefd_diagnosis.specs.declared.diagnostic.Diagnostic.{Diagnostic}
 use Rattle.timefd_fault.specs.Codes.{code_of, name_of}
 use Rattle.timefd_diagnosis.specs.Diagnoses.{IsDiagnosis}
 use Rattle.timefd_diagnosis.specs.Further.{AreFurther, most_further, without}
-use Rattle.timefd_drawing.specs.Sentence.{told_sentence}
 use Rattle.timefd_editor.proofs.EachLemmas.{both_added, none_added}
 use Rattle.timefd_editor.proofs.WarningLemmas.{in_words}
 use Rattle.timefd_editor.specs.declared.finding.Finding.{Finding}
 use Rattle.timefd_editor.specs.declared.finding.Severity.TheVariants.{Error}
 use Rattle.timefd_editor.specs.Each.{Adds, AreOf}
 use Rattle.timefd_editor.specs.Finding.{AreWarnings, IsNote, IsOne}
-use Rattle.timefd_editor.specs.Findings.{AreFaults, AreOn, IsFault}
+use Rattle.timefd_editor.specs.Findings.{AreFaults, AreOn, IsFault, fault_words}
 use Rattle.timefd_fault.specs.Faults.{fault_of}
 use Rattle.timefd_language.specs.Grammar.{nesting_limit}
 use Rattle.timefd_lint_sources.specs.declared.told.End.TheVariants.{PassedOver, Accepted, Refused, NotText}
@@ -122,13 +121,13 @@ faults text d g further before middle after (Err e) first others = tt
 pub at_places : {R E : Type 0} (text : Text) (d : Description) (further : Bool) (g : Diagnostic)
     (from to : ℕ) (name words : Text) (before after : List Finding) (done : Result R E)
     → from ≡ place_of d g.span.start → to ≡ place_of d g.span.end
-    → name ≡ name_of (code_of (fault_of g.fault).kind) → words ≡ told_sentence further (fault_of g.fault)
+    → name ≡ name_of (code_of (fault_of g.fault).kind) → words ≡ fault_words further g
     → OnOk done (Adds (IsOne text from to Error name words) before after)
     → OnOk done (Adds (IsFault text d further g) before after)
 at_places text d further g from to name words before after done begins ends named worded added =
     subst (λ i. OnOk done (Adds (IsOne text i (place_of d g.span.end) Error
-    (name_of (code_of (fault_of g.fault).kind)) (told_sentence further (fault_of g.fault))) before after)) begins
+    (name_of (code_of (fault_of g.fault).kind)) (fault_words further g)) before after)) begins
     (subst (λ i. OnOk done (Adds (IsOne text from i Error
-    (name_of (code_of (fault_of g.fault).kind)) (told_sentence further (fault_of g.fault))) before after)) ends
+    (name_of (code_of (fault_of g.fault).kind)) (fault_words further g)) before after)) ends
     (in_words text from to Error name (name_of (code_of (fault_of g.fault).kind)) words
-    (told_sentence further (fault_of g.fault)) before after done named worded added))
+    (fault_words further g) before after done named worded added))

@@ -3,7 +3,7 @@ use Rattle.std.specs.Prelude.{ℕ, ◌≡◌, ◌&&◌, ◌⊎◌, Bool, true, f
 use Rattle.timefd_component.specs.Tree.{Text}
 use Rattle.timefd_editor.specs.declared.action.Action.{Action}
 use Rattle.timefd_editor.specs.declared.action.ActionKind.{ActionKind}
-use Rattle.timefd_editor.specs.declared.action.ActionKind.TheVariants.{QuickFix, Rewrite}
+use Rattle.timefd_editor.specs.declared.action.ActionKind.TheVariants.{QuickFix, Guess, Rewrite}
 use Rattle.timefd_editor.specs.Each.{AreOf}
 use Rattle.timefd_editor.specs.Edits.{AreEdits}
 use Rattle.timefd_rewrite.specs.declared.fixes.Fixes.TheVariants as fixes
@@ -22,7 +22,8 @@ use Rattle.timefd_sources.specs.declared.piece.Piece.{Piece}
 use Rattle.timefd_sources.specs.Found.{AllStandIn, AreDescriptionsOf}
 
 abbrev pub kind_of : Change → ActionKind
-kind_of (Mended fixes) = QuickFix
+kind_of (Mended fixes.Sure) = QuickFix
+kind_of (Mended fixes.All) = Guess
 kind_of (Least version) = Rewrite
 kind_of Normal = Rewrite
 

@@ -2,6 +2,8 @@
 use Rattle.std.specs.Prelude.{◌≡◌, Bool, true, false, List, [], ◌++◌, Option}
 use Rattle.timefd_component.specs.Tree.{Text}
 use Rattle.timefd_diagnosis.specs.declared.diagnostic.Diagnostic.{Diagnostic}
+use Rattle.timefd_drawing.specs.HelpText.{help_text}
+use Rattle.timefd_drawing.specs.Sarif.{with_help}
 use Rattle.timefd_fault.specs.Codes.{code_of, name_of}
 use Rattle.timefd_drawing.specs.Sentence.{told_sentence}
 use Rattle.timefd_editor.specs.declared.finding.Finding.{Finding}
@@ -18,11 +20,15 @@ use Rattle.timefd_sources.specs.declared.description.Description.{Description}
 use Rattle.timefd_sources.specs.Found.{place_of}
 use Rattle.timefd_warnings.specs.declared.levels.Levels.{Levels}
 
--- A fault stands at its bytes, with the sentence that the linter tells.
+-- what is said of a fault: the sentence that the linter tells, and what helps
+abbrev pub fault_words : Bool → Diagnostic → Text
+fault_words further g = with_help (told_sentence further (fault_of g.fault)) (help_text g.help)
+
+-- A fault stands at its bytes, with these words.
 abbrev pub IsFault : Text → Description → Bool → Diagnostic → List Finding → Type 0
 IsFault text d further g found =
     IsOne text (place_of d g.span.start) (place_of d g.span.end) Error
-    (name_of (code_of (fault_of g.fault).kind)) (told_sentence further (fault_of g.fault)) found
+    (name_of (code_of (fault_of g.fault).kind)) (fault_words further g) found
 
 -- the first fault, and behind it the further ones
 abbrev pub AreFaults : Text → Description → Diagnostic → List Diagnostic → List Finding → Type 0

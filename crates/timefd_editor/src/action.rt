@@ -15,8 +15,10 @@ use timefd_sources::{VersionPlace, body_end, inside};
 /// What an action is for.
 #[derive(Clone, Copy)]
 pub enum ActionKind {
-    /// It mends what is at fault.
+    /// It mends what is at fault, by what is sure.
     QuickFix,
+    /// It mends what is at fault, by a guess.
+    Guess,
     /// It writes what is right in another way.
     Rewrite,
 }

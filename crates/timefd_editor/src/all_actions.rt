@@ -194,7 +194,8 @@ fn kind_of(change: Change) -> ActionKind
     ensures { result ≡ spec.kind_of change }
 {
     match change {
-        Change::Mended(_) => ActionKind::QuickFix,
+        Change::Mended(Fixes::Sure) => ActionKind::QuickFix,
+        Change::Mended(Fixes::All) => ActionKind::Guess,
         Change::Least(_) | Change::Normal => ActionKind::Rewrite,
     }
 }

@@ -1,13 +1,15 @@
 //! The faults of a description.
 
-ghost use Rattle.std.specs.Prelude.{OnOk, false, true};
+ghost use Rattle.std.specs.Prelude.{◌≡◌, IfOk, OnOk, false, string_bytes, true};
 ghost use Rattle.timefd_editor.specs.Each.{Adds, AreOf};
-ghost use Rattle.timefd_editor.specs.Findings.{AreFaults, IsFault};
+ghost use Rattle.timefd_editor.specs.Findings.{AreFaults, IsFault, fault_words};
 ghost use Rattle.timefd_editor.specs.Positions.{IsCounted};
 
 use crate::finding::{Finding, Severity, Spot, push};
 use std::alloc::{AllocError, Global};
 use timefd_diagnosis::{Diagnostic, code_of};
+use timefd_drawing::help_text::help_text;
+use timefd_drawing::sarif::with_help;
 use timefd_drawing::told_sentence;
 use timefd_sources::place_of;
 
@@ -56,9 +58,18 @@ fn push_fault(
     ensures { OnOk result (Adds (IsFault spot.entry.text.now spot.entry.description.now is_further diagnostic.now)
         found.old.items found.new.items) }
 {
-    let message = told_sentence(alloc, is_further, &diagnostic.fault)?;
+    let message = words_on(alloc, is_further, diagnostic)?;
     let start = place_of(spot.description, diagnostic.span.start);
     let end = place_of(spot.description, diagnostic.span.end);
     let code = code_of(diagnostic);
     push(found, spot, start, end, Severity::Error, code, message)
+}
+
+// What is said of a fault: a sentence, and what helps.
+fn words_on(alloc: Global, is_further: bool, diagnostic: &Diagnostic) -> Result<String, AllocError>
+    ensures { IfOk result (λ words. string_bytes words ≡ fault_words is_further diagnostic.now) }
+{
+    let sentence = told_sentence(alloc, is_further, &diagnostic.fault)?;
+    let help = help_text(alloc, diagnostic.help)?;
+    with_help(alloc, &sentence, &help)
 }

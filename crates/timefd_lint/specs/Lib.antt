@@ -10,3 +10,7 @@ pub mod Logs
 pub mod ErrorCodes
 pub mod Rules
 pub mod Pages
+pub mod CodeNames
+pub mod Unwalked
+pub mod Identities
+pub mod Sought

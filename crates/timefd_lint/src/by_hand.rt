@@ -1,9 +1,11 @@
 //! What is told of descriptions that would be converted, and want changing by hand.
 
+ghost use Rattle.timefd_drawing.specs.Counted.{IsCounted};
+
 use std::alloc::{AllocError, Global};
 use std::str;
 use timefd_drawing::shown::safe;
-use timefd_drawing::{Position, position_of};
+use timefd_drawing::{Counter, Position, counted, none_counted, position_from};
 use timefd_lint_sources::FIRST_LINE;
 use timefd_parse::{DescriptionVersion, ParseError};
 use timefd_rewrite::lay_out;
@@ -28,12 +30,15 @@ pub fn notes(
         return Ok(told);
     }
     let descriptions = descriptions_of(alloc, source)?;
-    for (description, outcome) in descriptions.iter().zip(outcomes) {
+    let mut from = none_counted(FIRST_LINE);
+    'notes: for (description, outcome) in descriptions.iter().zip(outcomes) {
         if wants_hand(*outcome) {
+            from = counted(FIRST_LINE, source, from, description.piece.start);
             let Some(why) = why(alloc, change, version, source, description, *outcome)? else {
                 continue;
             };
-            push_note(alloc, name, source, description, &why, &mut told)?;
+            let place = place(alloc, name, source, from, description)?;
+            push_note(&place, &why, &mut told)?;
         }
     }
     Ok(told)
@@ -81,15 +86,8 @@ fn why(
     Ok(Some(reason(alloc, version, source, description, &new)?))
 }
 
-fn push_note(
-    alloc: Global,
-    name: &str,
-    source: &str,
-    description: &Description,
-    why: &str,
-    told: &mut String,
-) -> Result<(), AllocError> {
-    told.push_str(&place(alloc, name, source, description)?)?;
+fn push_note(place: &str, why: &str, told: &mut String) -> Result<(), AllocError> {
+    told.push_str(place)?;
     told.push_str(": change by hand: ")?;
     told.push_str(why)?;
     told.push_str("\n")
@@ -100,15 +98,14 @@ fn place(
     alloc: Global,
     name: &str,
     source: &str,
+    from: Counter,
     description: &Description,
-) -> Result<String, AllocError> {
+) -> Result<String, AllocError>
+    requires { IsCounted 1 source.now from }
+{
     let file = safe(alloc, name)?;
-    let Position { line, column } = position_of(
-        alloc,
-        FIRST_LINE,
-        source,
-        description.piece.start,
-    )?;
+    let start = description.piece.start;
+    let Position { line, column } = position_from(alloc, FIRST_LINE, source, from, start)?;
     format!(in alloc; "{file}:{line}:{column}")
 }
 

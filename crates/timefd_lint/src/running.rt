@@ -3,7 +3,8 @@
 use crate::line::RunError;
 use crate::log::write_log;
 use crate::options::Options;
-use crate::progress::Watched;
+use crate::output::Audience;
+use crate::progress::{Progress, Watched};
 use crate::rewriting::{rewrite_files, rewriting_of};
 use crate::run::run;
 use crate::source::BUFFER;
@@ -16,12 +17,14 @@ pub fn run_in_form<W: Write>(
     rt: &HostRuntime,
     settings: Settings<'_>,
     options: Options<'_>,
+    audience: Audience,
+    progress: &Progress<'_>,
     writer: &mut W,
 ) -> Result<Tally, RunError> {
     if is_log(settings.format) {
-        run_logged(rt, settings, options, writer)
+        run_logged(rt, settings, options, audience, progress, writer)
     } else {
-        run_and_rewrite(rt, settings, options, writer)
+        run_and_rewrite(rt, settings, options, audience, progress, writer)
     }
 }
 
@@ -30,10 +33,12 @@ fn run_logged<W: Write>(
     rt: &HostRuntime,
     settings: Settings<'_>,
     options: Options<'_>,
+    audience: Audience,
+    progress: &Progress<'_>,
     writer: &mut W,
 ) -> Result<Tally, RunError> {
     let mut results = Vec::new(rt.alloc());
-    match run_and_rewrite(rt, settings, options, &mut results) {
+    match run_and_rewrite(rt, settings, options, audience, progress, &mut results) {
         Ok(tally) => {
             write_log(rt.alloc(), &results, writer)?;
             Ok(tally)
@@ -47,16 +52,24 @@ fn run_and_rewrite<W: Write>(
     rt: &HostRuntime,
     settings: Settings<'_>,
     options: Options<'_>,
+    audience: Audience,
+    progress: &Progress<'_>,
     writer: &mut W,
 ) -> Result<Tally, RunError> {
     if let Some(rewriting) = rewriting_of(settings) {
-        return rewrite_files(rt, rt.alloc(), options, rewriting, writer);
+        return rewrite_files(
+            rt,
+            rt.alloc(),
+            options,
+            rewriting,
+            audience,
+            writer,
+            &mut rt.stderr(),
+        );
     }
     let Ok(mut input) = BufReader::with_capacity(rt.alloc(), BUFFER, rt.stdin()) else {
         return Err(RunError::Memory);
     };
-    let watched = Watched::new(rt, options.file_count());
-    let end = run(&watched, rt.alloc(), options, &mut input, writer);
-    watched.end();
-    end
+    let watched = Watched::new(rt, progress, options.file_count());
+    run(&watched, rt.alloc(), options, &mut input, writer)
 }

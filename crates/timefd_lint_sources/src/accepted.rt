@@ -2,6 +2,7 @@
 
 ghost use Rattle.std.specs.Prelude.{◌≡◌, List, IfOk};
 ghost use Rattle.timefd_component.specs.Tree.{Tree};
+ghost use Rattle.timefd_drawing.specs.Counted.{IsCounted};
 ghost use Rattle.timefd_language.specs.Grammar.{nesting_limit};
 ghost use Rattle.timefd_parse.specs.Language.{SpellsIn};
 ghost use Rattle.timefd_lint_sources.specs.declared.told.End.TheVariants as ends;
@@ -13,7 +14,7 @@ ghost use Rattle.timefd_lint_sources.specs.Told.{IsMessageOn};
 use crate::position::told_position_of;
 use crate::told::{End, Source, Telling, Told};
 use std::alloc::{AllocError, Global};
-use timefd_drawing::Origin;
+use timefd_drawing::{Counter, Origin};
 use timefd_explain::explained;
 use timefd_lint_warnings::{found_by, messages_at};
 use timefd_parse::Language;
@@ -26,19 +27,21 @@ pub fn accepted(
     alloc: Global,
     telling: Telling,
     source: Source<'_>,
+    from: Counter,
     description: &Description,
     language: Language,
     text: &str,
 ) -> Result<Told, AllocError>
     requires language { language ≡ language_in description.now }
     requires text { text.now ≡ text_of description.now }
+    requires counted { IsCounted 1 source.text.now from }
     ensures end { (list : List Tree) → SpellsIn language nesting_limit text.now list
         → IfOk result (λ told. told.end ≡ ends.Accepted (found_by telling.levels language list)) }
     ensures message { IfOk result (λ told. IsMessageOn telling source.entry description.now
         told.end told.message.items) }
 {
     if telling.explains || telling.levels.is_some() {
-        explained_and_warned(alloc, telling, source, description, language, text)
+        explained_and_warned(alloc, telling, source, from, description, language, text)
     } else {
         Ok(Told {
             end: End::Accepted(Levels::all_at(Level::Allowed)),
@@ -52,19 +55,21 @@ fn explained_and_warned(
     alloc: Global,
     telling: Telling,
     source: Source<'_>,
+    from: Counter,
     description: &Description,
     language: Language,
     text: &str,
 ) -> Result<Told, AllocError>
     requires language { language ≡ language_in description.now }
     requires text { text.now ≡ text_of description.now }
+    requires counted { IsCounted 1 source.text.now from }
     ensures end { (list : List Tree) → SpellsIn language nesting_limit text.now list
         → IfOk result (λ told. told.end ≡ ends.Accepted (found_by telling.levels language list)) }
     ensures message { IfOk result (λ told. IsMessageOn telling source.entry description.now
         told.end told.message.items) }
 {
     let format = telling.style.format;
-    let place = told_position_of(alloc, format, source.text, description.piece.start)?;
+    let place = told_position_of(alloc, format, source.text, from, description.piece.start)?;
     let origin = Origin {
         file: source.file,
         line: place.line,

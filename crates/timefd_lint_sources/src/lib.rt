@@ -17,4 +17,4 @@ pub use language::{is_passed_over, language_of};
 pub use opening::is_of_item;
 pub use position::FIRST_LINE;
 pub use source::{Report, descriptions_in, judged_in, lint_source, tell_all};
-pub use told::{End, Finder, Source, Telling, Told, tell};
+pub use told::{End, Finder, Source, Telling, Told};

@@ -1,12 +1,15 @@
 //! What is told of all descriptions of a source.
 
 ghost use Rattle.std.specs.Prelude.{IfOk, OnOk};
+ghost use Rattle.timefd_drawing.specs.Counted.{IsCounted};
 ghost use Rattle.timefd_lint_sources.specs.Told.{AddsTold, AllFound, AreAllOf, AreJudgedIn, AreTold, IsSourceTold};
 ghost use Rattle.timefd_sources.specs.Found.{AreInOrder};
 
 use crate::judged::judged_all;
+use crate::position::FIRST_LINE;
 use crate::told::{End, Finder, Source, Telling, Told, tell};
 use std::alloc::{AllocError, Global};
+use timefd_drawing::{Counter, counted, none_counted};
 use timefd_keys::descriptions_by;
 use timefd_sources::{Description, descriptions_of};
 
@@ -67,8 +70,18 @@ pub fn tell_all(
 {
     let mut ends = Vec::new(alloc);
     let mut message = Vec::new(alloc);
+    let mut from = none_counted(FIRST_LINE);
     for description in descriptions {
-        push_told(alloc, telling, source, description, &mut ends, &mut message)?;
+        from = counted(FIRST_LINE, source.text, from, description.piece.start);
+        push_told(
+            alloc,
+            telling,
+            source,
+            from,
+            description,
+            &mut ends,
+            &mut message,
+        )?;
     }
     Ok(Report { ends, message })
 }
@@ -79,14 +92,16 @@ fn push_told(
     alloc: Global,
     telling: Telling,
     source: Source<'_>,
+    from: Counter,
     description: &Description,
     ends: &mut Vec<End>,
     message: &mut Vec<u8>,
 ) -> Result<(), AllocError>
+    requires { IsCounted 1 source.text.now from }
     ensures { OnOk result (AddsTold telling source.entry description.now ends.old.items
         message.old.items ends.new.items message.new.items) }
 {
-    let told = tell(alloc, telling, source, description)?;
+    let told = tell(alloc, telling, source, from, description)?;
     ends.push(told.end)?;
     message.extend_from_slice(&told.message)
 }

@@ -1,6 +1,7 @@
 //! What is told of one description.
 
 ghost use Rattle.std.specs.Prelude.{◌≡◌, IfOk, false, map};
+ghost use Rattle.timefd_drawing.specs.Counted.{IsCounted};
 ghost use Rattle.timefd_lint_sources.specs.declared.told.End.TheVariants as ends;
 ghost use Rattle.timefd_lint_sources.specs.Judged.{text_of};
 ghost use Rattle.timefd_lint_sources.specs.Judged as judging;
@@ -14,7 +15,7 @@ use crate::position::FIRST_LINE;
 use std::alloc::{AllocError, Global};
 use std::str;
 use timefd_diagnosis::{Diagnostic, Span, diagnose};
-use timefd_drawing::{Origin, Position, Style, drawn_all, note, position_of};
+use timefd_drawing::{Counter, Origin, Style, counted, drawn_all_from, note};
 use timefd_keys::{Format, Key};
 use timefd_sources::{Description, place_of};
 use timefd_warnings::Levels;
@@ -73,14 +74,16 @@ pub struct Told {
 }
 
 /// Looks at a description of a source, and tells what is wrong with it where that stands in the
-/// source. An `Err` says that memory ran out.
+/// source, of which lines are counted so far. An `Err` says that memory ran out.
 #[tactic(auto, using(crate::proofs::ToldLemmas::passed_over, crate::proofs::ToldLemmas::no_text))]
 pub fn tell(
     alloc: Global,
     telling: Telling,
     source: Source<'_>,
+    from: Counter,
     description: &Description,
 ) -> Result<Told, AllocError>
+    requires { IsCounted 1 source.text.now from }
     ensures { IfOk result (λ told. IsTold telling source.entry description.now
         told.end told.message.items) }
 {
@@ -92,8 +95,8 @@ pub fn tell(
         });
     }
     match str::from_utf8(bytes) {
-        Ok(text) => judged(alloc, telling, source, description, text),
-        Err(_) => not_text(alloc, telling.style, source, description),
+        Ok(text) => judged(alloc, telling, source, from, description, text),
+        Err(_) => not_text(alloc, telling.style, source, from, description),
     }
 }
 
@@ -102,21 +105,18 @@ fn not_text(
     alloc: Global,
     style: Style,
     source: Source<'_>,
+    from: Counter,
     description: &Description,
 ) -> Result<Told, AllocError>
+    requires { IsCounted 1 source.text.now from }
     ensures end { IfOk result (λ told. told.end ≡ ends.NotText) }
     ensures message { IfOk result (λ told. told.message.items
         ≡ note_of style source.entry description.now) }
 {
-    let Position { line, .. } = position_of(
-        alloc,
-        FIRST_LINE,
-        source.text,
-        description.piece.start,
-    )?;
+    let counter = counted(FIRST_LINE, source.text, from, description.piece.start);
     let origin = Origin {
         file: source.file,
-        line,
+        line: counter.line,
     };
     let message = note(alloc, style, origin, "not-text", "the bytes are no UTF-8")?;
     Ok(Told {
@@ -131,9 +131,11 @@ fn judged(
     alloc: Global,
     telling: Telling,
     source: Source<'_>,
+    from: Counter,
     description: &Description,
     text: &str,
 ) -> Result<Told, AllocError>
+    requires counted { IsCounted 1 source.text.now from }
     requires judges { judging.is_passed_over description.now.dialect text.now ≡ false }
     requires text { text.now ≡ text_of description.now }
     ensures { IfOk result (λ told. IsTold telling source.entry description.now
@@ -141,13 +143,14 @@ fn judged(
 {
     let language = language_of(description.dialect);
     match diagnose(alloc, language, text)? {
-        None => accepted(alloc, telling, source, description, language, text),
+        None => accepted(alloc, telling, source, from, description, language, text),
         Some(diagnostic) => {
             let further = further_of(alloc, description, text, &diagnostic)?;
             refused(
                 alloc,
                 telling.style,
                 source,
+                from,
                 description,
                 diagnostic,
                 further,
@@ -161,10 +164,12 @@ fn refused(
     alloc: Global,
     style: Style,
     source: Source<'_>,
+    from: Counter,
     description: &Description,
     diagnostic: Diagnostic,
     further: Vec<Diagnostic>,
 ) -> Result<Told, AllocError>
+    requires { IsCounted 1 source.text.now from }
     ensures end { IfOk result (λ told. told.end ≡ ends.Refused) }
     ensures message { IfOk result (λ told. told.message.items
         ≡ drawing_of style source.entry description.now diagnostic further.items) }
@@ -175,7 +180,7 @@ fn refused(
     };
     let first = placed_in(description, diagnostic);
     let others = all_placed_in(alloc, description, further)?;
-    let message = drawn_all(alloc, style, origin, source.text, &first, &others)?;
+    let message = drawn_all_from(alloc, style, origin, source.text, from, &first, &others)?;
     Ok(Told {
         end: End::Refused,
         message,

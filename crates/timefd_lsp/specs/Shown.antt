@@ -1,10 +1,10 @@
 -- What an editor is shown, as values of JSON. An object has its members in the order of their names.
-use Rattle.std.specs.Prelude.{ℕ, List, codes, map, string_bytes}
-use Rattle.serde_json.specs.Data.{Data, number, unsigned, string, array, object, member, no_members}
+use Rattle.std.specs.Prelude.{ℕ, Bool, true, false, List, codes, map, string_bytes}
+use Rattle.serde_json.specs.Data.{Data, boolean, number, unsigned, string, array, object, member, no_members}
 use Rattle.serde_json.specs.View.{items_of}
 use Rattle.timefd_editor.specs.declared.action.Action.{Action}
 use Rattle.timefd_editor.specs.declared.action.ActionKind.{ActionKind}
-use Rattle.timefd_editor.specs.declared.action.ActionKind.TheVariants.{QuickFix, Rewrite}
+use Rattle.timefd_editor.specs.declared.action.ActionKind.TheVariants.{QuickFix, Guess, Rewrite}
 use Rattle.timefd_editor.specs.declared.action.Edit.{Edit}
 use Rattle.timefd_editor.specs.declared.finding.Finding.{Finding}
 use Rattle.timefd_editor.specs.declared.finding.Severity.{Severity}
@@ -58,15 +58,23 @@ edits_data uri edits = object (member uri (edit_list edits) no_members)
 
 abbrev pub kind_name : ActionKind → List ℕ
 kind_name QuickFix = codes "quickfix"
+kind_name Guess = codes "quickfix"
 kind_name Rewrite = codes "refactor.rewrite"
+
+-- An editor may do by itself what is sure.
+abbrev pub is_preferred : ActionKind → Bool
+is_preferred QuickFix = true
+is_preferred Guess = false
+is_preferred Rewrite = false
 
 abbrev pub changes_data : Data → Data
 changes_data edits = object (member (codes "changes") edits no_members)
 
 abbrev pub action_data : List ℕ → Action → Data
 action_data uri action = object (member (codes "edit") (changes_data (edits_data uri action.edits.items))
+    (member (codes "isPreferred") (boolean (is_preferred action.kind))
     (member (codes "kind") (string (kind_name action.kind))
-    (member (codes "title") (string (string_bytes action.title)) no_members)))
+    (member (codes "title") (string (string_bytes action.title)) no_members))))
 
 abbrev pub actions_data : List ℕ → List Action → Data
 actions_data uri actions = array (items_of (map (action_data uri) actions))

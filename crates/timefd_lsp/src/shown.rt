@@ -110,8 +110,18 @@ fn kind_name(kind: ActionKind) -> &'static str
     ensures { result.now ≡ spec.kind_name kind }
 {
     match kind {
-        ActionKind::QuickFix => "quickfix",
+        ActionKind::QuickFix | ActionKind::Guess => "quickfix",
         ActionKind::Rewrite => "refactor.rewrite",
+    }
+}
+
+// Whether an editor may do it by itself.
+fn is_preferred(kind: ActionKind) -> bool
+    ensures { result ≡ spec.is_preferred kind }
+{
+    match kind {
+        ActionKind::QuickFix => true,
+        ActionKind::Guess | ActionKind::Rewrite => false,
     }
 }
 
@@ -127,9 +137,10 @@ fn action_value(alloc: Global, uri: &str, action: &Action) -> Result<Value, Allo
 {
     let edits = edits_value(alloc, uri, &action.edits)?;
     let edit = changes_value(alloc, edits)?;
+    let preferred = is_preferred(action.kind);
     let kind = kind_name(action.kind);
     let title = action.title.as_str();
-    json!(in alloc; {"edit": edit, "kind": kind, "title": title})
+    json!(in alloc; {"edit": edit, "isPreferred": preferred, "kind": kind, "title": title})
 }
 
 /// What can be done to a document of this name.

@@ -54,7 +54,12 @@ fn finding_shown(alloc: Global, count: usize, first: &Finding) -> Result<String,
     let message = &first.message;
     let start = place_shown(alloc, first.range.start)?;
     let end = place_shown(alloc, first.range.end)?;
-    format!(in alloc; "{count} {code} {start} {end} {message}")
+    match message.split_once('\n') {
+        Some((sentence, help)) => {
+            format!(in alloc; "{count} {code} {start} {end} {sentence} | {help}")
+        }
+        None => format!(in alloc; "{count} {code} {start} {end} {message}"),
+    }
 }
 
 /// How many findings a source of Rust has; the code of the first, where it begins and ends, and its message.

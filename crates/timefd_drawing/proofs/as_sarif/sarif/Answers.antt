@@ -7,8 +7,8 @@ pub returns-clause-exact : goal.returns-clause-exact
 returns-clause-exact c =
     IfOk-weaker c.result.result _ _
     (λ o is. is ∙ drawn_sarif c.args.is_further c.args.origin c.args.text.now c.args.diagnostic.now
-    c.code_of.ensures.code c.char_position_of-start.ensures.line c.char_position_of-start.ensures.column
-    c.char_position_of-end.ensures.line c.char_position_of-end.ensures.column
+    c.code_of.ensures.code c.char_position_from-start.ensures.line c.char_position_from-start.ensures.column
+    c.char_position_from-end.ensures.line c.char_position_from-end.ensures.column
     (c.deref-3.ensures ∙ c.in_ok-message.ensures) (c.deref.ensures ∙ c.in_ok-sentence.ensures.ok)
     (c.deref-2.ensures ∙ c.in_ok-help.ensures) (c.deref-4.ensures ∙ c.in_ok-help.ensures)
     c.nearest.ensures) c.result.ensures.exact

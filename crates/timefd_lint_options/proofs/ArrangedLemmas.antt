@@ -1,0 +1,74 @@
+-- One word more, and the end.
+use Rattle.std.proofs.Common.{◌≡◌, List, [], ◌∷◌, ◌++◌, codes, refl, sym, ap, ◌∙◌, append_assoc, append-nil}
+use Rattle.std.proofs.lemmas.List.{map-append}
+use denote.Ref.{Bor}
+use Rattle.timefd_component.specs.Tree.{Text}
+use Rattle.timefd_diagnosis.specs.Words.{texts}
+use Rattle.timefd_lint_options.specs.declared.order.Place.{Place}
+use Rattle.timefd_lint_options.specs.declared.order.Place.TheVariants as places
+use Rattle.timefd_lint_options.specs.Arranged.{alone, arranged, both, end_and, ended as ended_with, names_at, names_in, next, options_at, options_in, place_after}
+
+pub none : (old : List (Bor Text)) → texts old ≡ texts old ++ []
+none old = sym (append-nil (texts old))
+
+pub one : (old new : List (Bor Text)) (word : Bor Text) → new ≡ old ++ word ∷ []
+    → texts new ≡ texts old ++ alone word.now
+one old new word is = ap texts is ∙ map-append (λ w. w.now) old (word ∷ [])
+
+pub two : (old mid new : List (Bor Text)) (option value : Text)
+    → texts mid ≡ texts old ++ alone option → texts new ≡ texts mid ++ alone value
+    → texts new ≡ texts old ++ both option value
+two old mid new option value first second =
+    second ∙ (ap (λ t. t ++ alone value) first ∙ append_assoc (texts old) (alone option) (alone value))
+
+pub ended : (old mid new names : List (Bor Text)) → texts mid ≡ texts old ++ alone (codes "--")
+    → new ≡ mid ++ names → texts new ≡ texts old ++ end_and (texts names)
+ended old mid new names first is =
+    ap texts is ∙ (map-append (λ w. w.now) mid names
+    ∙ (ap (λ t. t ++ texts names) first ∙ append_assoc (texts old) (alone (codes "--")) (texts names)))
+
+-- What is left adds the rest.
+pub record IsArrangedTo (all : List Text) (place : Place) (rest options names : List Text) : Type 0 where
+  pub options : options ++ options_in place rest ≡ options_in places.Option all
+  pub names : names ++ names_in place rest ≡ names_in places.Option all
+  pub place : place_after place rest ≡ place_after places.Option all
+
+pub at_first : (all : List Text) → IsArrangedTo all places.Option all [] []
+at_first all = record { options = refl; names = refl; place = refl }
+
+pub one_more : (all : List Text) (place place' : Place) (word : Bor Text) (more rest : List (Bor Text))
+    (options options' names names' : List Text) → rest ≡ word ∷ more
+    → options' ≡ options ++ options_at place word.now → names' ≡ names ++ names_at place word.now
+    → place' ≡ next place word.now → IsArrangedTo all place (texts rest) options names
+    → IsArrangedTo all place' (texts more) options' names'
+one_more all place place' word more rest options options' names names' split os ns is so_far =
+    let at : texts rest ≡ word.now ∷ texts more = ap texts split in
+    record {
+      options =
+          ap (λ o. o ++ options_in place' (texts more)) os ∙
+          (ap (λ p. (options ++ options_at place word.now) ++ options_in p (texts more)) is ∙
+          (append_assoc options (options_at place word.now) (options_in (next place word.now) (texts more)) ∙
+          (ap (λ ws. options ++ options_in place ws) (sym at) ∙ so_far.options)));
+      names =
+          ap (λ o. o ++ names_in place' (texts more)) ns ∙
+          (ap (λ p. (names ++ names_at place word.now) ++ names_in p (texts more)) is ∙
+          (append_assoc names (names_at place word.now) (names_in (next place word.now) (texts more)) ∙
+          (ap (λ ws. names ++ names_in place ws) (sym at) ∙ so_far.names)));
+      place =
+          ap (λ p. place_after p (texts more)) is ∙ (ap (place_after place) (sym at) ∙ so_far.place);
+    }
+
+pub at_last : (all : List Text) (place : Place) (rest : List (Bor Text)) (options names new : List Text)
+    → rest ≡ [] → IsArrangedTo all place (texts rest) options names
+    → new ≡ options ++ ended_with place names → new ≡ arranged all
+at_last all place rest options names new none so_far is =
+    let left : texts rest ≡ [] = ap texts none in
+    let os : options ≡ options_in places.Option all =
+    sym (append-nil options) ∙ (ap (λ ws. options ++ options_in place ws) (sym left) ∙ so_far.options) in
+    let ns : names ≡ names_in places.Option all =
+    sym (append-nil names) ∙ (ap (λ ws. names ++ names_in place ws) (sym left) ∙ so_far.names) in
+    let pl : place ≡ place_after places.Option all =
+    ap (place_after place) (sym left) ∙ so_far.place in
+    is ∙ (ap (λ o. o ++ ended_with place names) os ∙
+    (ap (λ p. options_in places.Option all ++ ended_with p names) pl ∙
+    ap (λ n. options_in places.Option all ++ ended_with (place_after places.Option all) n) ns))
