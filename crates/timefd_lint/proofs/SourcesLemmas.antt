@@ -243,10 +243,10 @@ pub of_source : (is_whole : Bool) (language : Language) (comment : Option (Bor T
 of_source is_whole language comment telling finder name bytes rest before behind tally
     (inl (source, all, read, inl (utf8, (s, f, by, t, (r, told, written, found))))) =
     let on_remarks : AreLiterals is_whole language comment telling (ends_of told.remarks)
-        (messages_of telling.style s told.remarks) =
+    (messages_of telling.style s told.remarks) =
     remarked is_whole language comment telling s told.found told.remarks [] told.remarks told.seen refl in
     let are : AreLiterals is_whole language comment telling (told.ends ++ ends_of told.remarks)
-        (told.message ++ messages_of telling.style s told.remarks) =
+    (told.message ++ messages_of telling.style s told.remarks) =
     literals is_whole language comment telling s told.descriptions told.ends (ends_of told.remarks) told.message
     (messages_of telling.style s told.remarks)
     (judged_found s told.found told.descriptions told.seen.stand told.judged) told.told on_remarks in

@@ -8,7 +8,6 @@ use Rattle.timefd_drawing.specs.declared.github.Command.TheVariants.{Notice}
 use Rattle.timefd_drawing.specs.Github.{annotation}
 use Rattle.timefd_drawing.specs.Json.{note_object}
 use Rattle.timefd_drawing.specs.Positions.{line_number, told_column}
-use Rattle.timefd_drawing.specs.Sarif.{note_result}
 use Rattle.timefd_drawing.specs.Shown.{safe}
 use Rattle.timefd_sources.specs.declared.description.Description.{Description}
 use Rattle.timefd_lint_sources.specs.declared.told.Source.{Source}
@@ -36,7 +35,7 @@ note_in Human file line column = human file line column
 note_in Json file line column = note_object code file line column message (codes "note")
 note_in Short file line column = short file line column
 note_in Github file line column = annotation Notice code file line column message
-note_in Sarif file line column = note_result code file line column message (codes "note")
+note_in Sarif file line column = []
 
 abbrev pub note_at : Style → Source → ℕ → Text
 note_at style s at =

@@ -8,7 +8,6 @@ use crate::told::Source;
 use std::alloc::{AllocError, Global};
 use timefd_drawing::github::{Command, annotation};
 use timefd_drawing::json::{Entry, note_object};
-use timefd_drawing::sarif::note_result;
 use timefd_drawing::shown::safe;
 use timefd_drawing::{Format, Position, Style};
 use timefd_sources::Description;
@@ -18,8 +17,8 @@ const CODE: &str = "call";
 
 const MESSAGE: &str = "this call takes the text by its name";
 
-/// The note at the call that takes a description by its name; nothing where it stands in the call itself. An `Err`
-/// says that memory ran out.
+/// The note at the call that takes a description by its name; nothing where it stands in the call itself, nor in SARIF,
+/// where a result is of a rule. An `Err` says that memory ran out.
 pub fn call_note(
     alloc: Global,
     style: Style,
@@ -72,7 +71,7 @@ fn note_in(
         }
         Format::Json => note_object(alloc, entry, "note"),
         Format::Github => annotation(alloc, Command::Notice, entry),
-        Format::Sarif => note_result(alloc, entry, "note"),
+        Format::Sarif => Ok(Vec::new(alloc)),
     }
 }
 

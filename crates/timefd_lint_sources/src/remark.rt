@@ -20,7 +20,8 @@ pub enum Remark {
 /// The name of what is wrong with a comment.
 const CODE: &str = "unknown-language";
 
-const MESSAGE: &str = "this comment names no language: there are 1, 2, 3, strftime, chrono and jiff";
+const MESSAGE: &str =
+    "this comment names no language: there are 1, 2, 3, strftime, chrono and jiff";
 
 /// What came of it, as of a description.
 pub fn end_of(remark: Remark) -> End

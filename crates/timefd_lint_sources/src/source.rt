@@ -39,7 +39,14 @@ pub fn lint_source(
         mut ends,
         mut message,
     } = tell_all(alloc, telling, source, &descriptions)?;
-    push_remarks(alloc, telling.style, source, &remarks, &mut ends, &mut message)?;
+    push_remarks(
+        alloc,
+        telling.style,
+        source,
+        &remarks,
+        &mut ends,
+        &mut message,
+    )?;
     Ok(Report { ends, message })
 }
 
