@@ -1,6 +1,7 @@
 -- Names that are used, in a walk over tokens.
-use Rattle.std.proofs.Common.{ℕ, ◌≡◌, ◌∙◌, ◌+◌, ◌<◌, ◌≤◌, ◌++◌, List, [], ◌∷◌, ap, append_assoc, append-nil, drop, get_or, length, refl, sym}
+use Rattle.std.proofs.Common.{ℕ, ◌≡◌, ◌∙◌, ◌+◌, ◌<◌, ◌≤◌, ◌++◌, List, [], ◌∷◌, ap, append_assoc, append-nil, drop, get_or, inl, inr, length, refl, sym}
 use Rattle.std.proofs.lemmas.List.{drop_all, drop_more}
+use Rattle.std.proofs.lemmas.Bool.{cases_Bool}
 use Rattle.std.specs.Option.{option_to_list}
 use Rattle.std.specs.Prelude.{Option, Some, None}
 use Rattle.timefd_sources.specs.declared.alias.Alias.{Alias}
@@ -9,7 +10,7 @@ use Rattle.timefd_sources.specs.declared.piece.Piece.{Piece}
 use Rattle.timefd_sources.specs.declared.uses.Use.{Use}
 use Rattle.timefd_sources.specs.Bytes.{Text}
 use Rattle.timefd_sources.specs.Frames.{innermost, passed}
-use Rattle.timefd_sources.specs.Using.{in_calls, in_calls_from, in_loops, in_loops_from, list_of, looped_over, loop_at, use_at}
+use Rattle.timefd_sources.specs.Using.{in_calls, in_calls_from, in_loops, in_loops_from, is_loop, list_of, looped, loop_at, use_at, with_loops}
 
 -- What is found of the tokens from an index on stands behind what is found so far, and all is found then.
 abbrev pub AreSoFar : Text → List Piece → List Alias → ℕ → List Frame → List Use → Type 0
@@ -57,3 +58,25 @@ pub last_loop : (source : Text) (ps : List Piece) (us : List Use) (i : ℕ) (got
 last_loop source ps us i got none so_far =
     sym (append-nil got)
     ∙ (ap (λ l. got ++ in_loops_from source ps us i l) (sym (drop_all i ps none)) ∙ so_far)
+
+-- Where no name is used, no loop goes over one.
+no_list : (name : Option Piece) → list_of name None ≡ None
+no_list None = refl
+no_list (Some name) = refl
+
+none_at : (source : Text) (ps : List Piece) (i : ℕ) → loop_at source ps [] i ≡ None
+none_at source ps i = elim (cases_Bool (is_loop source ps i)) [
+  | inl pass ↦ rw pass (no_list (looped source ps i))
+  | inr fail ↦ rw fail refl
+]
+
+no_loops_from : (source : Text) (ps : List Piece) (i : ℕ) (rest : List Piece) → in_loops_from source ps [] i rest ≡ []
+no_loops_from source ps i [] = refl
+no_loops_from source ps i (p ∷ rest) =
+    ap (λ u. option_to_list u ++ in_loops_from source ps [] (i + 1) rest) (none_at source ps i)
+    ∙ no_loops_from source ps (i + 1) rest
+
+pub no_loops : (source : Text) (ps : List Piece) (us found : List Use) → us ≡ [] → found ≡ us
+    → found ≡ with_loops source ps us
+no_loops source ps us found none same =
+    same ∙ (none ∙ (sym (no_loops_from source ps 0 ps) ∙ ap (λ u. with_loops source ps u) (sym none)))

@@ -95,9 +95,9 @@ alias_at source p behind =
     else None
 
 -- those of a source, in turn
-abbrev pub aliases : Text → List Piece → List Alias
-aliases source [] = []
-aliases source (p ∷ ps) = option_to_list (alias_at source p ps) ++ aliases source ps
+abbrev pub aliases_in : Text → List Piece → List Alias
+aliases_in source [] = []
+aliases_in source (p ∷ ps) = option_to_list (alias_at source p ps) ++ aliases_in source ps
 
 abbrev pub is_named_so : Text → Alias → Text → ℕ → Bool
 is_named_so source alias name place =
@@ -106,9 +106,9 @@ is_named_so source alias name place =
 -- what the first alias of a name stands for that counts at a place
 abbrev pub original_of : Text → Text → ℕ → List Alias → Option Piece
 original_of source name place [] = None
-original_of source name place (alias ∷ aliases) =
+original_of source name place (alias ∷ others) =
     if is_named_so source alias name place then Some alias.original
-    else original_of source name place aliases
+    else original_of source name place others
 
 abbrev pub name_or : Text → Text → Option Piece → Text
 name_or source name None = name

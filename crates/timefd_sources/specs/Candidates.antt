@@ -16,13 +16,14 @@ use Rattle.timefd_sources.specs.declared.token.Kind.{Kind}
 use Rattle.timefd_sources.specs.declared.token.Token.{Token}
 use Rattle.timefd_sources.specs.declared.token.Token.TheVariants.{White, Comment, Word, Lifetime, Character, Literal, Sign, Unclosed}
 use Rattle.timefd_sources.specs.declared.version.VersionPlace.TheVariants.{Elsewhere}
-use Rattle.timefd_sources.specs.Aliases.{aliases}
+use Rattle.timefd_sources.specs.Aliases.{aliases_in}
 use Rattle.timefd_sources.specs.Arguments.{told_in}
+use Rattle.timefd_sources.specs.Attributes.{told_by_attribute}
 use Rattle.timefd_sources.specs.Bytes.{Text}
 use Rattle.timefd_sources.specs.Flows.{outermost, told_of}
 use Rattle.timefd_sources.specs.Frames.{innermost, passed}
 use Rattle.timefd_sources.specs.Marks.{marks, still_open, told_at}
-use Rattle.timefd_sources.specs.Using.{uses}
+use Rattle.timefd_sources.specs.Using.{uses_in}
 
 abbrev pub kind_of : Token → Option Kind
 kind_of White = None
@@ -61,11 +62,13 @@ candidate_from p None told = None
 candidate_from p (Some kind) None = None
 candidate_from p (Some kind) (Some told) = Some (record { piece = p; kind = kind; told = told })
 
--- A literal is told of by a comment, or else by the bracket that it stands in, or by what its value is handed to.
+-- A literal is told of by a comment, or else by the bracket that it stands in, by what its value is handed to, or by
+-- its attribute.
 abbrev pub candidate_at : Text → List Piece → ℕ → Piece → Option Frame → Option Dialect → Option Candidate
 candidate_at source ps i p frame dialect =
     candidate_from p (kind_of p.token)
-    (option_or (option_or (by_comment dialect) (told_in source ps i frame)) (told_of source ps i frame))
+    (option_or (option_or (option_or (by_comment dialect) (told_in source ps i frame)) (told_of source ps i frame))
+    (told_by_attribute source ps i))
 
 -- those among the tokens from an index on, where these brackets are open and these comments count
 abbrev pub candidates_from : Text → List Piece → List Alias → List Use → ℕ → List Piece → List Frame → List Mark
@@ -82,7 +85,7 @@ candidates_by source ps aliases us comments = candidates_from source ps aliases 
 
 abbrev pub candidates_in : Text → List Piece → List Mark → List Candidate
 candidates_in source ps comments =
-    candidates_by source ps (aliases source ps) (uses source ps (aliases source ps)) comments
+    candidates_by source ps (aliases_in source ps) (uses_in source ps (aliases_in source ps)) comments
 
 -- those of a source that is cut into these tokens
 abbrev pub candidates : Text → List Piece → List Candidate

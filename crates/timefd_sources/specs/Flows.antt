@@ -88,7 +88,8 @@ abbrev pub is_group : Text → List Piece → ℕ → Bool
 is_group source ps i =
     is_handing_on (text_before source ps i 1)
     || not (is_word_at ps (i - 1) || bytes_eq (text_before source ps i 1) (codes ")")
-    || bytes_eq (text_before source ps i 1) (codes "]") || bytes_eq (text_before source ps i 1) (codes ">")
+    || bytes_eq (text_before source ps i 1) (codes "]")
+    || (bytes_eq (text_before source ps i 1) (codes ">") && not (bytes_eq (text_before source ps i 2) (codes "=")))
     || bytes_eq (text_before source ps i 1) (codes "!") || bytes_eq (text_before source ps i 1) (codes "?"))
 
 -- The square bracket that a token opens is an array, or a list: `vec![`.

@@ -14,6 +14,8 @@ pub mod Declarations
 pub mod Aliases
 pub mod Calls
 pub mod Arguments
+pub mod Dates
+pub mod Attributes
 pub mod Uses
 pub mod Values
 pub mod Flows
@@ -22,7 +24,6 @@ pub mod Using
 pub mod Marks
 pub mod Candidates
 pub mod Names
-pub mod Dates
 pub mod Found
 pub mod Looks
 pub mod Chrono

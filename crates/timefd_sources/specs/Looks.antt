@@ -5,14 +5,14 @@ use Rattle.timefd_sources.specs.declared.description.Description.{Description}
 use Rattle.timefd_sources.specs.declared.look.Look.{Look}
 use Rattle.timefd_sources.specs.declared.piece.Piece.{Piece}
 use Rattle.timefd_sources.specs.declared.uses.Use.{Use}
-use Rattle.timefd_sources.specs.Aliases.{aliases}
+use Rattle.timefd_sources.specs.Aliases.{aliases_in}
 use Rattle.timefd_sources.specs.Bytes.{Text}
 use Rattle.timefd_sources.specs.Candidates.{candidates, significant}
 use Rattle.timefd_sources.specs.Found.{AreDescribed}
 use Rattle.timefd_sources.specs.Marks.{unknown_marks}
 use Rattle.timefd_sources.specs.Names.{HasNoName}
 use Rattle.timefd_sources.specs.Sources.{AreTokens}
-use Rattle.timefd_sources.specs.Using.{uses}
+use Rattle.timefd_sources.specs.Using.{uses_in}
 use Rattle.timefd_sources.specs.Words.{text_of}
 
 -- A word stands among these tokens.
@@ -47,7 +47,7 @@ unread_calls ds has_chrono us = flat_map (unread ds has_chrono) us
 -- those among the tokens of a source in which these descriptions are found
 abbrev pub calls_in : Text → List Piece → List Description → List ℕ
 calls_in source ps ds =
-    unread_calls ds (has_word source (codes "chrono") ps) (uses source ps (aliases source ps))
+    unread_calls ds (has_word source (codes "chrono") ps) (uses_in source ps (aliases_in source ps))
 
 -- What is seen in a source that is cut into these tokens.
 pub record IsSeen (source : Text) (all : List Piece) (look : Look) : Type 0 where

@@ -7,9 +7,10 @@ use Rattle.timefd_sources.specs.Bytes.{Text}
 pub record Lacks (source word : Text) : Type 0 where
   pub nowhere : FindsNeedle source word 0 None
 
--- Neither the macro of `time` stands in a source, nor the word by which a comment names a language.
+-- Neither the macro of `time` stands in a source, nor its attribute, nor the word by which a comment names a language.
 pub record HasNoMacro (source : Text) : Type 0 where
   pub format_description : Lacks source (codes "format_description")
+  pub attribute : Lacks source (codes "#[time(")
   pub timefd : Lacks source (codes "timefd")
 
 -- None of the functions of `time` that read a description.

@@ -68,11 +68,17 @@ abbrev pub piece_behind : List Piece → ℕ → ℕ → Option Piece
 piece_behind ps i ahead = slice_get ps (i + ahead)
 
 -- `in F {`, `in &F {`, `in F.iter() {`
-abbrev pub looped_over : Text → List Piece → ℕ → ℕ → Option Piece
-looped_over source ps i ahead =
-    if bytes_eq (text_behind source ps i (ahead + 1)) (codes "{")
-    || bytes_eq (text_behind source ps i (ahead + 1)) (codes ".") then piece_behind ps i ahead
+abbrev pub looped_over : Text → List Piece → ℕ → ℕ → ℕ → Option Piece
+looped_over source ps i ahead next =
+    if bytes_eq (text_behind source ps i next) (codes "{") || bytes_eq (text_behind source ps i next) (codes ".") then
+    piece_behind ps i ahead
     else None
+
+-- the name of the list that a loop goes over, which may be borrowed
+abbrev pub looped : Text → List Piece → ℕ → Option Piece
+looped source ps i =
+    if bytes_eq (text_behind source ps i 1) (codes "&") then looped_over source ps i 2 3
+    else looped_over source ps i 1 2
 
 abbrev pub list_of : Option Piece → Option Told → Option Use
 list_of None told = None
@@ -87,8 +93,7 @@ is_loop source ps i =
 abbrev pub loop_at : Text → List Piece → List Use → ℕ → Option Use
 loop_at source ps us i =
     if is_loop source ps i then
-    list_of (looped_over source ps i (if bytes_eq (text_behind source ps i 1) (codes "&") then 2 else 1))
-    (told_by_name source ps (i - 1) us)
+    list_of (looped source ps i) (told_by_name source ps (i - 1) us)
     else None
 
 abbrev pub in_loops_from : Text → List Piece → List Use → ℕ → List Piece → List Use
@@ -103,5 +108,5 @@ abbrev pub with_loops : Text → List Piece → List Use → List Use
 with_loops source ps us = us ++ in_loops source ps us
 
 -- those in known calls, and behind them the names of lists that loops go over
-abbrev pub uses : Text → List Piece → List Alias → List Use
-uses source ps aliases = with_loops source ps (in_calls source ps aliases)
+abbrev pub uses_in : Text → List Piece → List Alias → List Use
+uses_in source ps aliases = with_loops source ps (in_calls source ps aliases)

@@ -185,7 +185,7 @@ fn push_any(aliases: &mut Vec<Alias>, alias: Option<Alias>) -> Result<(), AllocE
 
 /// The aliases that a source declares, in turn.
 pub fn aliases_of(alloc: Global, source: &[u8], pieces: &[Piece]) -> Result<Vec<Alias>, AllocError>
-    ensures { IfOk result (λ aliases. aliases.items ≡ spec.aliases source.now pieces.now) }
+    ensures { IfOk result (λ aliases. aliases.items ≡ spec.aliases_in source.now pieces.now) }
 {
     let mut aliases = Vec::new(alloc);
     let mut rest = pieces;

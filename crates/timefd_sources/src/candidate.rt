@@ -3,6 +3,7 @@
 ghost use Rattle.std.specs.Prelude.{◌≡◌, ◌++◌, IfOk, OnOk};
 ghost use Rattle.timefd_sources.specs.Candidates as spec;
 
+use crate::attribute::told_by_attribute;
 use crate::calls::Frame;
 use crate::dialect::Dialect;
 use crate::flow::told_of;
@@ -97,8 +98,8 @@ fn candidate_from(piece: Piece, kind: Option<Kind>, told: Option<Told>) -> Optio
     }
 }
 
-/// What a token is as a description: by the language that a comment names, or else by the bracket that it stands in, or
-/// by what its value is handed to.
+/// What a token is as a description: by the language that a comment names, or else by the bracket that it stands in, by
+/// what its value is handed to, or by its attribute.
 pub fn candidate_at(
     source: &[u8],
     pieces: &[Piece],
@@ -111,5 +112,6 @@ pub fn candidate_at(
 {
     let told = by_comment(dialect).or(told_in(source, pieces, index, frame));
     let told = told.or(told_of(source, pieces, index, frame));
+    let told = told.or(told_by_attribute(source, pieces, index));
     candidate_from(piece, kind_of(piece.token), told)
 }

@@ -167,7 +167,7 @@ fn is_group(source: &[u8], pieces: &[Piece], index: usize) -> bool
         || !(is_word_at(pieces, index.saturating_sub(1))
             || is(before, ")")
             || is(before, "]")
-            || is(before, ">")
+            || (is(before, ">") && !is(text_before(source, pieces, index, 2), "="))
             || is(before, "!")
             || is(before, "?"))
 }

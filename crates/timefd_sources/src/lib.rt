@@ -3,6 +3,7 @@
 
 mod alias;
 mod alike;
+mod attribute;
 pub mod between;
 mod calls;
 mod candidate;

@@ -44,11 +44,14 @@ fn has_format(source: &[u8]) -> bool
     }
 }
 
-// The macro of `time`, and the word of a comment.
+// The macro of `time`, its attribute, and the word of a comment.
 fn has_macro_or_comment(source: &[u8]) -> bool
     ensures { result ≡ false → HasNoMacro source.now }
 {
     if has(source, "format_description") {
+        return true;
+    }
+    if has(source, "#[time(") {
         return true;
     }
     has(source, "timefd")

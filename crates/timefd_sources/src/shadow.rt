@@ -18,16 +18,6 @@ pub fn is_declaring(word: &[u8]) -> bool
     is(word, "let") || is(word, "const") || is(word, "static") || is(word, "fn") || is(word, "mut")
 }
 
-/// Whether a pattern ends in front of what begins with this text.
-fn ends_pattern(source: &[u8], text: &[u8], behind: &[Piece]) -> bool
-    ensures { result ≡ spec.ends_pattern source.now text.now behind.now }
-{
-    is(text, "|")
-        || is(text, "@")
-        || is(text, "in")
-        || (is(text, "=") && !is(text_at(source, behind, 0), "="))
-}
-
 /// Whether a token may stand between a name and the end of its pattern.
 fn goes_on(token: Token, text: &[u8]) -> bool
     ensures { result ≡ spec.goes_on token text.now }
@@ -39,7 +29,26 @@ fn goes_on(token: Token, text: &[u8]) -> bool
         || (is_word_token(token) && !is_declaring(text))
 }
 
-/// Whether a name in front of these tokens may stand in a pattern.
+/// Whether a pattern that counts at once ends in front of what begins with this text: that of a closure, a loop or
+/// an arm.
+fn ends_pattern(source: &[u8], text: &[u8], behind: &[Piece]) -> bool
+    ensures { result ≡ spec.ends_pattern source.now text.now behind.now }
+{
+    is(text, "|")
+        || is(text, "@")
+        || is(text, "in")
+        || (is(text, "=") && is(text_at(source, behind, 0), ">"))
+}
+
+/// Whether a pattern that a value is assigned to ends in front of what begins with this text.
+fn ends_assigned(source: &[u8], text: &[u8], behind: &[Piece]) -> bool
+    ensures { result ≡ spec.ends_assigned source.now text.now behind.now }
+{
+    let next = text_at(source, behind, 0);
+    is(text, "=") && !is(next, ">") && !is(next, "=")
+}
+
+/// Whether a name in front of these tokens may stand in a pattern that counts at once.
 fn is_in_pattern(source: &[u8], pieces: &[Piece]) -> bool
     ensures { result ≡ spec.is_in_pattern source.now spec.most_tokens pieces.now }
 {
@@ -62,6 +71,48 @@ fn is_in_pattern(source: &[u8], pieces: &[Piece]) -> bool
     false
 }
 
+/// Whether a name in front of these tokens stands in a pattern that a value is assigned to.
+fn is_assigned(source: &[u8], pieces: &[Piece]) -> bool
+    ensures { result ≡ spec.is_assigned source.now spec.most_tokens pieces.now }
+{
+    let mut left = MOST_TOKENS;
+    let mut rest = pieces;
+    'tokens: while let [piece, behind @ ..] = rest {
+        if left == 0 {
+            return false;
+        }
+        let text = text_of(source, *piece);
+        if ends_assigned(source, text, behind) {
+            return true;
+        }
+        if !goes_on(piece.token, text) {
+            return false;
+        }
+        left -= 1;
+        rest = behind;
+    }
+    false
+}
+
+/// Whether a statement ends or a block begins among these tokens, in front of a place: then a name counts that a value
+/// was assigned to in front of them.
+fn has_begun(source: &[u8], pieces: &[Piece], place: usize) -> bool
+    ensures { result ≡ spec.has_begun source.now place pieces.now }
+{
+    let mut rest = pieces;
+    'tokens: while let [piece, behind @ ..] = rest {
+        if place <= piece.start {
+            return false;
+        }
+        let text = text_of(source, *piece);
+        if is(text, ";") || is(text, "{") {
+            return true;
+        }
+        rest = behind;
+    }
+    false
+}
+
 /// Whether a name has its type behind it: `name: T`.
 fn has_type(source: &[u8], behind: &[Piece]) -> bool
     ensures { result ≡ spec.has_type source.now behind.now }
@@ -69,15 +120,19 @@ fn has_type(source: &[u8], behind: &[Piece]) -> bool
     is(text_at(source, behind, 0), ":") && !is(text_at(source, behind, 1), ":")
 }
 
-/// Whether a name between these tokens may be declared there.
-fn is_declared(source: &[u8], before: &[u8], behind: &[Piece]) -> bool
-    ensures { result ≡ spec.is_declared source.now before.now behind.now }
+/// Whether a name between these may be declared there, so that it counts at a place behind them.
+fn is_declared(source: &[u8], before: &[u8], behind: &[Piece], place: usize) -> bool
+    ensures { result ≡ spec.is_declared source.now place before.now behind.now }
 {
-    is_declaring(before)
-        || is(before, "|")
-        || is(before, "ref")
-        || has_type(source, behind)
-        || is_in_pattern(source, behind)
+    if is(before, "let") || is_assigned(source, behind) {
+        has_begun(source, behind, place)
+    } else {
+        is_declaring(before)
+            || is(before, "|")
+            || is(before, "ref")
+            || has_type(source, behind)
+            || is_in_pattern(source, behind)
+    }
 }
 
 /// Whether a name may be declared by one of these tokens in front of a place, behind this word.
@@ -97,7 +152,7 @@ pub fn is_declared_before(
             return false;
         }
         let text = text_of(source, *piece);
-        if text == name && is_declared(source, last, behind) {
+        if text == name && is_declared(source, last, behind, place) {
             return true;
         }
         last = text;

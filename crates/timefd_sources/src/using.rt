@@ -134,15 +134,32 @@ fn piece_behind(pieces: &[Piece], index: usize, ahead: usize) -> Option<Piece>
     }
 }
 
-/// The name that a loop goes over, behind this many tokens more than `in`.
-fn looped_over(source: &[u8], pieces: &[Piece], index: usize, ahead: usize) -> Option<Piece>
-    ensures { result ≡ spec.looped_over source.now pieces.now index ahead }
+/// The name that a loop goes over, so many tokens behind `in`, if what comes next ends it.
+fn looped_over(
+    source: &[u8],
+    pieces: &[Piece],
+    index: usize,
+    ahead: usize,
+    next: usize,
+) -> Option<Piece>
+    ensures { result ≡ spec.looped_over source.now pieces.now index ahead next }
 {
-    let behind = text_behind(source, pieces, index, ahead + 1);
+    let behind = text_behind(source, pieces, index, next);
     if is(behind, "{") || is(behind, ".") {
         piece_behind(pieces, index, ahead)
     } else {
         None
+    }
+}
+
+/// The name of the list that a loop goes over, which may be borrowed.
+fn looped(source: &[u8], pieces: &[Piece], index: usize) -> Option<Piece>
+    ensures { result ≡ spec.looped source.now pieces.now index }
+{
+    if is(text_behind(source, pieces, index, 1), "&") {
+        looped_over(source, pieces, index, 2, 3)
+    } else {
+        looped_over(source, pieces, index, 1, 2)
     }
 }
 
@@ -151,18 +168,14 @@ fn looped_over(source: &[u8], pieces: &[Piece], index: usize, ahead: usize) -> O
 fn loop_at(source: &[u8], pieces: &[Piece], uses: &[Use], index: usize) -> Option<Use>
     ensures { result ≡ spec.loop_at source.now pieces.now uses.now index }
 {
-    if !is(text_at(source, pieces, index), "in")
-        || !is(text_before(source, pieces, index, 2), "for")
+    if is(text_at(source, pieces, index), "in")
+        && is(text_before(source, pieces, index, 2), "for")
     {
-        return None;
-    }
-    let told = told_by_name(source, pieces, uses, index.saturating_sub(1));
-    let ahead = if is(text_behind(source, pieces, index, 1), "&") {
-        2
+        let told = told_by_name(source, pieces, uses, index.saturating_sub(1));
+        list_of(looped(source, pieces, index), told)
     } else {
-        1
-    };
-    list_of(looped_over(source, pieces, index, ahead), told)
+        None
+    }
 }
 
 fn list_of(name: Option<Piece>, told: Option<Told>) -> Option<Use>
@@ -201,7 +214,7 @@ pub fn uses_of(
     pieces: &[Piece],
     aliases: &[Alias],
 ) -> Result<Vec<Use>, AllocError>
-    ensures { IfOk result (λ uses. uses.items ≡ spec.uses source.now pieces.now aliases.now) }
+    ensures { IfOk result (λ uses. uses.items ≡ spec.uses_in source.now pieces.now aliases.now) }
 {
     let mut uses = in_calls(alloc, source, pieces, aliases)?;
     if uses.is_empty() {

@@ -3,8 +3,8 @@ const TIMES: [&str; 2] = ["%H:%J", "%H:%M"];
 
 fn read(text: &str) -> Option<NaiveDate> {
     for date in DATES {
-        if let Ok(date) = NaiveDate::parse_from_str(text, date) {
-            return Some(date);
+        if let Ok(day) = NaiveDate::parse_from_str(text, date) {
+            return Some(day);
         }
     }
     for time in TIMES.iter() {

@@ -4,7 +4,7 @@ use Rattle.timefd_sources.proofs.alias.aliases_of.Given as goal
 
 -- What is left adds all of it.
 abbrev pub invariant-tokens : goal.invariant-tokens
-invariant-tokens l = l.aliases.items ++ spec.aliases l.source l.rest ≡ spec.aliases l.source l.pieces
+invariant-tokens l = l.aliases.items ++ spec.aliases_in l.source l.rest ≡ spec.aliases_in l.source l.pieces
 
 abbrev pub decreases-tokens : goal.decreases-tokens
 decreases-tokens l = length l.rest
