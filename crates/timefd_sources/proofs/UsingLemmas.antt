@@ -1,16 +1,16 @@
 -- Names that are used, in a walk over tokens.
-use Rattle.std.proofs.Common.{ℕ, ◌≡◌, ◌∙◌, ◌+◌, ◌<◌, ◌≤◌, ◌++◌, List, [], ◌∷◌, ap, append_assoc, append-nil, drop, get_or, inl, inr, length, refl, sym}
+use Rattle.std.proofs.Common.{ℕ, ◌≡◌, ◌∙◌, ◌+◌, ◌<◌, ◌≤◌, ◌++◌, List, [], ◌∷◌, ap, append_assoc, append-nil, drop, get_or, length, refl, sym}
 use Rattle.std.proofs.lemmas.List.{drop_all, drop_more}
-use Rattle.std.proofs.lemmas.Bool.{cases_Bool}
 use Rattle.std.specs.Option.{option_to_list}
-use Rattle.std.specs.Prelude.{Option, Some, None}
+use Rattle.std.specs.Prelude.{Option}
 use Rattle.timefd_sources.specs.declared.alias.Alias.{Alias}
 use Rattle.timefd_sources.specs.declared.calls.Frame.{Frame}
 use Rattle.timefd_sources.specs.declared.piece.Piece.{Piece}
+use Rattle.timefd_sources.specs.declared.token.Token.TheVariants.{White}
 use Rattle.timefd_sources.specs.declared.uses.Use.{Use}
 use Rattle.timefd_sources.specs.Bytes.{Text}
 use Rattle.timefd_sources.specs.Frames.{innermost, passed}
-use Rattle.timefd_sources.specs.Using.{in_calls, in_calls_from, in_loops, in_loops_from, is_loop, list_of, looped, loop_at, use_at, with_loops}
+use Rattle.timefd_sources.specs.Using.{in_calls, in_calls_from, in_loops, in_loops_from, loop_at, use_at}
 
 -- What is found of the tokens from an index on stands behind what is found so far, and all is found then.
 abbrev pub AreSoFar : Text → List Piece → List Alias → ℕ → List Frame → List Use → Type 0
@@ -34,11 +34,19 @@ one_more source ps aliases i p other before after found got now below at opened 
     ap (λ t. t ++ left after) pushed
     ∙ (append_assoc got (option_to_list found) (left after) ∙ (ap (λ t. got ++ t) here ∙ so_far))
 
+-- What a name is, by what is open at it.
+pub used_at : (source : Text) (ps : List Piece) (i : ℕ) (p : Piece) (frames seen : List Frame) (frame : Option Frame)
+    → seen ≡ frames → frame ≡ innermost seen → use_at source ps i p frame ≡ use_at source ps i p (innermost frames)
+used_at source ps i p frames seen frame all inner = ap (use_at source ps i p) (inner ∙ ap innermost all)
+
 pub at_last : (source : Text) (ps : List Piece) (aliases : List Alias) (i : ℕ) (frames : List Frame) (got : List Use)
     → length ps ≤ i → AreSoFar source ps aliases i frames got → got ≡ in_calls source ps aliases
 at_last source ps aliases i frames got none so_far =
     sym (append-nil got)
     ∙ (ap (λ l. got ++ in_calls_from source ps aliases i l frames) (sym (drop_all i ps none)) ∙ so_far)
+
+pub no_piece : Piece
+no_piece = record { token = White; start = 0; end = 0 }
 
 -- The same of loops.
 abbrev pub AreLoopsSoFar : Text → List Piece → List Use → ℕ → List Use → Type 0
@@ -58,25 +66,3 @@ pub last_loop : (source : Text) (ps : List Piece) (us : List Use) (i : ℕ) (got
 last_loop source ps us i got none so_far =
     sym (append-nil got)
     ∙ (ap (λ l. got ++ in_loops_from source ps us i l) (sym (drop_all i ps none)) ∙ so_far)
-
--- Where no name is used, no loop goes over one.
-no_list : (name : Option Piece) → list_of name None ≡ None
-no_list None = refl
-no_list (Some name) = refl
-
-none_at : (source : Text) (ps : List Piece) (i : ℕ) → loop_at source ps [] i ≡ None
-none_at source ps i = elim (cases_Bool (is_loop source ps i)) [
-  | inl pass ↦ rw pass (no_list (looped source ps i))
-  | inr fail ↦ rw fail refl
-]
-
-no_loops_from : (source : Text) (ps : List Piece) (i : ℕ) (rest : List Piece) → in_loops_from source ps [] i rest ≡ []
-no_loops_from source ps i [] = refl
-no_loops_from source ps i (p ∷ rest) =
-    ap (λ u. option_to_list u ++ in_loops_from source ps [] (i + 1) rest) (none_at source ps i)
-    ∙ no_loops_from source ps (i + 1) rest
-
-pub no_loops : (source : Text) (ps : List Piece) (us found : List Use) → us ≡ [] → found ≡ us
-    → found ≡ with_loops source ps us
-no_loops source ps us found none same =
-    same ∙ (none ∙ (sym (no_loops_from source ps 0 ps) ∙ ap (λ u. with_loops source ps u) (sym none)))

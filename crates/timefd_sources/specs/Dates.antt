@@ -26,9 +26,9 @@ begins_part (b ∷ bytes) = is_date_letter b
 abbrev pub is_taken : ℕ → Bool
 is_taken b = is_one_of (codes "abcdefghjklmnpqrstuvwxyzABCDFGHIJKLMNOPQRSTUVWXYZ%+:") b
 
--- Another byte, or the end, is none of a text of dates.
+-- Another byte is none of a text of dates. At the end a `%` may be one that lacks what stands behind it.
 abbrev pub begins_other : Text → Bool
-begins_other [] = true
+begins_other [] = false
 begins_other (b ∷ bytes) = not (is_taken b)
 
 -- A part of a date stands behind a `%`. The byte behind a `%` begins no other one.
@@ -48,7 +48,7 @@ abbrev mutual
   has_other (b ∷ bytes) = if b == 37 then has_other_behind bytes else has_other bytes
 
   pub has_other_behind : Text → Bool
-  has_other_behind [] = true
+  has_other_behind [] = false
   has_other_behind (b ∷ bytes) = if begins_other (behind_flag (b ∷ bytes)) then true else has_other bytes
 
 abbrev pub has_percent : Text → Bool

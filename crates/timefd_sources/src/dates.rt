@@ -44,13 +44,13 @@ fn is_taken(byte: u8) -> bool
     b"abcdefghjklmnpqrstuvwxyzABCDFGHIJKLMNOPQRSTUVWXYZ%+:".contains(&byte)
 }
 
-/// Whether what begins a text, which stands behind a `%` and a flag, is none of dates: a space, a digit, a dot, the end.
+/// Whether what begins a text, which stands behind a `%` and a flag, is none of dates: a space, a digit, a dot.
 fn begins_other(text: &[u8]) -> bool
     ensures { result ≡ spec.begins_other text.now }
 {
     match text {
         [byte, ..] => !is_taken(*byte),
-        [] => true,
+        [] => false,
     }
 }
 
@@ -83,11 +83,11 @@ fn has_other(text: &[u8]) -> bool
         is_behind = !is_behind && *byte == b'%';
         rest = behind;
     }
-    is_behind
+    false
 }
 
 /// Whether a text may be one of dates: it has a `%`, and either a part of a date, or no `%` that is none of such a text.
-/// `100% sure`, `%5.2f` and `%i` are none.
+/// `100% sure`, `%5.2f` and `%i` are none; a `%` at the end is one that nothing stands behind.
 pub fn is_of_dates(text: &[u8]) -> bool
     ensures { result ≡ spec.is_of_dates text.now }
 {

@@ -167,6 +167,6 @@ pub fn descriptions_of(alloc: Global, source: &str) -> Result<Vec<Description>, 
     ensures stand { IfOk result (λ found. AllStandIn source.now found.items) }
     ensures in_order { IfOk result (λ found. AreInOrder 0 found.items) }
 {
-    let Look { descriptions, .. } = looked_at(alloc, source)?;
-    Ok(descriptions)
+    let seen = looked_at(alloc, source)?;
+    Ok(seen.descriptions)
 }

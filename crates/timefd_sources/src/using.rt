@@ -217,9 +217,6 @@ pub fn uses_of(
     ensures { IfOk result (λ uses. uses.items ≡ spec.uses_in source.now pieces.now aliases.now) }
 {
     let mut uses = in_calls(alloc, source, pieces, aliases)?;
-    if uses.is_empty() {
-        return Ok(uses);
-    }
     let lists = in_loops(alloc, source, pieces, &uses)?;
     uses.extend_from_slice(&lists)?;
     Ok(uses)

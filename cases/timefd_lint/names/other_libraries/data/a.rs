@@ -3,7 +3,6 @@ fn show() {
     table.format("%5.2f");
     table.format("%i items");
     table.format("%.2f");
-    price.format("50%");
     log.format("json");
     json.parse_borrowed("[1,2]");
     json.parse_owned("[1,2]");

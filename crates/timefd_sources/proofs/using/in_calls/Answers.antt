@@ -1,5 +1,5 @@
-use Rattle.std.proofs.Common.{◌∙◌, ap, refl, rules, arith}
-use Rattle.timefd_sources.proofs.UsingLemmas.{at_last, one_more}
+use Rattle.std.proofs.Common.{◌∙◌, refl, rules, arith}
+use Rattle.timefd_sources.proofs.UsingLemmas.{at_last, one_more, used_at}
 use Rattle.timefd_sources.proofs.using.in_calls.Goals as goal
 
 pub loop-index-preserved : goal.loop-index-preserved
@@ -9,8 +9,10 @@ loop-index-preserved c =
     c.push_any.new.uses.items
     (first_of (search rules, omega (arith, c.loop-index-test.true)))
     refl
-    (search rules)
-    (search rules)
+    c.in_ok-pass.ensures
+    (c.use_at.ensures
+    ∙ used_at c.args.source.now c.args.pieces.now c.loop-index.index _ c.pass.new.frames.items c.deref.result.now
+    c.innermost-frame.result c.deref.ensures.value c.innermost-frame.ensures)
     c.in_ok-push_any.ensures
     c.loop-index.invariant
 
