@@ -6,7 +6,6 @@ use Rattle.timefd_drawing.specs.declared.draw.Format.TheVariants.{Human, Json, S
 use Rattle.timefd_drawing.specs.declared.draw.Style.{Style}
 use Rattle.timefd_drawing.specs.declared.github.Command.TheVariants.{Notice}
 use Rattle.timefd_drawing.specs.Github.{annotation}
-use Rattle.timefd_drawing.specs.Json.{note_object}
 use Rattle.timefd_drawing.specs.Positions.{line_number, told_column}
 use Rattle.timefd_drawing.specs.Shown.{safe}
 use Rattle.timefd_sources.specs.declared.description.Description.{Description}
@@ -32,7 +31,7 @@ short file line column = place_text file line column ++ (codes ": note: " ++ (me
 
 abbrev pub note_in : Format → Text → ℕ → ℕ → Text
 note_in Human file line column = human file line column
-note_in Json file line column = note_object code file line column message (codes "note")
+note_in Json file line column = []
 note_in Short file line column = short file line column
 note_in Github file line column = annotation Notice code file line column message
 note_in Sarif file line column = []

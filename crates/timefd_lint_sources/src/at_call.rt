@@ -7,7 +7,7 @@ use crate::position::told_position_of;
 use crate::told::Source;
 use std::alloc::{AllocError, Global};
 use timefd_drawing::github::{Command, annotation};
-use timefd_drawing::json::{Entry, note_object};
+use timefd_drawing::json::Entry;
 use timefd_drawing::shown::safe;
 use timefd_drawing::{Format, Position, Style};
 use timefd_sources::Description;
@@ -17,8 +17,8 @@ const CODE: &str = "call";
 
 const MESSAGE: &str = "this call takes the text by its name";
 
-/// The note at the call that takes a description by its name; nothing where it stands in the call itself, nor in SARIF,
-/// where a result is of a rule. An `Err` says that memory ran out.
+/// The note at the call that takes a description by its name; nothing where it stands in the call itself, nor in JSON
+/// and SARIF, where all that is told has the code of an error or a warning. An `Err` says that memory ran out.
 pub fn call_note(
     alloc: Global,
     style: Style,
@@ -69,9 +69,8 @@ fn note_in(
             let line = short(alloc, file, place)?;
             Ok(line.into_bytes())
         }
-        Format::Json => note_object(alloc, entry, "note"),
         Format::Github => annotation(alloc, Command::Notice, entry),
-        Format::Sarif => Ok(Vec::new(alloc)),
+        Format::Json | Format::Sarif => Ok(Vec::new(alloc)),
     }
 }
 
