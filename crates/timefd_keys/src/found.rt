@@ -63,6 +63,7 @@ fn described(
         dialect,
         items: Items::Refused,
         version: VersionPlace::Elsewhere,
+        call: None,
         unescaped,
     })
 }

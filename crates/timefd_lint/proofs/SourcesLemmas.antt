@@ -11,19 +11,21 @@ use denote.Ref.{Bor}
 use Rattle.timefd_component.specs.Tree.{Text}
 use Rattle.timefd_parse.specs.declared.language.Language.{Language}
 use Rattle.timefd_sources.specs.declared.description.Description.{Description}
+use Rattle.timefd_lint_sources.specs.declared.remark.Remark.{Remark}
 use Rattle.timefd_lint_sources.specs.declared.source.Report.{Report}
+use Rattle.timefd_lint_sources.specs.Remarks.{end_of, ends_of, message_of, messages_of}
 use Rattle.timefd_lint_sources.specs.declared.told.End.{End}
 use Rattle.timefd_lint_sources.specs.declared.told.Finder.{Finder}
 use Rattle.timefd_lint_sources.specs.declared.told.Source.{Source}
 use Rattle.timefd_lint_sources.specs.declared.told.Telling.{Telling}
 use Rattle.timefd_lint_sources.specs.Judged.{text_of}
 use Rattle.timefd_lint_sources.specs.Items.{AreJudgedAs}
-use Rattle.timefd_lint_sources.specs.Told.{AllFound, AreTold, IsFound, IsJudgedFound, IsSourceTold, no_text_note, origin_of}
+use Rattle.timefd_lint_sources.specs.Told.{AllFound, AreSeen, AreTold, IsFound, IsJudgedFound, IsSourceTold, no_text_note, origin_of}
 use Rattle.timefd_lint.specs.declared.line.RunError.{RunError}
 use Rattle.timefd_lint.specs.declared.line.TextEnd.{TextEnd}
 use Rattle.timefd_lint.specs.declared.line.TextEnd.TheVariants.{NotText, Failed}
 use Rattle.timefd_lint.specs.declared.tally.Tally.{Tally}
-use Rattle.timefd_lint.specs.Sources.{IsNotText, IsOfLiteral, IsReported, IsRunOfAny, IsRunOfSource, IsRunWith, IsSaid, IsToldOfAny, tally_from, tally_of_ends, text_end}
+use Rattle.timefd_lint.specs.Sources.{IsNotText, IsOfLiteral, IsOfRemark, IsReported, IsRunOfAny, IsRunOfSource, IsRunWith, IsSaid, IsToldOfAny, tally_from, tally_of_ends, text_end}
 use Rattle.timefd_lint.specs.Told.{IsRun, IsRunOfAll, IsRunOver, SaysUnread, Told, both, messages, place, tally_of, tally_of_one}
 use Rattle.timefd_lint.proofs.ToldLemmas.{lines_run, only, read_to_end, run_behind, tally_both, tally_one, unread_run, whole_run, whole_text}
 
@@ -128,19 +130,68 @@ judged_found s (d ∷ ds) judged stand (one, others, is, are, whole) =
     (All-cons (IsJudgedFound s) one others (d, All-head (IsFound s) d ds stand, is)
     (judged_found s ds others (All-tail (IsFound s) d ds stand) are))
 
-literals : (is_whole : Bool) (language : Language) (comment : Option (Bor Text)) (telling : Telling)
-    (s : Source) (ds : List Description) (ends : List End) (message : Text)
-    → All (IsJudgedFound s) ds → AreTold telling s ds ends message
-    → AreLiterals is_whole language comment telling ends message
-literals is_whole language comment telling s [] [] message stand are = record {
+-- The same of remarks.
+remarked : (is_whole : Bool) (language : Language) (comment : Option (Bor Text)) (telling : Telling)
+    (s : Source) (ds : List Description) (all front left : List Remark) → AreSeen s ds all
+    → all ≡ front ++ left
+    → AreLiterals is_whole language comment telling (ends_of left) (messages_of telling.style s left)
+remarked is_whole language comment telling s ds all front [] seen is = record {
   told = [];
   each = All-nil (IsToldOfAny is_whole language comment telling);
-  said = are;
+  said = refl;
   found = λ others. sym (ap tally_of (append-nil others));
 }
-literals is_whole language comment telling s [] (e ∷ ends) message stand are = absurd are
-literals is_whole language comment telling s (d ∷ ds) [] message stand are = absurd are
-literals is_whole language comment telling s (d ∷ ds) (e ∷ ends) message stand (one, rest, told, others, is) =
+remarked is_whole language comment telling s ds all front (r ∷ left) seen is =
+    let t : Told = record {
+      line = [];
+      origin = record { file = s.file; line = 1 };
+      is_marked = false;
+      end = text_end (end_of r);
+      message = message_of telling.style s r;
+    } in
+    let more : AreLiterals is_whole language comment telling (ends_of left) (messages_of telling.style s left) =
+    remarked is_whole language comment telling s ds all (front ++ r ∷ []) left seen
+    (is ∙ sym (append_assoc front (r ∷ []) left)) in
+    let is_remark : IsOfRemark telling t = record {
+      source = s;
+      found = ds;
+      remarks = all;
+      seen = seen;
+      front = front;
+      remark = r;
+      rest = left;
+      is = is;
+      unmarked = refl;
+      end = refl;
+      message = refl;
+    } in
+    record {
+      told = t ∷ more.told;
+      each = All-cons (IsToldOfAny is_whole language comment telling) t more.told
+          (inr (inr (inr is_remark))) more.each;
+      said = ap (λ m. message_of telling.style s r ++ m) more.said;
+      found = λ before.
+          ap (λ x. tally_from x (ends_of left))
+          (ap (λ x. both (tally_of before) x) (sym (tally_one t)) ∙ tally_both before (t ∷ []))
+          ∙ more.found (before ++ t ∷ []) ∙ ap tally_of (append_assoc before (t ∷ []) more.told);
+    }
+
+-- Literals in front of these.
+literals : (is_whole : Bool) (language : Language) (comment : Option (Bor Text)) (telling : Telling)
+    (s : Source) (ds : List Description) (ends more_ends : List End) (message more_message : Text)
+    → All (IsJudgedFound s) ds → AreTold telling s ds ends message
+    → AreLiterals is_whole language comment telling more_ends more_message
+    → AreLiterals is_whole language comment telling (ends ++ more_ends) (message ++ more_message)
+literals is_whole language comment telling s [] [] more_ends message more_message stand are behind = record {
+  told = behind.told;
+  each = behind.each;
+  said = ap (λ m. m ++ more_message) are ∙ behind.said;
+  found = behind.found;
+}
+literals is_whole language comment telling s [] (e ∷ ends) more_ends message more_message stand are behind = absurd are
+literals is_whole language comment telling s (d ∷ ds) [] more_ends message more_message stand are behind = absurd are
+literals is_whole language comment telling s (d ∷ ds) (e ∷ ends) more_ends message more_message stand
+    (one, rest, told, others, is) behind =
     let t : Told = record {
       line = text_of d;
       origin = origin_of s d;
@@ -148,9 +199,9 @@ literals is_whole language comment telling s (d ∷ ds) (e ∷ ends) message sta
       end = text_end e;
       message = one;
     } in
-    let more : AreLiterals is_whole language comment telling ends rest =
-    literals is_whole language comment telling s ds ends rest
-    (All-tail (IsJudgedFound s) d ds stand) others in
+    let more : AreLiterals is_whole language comment telling (ends ++ more_ends) (rest ++ more_message) =
+    literals is_whole language comment telling s ds ends more_ends rest more_message
+    (All-tail (IsJudgedFound s) d ds stand) others behind in
     let is_literal : IsOfLiteral telling t = record {
       source = s;
       description = d;
@@ -166,9 +217,9 @@ literals is_whole language comment telling s (d ∷ ds) (e ∷ ends) message sta
       told = t ∷ more.told;
       each = All-cons (IsToldOfAny is_whole language comment telling) t more.told
           (inr (inl is_literal)) more.each;
-      said = is ∙ ap (λ m. one ++ m) more.said;
+      said = ap (λ m. m ++ more_message) is ∙ append_assoc one rest more_message ∙ ap (λ m. one ++ m) more.said;
       found = λ before.
-          ap (λ x. tally_from x ends)
+          ap (λ x. tally_from x (ends ++ more_ends))
           (ap (λ x. both (tally_of before) x) (sym (tally_one t)) ∙ tally_both before (t ∷ []))
           ∙ more.found (before ++ t ∷ []) ∙ ap tally_of (append_assoc before (t ∷ []) more.told);
     }
@@ -191,14 +242,19 @@ pub of_source : (is_whole : Bool) (language : Language) (comment : Option (Bor T
     → IsRunOfAny is_whole language comment telling before behind tally
 of_source is_whole language comment telling finder name bytes rest before behind tally
     (inl (source, all, read, inl (utf8, (s, f, by, t, (r, told, written, found))))) =
-    let are : AreLiterals is_whole language comment telling r.ends.items r.message.items =
-    literals is_whole language comment telling s told.descriptions r.ends.items r.message.items
-    (judged_found s told.are.found told.descriptions told.are.stand told.are.judged) told.told in
+    let on_remarks : AreLiterals is_whole language comment telling (ends_of told.remarks)
+    (messages_of telling.style s told.remarks) =
+    remarked is_whole language comment telling s told.found told.remarks [] told.remarks told.seen refl in
+    let are : AreLiterals is_whole language comment telling (told.ends ++ ends_of told.remarks)
+    (told.message ++ messages_of telling.style s told.remarks) =
+    literals is_whole language comment telling s told.descriptions told.ends (ends_of told.remarks) told.message
+    (messages_of telling.style s told.remarks)
+    (judged_found s told.found told.descriptions told.seen.stand told.judged) told.told on_remarks in
     record {
       told = are.told;
       each = are.each;
-      found = found ∙ are.found [];
-      written = subst (λ m. Appends before behind m) are.said written;
+      found = found ∙ ap tally_of_ends told.all_ends ∙ are.found [];
+      written = subst (λ m. Appends before behind m) (told.all_messages ∙ are.said) written;
     }
 of_source is_whole language comment telling finder name bytes rest before behind tally
     (inl (source, all, read, inr (none, (file, same, written, found)))) =
@@ -212,7 +268,7 @@ of_source is_whole language comment telling finder name bytes rest before behind
     record {
       told = t ∷ [];
       each = only t (IsToldOfAny is_whole language comment telling)
-          (inr (inr (record { no_text = none; unmarked = refl; end = refl; message = refl })));
+          (inr (inr (inl (record { no_text = none; unmarked = refl; end = refl; message = refl }))));
       found = found ∙ sym (tally_one t);
       written = subst (λ m. Appends before behind m) (sym (append-nil t.message)) written;
     }

@@ -16,7 +16,7 @@ use Rattle.timefd_drawing.specs.declared.draw.Style.{Style}
 use Rattle.timefd_drawing.specs.declared.position.Origin.{Origin}
 use Rattle.timefd_parse.specs.declared.language.Language.{Language}
 use Rattle.timefd_lint.specs.declared.line.TextEnd.{TextEnd}
-use Rattle.timefd_lint.specs.declared.line.TextEnd.TheVariants.{PassedOver, Accepted, Refused, NotText, Failed}
+use Rattle.timefd_lint.specs.declared.line.TextEnd.TheVariants.{PassedOver, Accepted, Refused, NotText, Failed, Unread}
 use Rattle.timefd_lint_sources.specs.declared.told.Telling.{Telling}
 use Rattle.timefd_lint.specs.declared.tally.Tally.{Tally}
 use Rattle.timefd_warnings.specs.declared.levels.Level.TheVariants.{Warned}
@@ -29,7 +29,7 @@ use Rattle.timefd_lint.specs.Lines.{IsEndOf, IsLineEnd}
 use Rattle.timefd_lint.specs.Failures.{note_of, unread}
 use Rattle.timefd_lint.specs.declared.failure.Failure.{Failure}
 use Rattle.timefd_lint.specs.Marks.{Notes, has_mark}
-use Rattle.timefd_lint.specs.Told.{Says, SaysUnread, SaysOf, IsUnreadIfFailed, AreMarked, Told, is_description, is_refused, is_not_text, is_failed, warnings_in, warnings_of, IsEndIn, IsTold, IsPlace, ArePlaced, place, one_if, count, tally_of_one, tally_of, text_in, both, messages, lines_in, lines_of, IsReadUp, IsRun, IsRunOver, IsRunOfAll, IsRunOn, IsNext}
+use Rattle.timefd_lint.specs.Told.{Says, SaysUnread, SaysOf, IsUnreadIfFailed, AreMarked, Told, is_description, is_refused, is_not_text, is_failed, is_unread, warnings_in, warnings_of, IsEndIn, IsTold, IsPlace, ArePlaced, place, one_if, count, tally_of_one, tally_of, text_in, both, messages, lines_in, lines_of, IsReadUp, IsRun, IsRunOver, IsRunOfAll, IsRunOn, IsNext}
 
 -- A note, and what is said behind it.
 pub notes_and_says : (is_marked : Bool) (language : Language) (telling : Telling) (origin : Origin)
@@ -98,6 +98,7 @@ never_failed language telling text (Accepted found) ended fails = false≢true f
 never_failed language telling text Refused ended fails = false≢true fails
 never_failed language telling text NotText ended fails = false≢true fails
 never_failed language telling text Failed ended fails = ended
+never_failed language telling text Unread ended fails = ended
 
 line_never_failed : (language : Language) (comment : Option (Bor Text)) (telling : Telling) (line : Text) (end : TextEnd)
     → IsLineEnd language comment telling line end → IsTrue (is_failed end) → ⊥
@@ -106,6 +107,7 @@ line_never_failed language comment telling line (Accepted found) ended fails = f
 line_never_failed language comment telling line Refused ended fails = false≢true fails
 line_never_failed language comment telling line NotText ended fails = false≢true fails
 line_never_failed language comment telling line Failed ended fails = ended
+line_never_failed language comment telling line Unread ended fails = ended
 
 -- One text is a run.
 or_false : (b : Bool) → (b || false) ≡ b
@@ -124,6 +126,7 @@ few_warnings (Accepted found) =
 few_warnings Refused = refl
 few_warnings NotText = refl
 few_warnings Failed = refl
+few_warnings Unread = refl
 
 pub tally_one : (t : Told) → tally_of (t ∷ []) ≡ tally_of_one t.end
 tally_one t =
@@ -131,6 +134,7 @@ tally_one t =
       one_alone (is_description t.end),
       one_alone (is_refused t.end),
       few_warnings t.end,
+      one_alone (is_unread t.end),
       or_false (is_not_text t.end),
       or_false (is_failed t.end),
     ) refl
@@ -182,9 +186,12 @@ tally_both xs ys =
       sum_both (count (λ (t : Told). is_refused t.end) xs)
           (count (λ (t : Told). is_refused t.end) ys),
       sum_both (warnings_of xs) (warnings_of ys),
+      sum_both (count (λ (t : Told). is_unread t.end) xs)
+          (count (λ (t : Told). is_unread t.end) ys),
       count_both (λ (t : Told). is_description t.end) xs ys,
       count_both (λ (t : Told). is_refused t.end) xs ys,
       warnings_both xs ys,
+      count_both (λ (t : Told). is_unread t.end) xs ys,
       list_any-append (λ (t : Told). is_not_text t.end) xs ys,
       list_any-append (λ (t : Told). is_failed t.end) xs ys,
     ) refl

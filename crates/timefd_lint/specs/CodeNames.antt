@@ -1,7 +1,7 @@
 -- The codes of errors and warnings.
 use Rattle.std.specs.Prelude.{List, ◌++◌, map}
 use Rattle.timefd_component.specs.Tree.{Text}
-use Rattle.timefd_diagnosis.specs.Codes as faults
+use Rattle.timefd_fault.specs.Codes as faults
 use Rattle.timefd_lint.specs.ErrorCodes.{name_of}
 use Rattle.timefd_lint.specs.Rules.{others}
 use Rattle.timefd_warnings.specs.Codes as warnings

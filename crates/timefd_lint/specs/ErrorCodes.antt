@@ -5,7 +5,7 @@ use Rattle.timefd_fault.specs.declared.code.Code.{Code}
 use Rattle.timefd_fault.specs.declared.code.Code.TheVariants as faults
 use Rattle.timefd_fault.specs.Codes as of_faults
 use Rattle.timefd_lint.specs.declared.error_code.ErrorCode.{ErrorCode}
-use Rattle.timefd_lint.specs.declared.error_code.ErrorCode.TheVariants.{Fault, NotText, Unreadable, Unwritable, ByteOrderMark}
+use Rattle.timefd_lint.specs.declared.error_code.ErrorCode.TheVariants.{Fault, NotText, Unreadable, Unwritable, ByteOrderMark, UnknownLanguage}
 
 abbrev pub name_of : ErrorCode → Text
 name_of (Fault code) = of_faults.name_of code
@@ -13,6 +13,7 @@ name_of NotText = codes "not-text"
 name_of Unreadable = codes "unreadable"
 name_of Unwritable = codes "unwritable"
 name_of ByteOrderMark = codes "byte-order-mark"
+name_of UnknownLanguage = codes "unknown-language"
 
 -- the code of a fault's name
 abbrev pub fault_named : Text → Option Code
@@ -49,6 +50,7 @@ named name =
     else if bytes_eq name (codes "unreadable") then Some Unreadable
     else if bytes_eq name (codes "unwritable") then Some Unwritable
     else if bytes_eq name (codes "byte-order-mark") then Some ByteOrderMark
+    else if bytes_eq name (codes "unknown-language") then Some UnknownLanguage
     else of_fault (fault_named name)
 
 -- Each name of an error is that of its code.

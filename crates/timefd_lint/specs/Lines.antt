@@ -10,7 +10,7 @@ use Rattle.timefd_rewrite.specs.Lines.{is_passed_over}
 use Rattle.timefd_lint_sources.specs.declared.told.Telling.{Telling}
 use Rattle.timefd_lint_warnings.specs.Found.{found_by}
 use Rattle.timefd_lint.specs.declared.line.TextEnd.{TextEnd}
-use Rattle.timefd_lint.specs.declared.line.TextEnd.TheVariants.{PassedOver, Accepted, Refused, NotText, Failed}
+use Rattle.timefd_lint.specs.declared.line.TextEnd.TheVariants.{PassedOver, Accepted, Refused, NotText, Failed, Unread}
 
 -- Accepted where it spells a list, with the warnings of that, refused where it has a fault, and else
 -- no UTF-8.
@@ -22,6 +22,7 @@ IsEndOf language telling text (Accepted found) = IsUtf8 text
 IsEndOf language telling text Refused = IsUtf8 text × ((f : Fault) × FaultIn language nesting_limit text f)
 IsEndOf language telling text NotText = ¬ IsUtf8 text
 IsEndOf language telling text Failed = ⊥
+IsEndOf language telling text Unread = ⊥
 
 -- The same of a line that isn't passed over.
 abbrev pub IsLineEnd : Language → Option (Bor Text) → Telling → Text → TextEnd → Type 0
@@ -33,3 +34,4 @@ IsLineEnd language comment telling line Refused = IsFalse (is_passed_over commen
 IsLineEnd language comment telling line NotText = IsFalse (is_passed_over comment line)
     × IsEndOf language telling line NotText
 IsLineEnd language comment telling line Failed = ⊥
+IsLineEnd language comment telling line Unread = ⊥

@@ -6,7 +6,7 @@ use Rattle.timefd_fault.specs.Codes as faults
 use Rattle.timefd_drawing.specs.Json.{quoted}
 use Rattle.timefd_editor.specs.Each.{AreOf}
 use Rattle.timefd_lint.specs.declared.error_code.ErrorCode.{ErrorCode}
-use Rattle.timefd_lint.specs.declared.error_code.ErrorCode.TheVariants.{Fault, NotText, Unreadable, Unwritable, ByteOrderMark}
+use Rattle.timefd_lint.specs.declared.error_code.ErrorCode.TheVariants.{Fault, NotText, Unreadable, Unwritable, ByteOrderMark, UnknownLanguage}
 use Rattle.timefd_lint.specs.ErrorCodes.{name_of}
 use Rattle.timefd_warnings.specs.declared.warning.Warning.{Warning}
 use Rattle.timefd_warnings.specs.Codes as warnings
@@ -40,7 +40,7 @@ IsWarningRule w text =
 
 -- the errors that are no fault of a description
 abbrev pub others : List ErrorCode
-others = NotText ∷ Unreadable ∷ Unwritable ∷ ByteOrderMark ∷ []
+others = NotText ∷ Unreadable ∷ Unwritable ∷ ByteOrderMark ∷ UnknownLanguage ∷ []
 
 -- All rules: those of faults, of other errors, and of warnings.
 pub record AreRules (text : Text) : Type 0 where

@@ -1,5 +1,5 @@
 -- What a run says of a source of Rust, or of a file with keys.
-use Rattle.std.specs.Prelude.{◌≡◌, ◌⊎◌, Bool, true, false, not, ◌&&◌, ◌||◌, ◌==◌, if◌then◌else◌, is_some, length, None, Some, List, [], ◌∷◌, codes, nat_eq, Option, All, IfSome, IsFalse, IsUtf8}
+use Rattle.std.specs.Prelude.{◌≡◌, ◌⊎◌, Bool, true, false, not, ◌&&◌, ◌||◌, ◌==◌, if◌then◌else◌, is_some, length, None, Some, List, [], ◌∷◌, ◌++◌, codes, nat_eq, Option, All, IfSome, IsFalse, IsUtf8}
 use Rattle.std.specs.List.{ends_with}
 use Rattle.std.specs.Io.KnownBytes.{Appends}
 use denote.Ref.{Bor}
@@ -8,7 +8,9 @@ use Rattle.timefd_parse.specs.declared.language.Language.{Language}
 use Rattle.timefd_sources.specs.declared.description.Description.{Description}
 use Rattle.timefd_keys.specs.declared.format.Format.{Format}
 use Rattle.timefd_keys.specs.Formats.{format_named}
+use Rattle.timefd_lint_sources.specs.declared.remark.Remark.{Remark}
 use Rattle.timefd_lint_sources.specs.declared.source.Report.{Report}
+use Rattle.timefd_lint_sources.specs.Remarks.{end_of, message_of}
 use Rattle.timefd_lint_sources.specs.declared.told.End.{End}
 use Rattle.timefd_lint_sources.specs.declared.told.End.TheVariants as sources
 use Rattle.timefd_lint_sources.specs.declared.told.Finder.{Finder}
@@ -16,10 +18,10 @@ use Rattle.timefd_lint_sources.specs.declared.told.Finder.TheVariants.{Rust, Key
 use Rattle.timefd_lint_sources.specs.declared.told.Source.{Source}
 use Rattle.timefd_lint_sources.specs.declared.told.Telling.{Telling}
 use Rattle.timefd_lint_sources.specs.Judged.{text_of}
-use Rattle.timefd_lint_sources.specs.Told.{IsJudgedFound, IsSourceTold, no_text_note, origin_of}
+use Rattle.timefd_lint_sources.specs.Told.{AreSeen, IsJudgedFound, IsSourceTold, no_text_note, origin_of}
 use Rattle.timefd_lint_sources.specs.Told as literal
 use Rattle.timefd_lint.specs.declared.line.TextEnd.{TextEnd}
-use Rattle.timefd_lint.specs.declared.line.TextEnd.TheVariants.{PassedOver, Accepted, Refused, NotText, Failed}
+use Rattle.timefd_lint.specs.declared.line.TextEnd.TheVariants.{PassedOver, Accepted, Refused, NotText, Failed, Unread}
 use Rattle.timefd_lint.specs.declared.options.Options.{Options}
 use Rattle.timefd_lint.specs.declared.tally.Tally.{Tally}
 use Rattle.timefd_lint.specs.Told.{IsReadUp, IsRun, IsTold, SaysUnread, Told, both, messages, place, tally_of, tally_of_one}
@@ -55,6 +57,7 @@ text_end sources.PassedOver = PassedOver
 text_end (sources.Accepted found) = Accepted found
 text_end sources.Refused = Refused
 text_end sources.NotText = NotText
+text_end sources.Unread = Unread
 
 -- what is found in these besides what was found before
 abbrev pub tally_from : Tally → List End → Tally
@@ -113,10 +116,26 @@ pub record IsOfNoText (telling : Telling) (t : Told) : Type 0 where
   pub end : t.end ≡ NotText
   pub message : t.message ≡ no_text_note telling.style t.origin
 
--- What is told is told of a text, of a literal of a source, or of a source that is no UTF-8.
+-- It is told of what a source has besides its descriptions: of a call, or of a comment.
+pub record IsOfRemark (telling : Telling) (t : Told) : Type 0 where
+  pub source : Source
+  pub found : List Description
+  pub remarks : List Remark
+  pub seen : AreSeen source found remarks
+  pub front : List Remark
+  pub remark : Remark
+  pub rest : List Remark
+  pub is : remarks ≡ front ++ remark ∷ rest
+  pub unmarked : IsFalse t.is_marked
+  pub end : t.end ≡ text_end (end_of remark)
+  pub message : t.message ≡ message_of telling.style source remark
+
+-- What is told is told of a text, of a literal of a source, of a source that is no UTF-8, or of what a source has
+-- besides.
 abbrev pub IsToldOfAny : Bool → Language → Option (Bor Text) → Telling → Told → Type 0
 IsToldOfAny is_whole language comment telling t =
-    IsTold is_whole language comment telling t ⊎ (IsOfLiteral telling t ⊎ IsOfNoText telling t)
+    IsTold is_whole language comment telling t
+    ⊎ (IsOfLiteral telling t ⊎ (IsOfNoText telling t ⊎ IsOfRemark telling t))
 
 -- The same as `IsRun` of a run that also reads sources.
 pub record IsRunOfAny (is_whole : Bool) (language : Language) (comment : Option (Bor Text))

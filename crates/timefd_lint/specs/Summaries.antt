@@ -17,6 +17,9 @@ files n = noun n (codes "file") (codes "files")
 abbrev pub warnings : ℕ → Text
 warnings n = noun n (codes "warning") (codes "warnings")
 
+abbrev pub calls : ℕ → Text
+calls n = noun n (codes "call") (codes "calls")
+
 -- as `8 descriptions, 6 refused`
 abbrev pub refusals : Tally → Text
 refusals tally =
@@ -39,6 +42,16 @@ with_warnings tally file_count =
     ++ (codes ", " ++ (decimal file_count ++ (codes " " ++ files file_count)))))))
 
 -- with the warnings, where they are told
+abbrev pub counted : Bool → Tally → ℕ → Text
+counted true tally file_count = with_warnings tally file_count
+counted false tally file_count = without_warnings tally file_count
+
+-- as `.., 2 files; 3 calls with a name in place of a text`, where there are such calls
+abbrev pub with_unread : Text → ℕ → Text
+with_unread line unread =
+    if nat_eq unread 0 then line
+    else line ++ (codes "; " ++ (decimal unread ++ (codes " " ++ (calls unread
+    ++ codes " with a name in place of a text"))))
+
 abbrev pub summary : Bool → Tally → ℕ → Text
-summary true tally file_count = with_warnings tally file_count
-summary false tally file_count = without_warnings tally file_count
+summary warns tally file_count = with_unread (counted warns tally file_count) tally.unread

@@ -10,7 +10,7 @@ use Rattle.timefd_diagnosis.specs.declared.diagnostic.Diagnostic.{Diagnostic}
 use Rattle.timefd_diagnosis.specs.Further.{AreDiagnosed}
 use Rattle.timefd_lint.specs.declared.failure.Failure.{Failure}
 use Rattle.timefd_lint.specs.declared.line.TextEnd.{TextEnd}
-use Rattle.timefd_lint.specs.declared.line.TextEnd.TheVariants.{PassedOver, Accepted, Refused, NotText, Failed}
+use Rattle.timefd_lint.specs.declared.line.TextEnd.TheVariants.{PassedOver, Accepted, Refused, NotText, Failed, Unread}
 use Rattle.timefd_lint.specs.declared.tally.Tally.{Tally}
 use Rattle.timefd_drawing.specs.declared.draw.Style.{Style}
 use Rattle.timefd_drawing.specs.declared.position.Origin.{Origin}
@@ -65,6 +65,7 @@ IsMessageOn language telling origin text NotText message =
     message ≡ no_text_note telling.style origin
 IsMessageOn language telling origin text Failed message =
     IsFailureNote telling.style origin.file message
+IsMessageOn language telling origin text Unread message = ⊥
 
 -- The message on a text, and no other bytes, goes from what is written before to what is written
 -- behind.
@@ -110,6 +111,7 @@ is_description (Accepted found) = true
 is_description Refused = true
 is_description NotText = true
 is_description Failed = false
+is_description Unread = false
 
 -- whether one of the warnings is denied
 abbrev pub is_denied : Levels → Bool
@@ -121,6 +123,7 @@ is_refused (Accepted found) = is_denied found
 is_refused Refused = true
 is_refused NotText = false
 is_refused Failed = false
+is_refused Unread = false
 
 abbrev pub is_not_text : TextEnd → Bool
 is_not_text PassedOver = false
@@ -128,6 +131,7 @@ is_not_text (Accepted found) = false
 is_not_text Refused = false
 is_not_text NotText = true
 is_not_text Failed = false
+is_not_text Unread = false
 
 abbrev pub is_failed : TextEnd → Bool
 is_failed PassedOver = false
@@ -135,6 +139,16 @@ is_failed (Accepted found) = false
 is_failed Refused = false
 is_failed NotText = false
 is_failed Failed = true
+is_failed Unread = false
+
+-- a name in place of a text, for which none is found
+abbrev pub is_unread : TextEnd → Bool
+is_unread PassedOver = false
+is_unread (Accepted found) = false
+is_unread Refused = false
+is_unread NotText = false
+is_unread Failed = false
+is_unread Unread = true
 
 -- how many warnings are told, but those that are denied
 abbrev pub warnings_in : TextEnd → ℕ
@@ -143,6 +157,7 @@ warnings_in (Accepted found) = warning_count Warned found
 warnings_in Refused = 0
 warnings_in NotText = 0
 warnings_in Failed = 0
+warnings_in Unread = 0
 
 -- the text in these bytes: all of a whole file, and of a line what stands before its newline
 abbrev pub text_in : Bool → Text → Text
@@ -186,6 +201,7 @@ tally_of_one end = record {
   descriptions = one_if (is_description end);
   refused = one_if (is_refused end);
   warnings = warnings_in end;
+  unread = one_if (is_unread end);
   not_text = is_not_text end;
   failed = is_failed end;
   is_left = false;
@@ -197,6 +213,7 @@ tally_of told = record {
   descriptions = u64_saturate (count (λ t. is_description t.end) told);
   refused = u64_saturate (count (λ t. is_refused t.end) told);
   warnings = u64_saturate (warnings_of told);
+  unread = u64_saturate (count (λ t. is_unread t.end) told);
   not_text = list_any (λ t. is_not_text t.end) told;
   failed = list_any (λ t. is_failed t.end) told;
   is_left = false;
@@ -209,6 +226,7 @@ both a b =
       descriptions = u64_saturate (a.descriptions + b.descriptions);
       refused = u64_saturate (a.refused + b.refused);
       warnings = u64_saturate (a.warnings + b.warnings);
+      unread = u64_saturate (a.unread + b.unread);
       not_text = a.not_text || b.not_text;
       failed = a.failed || b.failed;
       is_left = a.is_left || b.is_left;

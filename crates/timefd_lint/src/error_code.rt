@@ -19,6 +19,8 @@ pub enum ErrorCode {
     Unwritable,
     /// A file begins with a byte-order mark.
     ByteOrderMark,
+    /// A comment is to name a language, and names none.
+    UnknownLanguage,
 }
 
 impl ErrorCode {
@@ -32,6 +34,7 @@ impl ErrorCode {
             ErrorCode::Unreadable => "unreadable",
             ErrorCode::Unwritable => "unwritable",
             ErrorCode::ByteOrderMark => "byte-order-mark",
+            ErrorCode::UnknownLanguage => "unknown-language",
         }
     }
 
@@ -44,6 +47,7 @@ impl ErrorCode {
             ErrorCode::Unreadable,
             ErrorCode::Unwritable,
             ErrorCode::ByteOrderMark,
+            ErrorCode::UnknownLanguage,
         ]
     }
 
@@ -56,6 +60,7 @@ impl ErrorCode {
             "unreadable" => Some(ErrorCode::Unreadable),
             "unwritable" => Some(ErrorCode::Unwritable),
             "byte-order-mark" => Some(ErrorCode::ByteOrderMark),
+            "unknown-language" => Some(ErrorCode::UnknownLanguage),
             _ => match fault_named(name) {
                 Some(code) => Some(ErrorCode::Fault(code)),
                 None => None,

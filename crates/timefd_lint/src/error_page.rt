@@ -11,6 +11,7 @@ pub fn summary(code: ErrorCode) -> &'static str {
         ErrorCode::Unreadable => "a file that can't be read",
         ErrorCode::Unwritable => "a file that can't be replaced",
         ErrorCode::ByteOrderMark => "a byte-order mark in front of the first line",
+        ErrorCode::UnknownLanguage => "a comment that names no language",
     }
 }
 
@@ -51,6 +52,9 @@ pub fn explanation(code: ErrorCode) -> &'static str {
         }
         ErrorCode::ByteOrderMark => {
             "Save the file without it. It is a literal of the first description, and hides a comment mark."
+        }
+        ErrorCode::UnknownLanguage => {
+            "`// timefd: strftme` names no language, and checks nothing. Write one of 1, 2, 3, strftime, chrono and jiff."
         }
     }
 }

@@ -50,6 +50,8 @@ pub enum TextEnd {
     NotText,
     /// None could be had, as a file can't be read or not be written back, and a note is written.
     Failed,
+    /// None stands in a call, but a name for which no text is found.
+    Unread,
 }
 
 /// Looks at a line, without its newline, and writes what is wrong with it. An `Err` says why that

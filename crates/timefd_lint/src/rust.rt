@@ -164,5 +164,6 @@ fn text_end(end: End) -> TextEnd
         End::Accepted(found) => TextEnd::Accepted(found),
         End::Refused => TextEnd::Refused,
         End::NotText => TextEnd::NotText,
+        End::Unread => TextEnd::Unread,
     }
 }

@@ -7,7 +7,8 @@ use crate::tally::Tally;
 use std::alloc::{AllocError, Global};
 
 /// How many descriptions were looked at, how many of them were refused, how many warnings were told
-/// if they are, and how many files there were, as `8 descriptions, 6 refused, 1 warning, 2 files`.
+/// if they are, how many files there were, and how many calls weren't looked at, as
+/// `8 descriptions, 6 refused, 1 warning, 2 files; 3 calls with a name in place of a text`.
 pub fn summary(
     alloc: Global,
     warns: bool,
@@ -16,10 +17,30 @@ pub fn summary(
 ) -> Result<String, AllocError>
     ensures { IfOk result (λ line. string_bytes line ≡ spec.summary warns tally file_count) }
 {
-    if warns {
-        with_warnings(alloc, tally, file_count)
+    let counted = if warns {
+        with_warnings(alloc, tally, file_count)?
     } else {
-        without_warnings(alloc, tally, file_count)
+        without_warnings(alloc, tally, file_count)?
+    };
+    with_unread(alloc, counted, tally.unread)
+}
+
+fn with_unread(alloc: Global, counted: String, unread: u64) -> Result<String, AllocError>
+    ensures { IfOk result (λ line. string_bytes line ≡ spec.with_unread (string_bytes counted) unread) }
+{
+    if unread == 0 {
+        return Ok(counted);
+    }
+    let noun = call_noun(unread);
+    format!(in alloc; "{counted}; {unread} {noun} with a name in place of a text")
+}
+
+fn call_noun(count: u64) -> &'static str
+    ensures { result.now ≡ spec.calls count }
+{
+    match count {
+        1 => "call",
+        _ => "calls",
     }
 }
 

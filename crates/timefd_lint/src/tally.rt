@@ -15,6 +15,8 @@ pub struct Tally {
     pub refused: u64,
     /// How many other warnings were told.
     pub warnings: u64,
+    /// How many calls have a name in place of a text, and none is found for it.
+    pub unread: u64,
     /// A line was no UTF-8.
     pub not_text: bool,
     /// A file was not read to its end, or not written back.
@@ -32,6 +34,7 @@ impl Tally {
             descriptions: 0,
             refused: 0,
             warnings: 0,
+            unread: 0,
             not_text: false,
             failed: false,
             is_left: false,
@@ -46,6 +49,7 @@ impl Tally {
             descriptions: u64::from(is_description(end)),
             refused: u64::from(is_refused(end)),
             warnings: warnings_in(end),
+            unread: u64::from(is_unread(end)),
             not_text: matches!(end, TextEnd::NotText),
             failed: matches!(end, TextEnd::Failed),
             is_left: false,
@@ -60,6 +64,7 @@ impl Tally {
             descriptions: self.descriptions.saturating_add(other.descriptions),
             refused: self.refused.saturating_add(other.refused),
             warnings: self.warnings.saturating_add(other.warnings),
+            unread: self.unread.saturating_add(other.unread),
             not_text: self.not_text || other.not_text,
             failed: self.failed || other.failed,
             is_left: self.is_left || other.is_left,
@@ -90,7 +95,21 @@ fn is_description(end: TextEnd) -> bool
 {
     match end {
         TextEnd::Accepted(_) | TextEnd::Refused | TextEnd::NotText => true,
-        TextEnd::PassedOver | TextEnd::Failed => false,
+        TextEnd::PassedOver | TextEnd::Failed | TextEnd::Unread => false,
+    }
+}
+
+// Whether it is a name in place of a text, for which none is found.
+fn is_unread(end: TextEnd) -> bool
+    ensures { result ≡ spec.is_unread end }
+{
+    match end {
+        TextEnd::Unread => true,
+        TextEnd::PassedOver
+        | TextEnd::Accepted(_)
+        | TextEnd::Refused
+        | TextEnd::NotText
+        | TextEnd::Failed => false,
     }
 }
 
@@ -101,7 +120,7 @@ fn is_refused(end: TextEnd) -> bool
     match end {
         TextEnd::Accepted(found) => found.count(Level::Denied) > 0,
         TextEnd::Refused => true,
-        TextEnd::PassedOver | TextEnd::NotText | TextEnd::Failed => false,
+        TextEnd::PassedOver | TextEnd::NotText | TextEnd::Failed | TextEnd::Unread => false,
     }
 }
 
@@ -111,6 +130,10 @@ fn warnings_in(end: TextEnd) -> u64
 {
     match end {
         TextEnd::Accepted(found) => found.count(Level::Warned),
-        TextEnd::PassedOver | TextEnd::Refused | TextEnd::NotText | TextEnd::Failed => 0,
+        TextEnd::PassedOver
+        | TextEnd::Refused
+        | TextEnd::NotText
+        | TextEnd::Failed
+        | TextEnd::Unread => 0,
     }
 }

@@ -4,4 +4,5 @@ mod JudgedLemmas
 mod ToldLemmas
 mod ReportLemmas
 pub mod FinderLemmas
+mod SeenLemmas
 pub mod PlacedLemmas

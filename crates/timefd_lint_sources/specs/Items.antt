@@ -20,7 +20,7 @@ use Rattle.timefd_parse.specs.declared.language.Language.TheVariants as language
 use Rattle.timefd_parse.specs.Language.{FaultIn}
 use Rattle.timefd_sources.specs.declared.description.Description.{Description}
 use Rattle.timefd_sources.specs.declared.dialect.Dialect.{Dialect}
-use Rattle.timefd_sources.specs.declared.dialect.Dialect.TheVariants.{One, Two, Three, Strftime, Chrono}
+use Rattle.timefd_sources.specs.declared.dialect.Dialect.TheVariants.{One, Two, Three, Strftime, Chrono, Jiff}
 use Rattle.timefd_sources.specs.declared.told.Items.{Items}
 use Rattle.timefd_sources.specs.declared.told.Items.TheVariants.{Taken, Refused}
 
@@ -112,6 +112,7 @@ version_of Two = Some versions.Two
 version_of Three = None
 version_of Strftime = None
 version_of Chrono = None
+version_of Jiff = None
 
 abbrev pub taking : Items → Dialect → Option DescriptionVersion
 taking Taken dialect = version_of dialect
@@ -135,6 +136,7 @@ pub record IsJudgedAs (d judged : Description) : Type 0 where
   pub dialect : judged.dialect ≡ d.dialect
   pub items : judged.items ≡ d.items
   pub version : judged.version ≡ d.version
+  pub call : judged.call ≡ d.call
   pub places : judged.unescaped.places.items ≡ d.unescaped.places.items
   pub text : IsJudgedText (taking d.items d.dialect) d.unescaped.text.items judged.unescaped.text.items
 

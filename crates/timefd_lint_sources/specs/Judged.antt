@@ -12,15 +12,15 @@ use Rattle.timefd_parse.specs.declared.language.Language.TheVariants as language
 use Rattle.timefd_parse.specs.Language.{SpellsIn, FaultIn}
 use Rattle.timefd_sources.specs.declared.description.Description.{Description}
 use Rattle.timefd_sources.specs.declared.dialect.Dialect.{Dialect}
-use Rattle.timefd_sources.specs.declared.dialect.Dialect.TheVariants.{One, Two, Three, Strftime, Chrono}
+use Rattle.timefd_sources.specs.declared.dialect.Dialect.TheVariants.{One, Two, Three, Strftime, Chrono, Jiff}
 use Rattle.timefd_sources.specs.declared.told.Items.{Items}
 use Rattle.timefd_sources.specs.declared.told.Items.TheVariants.{Taken, Refused as RefusedItems}
-use Rattle.timefd_sources.specs.Chrono.{is_of_chrono}
+use Rattle.timefd_sources.specs.Chrono.{is_of_chrono, is_of_jiff}
 use Rattle.timefd_warnings.specs.declared.levels.Levels.{Levels}
 use Rattle.timefd_lint_warnings.specs.Found.{found_by}
 use Rattle.timefd_lint_sources.specs.declared.told.End.{End}
 use Rattle.timefd_lint_sources.specs.Items.{is_of_item}
-use Rattle.timefd_lint_sources.specs.declared.told.End.TheVariants.{PassedOver, Accepted, Refused, NotText}
+use Rattle.timefd_lint_sources.specs.declared.told.End.TheVariants.{PassedOver, Accepted, Refused, NotText, Unread}
 
 abbrev pub language_of : Dialect → Language
 language_of One = languages.Version versions.One
@@ -28,14 +28,16 @@ language_of Two = languages.Version versions.Two
 language_of Three = languages.Version versions.Three
 language_of Strftime = languages.Strftime
 language_of Chrono = languages.Strftime
+language_of Jiff = languages.Strftime
 
--- whether a text has directives that chrono alone knows
+-- whether a text has directives that chrono or jiff alone knows
 abbrev pub is_passed_over : Dialect → Text → Bool
 is_passed_over One text = false
 is_passed_over Two text = false
 is_passed_over Three text = false
 is_passed_over Strftime text = false
 is_passed_over Chrono text = is_of_chrono text
+is_passed_over Jiff text = is_of_jiff text
 
 -- what the literal of a description stands for
 abbrev pub text_of : Description → Text
@@ -68,6 +70,7 @@ IsJudged levels language text (Accepted found) = IsUtf8 text
 IsJudged levels language text Refused = IsUtf8 text
     × ((f : Fault) × FaultIn language nesting_limit text f)
 IsJudged levels language text NotText = ¬ IsUtf8 text
+IsJudged levels language text Unread = ⊥
 
 -- The same of a description that isn't passed over.
 abbrev pub IsEndOf : Option Levels → Description → End → Type 0
@@ -78,3 +81,4 @@ IsEndOf levels d Refused = IsFalse (is_passed_over d.dialect (text_of d))
     × IsJudged levels (language_in d) (text_of d) Refused
 IsEndOf levels d NotText = IsFalse (is_passed_over d.dialect (text_of d))
     × IsJudged levels (language_in d) (text_of d) NotText
+IsEndOf levels d Unread = ⊥

@@ -1,3 +1,5 @@
 pub mod Items
 pub mod Judged
+pub mod Calls
+pub mod Remarks
 pub mod Told

@@ -13,15 +13,18 @@ use Rattle.timefd_keys.specs.Found as keys
 use Rattle.timefd_sources.specs.Found.{AreDescriptionsOf, AreInOrder, StandsIn, place_of}
 use Rattle.timefd_warnings.specs.declared.levels.Levels.{Levels}
 use Rattle.timefd_lint_warnings.specs.Messages.{messages_at}
+use Rattle.timefd_lint_sources.specs.declared.remark.Remark.{Remark}
 use Rattle.timefd_lint_sources.specs.declared.source.Report.{Report}
 use Rattle.timefd_lint_sources.specs.declared.told.End.{End}
-use Rattle.timefd_lint_sources.specs.declared.told.End.TheVariants.{PassedOver, Accepted, Refused, NotText}
+use Rattle.timefd_lint_sources.specs.declared.told.End.TheVariants.{PassedOver, Accepted, Refused, NotText, Unread}
 use Rattle.timefd_lint_sources.specs.declared.told.Finder.{Finder}
 use Rattle.timefd_lint_sources.specs.declared.told.Finder.TheVariants.{Rust, Keys}
 use Rattle.timefd_lint_sources.specs.declared.told.Source.{Source}
 use Rattle.timefd_lint_sources.specs.declared.told.Telling.{Telling}
+use Rattle.timefd_lint_sources.specs.Calls.{call_note}
 use Rattle.timefd_lint_sources.specs.Items.{AreJudgedAs, IsJudgedAs}
 use Rattle.timefd_lint_sources.specs.Judged.{AreDiagnosedOf, IsEndOf, language_in, text_of}
+use Rattle.timefd_lint_sources.specs.Remarks.{AreRemarks, ends_of, messages_of}
 
 -- Where a source begins, and the line in which the literal of a description does.
 abbrev pub whole_origin : Source → Origin
@@ -56,10 +59,10 @@ IsTreeAndWarnings telling s d found message = (tree : Text) × IsTreeOf telling 
     × (message ≡ tree ++ messages_at telling.style (origin_of s d) (column_of telling.style s d) found)
 
 -- What is told of a refused one is the drawing of what is wrong with it, and those of what further,
--- each at its place in the source.
+-- each at its place in the source, and a note at a call that takes it by its name.
 abbrev pub drawing_of : Style → Source → Description → Diagnostic → List Diagnostic → Text
 drawing_of style s d g further =
-    drawn_all style (whole_origin s) s.text.now (placed_in d g) (map (placed_in d) further)
+    drawn_all style (whole_origin s) s.text.now (placed_in d g) (map (placed_in d) further) ++ call_note style s d
 
 abbrev pub IsDrawing : Style → Source → Description → Text → Type 0
 IsDrawing style s d message = (g : Diagnostic) × (further : List Diagnostic)
@@ -77,6 +80,7 @@ IsMessageOn telling s d PassedOver message = message ≡ []
 IsMessageOn telling s d (Accepted found) message = IsTreeAndWarnings telling s d found message
 IsMessageOn telling s d Refused message = IsDrawing telling.style s d message
 IsMessageOn telling s d NotText message = message ≡ note_of telling.style s d
+IsMessageOn telling s d Unread message = ⊥
 
 pub record IsTold (telling : Telling) (s : Source) (d : Description) (came : End) (said : Text)
     : Type 0 where
@@ -127,7 +131,22 @@ pub record AreJudgedIn (s : Source) (ds : List Description) : Type 0 where
   pub in_order : AreInOrder 0 found
   pub judged : AreJudgedAs found ds
 
+-- These are the descriptions that are found in a source, one behind another, and the remarks on what else is seen.
+pub record AreSeen (s : Source) (ds : List Description) (remarks : List Remark) : Type 0 where
+  pub all : AreAllOf s ds
+  pub stand : AllFound s ds
+  pub in_order : AreInOrder 0 ds
+  pub remarked : AreRemarks s ds remarks
+
+-- Of each description is told as it is judged, and behind them all of each remark.
 pub record IsSourceTold (telling : Telling) (s : Source) (r : Report) : Type 0 where
+  pub found : List Description
+  pub remarks : List Remark
+  pub seen : AreSeen s found remarks
   pub descriptions : List Description
-  pub are : AreJudgedIn s descriptions
-  pub told : AreTold telling s descriptions r.ends.items r.message.items
+  pub judged : AreJudgedAs found descriptions
+  pub ends : List End
+  pub message : Text
+  pub told : AreTold telling s descriptions ends message
+  pub all_ends : r.ends.items ≡ ends ++ ends_of remarks
+  pub all_messages : r.message.items ≡ message ++ messages_of telling.style s remarks

@@ -43,6 +43,7 @@ fn judged_as(alloc: Global, description: Description) -> Result<Description, All
         dialect: description.dialect,
         items: description.items,
         version: description.version,
+        call: description.call,
         unescaped: Unescaped {
             text,
             places: description.unescaped.places,
@@ -112,6 +113,6 @@ fn version_of(dialect: Dialect) -> Option<DescriptionVersion>
     match dialect {
         Dialect::One => Some(DescriptionVersion::One),
         Dialect::Two => Some(DescriptionVersion::Two),
-        Dialect::Three | Dialect::Strftime | Dialect::Chrono => None,
+        Dialect::Three | Dialect::Strftime | Dialect::Chrono | Dialect::Jiff => None,
     }
 }

@@ -2,21 +2,23 @@
 
 ghost use Rattle.std.specs.Prelude.{IfOk, OnOk};
 ghost use Rattle.timefd_drawing.specs.Counted.{IsCounted};
-ghost use Rattle.timefd_lint_sources.specs.Told.{AddsTold, AllFound, AreAllOf, AreJudgedIn, AreTold, IsSourceTold};
+ghost use Rattle.timefd_lint_sources.specs.Remarks.{AreSeenIn};
+ghost use Rattle.timefd_lint_sources.specs.Told.{AddsTold, AreSeen, AllFound, AreAllOf, AreJudgedIn, AreTold, IsSourceTold};
 ghost use Rattle.timefd_sources.specs.Found.{AreInOrder};
 
 use crate::judged::judged_all;
 use crate::position::FIRST_LINE;
+use crate::remark::{Remark, push_remarks, remarks_on};
 use crate::told::{End, Finder, Source, Telling, Told, tell};
 use std::alloc::{AllocError, Global};
 use timefd_drawing::{Counter, counted, none_counted};
 use timefd_keys::descriptions_by;
-use timefd_sources::{Description, descriptions_of};
+use timefd_sources::{Description, Look, descriptions_of, looked_at};
 
 /// What is told of the descriptions of a source.
 #[derive(Drop)]
 pub struct Report {
-    /// What came of each, in turn.
+    /// What came of each, in turn, and behind them what came of what is told besides.
     pub ends: Vec<End>,
     /// The messages on each, in turn.
     pub message: Vec<u8>,
@@ -31,8 +33,59 @@ pub fn lint_source(
 ) -> Result<Report, AllocError>
     ensures { IfOk result (IsSourceTold telling source.entry) }
 {
-    let descriptions = judged_in(alloc, source)?;
-    tell_all(alloc, telling, source, &descriptions)
+    let Seen {
+        descriptions,
+        remarks,
+    } = seen_in(alloc, source)?;
+    let descriptions = judged_all(alloc, descriptions)?;
+    let Report {
+        mut ends,
+        mut message,
+    } = tell_all(alloc, telling, source, &descriptions)?;
+    push_remarks(
+        alloc,
+        telling.style,
+        source,
+        &remarks,
+        &mut ends,
+        &mut message,
+    )?;
+    Ok(Report { ends, message })
+}
+
+/// What is seen in a source.
+#[derive(Drop)]
+struct Seen {
+    descriptions: Vec<Description>,
+    remarks: Vec<Remark>,
+}
+
+// What is seen in a source.
+fn seen_in(alloc: Global, source: Source<'_>) -> Result<Seen, AllocError>
+    ensures { IfOk result (λ seen. AreSeen source.entry seen.descriptions.items seen.remarks.items) }
+{
+    match source.finder {
+        Finder::Rust => seen_in_rust(alloc, source.text),
+        Finder::Keys(format, keys) => Ok(Seen {
+            descriptions: descriptions_by(alloc, format, source.text, keys)?,
+            remarks: Vec::new(alloc),
+        }),
+    }
+}
+
+fn seen_in_rust(alloc: Global, source: &str) -> Result<Seen, AllocError>
+    ensures { IfOk result (λ seen. AreSeenIn source.now seen.descriptions.items seen.remarks.items) }
+{
+    let Look {
+        descriptions,
+        calls,
+        comments,
+    } = looked_at(alloc, source)?;
+    let remarks = remarks_on(alloc, &calls, &comments)?;
+    Ok(Seen {
+        descriptions,
+        remarks,
+    })
 }
 
 /// The descriptions in a source, one after another, each with the text by which it is judged. An `Err` says

@@ -9,6 +9,7 @@ ghost use Rattle.timefd_lint_sources.specs.Told.{IsTold, drawing_of, note_of};
 ghost use Rattle.timefd_lint_sources.specs.Told as spec;
 
 use crate::accepted::accepted;
+use crate::at_call::call_note;
 use crate::further::further_of;
 use crate::language::{is_passed_over, language_of};
 use crate::position::FIRST_LINE;
@@ -62,6 +63,8 @@ pub enum End {
     Refused,
     /// It is no UTF-8.
     NotText,
+    /// A call has a name in the place of one, and no text is found for that.
+    Unread,
 }
 
 /// What is told of a description.
@@ -159,7 +162,8 @@ fn judged(
     }
 }
 
-// The drawings of what is wrong with a description, at its place in the source.
+// The drawings of what is wrong with a description, at its place in the source, and a note at a call that takes it by
+// its name.
 fn refused(
     alloc: Global,
     style: Style,
@@ -180,7 +184,9 @@ fn refused(
     };
     let first = placed_in(description, diagnostic);
     let others = all_placed_in(alloc, description, further)?;
-    let message = drawn_all_from(alloc, style, origin, source.text, from, &first, &others)?;
+    let mut message = drawn_all_from(alloc, style, origin, source.text, from, &first, &others)?;
+    let note = call_note(alloc, style, source, description)?;
+    message.extend_from_slice(&note)?;
     Ok(Told {
         end: End::Refused,
         message,

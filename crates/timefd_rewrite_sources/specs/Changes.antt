@@ -9,7 +9,7 @@ use Rattle.timefd_parse.specs.declared.language.Language.TheVariants as language
 use Rattle.timefd_rewrite.specs.declared.layout.Layout.{Layout}
 use Rattle.timefd_rewrite.specs.declared.layout.Layout.TheVariants as layouts
 use Rattle.timefd_sources.specs.declared.dialect.Dialect.{Dialect}
-use Rattle.timefd_sources.specs.declared.dialect.Dialect.TheVariants.{One, Two, Three, Strftime, Chrono}
+use Rattle.timefd_sources.specs.declared.dialect.Dialect.TheVariants.{One, Two, Three, Strftime, Chrono, Jiff}
 use Rattle.timefd_sources.specs.Versions.{digit_of}
 use Rattle.timefd_lint_sources.specs.Judged.{is_passed_over, language_of}
 use Rattle.timefd_rewrite_sources.specs.declared.change.Change.{Change}
@@ -22,6 +22,7 @@ conversion_to Two version = conversion_between (language_of Two) (languages.Vers
 conversion_to Three version = conversion_between (language_of Three) (languages.Version version)
 conversion_to Strftime version = None
 conversion_to Chrono version = None
+conversion_to Jiff version = None
 
 -- What chrono alone knows isn't mended.
 abbrev pub layout_of : Change → Dialect → Text → Option Layout

@@ -58,7 +58,7 @@ fn conversion_to(dialect: Dialect, version: DescriptionVersion) -> Option<Conver
         Dialect::One | Dialect::Two | Dialect::Three => {
             conversion_between(language_of(dialect), Language::Version(version))
         }
-        Dialect::Strftime | Dialect::Chrono => None,
+        Dialect::Strftime | Dialect::Chrono | Dialect::Jiff => None,
     }
 }
 

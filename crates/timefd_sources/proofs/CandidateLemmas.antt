@@ -9,16 +9,19 @@ use Rattle.std.specs.declared.alloc.Global.{Global}
 use Rattle.std.specs.declared.vec.Vec.{Vec}
 use Rattle.std.specs.Option.{option_to_list}
 use Rattle.std.specs.Prelude.{IfOk, Option, Some, None, Result, Ok, Err}
+use Rattle.timefd_sources.specs.declared.alias.Alias.{Alias}
 use Rattle.timefd_sources.specs.declared.calls.Frame.{Frame}
 use Rattle.timefd_sources.specs.declared.candidate.Candidate.{Candidate}
 use Rattle.timefd_sources.specs.declared.description.Description.{Description}
 use Rattle.timefd_sources.specs.declared.dialect.Dialect.{Dialect}
 use Rattle.timefd_sources.specs.declared.marks.Mark.{Mark}
 use Rattle.timefd_sources.specs.declared.piece.Piece.{Piece}
+use Rattle.timefd_sources.specs.declared.uses.Use.{Use}
 use Rattle.timefd_sources.specs.Between.{IsBetween}
 use Rattle.timefd_sources.specs.Bytes.{Text}
-use Rattle.timefd_sources.specs.Candidates.{candidate_at, candidates_from, candidates_in}
+use Rattle.timefd_sources.specs.Candidates.{candidate_at, candidates_by, candidates_from}
 use Rattle.timefd_sources.specs.Escapes.{Placed}
+use Rattle.timefd_sources.specs.Flows.{outermost}
 use Rattle.timefd_sources.specs.Found.{AllStandIn, AreDescribed, AreInOrder, IsAnyDescribed, IsDescribed, IsOfText, StandsIn, begin_of, begun_behind, end_behind}
 use Rattle.timefd_sources.specs.Frames.{innermost, passed}
 use Rattle.timefd_sources.specs.Literals.{literal_text}
@@ -26,15 +29,15 @@ use Rattle.timefd_sources.specs.Marks.{still_open, told_at}
 use Rattle.timefd_sources.specs.Versions.{IsSaid}
 
 -- What is found of the tokens from an index on stands behind what is found so far, and all is found then.
-pub record AreSoFar (source : Text) (ps : List Piece) (comments : List Mark) (i : ℕ) (frames : List Frame)
-    (counting : List Mark) (end : ℕ) (so_far : List Description) : Type 0 where
+pub record AreSoFar (source : Text) (ps : List Piece) (aliases : List Alias) (us : List Use) (comments : List Mark)
+    (i : ℕ) (frames : List Frame) (counting : List Mark) (end : ℕ) (so_far : List Description) : Type 0 where
   pub others : (rest : List Description)
-      → AreDescribed source end (candidates_from source ps i (drop i ps) frames counting) rest
-      → AreDescribed source 0 (candidates_in source ps comments) (so_far ++ rest)
+      → AreDescribed source end (candidates_from source ps aliases us i (drop i ps) frames counting) rest
+      → AreDescribed source 0 (candidates_by source ps aliases us comments) (so_far ++ rest)
 
-pub at_first : (source : Text) (ps : List Piece) (comments : List Mark)
-    → AreSoFar source ps comments 0 [] comments 0 []
-at_first source ps comments = record { others = λ rest described. described }
+pub at_first : (source : Text) (ps : List Piece) (aliases : List Alias) (us : List Use) (comments : List Mark)
+    → AreSoFar source ps aliases us comments 0 (outermost ∷ []) comments 0 []
+at_first source ps aliases us comments = record { others = λ rest described. described }
 
 one_described : (source : Text) (from : ℕ) (c : Option Candidate) (answer : Option Description)
     (cs : List Candidate) (rest : List Description) → IsAnyDescribed source c answer
@@ -45,34 +48,34 @@ one_described source from None answer cs rest is described =
     (subst (λ a. AreDescribed source (end_behind from (begun_behind from a)) cs rest) is described)
 one_described source from (Some c) answer cs rest is described = (answer, rest, is, described, refl)
 
-pub one_more : (source : Text) (ps : List Piece) (comments counting still : List Mark) (i : ℕ) (p other : Piece)
-    (before after : List Frame) (c : Option Candidate) (answer : Option Description) (from next : ℕ)
+pub one_more : (source : Text) (ps : List Piece) (aliases : List Alias) (us : List Use)
+    (comments counting still : List Mark) (i : ℕ) (p other : Piece) (before after : List Frame) (c : Option Candidate) (answer : Option Description) (from next : ℕ)
     (so_far now : List Description) → i < length ps → p ≡ get_or ps i other
-    → after ≡ passed source ps i before → still ≡ still_open p.start counting
+    → after ≡ passed source ps aliases us i before → still ≡ still_open p.start counting
     → c ≡ candidate_at source ps i p (innermost after) (told_at still p.start)
     → IsAnyDescribed source c answer → now ≡ so_far ++ option_to_list (begun_behind from answer)
     → next ≡ end_behind from (begun_behind from answer)
-    → AreSoFar source ps comments i before counting from so_far
-    → AreSoFar source ps comments (i + 1) after still next now
-one_more source ps comments counting still i p other before after c answer from next so_far now below at opened left
+    → AreSoFar source ps aliases us comments i before counting from so_far
+    → AreSoFar source ps aliases us comments (i + 1) after still next now
+one_more source ps aliases us comments counting still i p other before after c answer from next so_far now below at opened left
     told is pushed ends so_far_is = record {
       others = λ rest described.
           let behind : List Piece = drop (i + 1) ps in
           let step : List Frame → List Mark → Option Candidate → List Candidate =
-          λ a s x. option_to_list x ++ candidates_from source ps (i + 1) behind a s in
+          λ a s x. option_to_list x ++ candidates_from source ps aliases us (i + 1) behind a s in
           let at_token : List Frame → List Mark → List Candidate =
           λ a s. step a s (candidate_at source ps i p (innermost a) (told_at s p.start)) in
           let split : drop i ps ≡ p ∷ behind = drop_more ps i other below ∙ ap (λ x. x ∷ behind) (sym at) in
-          let here : step after still c ≡ candidates_from source ps i (drop i ps) before counting =
+          let here : step after still c ≡ candidates_from source ps aliases us i (drop i ps) before counting =
           ap (step after still) told
           ∙ (ap (λ a. at_token a still) opened
-          ∙ (ap (at_token (passed source ps i before)) left
-          ∙ ap (λ l. candidates_from source ps i l before counting) (sym split))) in
+          ∙ (ap (at_token (passed source ps aliases us i before)) left
+          ∙ ap (λ l. candidates_from source ps aliases us i l before counting) (sym split))) in
           let found : AreDescribed source from (step after still c) (option_to_list (begun_behind from answer) ++ rest) =
-          one_described source from c answer (candidates_from source ps (i + 1) behind after still) rest is
-          (subst (λ n. AreDescribed source n (candidates_from source ps (i + 1) behind after still) rest) ends
+          one_described source from c answer (candidates_from source ps aliases us (i + 1) behind after still) rest is
+          (subst (λ n. AreDescribed source n (candidates_from source ps aliases us (i + 1) behind after still) rest) ends
           described) in
-          subst (λ ds. AreDescribed source 0 (candidates_in source ps comments) ds)
+          subst (λ ds. AreDescribed source 0 (candidates_by source ps aliases us comments) ds)
           (sym (append_assoc so_far (option_to_list (begun_behind from answer)) rest) ∙ ap (λ t. t ++ rest) (sym pushed))
           (so_far_is.others (option_to_list (begun_behind from answer) ++ rest)
           (subst (λ cs. AreDescribed source from cs (option_to_list (begun_behind from answer) ++ rest)) here found));
@@ -89,14 +92,14 @@ told_at_token source bytes ps i p frames seen frame still dialect same all inner
     ∙ (ap (λ f. candidate_at source ps i p f dialect) (inner ∙ ap innermost all)
     ∙ ap (candidate_at source ps i p (innermost frames)) told)
 
-pub at_last : (source : Text) (ps : List Piece) (comments counting : List Mark) (i : ℕ) (frames : List Frame)
-    (from : ℕ) (so_far : List Description) → length ps ≤ i
-    → AreSoFar source ps comments i frames counting from so_far
-    → AreDescribed source 0 (candidates_in source ps comments) so_far
-at_last source ps comments counting i frames from so_far none is =
-    subst (λ ds. AreDescribed source 0 (candidates_in source ps comments) ds) (append-nil so_far)
+pub at_last : (source : Text) (ps : List Piece) (aliases : List Alias) (us : List Use)
+    (comments counting : List Mark) (i : ℕ) (frames : List Frame) (from : ℕ) (so_far : List Description) → length ps ≤ i
+    → AreSoFar source ps aliases us comments i frames counting from so_far
+    → AreDescribed source 0 (candidates_by source ps aliases us comments) so_far
+at_last source ps aliases us comments counting i frames from so_far none is =
+    subst (λ ds. AreDescribed source 0 (candidates_by source ps aliases us comments) ds) (append-nil so_far)
     (is.others []
-    (subst (λ l. AreDescribed source from (candidates_from source ps i l frames counting) [])
+    (subst (λ l. AreDescribed source from (candidates_from source ps aliases us i l frames counting) [])
     (sym (drop_all i ps none)) refl))
 
 -- What is told of a literal stands in the source.

@@ -4,6 +4,8 @@ pub mod UnescapeLemmas
 pub mod PieceLemmas
 pub mod EachLemmas
 pub mod CandidateLemmas
+pub mod UsingLemmas
+pub mod LookLemmas
 pub mod FoundLemmas
 pub mod GrammarLemmas
 pub mod WrittenLemmas

@@ -129,9 +129,24 @@ told_of source ps i frame (Some dialect) = Some (record {
   items = items_in frame.call;
   version = version_place source ps i frame frame.call;
   wants_percent = wants_percent frame.call;
+  call = None;
 })
 
 -- what the bracket that a token stands in tells of it
 abbrev pub told_in : Text → List Piece → ℕ → Option Frame → Option Told
 told_in source ps i None = None
 told_in source ps i (Some frame) = told_of source ps i frame (dialect_in source ps i frame)
+
+abbrev pub told_as : Call → Option Dialect → Option Told
+told_as call None = None
+told_as call (Some dialect) = Some (record {
+  dialect = dialect;
+  items = items_in call;
+  version = places.Call;
+  wants_percent = wants_percent call;
+  call = None;
+})
+
+-- what a call tells of the value of an argument, however that is written
+abbrev pub told_by_call : Call → Argument → Option Told
+told_by_call call argument = told_as call (dialect_by call argument None)

@@ -1,6 +1,6 @@
--- Directives of chrono that the strftime of `time` doesn't have.
+-- Directives of chrono and of jiff that the strftime of `time` doesn't have.
 use Rattle.std.specs.Prelude.{Bool, true, false, ◌||◌, ◌==◌, [], ◌∷◌, codes, nat_eq, if◌then◌else◌}
-use Rattle.std.specs.List.{starts_with}
+use Rattle.std.specs.List.{list_any, starts_with}
 use Rattle.timefd_sources.specs.Bytes.{Text}
 
 abbrev pub begins : Text → Text → Bool
@@ -39,3 +39,18 @@ abbrev mutual
   is_of_chrono_behind [] = false
   is_of_chrono_behind (b ∷ bytes) =
       if begins_own (b ∷ bytes) then true else is_of_chrono bytes
+
+-- Behind the `%`: a flag, a width, digits of a second, an offset with colons, or a zone of jiff.
+abbrev pub begins_of_jiff : Text → Bool
+begins_of_jiff [] = false
+begins_of_jiff (b ∷ bytes) = list_any (λ c. c == b) (codes "NQfqv.:Z^#+123456789")
+
+abbrev mutual
+  pub is_of_jiff : Text → Bool
+  is_of_jiff [] = false
+  is_of_jiff (b ∷ bytes) = if b == 37 then is_of_jiff_behind bytes else is_of_jiff bytes
+
+  pub is_of_jiff_behind : Text → Bool
+  is_of_jiff_behind [] = false
+  is_of_jiff_behind (b ∷ bytes) =
+      if begins_of_jiff (b ∷ bytes) then true else is_of_jiff bytes

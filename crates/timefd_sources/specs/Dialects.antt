@@ -1,7 +1,7 @@
 -- The words that languages are named by.
 use Rattle.std.specs.Prelude.{Option, Some, None, codes, bytes_eq, if◌then◌else◌}
 use Rattle.timefd_sources.specs.declared.dialect.Dialect.{Dialect}
-use Rattle.timefd_sources.specs.declared.dialect.Dialect.TheVariants.{One, Two, Three, Strftime, Chrono}
+use Rattle.timefd_sources.specs.declared.dialect.Dialect.TheVariants.{One, Two, Three, Strftime, Chrono, Jiff}
 use Rattle.timefd_sources.specs.Bytes.{Text}
 
 -- the language that a word names
@@ -11,6 +11,8 @@ dialect_named word =
     else if bytes_eq word (codes "2") then Some Two
     else if bytes_eq word (codes "3") then Some Three
     else if bytes_eq word (codes "strftime") then Some Strftime
+    else if bytes_eq word (codes "chrono") then Some Chrono
+    else if bytes_eq word (codes "jiff") then Some Jiff
     else None
 
 abbrev pub version_in : Option Dialect → Option Dialect
@@ -20,6 +22,7 @@ version_in (Some Two) = Some Two
 version_in (Some Three) = Some Three
 version_in (Some Strftime) = None
 version_in (Some Chrono) = None
+version_in (Some Jiff) = None
 
 -- the version that a number names
 abbrev pub version_named : Text → Option Dialect

@@ -1,6 +1,6 @@
 -- Descriptions that are literals of a source.
 use Rattle.std.specs.Prelude.{ℕ, ◌≡◌, ◌≤◌, ◌==◌, ◌⊎◌, Bool, true, false, not, ◌&&◌, List, [], ◌∷◌, ◌++◌, Option, None, Some, length, nat_le, nat_lt, slice_index, if◌then◌else◌, ⊤}
-use Rattle.std.specs.List.{All, list_any}
+use Rattle.std.specs.List.{All}
 use Rattle.std.specs.Option.{option_to_list}
 use Rattle.timefd_sources.specs.declared.candidate.Candidate.{Candidate}
 use Rattle.timefd_sources.specs.declared.description.Description.{Description}
@@ -9,6 +9,7 @@ use Rattle.timefd_sources.specs.declared.told.Told.{Told}
 use Rattle.timefd_sources.specs.Bytes.{Text}
 use Rattle.timefd_sources.specs.Between.{IsBetween}
 use Rattle.timefd_sources.specs.Candidates.{candidates}
+use Rattle.timefd_sources.specs.Dates.{is_of_dates}
 use Rattle.timefd_sources.specs.Escapes.{Placed, placed}
 use Rattle.timefd_sources.specs.Literals.{body_end, literal_text}
 use Rattle.timefd_sources.specs.Names.{HasNoName}
@@ -43,12 +44,9 @@ abbrev pub end_behind : ℕ → Option Description → ℕ
 end_behind from None = from
 end_behind from (Some d) = d.piece.end
 
-abbrev pub has_percent : Text → Bool
-has_percent text = list_any (λ b. b == 37) text
-
--- A `%` is wanted, and there is none.
+-- A text of dates is wanted, and this is none.
 abbrev pub lacks_percent : Told → Text → Bool
-lacks_percent told text = told.wants_percent && not (has_percent text)
+lacks_percent told text = told.wants_percent && not (is_of_dates text)
 
 -- The description of a literal that stands for a text.
 pub record IsDescription (source : Text) (c : Candidate) (t : Placed) (d : Description) : Type 0 where
@@ -60,9 +58,10 @@ pub record IsDescription (source : Text) (c : Candidate) (t : Placed) (d : Descr
   pub items : d.items ≡ c.told.items
   pub said : IsSaid source c.piece c.told.dialect d.version
   pub kept : IsSaid source c.piece c.told.dialect c.told.version → d.version ≡ c.told.version
+  pub call : d.call ≡ c.told.call
   pub text : placed d.unescaped ≡ t
 
--- what a literal is that stands for a text: a description, unless it lacks a `%`, or lies between no characters
+-- what a literal is that stands for a text: a description, unless it is none of dates, or lies between no characters
 abbrev pub IsOfText : Text → Candidate → Option Placed → Option Description → Type 0
 IsOfText source c None None = ⊤
 IsOfText source c None (Some d) = ⊥

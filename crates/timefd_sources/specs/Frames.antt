@@ -1,13 +1,15 @@
 -- The brackets that are open, the innermost one at the end.
-use Rattle.std.specs.Prelude.{ℕ, ◌-◌, if◌then◌else◌, List, [], ◌∷◌, ◌++◌, codes, bytes_eq, length, take, Option, Some, None}
+use Rattle.std.specs.Prelude.{ℕ, ◌-◌, Bool, not, ◌&&◌, if◌then◌else◌, List, [], ◌∷◌, ◌++◌, codes, bytes_eq, length, take, Option, Some, None}
 use Rattle.std.specs.List.{slice_get}
+use Rattle.timefd_sources.specs.declared.alias.Alias.{Alias}
 use Rattle.timefd_sources.specs.declared.calls.Argument.{Argument}
 use Rattle.timefd_sources.specs.declared.calls.Argument.TheVariants.{First, Second, Later}
 use Rattle.timefd_sources.specs.declared.calls.Frame.{Frame}
 use Rattle.timefd_sources.specs.declared.piece.Piece.{Piece}
+use Rattle.timefd_sources.specs.declared.uses.Use.{Use}
 use Rattle.timefd_sources.specs.Bytes.{Text}
-use Rattle.timefd_sources.specs.Calls.{call_of}
-use Rattle.timefd_sources.specs.Words.{is_closing, is_opening, text_at}
+use Rattle.timefd_sources.specs.Flows.{entered, opened, settled}
+use Rattle.timefd_sources.specs.Words.{is_closing, is_opening, text_at, text_behind}
 
 abbrev pub innermost : List Frame → Option Frame
 innermost frames = slice_get frames (length frames - 1)
@@ -21,19 +23,31 @@ next_argument Second = Later
 next_argument Later = Later
 
 abbrev pub with_comma : Frame → Frame
-with_comma frame = record frame { argument = next_argument frame.argument }
+with_comma frame = settled (record frame { argument = next_argument frame.argument })
 
-abbrev pub and_comma : List Frame → Option Frame → List Frame
-and_comma frames None = frames
-and_comma frames (Some frame) = frames ++ with_comma frame ∷ []
+-- Behind a block that `else` doesn't follow another statement, arm or argument begins.
+abbrev pub is_end : Text → List Piece → ℕ → Bool
+is_end source ps i =
+    bytes_eq (text_at source ps i) (codes "}") && not (bytes_eq (text_behind source ps i 1) (codes "else"))
 
-abbrev pub opened : Text → List Piece → ℕ → Frame
-opened source ps i = record { opened = i; call = call_of source ps i; argument = First }
+-- the innermost bracket behind a token that doesn't open one
+abbrev pub behind_token : Text → List Piece → List Use → ℕ → Frame → Frame
+behind_token source ps us i frame =
+    if bytes_eq (text_at source ps i) (codes ",") then with_comma frame
+    else if is_closing (text_at source ps i) then (if is_end source ps i then settled frame else frame)
+    else entered source ps us i frame
 
--- what is open behind a token
-abbrev pub passed : Text → List Piece → ℕ → List Frame → List Frame
-passed source ps i frames =
-    if is_opening (text_at source ps i) then frames ++ opened source ps i ∷ []
-    else if is_closing (text_at source ps i) then but_last frames
-    else if bytes_eq (text_at source ps i) (codes ",") then and_comma (but_last frames) (innermost frames)
-    else frames
+abbrev pub with_innermost : Text → List Piece → List Use → ℕ → List Frame → Option Frame → List Frame
+with_innermost source ps us i frames None = frames
+with_innermost source ps us i frames (Some frame) = frames ++ behind_token source ps us i frame ∷ []
+
+-- the brackets with the innermost one as it is behind a token
+abbrev pub replaced : Text → List Piece → List Use → ℕ → List Frame → List Frame
+replaced source ps us i frames = with_innermost source ps us i (but_last frames) (innermost frames)
+
+-- what is open behind a token, where these aliases are declared and names are so used
+abbrev pub passed : Text → List Piece → List Alias → List Use → ℕ → List Frame → List Frame
+passed source ps aliases us i frames =
+    if is_opening (text_at source ps i) then frames ++ opened source ps aliases i (innermost frames) ∷ []
+    else if is_closing (text_at source ps i) then replaced source ps us i (but_last frames)
+    else replaced source ps us i frames

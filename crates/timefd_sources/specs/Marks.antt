@@ -1,5 +1,5 @@
 -- Comments that name the language of literals: `// timefd: 3`
-use Rattle.std.specs.Prelude.{ℕ, ◌-◌, Bool, true, false, ◌&&◌, ◌==◌, nat_eq, nat_le, nat_lt, if◌then◌else◌, List, [], ◌∷◌, codes, drop, length, take, Option, Some, None}
+use Rattle.std.specs.Prelude.{ℕ, ◌-◌, Bool, true, false, not, ◌&&◌, ◌==◌, nat_eq, nat_le, nat_lt, if◌then◌else◌, List, [], ◌∷◌, bytes_eq, codes, drop, is_none, length, take, Option, Some, None}
 use Rattle.std.specs.List.{flat_map, starts_with}
 use Rattle.std.specs.Option.{option_to_list}
 use Rattle.timefd_sources.specs.declared.dialect.Dialect.{Dialect}
@@ -40,6 +40,24 @@ abbrev pub dialect_told : Option Text → Option Dialect
 dialect_told None = None
 dialect_told (Some text) = line_told (behind text (codes "//"))
 
+-- Behind `timefd:` neither a language is named nor a warning silenced.
+abbrev pub is_unknown : Text → Bool
+is_unknown text =
+    is_none (word_told text) && not (bytes_eq (in_front text (behind_run is_word text)) (codes "allow"))
+
+abbrev pub mark_names_none : Option Text → Bool
+mark_names_none None = false
+mark_names_none (Some text) = is_unknown (behind_run is_white text)
+
+abbrev pub line_names_none : Option Text → Bool
+line_names_none None = false
+line_names_none (Some text) = mark_names_none (behind (behind_run is_white text) (codes "timefd:"))
+
+-- a comment that is to name a language, and names none
+abbrev pub names_none : Option Text → Bool
+names_none None = false
+names_none (Some text) = line_names_none (behind text (codes "//"))
+
 -- Only white bytes stand in front of a place in its line.
 abbrev pub is_alone : Text → ℕ → Bool
 is_alone source at =
@@ -65,6 +83,16 @@ is_comment Unclosed = false
 
 abbrev pub mark_at : Text → Piece → Option Mark
 mark_at source p = if is_comment p.token then mark_of source p (dialect_told (cut source p)) else None
+
+abbrev pub is_unknown_mark : Text → Piece → Bool
+is_unknown_mark source p = is_comment p.token && names_none (cut source p)
+
+abbrev pub unknown_mark : Text → Piece → List ℕ
+unknown_mark source p = if is_unknown_mark source p then p.start ∷ [] else []
+
+-- where the comments begin that are to name a language, and name none, in turn
+abbrev pub unknown_marks : Text → List Piece → List ℕ
+unknown_marks source ps = flat_map (unknown_mark source) ps
 
 -- the comments that name a language, in turn
 abbrev pub marks : Text → List Piece → List Mark

@@ -1,7 +1,7 @@
 -- Where a source says the version of a description.
 use Rattle.std.specs.Prelude.{ℕ, ◌≡◌, ◌<◌, ◌+◌, ◌∷◌, drop, Option, Some, None, ⊤}
 use Rattle.timefd_sources.specs.declared.dialect.Dialect.{Dialect}
-use Rattle.timefd_sources.specs.declared.dialect.Dialect.TheVariants.{One, Two, Three, Strftime, Chrono}
+use Rattle.timefd_sources.specs.declared.dialect.Dialect.TheVariants.{One, Two, Three, Strftime, Chrono, Jiff}
 use Rattle.timefd_sources.specs.declared.piece.Piece.{Piece}
 use Rattle.timefd_sources.specs.declared.version.VersionPlace.{VersionPlace}
 use Rattle.timefd_sources.specs.declared.version.VersionPlace.TheVariants.{Digit, Unsaid, Call, Elsewhere}
@@ -13,6 +13,7 @@ digit_of Two = Some 50
 digit_of Three = Some 51
 digit_of Strftime = None
 digit_of Chrono = None
+digit_of Jiff = None
 
 -- the version of a description where none is said
 abbrev pub unsaid : Dialect

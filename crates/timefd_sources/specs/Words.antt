@@ -1,13 +1,19 @@
 -- The texts of tokens.
-use Rattle.std.specs.Prelude.{ℕ, ◌+◌, ◌-◌, Bool, ◌||◌, nat_le, if◌then◌else◌, List, [], codes, bytes_eq, Option, Some, None}
+use Rattle.std.specs.Prelude.{ℕ, ◌+◌, ◌-◌, Bool, true, false, ◌||◌, nat_le, if◌then◌else◌, List, [], ◌∷◌, codes, drop, bytes_eq, Option, Some, None}
 use Rattle.std.specs.List.{slice_get}
 use Rattle.timefd_sources.specs.declared.piece.Piece.{Piece}
+use Rattle.timefd_sources.specs.declared.token.Token.{Token}
+use Rattle.timefd_sources.specs.declared.token.Token.TheVariants.{White, Comment, Word, Lifetime, Character, Literal, Sign, Unclosed}
 use Rattle.timefd_sources.specs.Bytes.{Text}
 use Rattle.timefd_sources.specs.Literals.{cut}
 
 abbrev pub or_empty : Option Text → Text
 or_empty None = []
 or_empty (Some text) = text
+
+-- the text of a token
+abbrev pub text_of : Text → Piece → Text
+text_of source p = or_empty (cut source p)
 
 abbrev pub word : Text → Option Piece → Text
 word source None = []
@@ -17,6 +23,14 @@ word source (Some p) = or_empty (cut source p)
 abbrev pub text_at : Text → List Piece → ℕ → Text
 text_at source ps i = word source (slice_get ps i)
 
+abbrev pub but_first : List Piece → List Piece
+but_first [] = []
+but_first (p ∷ ps) = ps
+
+-- the tokens behind the one at an index
+abbrev pub tokens_behind : List Piece → ℕ → List Piece
+tokens_behind ps i = but_first (drop i ps)
+
 -- the text of the token that stands so many behind one
 abbrev pub text_behind : Text → List Piece → ℕ → ℕ → Text
 text_behind source ps i ahead = text_at source ps (i + ahead)
@@ -24,6 +38,32 @@ text_behind source ps i ahead = text_at source ps (i + ahead)
 -- the text of the token that stands so many in front of one
 abbrev pub text_before : Text → List Piece → ℕ → ℕ → Text
 text_before source ps i back = if nat_le back i then text_at source ps (i - back) else []
+
+abbrev pub is_word_token : Token → Bool
+is_word_token White = false
+is_word_token Comment = false
+is_word_token Word = true
+is_word_token Lifetime = false
+is_word_token Character = false
+is_word_token (Literal kind) = false
+is_word_token Sign = false
+is_word_token Unclosed = false
+
+abbrev pub is_word_piece : Option Piece → Bool
+is_word_piece None = false
+is_word_piece (Some p) = is_word_token p.token
+
+-- The token at an index is a word.
+abbrev pub is_word_at : List Piece → ℕ → Bool
+is_word_at ps i = is_word_piece (slice_get ps i)
+
+abbrev pub place_of_any : Option Piece → ℕ
+place_of_any None = 0
+place_of_any (Some p) = p.start
+
+-- where the token at an index begins
+abbrev pub place_at : List Piece → ℕ → ℕ
+place_at ps i = place_of_any (slice_get ps i)
 
 abbrev pub is_opening : Text → Bool
 is_opening text = bytes_eq text (codes "(") || bytes_eq text (codes "[") || bytes_eq text (codes "{")

@@ -3,8 +3,10 @@
 ghost use Rattle.std.specs.Prelude.{◌≡◌, ◌++◌, IfOk, OnOk};
 ghost use Rattle.timefd_sources.specs.Candidates as spec;
 
+use crate::attribute::told_by_attribute;
 use crate::calls::Frame;
 use crate::dialect::Dialect;
+use crate::flow::told_of;
 use crate::piece::Piece;
 use crate::token::{Kind, Token};
 use crate::told::{Items, Told, told_in};
@@ -81,6 +83,7 @@ fn by_comment(dialect: Option<Dialect>) -> Option<Told>
             items: Items::Refused,
             version: VersionPlace::Elsewhere,
             wants_percent: false,
+            call: None,
         }),
         None => None,
     }
@@ -95,7 +98,8 @@ fn candidate_from(piece: Piece, kind: Option<Kind>, told: Option<Told>) -> Optio
     }
 }
 
-/// What a token is as a description: by the language that a comment names, or else by the bracket that it stands in.
+/// What a token is as a description: by the language that a comment names, or else by the bracket that it stands in, by
+/// what its value is handed to, or by its attribute.
 pub fn candidate_at(
     source: &[u8],
     pieces: &[Piece],
@@ -107,5 +111,7 @@ pub fn candidate_at(
     ensures { result ≡ spec.candidate_at source.now pieces.now index piece frame dialect }
 {
     let told = by_comment(dialect).or(told_in(source, pieces, index, frame));
+    let told = told.or(told_of(source, pieces, index, frame));
+    let told = told.or(told_by_attribute(source, pieces, index));
     candidate_from(piece, kind_of(piece.token), told)
 }

@@ -1,4 +1,4 @@
-//! Directives of chrono that the strftime of `time` doesn't have.
+//! Directives of chrono and of jiff that the strftime of `time` doesn't have.
 
 ghost use Rattle.std.specs.Prelude.{◌≡◌};
 ghost use Rattle.timefd_sources.specs.Chrono as spec;
@@ -57,6 +57,34 @@ pub fn is_of_chrono(text: &[u8]) -> bool
     let mut rest = text;
     'bytes: while let [byte, behind @ ..] = rest {
         if is_behind && begins_own(rest) {
+            return true;
+        }
+        is_behind = !is_behind && *byte == b'%';
+        rest = behind;
+    }
+    false
+}
+
+/// Whether a flag, a width, digits of a second, an offset with colons or a zone of jiff begins a text, which stands
+/// behind a `%`.
+fn begins_of_jiff(text: &[u8]) -> bool
+    ensures { result ≡ spec.begins_of_jiff text.now }
+{
+    match text {
+        [byte, ..] => b"NQfqv.:Z^#+123456789".contains(byte),
+        [] => false,
+    }
+}
+
+/// Whether a text of strftime has a directive that jiff's documentation lists and `time` doesn't have: it is no
+/// description of `time`, and may be right.
+pub fn is_of_jiff(text: &[u8]) -> bool
+    ensures { result ≡ spec.is_of_jiff text.now }
+{
+    let mut is_behind = false;
+    let mut rest = text;
+    'bytes: while let [byte, behind @ ..] = rest {
+        if is_behind && begins_of_jiff(rest) {
             return true;
         }
         is_behind = !is_behind && *byte == b'%';

@@ -2,22 +2,24 @@
 
 ghost use Rattle.std.specs.Prelude.{◌≡◌, ◌++◌, IfOk, OnOk, Some};
 ghost use Rattle.std.specs.Option.{option_to_list};
-ghost use Rattle.timefd_sources.specs.Candidates.{candidates_in};
+ghost use Rattle.timefd_sources.specs.Candidates.{candidates_by};
 ghost use Rattle.timefd_sources.specs.Escapes.{placed};
-ghost use Rattle.timefd_sources.specs.Found.{AllStandIn, AreDescribed, AreDescriptionsOf, AreInOrder, IsAnyDescribed, IsDescribed, IsOfText, begun_behind, end_behind};
-ghost use Rattle.timefd_sources.specs.Found.{has_percent as has_percent_in};
+ghost use Rattle.timefd_sources.specs.Found.{AreDescribed, IsAnyDescribed, IsDescribed, IsOfText, begun_behind, end_behind};
 
+use crate::alias::Alias;
 use crate::between::is_between;
-use crate::candidate::{Candidate, candidate_at, significant};
+use crate::candidate::{Candidate, candidate_at};
+use crate::dates::is_of_dates;
 use crate::dialect::Dialect;
+use crate::flow::outermost;
 use crate::frames::{innermost, pass};
 use crate::literal::literal_text;
-use crate::marks::{Mark, marks_of, still_open, told_at};
-use crate::names::may_describe;
-use crate::piece::{Piece, pieces_of};
+use crate::marks::{Mark, still_open, told_at};
+use crate::piece::Piece;
 use crate::token::Kind;
 use crate::told::Items;
 use crate::unescape::Unescaped;
+use crate::uses::Use;
 use crate::version::{VersionPlace, first_place, tested};
 use std::alloc::{AllocError, Global};
 
@@ -34,22 +36,18 @@ pub struct Description {
     pub items: Items,
     /// Where its version is said.
     pub version: VersionPlace,
+    /// Where the name stands that a call has in its place; none where it stands in the call itself.
+    pub call: Option<usize>,
     /// What it stands for, and where that stands in the source.
     pub unescaped: Unescaped,
 }
 
-fn has_percent(text: &[u8]) -> bool
-    ensures { result ≡ has_percent_in text.now }
-{
-    text.contains(&b'%')
-}
-
-/// The description of a literal that stands for a text; none where a `%` is wanted and there is none.
+/// The description of a literal that stands for a text; none where one of dates is wanted and this is none.
 fn of_text(source: &str, candidate: Candidate, unescaped: Unescaped) -> Option<Description>
     ensures { IsOfText source.now candidate (Some (placed unescaped)) result }
 {
     let Candidate { piece, kind, told } = candidate;
-    if told.wants_percent && !has_percent(&unescaped.text) {
+    if told.wants_percent && !is_of_dates(&unescaped.text) {
         return None;
     }
     if !is_between(source, piece, kind, &unescaped) {
@@ -61,6 +59,7 @@ fn of_text(source: &str, candidate: Candidate, unescaped: Unescaped) -> Option<D
         dialect: told.dialect,
         items: told.items,
         version: tested(source, piece, told.dialect, told.version),
+        call: told.call,
         unescaped,
     })
 }
@@ -116,22 +115,26 @@ pub fn push_any(
     }
 }
 
-/// The descriptions among these tokens, where these comments count.
-fn described_in(
+/// The descriptions among these tokens, where these aliases are declared, names are so used, and these comments
+/// count.
+pub fn described_by(
     alloc: Global,
     source: &str,
     pieces: &[Piece],
+    aliases: &[Alias],
+    uses: &[Use],
     marks: &[Mark],
 ) -> Result<Vec<Description>, AllocError>
-    ensures { IfOk result (λ found. AreDescribed source.now 0 (candidates_in source.now pieces.now marks.now)
-        found.items) }
+    ensures { IfOk result (λ found. AreDescribed source.now 0
+        (candidates_by source.now pieces.now aliases.now uses.now marks.now) found.items) }
 {
     let mut frames = Vec::new(alloc);
+    frames.push(outermost())?;
     let mut descriptions = Vec::new(alloc);
     let mut comments = marks;
     let mut end = 0;
     for (index, piece) in pieces.iter().enumerate() {
-        pass(&mut frames, source.as_bytes(), pieces, index)?;
+        pass(&mut frames, source.as_bytes(), pieces, aliases, uses, index)?;
         comments = still_open(comments, piece.start);
         let dialect = told_at(comments, piece.start);
         let frame = innermost(&frames);
@@ -140,20 +143,4 @@ fn described_in(
         end = push_any(&mut descriptions, found, end)?;
     }
     Ok(descriptions)
-}
-
-/// The descriptions in a source: arguments of the calls that are known, and literals for which a comment
-/// names a language, one behind another.
-pub fn descriptions_of(alloc: Global, source: &str) -> Result<Vec<Description>, AllocError>
-    ensures all { IfOk result (λ found. AreDescriptionsOf source.now found.items) }
-    ensures stand { IfOk result (λ found. AllStandIn source.now found.items) }
-    ensures in_order { IfOk result (λ found. AreInOrder 0 found.items) }
-{
-    if !may_describe(source.as_bytes()) {
-        return Ok(Vec::new(alloc));
-    }
-    let all = pieces_of(alloc, source)?;
-    let marks = marks_of(alloc, source.as_bytes(), &all)?;
-    let pieces = significant(alloc, &all)?;
-    described_in(alloc, source, &pieces, &marks)
 }

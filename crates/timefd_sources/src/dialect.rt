@@ -3,7 +3,7 @@
 ghost use Rattle.std.specs.Prelude.{◌≡◌, bytes_eq};
 ghost use Rattle.timefd_sources.specs.Dialects as spec;
 
-/// The language of a description: a version of that of `time`, its strftime, or that of chrono.
+/// The language of a description: a version of that of `time`, its strftime, or that of chrono or jiff.
 #[derive(Clone, Copy, Debug, PartialEq, Eq)]
 pub enum Dialect {
     One,
@@ -12,6 +12,8 @@ pub enum Dialect {
     Strftime,
     /// What `time` and chrono have in common, and the directives of chrono.
     Chrono,
+    /// What `time` and jiff have in common, and the directives of jiff.
+    Jiff,
 }
 
 /// Whether a word is this one.
@@ -33,12 +35,16 @@ pub fn dialect_of_word(word: &[u8]) -> Option<Dialect>
         Some(Dialect::Three)
     } else if is(word, "strftime") {
         Some(Dialect::Strftime)
+    } else if is(word, "chrono") {
+        Some(Dialect::Chrono)
+    } else if is(word, "jiff") {
+        Some(Dialect::Jiff)
     } else {
         None
     }
 }
 
-/// The language that a word names: `1`, `2`, `3`, `strftime`.
+/// The language that a word names: `1`, `2`, `3`, `strftime`, `chrono`, `jiff`.
 pub fn dialect_named(word: &str) -> Option<Dialect>
     ensures { result ≡ spec.dialect_named word.now }
 {
@@ -53,6 +59,6 @@ pub fn version_named(word: &[u8]) -> Option<Dialect>
         Some(Dialect::One) => Some(Dialect::One),
         Some(Dialect::Two) => Some(Dialect::Two),
         Some(Dialect::Three) => Some(Dialect::Three),
-        Some(Dialect::Strftime | Dialect::Chrono) | None => None,
+        Some(Dialect::Strftime | Dialect::Chrono | Dialect::Jiff) | None => None,
     }
 }

@@ -1,7 +1,9 @@
 //! String literals in sources of Rust, and the format descriptions among them.
 #![tactic(auto)]
 
+mod alias;
 mod alike;
+mod attribute;
 pub mod between;
 mod calls;
 mod candidate;
@@ -9,32 +11,41 @@ mod character;
 mod chrono;
 pub mod class;
 mod comment;
+mod dates;
 pub mod description;
 pub mod dialect;
 mod escape;
+mod flow;
 mod frames;
 pub mod laws;
 pub mod line;
 mod literal;
+mod look;
 pub mod marks;
 mod names;
 pub mod number;
 pub mod part;
 mod piece;
 mod place;
+mod scope;
+mod shadow;
 mod string;
 mod token;
 pub mod told;
 mod unescape;
+mod uses;
+mod using;
+mod value;
 pub mod version;
 mod word;
 mod written;
 
 pub use alike::body_alike;
-pub use chrono::is_of_chrono;
-pub use description::{Description, descriptions_of};
+pub use chrono::{is_of_chrono, is_of_jiff};
+pub use description::Description;
 pub use dialect::Dialect;
 pub use literal::{body_end, inside, literal_text};
+pub use look::{Look, descriptions_of, looked_at};
 pub use piece::{Piece, pieces_of};
 pub use place::place_of;
 pub use token::{Encoding, Kind, Token};

@@ -9,7 +9,7 @@ ghost use Rattle.timefd_sources.specs.Literals as literals;
 ghost use Rattle.timefd_sources.specs.Marks as spec;
 
 use crate::class::{Class, behind_run};
-use crate::dialect::{Dialect, dialect_of_word};
+use crate::dialect::{Dialect, dialect_of_word, is};
 use crate::line::{line_start, next_line_end};
 use crate::literal::cut;
 use crate::piece::Piece;
@@ -73,6 +73,65 @@ fn dialect_told(comment: &[u8]) -> Option<Dialect>
         return None;
     };
     word_told(behind_run(Class::White, word))
+}
+
+/// Whether a text, which stands behind `timefd:`, names no language and silences no warning.
+fn is_unknown(text: &[u8]) -> bool
+    ensures { result ≡ spec.is_unknown text.now }
+{
+    match word_told(text) {
+        Some(_dialect) => false,
+        None => !is(first_word(text), "allow"),
+    }
+}
+
+/// Whether a comment is to name a language, and names none: `// timefd: strftme`.
+fn names_none(comment: &[u8]) -> bool
+    ensures { result ≡ spec.names_none (Some comment.now) }
+{
+    let Some(line) = behind(comment, b"//") else {
+        return false;
+    };
+    let Some(word) = behind(behind_run(Class::White, line), b"timefd:") else {
+        return false;
+    };
+    is_unknown(behind_run(Class::White, word))
+}
+
+fn is_unknown_mark(source: &[u8], piece: Piece) -> bool
+    ensures { result ≡ spec.is_unknown_mark source.now piece }
+{
+    if !is_comment(piece.token) {
+        return false;
+    }
+    match cut(source, piece) {
+        Some(comment) => names_none(comment),
+        None => false,
+    }
+}
+
+fn push_unknown(places: &mut Vec<usize>, source: &[u8], piece: Piece) -> Result<(), AllocError>
+    ensures { OnOk result (places.new.items ≡ places.old.items ++ spec.unknown_mark source.now piece) }
+{
+    if is_unknown_mark(source, piece) {
+        places.push(piece.start)?;
+    }
+    Ok(())
+}
+
+/// Where comments begin that are to name a language, and name none, in turn.
+pub fn unknown_marks(
+    alloc: Global,
+    source: &[u8],
+    pieces: &[Piece],
+) -> Result<Vec<usize>, AllocError>
+    ensures { IfOk result (λ places. places.items ≡ spec.unknown_marks source.now pieces.now) }
+{
+    let mut places = Vec::new(alloc);
+    for piece in pieces {
+        push_unknown(&mut places, source, *piece)?;
+    }
+    Ok(places)
 }
 
 /// Whether only white bytes stand in front of a place in its line, which begins here.

@@ -1,8 +1,7 @@
 //! Whether a source can have descriptions at all, by the words that every description has beside it.
 
-ghost use Rattle.std.specs.Prelude.{◌≡◌, ◌⊎◌, None, codes, false};
-ghost use Rattle.memchr.specs.Find.{IsFirstByte, is_byte};
-ghost use Rattle.timefd_sources.specs.Names.{HasNoCallOfChrono, HasNoMacro, HasNoName, HasNoParser, Lacks};
+ghost use Rattle.std.specs.Prelude.{◌≡◌, ◌⊎◌, codes, false};
+ghost use Rattle.timefd_sources.specs.Names.{HasNoCallOfChrono, HasNoCallOfJiff, HasNoMacro, HasNoName, HasNoParser, HasNoPercent, HasNoPercentEscape, HasNoReaderOfChrono, Lacks};
 
 use memchr::{memchr, memmem};
 
@@ -15,21 +14,44 @@ fn has(source: &[u8], word: &str) -> bool
     }
 }
 
-// A text of chrono in a call of `format` has a `%`.
-fn has_format(source: &[u8]) -> bool
-    ensures { result ≡ false → IsFirstByte (is_byte 37) source.now None ⊎ Lacks source.now (codes "format") }
+// A percent sign, or an escape that stands for one.
+fn has_percent(source: &[u8]) -> bool
+    ensures { result ≡ false → HasNoPercent source.now }
 {
     match memchr(b'%', source) {
-        Some(_) => has(source, "format"),
-        None => false,
+        Some(_) => true,
+        None => has_percent_escape(source),
     }
 }
 
-// The macro of `time`, and the word of a comment.
+fn has_percent_escape(source: &[u8]) -> bool
+    ensures { result ≡ false → HasNoPercentEscape source.now }
+{
+    if has(source, "\\x25") {
+        return true;
+    }
+    has(source, "\\u{25}")
+}
+
+// A text of chrono in a call of `format` has a `%`.
+fn has_format(source: &[u8]) -> bool
+    ensures { result ≡ false → HasNoPercent source.now ⊎ Lacks source.now (codes "format") }
+{
+    if has_percent(source) {
+        has(source, "format")
+    } else {
+        false
+    }
+}
+
+// The macro of `time`, its attribute, and the word of a comment.
 fn has_macro_or_comment(source: &[u8]) -> bool
     ensures { result ≡ false → HasNoMacro source.now }
 {
     if has(source, "format_description") {
+        return true;
+    }
+    if has(source, "#[time(") {
         return true;
     }
     has(source, "timefd")
@@ -47,8 +69,8 @@ fn has_parser(source: &[u8]) -> bool
     has(source, "parse_strftime_")
 }
 
-fn has_call_of_chrono(source: &[u8]) -> bool
-    ensures { result ≡ false → HasNoCallOfChrono source.now }
+fn has_reader_of_chrono(source: &[u8]) -> bool
+    ensures { result ≡ false → HasNoReaderOfChrono source.now }
 {
     if has(source, "parse_from_str") {
         return true;
@@ -56,7 +78,40 @@ fn has_call_of_chrono(source: &[u8]) -> bool
     if has(source, "datetime_from_str") {
         return true;
     }
+    has(source, "parse_and_remainder")
+}
+
+fn has_call_of_chrono(source: &[u8]) -> bool
+    ensures { result ≡ false → HasNoCallOfChrono source.now }
+{
+    if has_reader_of_chrono(source) {
+        return true;
+    }
+    if has(source, "StrftimeItems") {
+        return true;
+    }
+    if has(source, "ChronoLocal") {
+        return true;
+    }
+    if has(source, "ChronoUtc") {
+        return true;
+    }
     has_format(source)
+}
+
+fn has_call_of_jiff(source: &[u8]) -> bool
+    ensures { result ≡ false → HasNoCallOfJiff source.now }
+{
+    if has(source, "strftime") {
+        return true;
+    }
+    if has(source, "strptime") {
+        return true;
+    }
+    if has(source, "strtime") {
+        return true;
+    }
+    has(source, "BrokenDownTime")
 }
 
 /// Whether a source has a name without which no literal of it is a description. Most sources have none, and
@@ -64,5 +119,8 @@ fn has_call_of_chrono(source: &[u8]) -> bool
 pub fn may_describe(source: &[u8]) -> bool
     ensures { result ≡ false → HasNoName source.now }
 {
-    has_macro_or_comment(source) || has_parser(source) || has_call_of_chrono(source)
+    has_macro_or_comment(source)
+        || has_parser(source)
+        || has_call_of_chrono(source)
+        || has_call_of_jiff(source)
 }

@@ -161,8 +161,10 @@ pub struct Told {
     pub items: Items,
     /// Where its version is said.
     pub version: VersionPlace,
-    /// Whether it is a description only with a `%`.
+    /// Whether it is a description only where its text may be one of dates, which has a `%`.
     pub wants_percent: bool,
+    /// Where the name stands that a call has in its place; none where it stands in the call itself.
+    pub call: Option<usize>,
 }
 
 fn version_place(source: &[u8], pieces: &[Piece], index: usize, frame: Frame) -> VersionPlace
@@ -208,5 +210,22 @@ pub fn told_in(source: &[u8], pieces: &[Piece], index: usize, frame: Option<Fram
         items: items_in(frame.call),
         version: version_place(source, pieces, index, frame),
         wants_percent: wants_percent(frame.call),
+        call: None,
     })
+}
+
+/// What a call tells of the value of an argument, however that is written: the version is said in the call alone.
+pub fn told_by_call(call: Call, argument: Argument) -> Option<Told>
+    ensures { result ≡ spec.told_by_call call argument }
+{
+    match dialect_by(call, argument, None) {
+        Some(dialect) => Some(Told {
+            dialect,
+            items: items_in(call),
+            version: VersionPlace::Call,
+            wants_percent: wants_percent(call),
+            call: None,
+        }),
+        None => None,
+    }
 }

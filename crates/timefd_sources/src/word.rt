@@ -1,13 +1,41 @@
 //! The texts of tokens.
 
-ghost use Rattle.std.specs.Prelude.{◌≡◌};
+ghost use Rattle.std.specs.Prelude.{◌≡◌, drop};
 ghost use Rattle.timefd_sources.specs.Words as spec;
 
 use crate::dialect::is;
 use crate::literal::cut;
 use crate::piece::Piece;
+use crate::token::Token;
 
-/// The text of a token; empty where there is none.
+/// The text of a token.
+pub fn text_of(source: &[u8], piece: Piece) -> &[u8]
+    ensures { result.now ≡ spec.text_of source.now piece }
+{
+    match cut(source, piece) {
+        Some(text) => text,
+        None => &[],
+    }
+}
+
+/// The tokens from an index on.
+pub fn tokens_from(pieces: &[Piece], index: usize) -> &[Piece]
+    ensures { result.now ≡ drop index pieces.now }
+{
+    pieces.get(index..).unwrap_or(&[])
+}
+
+/// The tokens behind the one at an index.
+pub fn tokens_behind(pieces: &[Piece], index: usize) -> &[Piece]
+    ensures { result.now ≡ spec.tokens_behind pieces.now index }
+{
+    match tokens_from(pieces, index) {
+        [_, behind @ ..] => behind,
+        [] => &[],
+    }
+}
+
+/// The text of the token at an index; empty where there is none.
 pub fn text_at<'a>(source: &'a [u8], pieces: &[Piece], index: usize) -> &'a [u8]
     ensures { result.now ≡ spec.text_at source.now pieces.now index }
 {
@@ -38,6 +66,42 @@ pub fn text_before<'a>(source: &'a [u8], pieces: &[Piece], index: usize, back: u
         text_at(source, pieces, index - back)
     } else {
         &[]
+    }
+}
+
+/// Whether the token at an index is a word.
+pub fn is_word_at(pieces: &[Piece], index: usize) -> bool
+    ensures { result ≡ spec.is_word_at pieces.now index }
+{
+    match pieces.get(index) {
+        Some(piece) => is_word_token(piece.token),
+        None => false,
+    }
+}
+
+/// Whether a token is a word.
+pub fn is_word_token(token: Token) -> bool
+    ensures { result ≡ spec.is_word_token token }
+{
+    match token {
+        Token::Word => true,
+        Token::White
+        | Token::Comment
+        | Token::Lifetime
+        | Token::Character
+        | Token::Literal(_)
+        | Token::Sign
+        | Token::Unclosed => false,
+    }
+}
+
+/// Where the token at an index begins; 0 where there is none.
+pub fn place_at(pieces: &[Piece], index: usize) -> usize
+    ensures { result ≡ spec.place_at pieces.now index }
+{
+    match pieces.get(index) {
+        Some(piece) => piece.start,
+        None => 0,
     }
 }
 

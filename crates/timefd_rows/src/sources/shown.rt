@@ -10,6 +10,7 @@ fn dialect_mark(dialect: Dialect) -> &'static str {
         Dialect::Three => "3",
         Dialect::Strftime => "strftime",
         Dialect::Chrono => "chrono",
+        Dialect::Jiff => "jiff",
     }
 }
 

@@ -1,0 +1,5 @@
+const DAY: &str = "%Y-%J";
+
+fn show(now: DateTime<Utc>) -> String {
+    now.format(DAY).to_string()
+}

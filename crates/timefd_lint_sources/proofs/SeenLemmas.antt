@@ -1,0 +1,58 @@
+-- What is seen in a source, by how its descriptions are found.
+use Rattle.std.proofs.Common.{◌≡◌, List, [], ◌++◌, sym, subst}
+use denote.Ref.{Bor}
+use Rattle.timefd_component.specs.Tree.{Text}
+use Rattle.timefd_keys.specs.declared.format.Format.{Format}
+use Rattle.timefd_keys.specs.declared.key.Key.{Key}
+use Rattle.timefd_keys.specs.Found as keyed
+use Rattle.timefd_sources.specs.declared.description.Description.{Description}
+use Rattle.timefd_sources.specs.Found.{AllStandIn, AreDescriptionsOf, AreInOrder}
+use Rattle.timefd_sources.proofs.LookLemmas.{all_seen, seen_in_order, seen_stand}
+use Rattle.timefd_lint_sources.specs.declared.remark.Remark.{Remark}
+use Rattle.timefd_lint_sources.specs.declared.source.Report.{Report}
+use Rattle.timefd_lint_sources.specs.declared.told.End.{End}
+use Rattle.timefd_lint_sources.specs.declared.told.Finder.TheVariants.{Rust, Keys}
+use Rattle.timefd_lint_sources.specs.declared.told.Source.{Source}
+use Rattle.timefd_lint_sources.specs.declared.told.Telling.{Telling}
+use Rattle.timefd_lint_sources.specs.Items.{AreJudgedAs}
+use Rattle.timefd_lint_sources.specs.Remarks.{AreRemarksBy, AreSeenIn, ends_of, messages_of}
+use Rattle.timefd_lint_sources.specs.Told.{AreAllBy, AreSeen, AreTold, IsFoundBy, IsSourceTold}
+use Rattle.timefd_lint_sources.proofs.FinderLemmas.{all_by_keys, all_by_rust, by_keys, by_rust}
+
+pub of_rust : (s : Source) (source : Text) (ds : List Description) (remarks : List Remark) → s.finder ≡ Rust
+    → source ≡ s.text.now → AreSeenIn source ds remarks → AreSeen s ds remarks
+of_rust s source ds remarks is same seen =
+    let here : AreSeenIn s.text.now ds remarks = subst (λ t. AreSeenIn t ds remarks) same seen in record {
+      all = all_by_rust s ds is
+          (subst (AreDescriptionsOf s.text.now) here.same (all_seen s.text.now here.look here.is));
+      stand = by_rust s ds is (subst (AllStandIn s.text.now) here.same (seen_stand s.text.now here.look here.is));
+      in_order = subst (AreInOrder 0) here.same (seen_in_order s.text.now here.look here.is);
+      remarked = subst (λ f. AreRemarksBy f s.text.now ds remarks) (sym is) here;
+    }
+
+pub of_keys : (s : Source) (format : Format) (keys : Bor (List Key)) (ds : List Description) (remarks : List Remark)
+    → s.finder ≡ Keys format keys → keyed.AllValues format s.text.now keys.now ds → AreInOrder 0 ds
+    → remarks ≡ [] → AreSeen s ds remarks
+of_keys s format keys ds remarks is values in_order none = record {
+  all = all_by_keys s format keys ds is;
+  stand = by_keys s format keys ds is values;
+  in_order = in_order;
+  remarked = subst (λ f. AreRemarksBy f s.text.now ds remarks) (sym is) none;
+}
+
+pub source_told : (telling : Telling) (s : Source) (found judged : List Description) (remarks : List Remark)
+    (ends : List End) (message : Text) (r : Report) → AreSeen s found remarks → AreJudgedAs found judged
+    → AreTold telling s judged ends message → r.ends.items ≡ ends ++ ends_of remarks
+    → r.message.items ≡ message ++ messages_of telling.style s remarks → IsSourceTold telling s r
+source_told telling s found judged remarks ends message r seen are told all_ends all_messages = record {
+  found = found;
+  remarks = remarks;
+  seen = seen;
+  descriptions = judged;
+  judged = are;
+  ends = ends;
+  message = message;
+  told = told;
+  all_ends = all_ends;
+  all_messages = all_messages;
+}

@@ -1,0 +1,49 @@
+-- The note at a call that takes a text by its name.
+use Rattle.std.specs.Prelude.{ℕ, ◌++◌, codes, decimal, Option, Some, None, []}
+use Rattle.timefd_component.specs.Tree.{Text}
+use Rattle.timefd_drawing.specs.declared.draw.Format.{Format}
+use Rattle.timefd_drawing.specs.declared.draw.Format.TheVariants.{Human, Json, Short, Github, Sarif}
+use Rattle.timefd_drawing.specs.declared.draw.Style.{Style}
+use Rattle.timefd_drawing.specs.declared.github.Command.TheVariants.{Notice}
+use Rattle.timefd_drawing.specs.Github.{annotation}
+use Rattle.timefd_drawing.specs.Positions.{line_number, told_column}
+use Rattle.timefd_drawing.specs.Shown.{safe}
+use Rattle.timefd_sources.specs.declared.description.Description.{Description}
+use Rattle.timefd_lint_sources.specs.declared.told.Source.{Source}
+
+abbrev pub code : Text
+code = codes "call"
+
+abbrev pub message : Text
+message = codes "this call takes the text by its name"
+
+-- `FILE:LINE:COLUMN`
+abbrev pub place_text : Text → ℕ → ℕ → Text
+place_text file line column =
+    safe file ++ (codes ":" ++ (decimal line ++ (codes ":" ++ decimal column)))
+
+abbrev pub human : Text → ℕ → ℕ → Text
+human file line column =
+    codes "note: " ++ (message ++ (codes "\n --> " ++ (place_text file line column ++ codes "\n\n")))
+
+abbrev pub short : Text → ℕ → ℕ → Text
+short file line column = place_text file line column ++ (codes ": note: " ++ (message ++ codes "\n"))
+
+abbrev pub note_in : Format → Text → ℕ → ℕ → Text
+note_in Human file line column = human file line column
+note_in Json file line column = []
+note_in Short file line column = short file line column
+note_in Github file line column = annotation Notice code file line column message
+note_in Sarif file line column = []
+
+abbrev pub note_at : Style → Source → ℕ → Text
+note_at style s at =
+    note_in style.format s.file.now (line_number 1 s.text.now at) (told_column style.format s.text.now at)
+
+abbrev pub note_for : Style → Source → Option ℕ → Text
+note_for style s None = []
+note_for style s (Some at) = note_at style s at
+
+-- It stands at the name; there is none where the text stands in the call itself.
+abbrev pub call_note : Style → Source → Description → Text
+call_note style s d = note_for style s d.call

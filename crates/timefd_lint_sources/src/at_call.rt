@@ -1,0 +1,98 @@
+//! The note at a call that takes a text by its name.
+
+ghost use Rattle.std.specs.Prelude.{◌≡◌, IfOk, string_bytes};
+ghost use Rattle.timefd_lint_sources.specs.Calls as spec;
+
+use crate::position::told_position_of;
+use crate::told::Source;
+use std::alloc::{AllocError, Global};
+use timefd_drawing::github::{Command, annotation};
+use timefd_drawing::json::Entry;
+use timefd_drawing::shown::safe;
+use timefd_drawing::{Format, Position, Style};
+use timefd_sources::Description;
+
+/// The name of such a note.
+const CODE: &str = "call";
+
+const MESSAGE: &str = "this call takes the text by its name";
+
+/// The note at the call that takes a description by its name; nothing where it stands in the call itself, nor in JSON
+/// and SARIF, where all that is told has the code of an error or a warning. An `Err` says that memory ran out.
+pub fn call_note(
+    alloc: Global,
+    style: Style,
+    source: Source<'_>,
+    description: &Description,
+) -> Result<Vec<u8>, AllocError>
+    ensures { IfOk result (λ note. note.items ≡ spec.call_note style source.entry description.now) }
+{
+    match description.call {
+        Some(at) => note_at(alloc, style, source, at),
+        None => Ok(Vec::new(alloc)),
+    }
+}
+
+fn note_at(
+    alloc: Global,
+    style: Style,
+    source: Source<'_>,
+    at: usize,
+) -> Result<Vec<u8>, AllocError>
+    ensures { IfOk result (λ note. note.items ≡ spec.note_at style source.entry at) }
+{
+    let place = told_position_of(alloc, style.format, source.text, at)?;
+    note_in(alloc, style.format, source.file, place)
+}
+
+fn note_in(
+    alloc: Global,
+    format: Format,
+    file: &str,
+    place: Position,
+) -> Result<Vec<u8>, AllocError>
+    ensures { IfOk result (λ note. note.items ≡ spec.note_in format file.now place.line place.column) }
+{
+    let entry = Entry {
+        code: CODE,
+        file,
+        line: place.line,
+        column: place.column as u64,
+        message: MESSAGE,
+    };
+    match format {
+        Format::Human => {
+            let drawing = human(alloc, file, place)?;
+            Ok(drawing.into_bytes())
+        }
+        Format::Short => {
+            let line = short(alloc, file, place)?;
+            Ok(line.into_bytes())
+        }
+        Format::Github => annotation(alloc, Command::Notice, entry),
+        Format::Json | Format::Sarif => Ok(Vec::new(alloc)),
+    }
+}
+
+// `FILE:LINE:COLUMN`
+fn place_text(alloc: Global, file: &str, place: Position) -> Result<String, AllocError>
+    ensures { IfOk result (λ text. string_bytes text ≡ spec.place_text file.now place.line place.column) }
+{
+    let file = safe(alloc, file)?;
+    let Position { line, column } = place;
+    format!(in alloc; "{file}:{line}:{column}")
+}
+
+fn human(alloc: Global, file: &str, place: Position) -> Result<String, AllocError>
+    ensures { IfOk result (λ text. string_bytes text ≡ spec.human file.now place.line place.column) }
+{
+    let place = place_text(alloc, file, place)?;
+    format!(in alloc; "note: {MESSAGE}\n --> {place}\n\n")
+}
+
+fn short(alloc: Global, file: &str, place: Position) -> Result<String, AllocError>
+    ensures { IfOk result (λ text. string_bytes text ≡ spec.short file.now place.line place.column) }
+{
+    let place = place_text(alloc, file, place)?;
+    format!(in alloc; "{place}: note: {MESSAGE}\n")
+}

@@ -1,0 +1,140 @@
+//! What is told of a source besides its descriptions.
+
+ghost use Rattle.std.specs.Prelude.{◌≡◌, ◌++◌, IfOk, OnOk, flat_map, map};
+ghost use Rattle.timefd_lint_sources.specs.Remarks as spec;
+
+use crate::position::FIRST_LINE;
+use crate::told::{End, Source};
+use std::alloc::{AllocError, Global};
+use timefd_drawing::{Origin, Position, Style, note, position_of};
+
+/// What is seen in a source besides its descriptions.
+#[derive(Clone, Copy)]
+pub enum Remark {
+    /// A call takes the name at this place, and no text is found for it.
+    Call(usize),
+    /// The comment at this place is to name a language, and names none.
+    Language(usize),
+}
+
+/// The name of what is wrong with a comment.
+const CODE: &str = "unknown-language";
+
+const MESSAGE: &str =
+    "this comment names no language: there are 1, 2, 3, strftime, chrono and jiff";
+
+/// What came of it, as of a description.
+pub fn end_of(remark: Remark) -> End
+    ensures { result ≡ spec.end_of remark }
+{
+    match remark {
+        Remark::Call(_) => End::Unread,
+        Remark::Language(_) => End::Refused,
+    }
+}
+
+fn message_of(
+    alloc: Global,
+    style: Style,
+    source: Source<'_>,
+    remark: Remark,
+) -> Result<Vec<u8>, AllocError>
+    ensures { IfOk result (λ message. message.items ≡ spec.message_of style source.entry remark) }
+{
+    match remark {
+        Remark::Call(_) => Ok(Vec::new(alloc)),
+        Remark::Language(at) => language_note(alloc, style, source, at),
+    }
+}
+
+// The note on a comment.
+fn language_note(
+    alloc: Global,
+    style: Style,
+    source: Source<'_>,
+    at: usize,
+) -> Result<Vec<u8>, AllocError>
+    ensures { IfOk result (λ message. message.items ≡ spec.language_note style source.entry at) }
+{
+    let Position { line, .. } = position_of(alloc, FIRST_LINE, source.text, at)?;
+    let origin = Origin {
+        file: source.file,
+        line,
+    };
+    note(alloc, style, origin, CODE, MESSAGE)
+}
+
+// Tells of one more.
+fn push_remark(
+    alloc: Global,
+    style: Style,
+    source: Source<'_>,
+    remark: Remark,
+    ends: &mut Vec<End>,
+    message: &mut Vec<u8>,
+) -> Result<(), AllocError>
+    ensures ends { OnOk result (ends.new.items ≡ ends.old.items ++ spec.one_end remark) }
+    ensures message { OnOk result (message.new.items
+        ≡ message.old.items ++ spec.message_of style source.entry remark) }
+{
+    let told = message_of(alloc, style, source, remark)?;
+    ends.push(end_of(remark))?;
+    message.extend_from_slice(&told)
+}
+
+/// Tells of these in turn, behind what was told before. An `Err` says that memory ran out.
+pub fn push_remarks(
+    alloc: Global,
+    style: Style,
+    source: Source<'_>,
+    remarks: &[Remark],
+    ends: &mut Vec<End>,
+    message: &mut Vec<u8>,
+) -> Result<(), AllocError>
+    ensures ends { OnOk result (ends.new.items ≡ ends.old.items ++ spec.ends_of remarks.now) }
+    ensures message { OnOk result (message.new.items
+        ≡ message.old.items ++ spec.messages_of style source.entry remarks.now) }
+{
+    let mut rest = remarks;
+    'remarks: while let [remark, behind @ ..] = rest {
+        push_remark(alloc, style, source, *remark, ends, message)?;
+        rest = behind;
+    }
+    Ok(())
+}
+
+/// The remarks on these calls, and on these comments behind them.
+pub fn remarks_on(
+    alloc: Global,
+    calls: &[usize],
+    comments: &[usize],
+) -> Result<Vec<Remark>, AllocError>
+    ensures { IfOk result (λ remarks. remarks.items ≡ spec.remarks_on calls.now comments.now) }
+{
+    let mut remarks = Vec::new(alloc);
+    push_calls(&mut remarks, calls)?;
+    push_comments(&mut remarks, comments)?;
+    Ok(remarks)
+}
+
+fn push_calls(remarks: &mut Vec<Remark>, calls: &[usize]) -> Result<(), AllocError>
+    ensures { OnOk result (remarks.new.items ≡ remarks.old.items ++ spec.on_calls calls.now) }
+{
+    let mut rest = calls;
+    'calls: while let [call, behind @ ..] = rest {
+        remarks.push(Remark::Call(*call))?;
+        rest = behind;
+    }
+    Ok(())
+}
+
+fn push_comments(remarks: &mut Vec<Remark>, comments: &[usize]) -> Result<(), AllocError>
+    ensures { OnOk result (remarks.new.items ≡ remarks.old.items ++ spec.on_comments comments.now) }
+{
+    let mut rest = comments;
+    'comments: while let [comment, behind @ ..] = rest {
+        remarks.push(Remark::Language(*comment))?;
+        rest = behind;
+    }
+    Ok(())
+}

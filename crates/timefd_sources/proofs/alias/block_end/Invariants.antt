@@ -1,0 +1,13 @@
+use Rattle.std.proofs.Common.{◌≡◌, ◌≤◌, ◌+◌, length}
+use Rattle.timefd_sources.specs.Aliases as spec
+use Rattle.timefd_sources.proofs.alias.block_end.Given as goal
+
+-- What is left decides.
+abbrev pub invariant-tokens : goal.invariant-tokens
+invariant-tokens l = record {
+  rest : spec.block_end l.source l.depth l.rest ≡ spec.block_end l.source 0 l.pieces;
+  within : l.depth + length l.rest ≤ length l.pieces;
+}
+
+abbrev pub decreases-tokens : goal.decreases-tokens
+decreases-tokens l = length l.rest

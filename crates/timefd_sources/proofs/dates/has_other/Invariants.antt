@@ -1,0 +1,11 @@
+use Rattle.std.proofs.Common.{◌≡◌, length}
+use Rattle.std.specs.Prelude.{if◌then◌else◌}
+use Rattle.timefd_sources.specs.Dates as spec
+use Rattle.timefd_sources.proofs.dates.has_other.Given as goal
+
+-- What is left decides.
+abbrev pub invariant-bytes : goal.invariant-bytes
+invariant-bytes l = (if l.is_behind then spec.has_other_behind l.rest else spec.has_other l.rest) ≡ spec.has_other l.fn.text
+
+abbrev pub decreases-bytes : goal.decreases-bytes
+decreases-bytes l = length l.rest
