@@ -142,6 +142,7 @@ is_unknown Quarter = false
 is_unknown ReadingOnly = false
 is_unknown Reserved = false
 is_unknown TooManyLetters = false
+is_unknown TwoDigitYear = false
 is_unknown TwoLetterName = false
 is_unknown UnclosedQuote = false
 is_unknown UnitOfDay = false

@@ -246,6 +246,7 @@ impl Reason {
             | Reason::ReadingOnly
             | Reason::Reserved
             | Reason::TooManyLetters
+            | Reason::TwoDigitYear
             | Reason::TwoLetterName
             | Reason::UnclosedQuote
             | Reason::UnitOfDay
