@@ -1,6 +1,7 @@
 //! The note at a call that takes a text by its name.
 
 ghost use Rattle.std.specs.Prelude.{◌≡◌, IfOk, string_bytes};
+ghost use Rattle.timefd_drawing.specs.Counted.{IsCounted};
 ghost use Rattle.timefd_lint_sources.specs.Calls as spec;
 
 use crate::position::told_position_of;
@@ -9,7 +10,7 @@ use std::alloc::{AllocError, Global};
 use timefd_drawing::github::{Command, annotation};
 use timefd_drawing::json::Entry;
 use timefd_drawing::shown::safe;
-use timefd_drawing::{Format, Position, Style};
+use timefd_drawing::{Counter, Format, Position, Style};
 use timefd_sources::Description;
 
 /// The name of such a note.
@@ -23,12 +24,14 @@ pub fn call_note(
     alloc: Global,
     style: Style,
     source: Source<'_>,
+    from: Counter,
     description: &Description,
 ) -> Result<Vec<u8>, AllocError>
+    requires { IsCounted 1 source.text.now from }
     ensures { IfOk result (λ note. note.items ≡ spec.call_note style source.entry description.now) }
 {
     match description.call {
-        Some(at) => note_at(alloc, style, source, at),
+        Some(at) => note_at(alloc, style, source, from, at),
         None => Ok(Vec::new(alloc)),
     }
 }
@@ -37,11 +40,13 @@ fn note_at(
     alloc: Global,
     style: Style,
     source: Source<'_>,
+    from: Counter,
     at: usize,
 ) -> Result<Vec<u8>, AllocError>
+    requires { IsCounted 1 source.text.now from }
     ensures { IfOk result (λ note. note.items ≡ spec.note_at style source.entry at) }
 {
-    let place = told_position_of(alloc, style.format, source.text, at)?;
+    let place = told_position_of(alloc, style.format, source.text, from, at)?;
     note_in(alloc, style.format, source.file, place)
 }
 

@@ -185,7 +185,7 @@ fn refused(
     let first = placed_in(description, diagnostic);
     let others = all_placed_in(alloc, description, further)?;
     let mut message = drawn_all_from(alloc, style, origin, source.text, from, &first, &others)?;
-    let note = call_note(alloc, style, source, description)?;
+    let note = call_note(alloc, style, source, from, description)?;
     message.extend_from_slice(&note)?;
     Ok(Told {
         end: End::Refused,
