@@ -2,6 +2,7 @@ pub mod DigitLemmas
 pub mod NameLemmas
 pub mod TakeLemmas
 pub mod QuickLemmas
+pub mod ShortLemmas
 pub mod FrontLemmas
 pub mod BackLemmas
 pub mod EndedLemmas

@@ -7,3 +7,4 @@ pub mod Inputs
 pub mod Reads
 pub mod Laws
 pub mod Relations
+pub mod Short

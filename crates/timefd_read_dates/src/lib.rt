@@ -15,6 +15,7 @@ mod quick;
 mod read;
 mod reading;
 mod rule;
+mod short;
 mod view;
 
 pub use fault::{ReadError, Reason};
@@ -22,3 +23,4 @@ pub use fields::{Fields, Fraction, NO_FIELDS, Signed};
 pub use leaves::leaves_in_turn;
 pub use read::{fill_fields, fill_item_fields, fill_leaf_fields, read_fields, read_item_fields};
 pub use reading::unit;
+pub use short::{NO_NUMBERS, Numbers, numbers_shown, take_leaf};

@@ -181,7 +181,8 @@ pub(crate) fn read_literal<'t>(
 }
 
 /// Whether a text begins with a literal. Most have one byte.
-fn begins(text: &[u8], literal: &[u8]) -> bool
+#[inline(always)]
+pub(crate) fn begins(text: &[u8], literal: &[u8]) -> bool
     ensures { result ≡ starts_with eqb text.now literal.now }
 {
     match (literal, text) {

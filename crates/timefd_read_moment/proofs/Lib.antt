@@ -11,3 +11,4 @@ pub mod StampedLemmas
 pub mod InstantLemmas
 pub mod ValueLemmas
 pub mod StampLawLemmas
+pub mod NumberLemmas

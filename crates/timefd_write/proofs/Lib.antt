@@ -2,7 +2,9 @@ pub mod AskedLemmas
 pub mod FieldLemmas
 pub mod FrameLemmas
 pub mod HeaderLemmas
+pub mod FrontLemmas
 pub mod LineLemmas
+pub mod ReadBackLemmas
 pub mod ReadLemmas
 pub mod RecordLemmas
 pub mod SecondsLemmas

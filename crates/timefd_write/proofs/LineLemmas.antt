@@ -53,7 +53,7 @@ ends (Err v) old new (Ok at) h = absurd h
 ends (Err v) old new (Err lacks.Room) h = absurd h
 ends (Err v) old new (Err (lacks.Unshown u)) h = ap Err (sym h)
 
-of_tree : (m : Moment) (o : BorrowedOutput) → written_of m o ≡ written m (tree_of o)
+pub of_tree : (m : Moment) (o : BorrowedOutput) → written_of m o ≡ written m (tree_of o)
 of_tree m (Items items) = refl
 of_tree m (Description d) = refl
 

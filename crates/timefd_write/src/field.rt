@@ -11,7 +11,7 @@ ghost use Rattle.timefd_write.specs.ReadBack.{AreLeavesOf};
 ghost use Rattle.timefd_write.specs.Written.{IsSent, written_of};
 
 use crate::frame::{Cell, send};
-use crate::line::{shown, text_in};
+use crate::line::{shown, text_in, text_in_front};
 use crate::outcome::RunError;
 use std::alloc::Global;
 use std::io::Write;
@@ -38,6 +38,10 @@ pub fn write_field<W: Write>(
         (W.contents output.old) (W.contents output.new)) }
     ensures error { IfErr result IsFailure }
 {
+    if let Some(end) = text_in_front(&moment, description, leaves, room) {
+        send_field(cell, &room[..end], output)?;
+        return Ok(None);
+    }
     match text_in(moment, description, leaves, room) {
         Ok(at) => {
             send_field(cell, &room[at..], output)?;

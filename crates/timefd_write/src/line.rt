@@ -1,10 +1,10 @@
 //! The text of a moment, written as a line.
 
-ghost use Rattle.std.specs.Prelude.{IfErr, IfOk};
+ghost use Rattle.std.specs.Prelude.{◌≡◌, ◌≤◌, IfErr, IfOk, IfSome, Ok, length, take};
 ghost use Rattle.timefd_write.specs.declared.frame.Frame.TheVariants as frames;
 ghost use Rattle.timefd_write.specs.Frames.{IsFailure};
 ghost use Rattle.timefd_write.specs.ReadBack.{AreLeavesOf};
-ghost use Rattle.timefd_write.specs.Written.{EndsWith, EndsWithLine, IsLine, IsSent, written_of};
+ghost use Rattle.timefd_write.specs.Written.{EndsWith, EndsWithLine, IsLine, IsLineOf, IsSent, written_of};
 ghost use Rattle.timefd_format.specs.Answers.{AreBytes};
 
 use crate::frame::send;
@@ -12,8 +12,8 @@ use crate::outcome::RunError;
 use std::alloc::{AllocError, Global};
 use std::io::Write;
 use timefd_format::{
-    FormatError, TextError, Unshown, format, format_items, write_description, write_items,
-    write_leaves,
+    FormatError, TextError, Unshown, append_leaves, append_literal, format, format_items,
+    write_description, write_items, write_leaves,
 };
 use timefd_moment::Moment;
 use timefd_node_list::Leaf;
@@ -111,6 +111,10 @@ pub fn write_line<W: Write>(
         (W.contents output.old) (W.contents output.new)) }
     ensures error { IfErr result IsFailure }
 {
+    if let Some(end) = line_in_front(&moment, description, leaves, room) {
+        send(&room[..end], output)?;
+        return Ok(None);
+    }
     match line_in(moment, description, leaves, room) {
         Ok(at) => {
             send(&room[at..], output)?;
@@ -119,6 +123,44 @@ pub fn write_line<W: Write>(
         Err(FormatError::Unshown(unshown)) => Ok(Some(unshown)),
         Err(FormatError::Room) => write_long_line(alloc, moment, description, output),
     }
+}
+
+/// What the description shows of the moment by its leaves, over the front of the room. It ends where is
+/// answered. `None` says nothing.
+#[inline(never)]
+#[tactic(auto, using(crate::proofs::FrontLemmas::text_put, crate::proofs::FrontLemmas::text_within))]
+pub fn text_in_front(
+    moment: &Moment,
+    description: &BorrowedOutput<'_>,
+    leaves: Option<&[Leaf<'_>]>,
+    room: &mut [u8],
+) -> Option<usize>
+    requires { AreLeavesOf description.now leaves }
+    ensures within { IfSome result (λ end. end ≤ length room.new) }
+    ensures text { IfSome result (λ end. written_of moment.now description.now ≡ Ok (take end room.new)) }
+{
+    append_leaves(moment, leaves?, room, 0)
+}
+
+/// The same, and a newline behind it.
+#[inline(never)]
+#[tactic(auto, using(crate::proofs::FrontLemmas::line_put, crate::proofs::FrontLemmas::line_within))]
+fn line_in_front(
+    moment: &Moment,
+    description: &BorrowedOutput<'_>,
+    leaves: Option<&[Leaf<'_>]>,
+    room: &mut [u8],
+) -> Option<usize>
+    requires { AreLeavesOf description.now leaves }
+    ensures within { IfSome result (λ end. end ≤ length room.new) }
+    ensures line { IfSome result (λ end. IsLineOf (written_of moment.now description.now)
+        (take end room.new)) }
+{
+    let end = append_leaves(moment, leaves?, room, 0)?;
+    if room.len() - end < 32 {
+        return None;
+    }
+    append_literal(b"\n", room, end)
 }
 
 // The line, written in memory of its own.

@@ -23,6 +23,9 @@ const ITEM_ROOM: usize = 256;
 
 const MOST_ROOM: usize = 65_536;
 
+// So many bytes more, which a text wants that is written over the front.
+const SPARE_ROOM: usize = 64;
+
 /// What a read of a line comes to.
 #[derive(Clone, Copy)]
 pub enum LineRead {
@@ -75,7 +78,7 @@ pub fn line_room(alloc: Global, description: &BorrowedOutput<'_>) -> Result<Vec<
     let count = match description {
         BorrowedOutput::Items(_) => ITEM_ROOM,
         BorrowedOutput::Description(description) => {
-            description.view().max_bytes_needed().min(MOST_ROOM) + 1
+            description.view().max_bytes_needed().min(MOST_ROOM) + SPARE_ROOM
         }
     };
     vec![in alloc; 0u8; count]

@@ -1,6 +1,6 @@
 //! The moment that a text shows by a description.
 
-ghost use Rattle.std.specs.Prelude.{Err, IfOk, IfSome};
+ghost use Rattle.std.specs.Prelude.{Err, IfOk, IfSome, Ok};
 ghost use Rattle.timefd_read_dates.specs.Reads.{Fills, fields_of};
 ghost use Rattle.timefd_read_moment.specs.Values.{IsMomentOf};
 ghost use Rattle.timefd_write.specs.ReadBack as spec;
@@ -14,8 +14,9 @@ use timefd_node_list::Leaf;
 use timefd_parse::BorrowedOutput;
 use timefd_read_dates::{
     Fields, NO_FIELDS, ReadError, fill_fields, fill_item_fields, fill_leaf_fields, leaves_in_turn,
+    numbers_shown,
 };
-use timefd_read_moment::{ValueError, moment};
+use timefd_read_moment::{ValueError, moment, moment_of_numbers};
 
 /// The components and literals that a description is, where it is no more than those in turn. They
 /// are found once, and many texts read by them.
@@ -35,6 +36,37 @@ pub fn leaves_of<'d>(
 /// An `Err` tells which part does not read, and the byte index where it begins; or why what was
 /// read is no moment.
 pub fn moment_read(
+    description: &BorrowedOutput<'_>,
+    leaves: Option<&[Leaf<'_>]>,
+    text: &str,
+) -> Result<Moment, MomentError>
+    requires { AreLeavesOf description.now leaves }
+    ensures { IsReadBack description.now text.now result }
+{
+    if let Some(moment) = moment_shown(description, leaves, text) {
+        return Ok(moment);
+    }
+    moment_by_fields(description, leaves, text)
+}
+
+// The moment of a text that shows numbers of two digits and a year of four, and no more. `None` says nothing.
+#[inline(never)]
+#[tactic(auto, using(crate::proofs::ReadBackLemmas::by_numbers))]
+fn moment_shown(
+    description: &BorrowedOutput<'_>,
+    leaves: Option<&[Leaf<'_>]>,
+    text: &str,
+) -> Option<Moment>
+    requires { AreLeavesOf description.now leaves }
+    ensures { IfSome result (λ moment. IsReadBack description.now text.now (Ok moment)) }
+{
+    let numbers = numbers_shown(leaves?, text.as_bytes())?;
+    moment_of_numbers(numbers)
+}
+
+// The same of any text, by its fields.
+#[inline(never)]
+fn moment_by_fields(
     description: &BorrowedOutput<'_>,
     leaves: Option<&[Leaf<'_>]>,
     text: &str,

@@ -1,0 +1,18 @@
+-- A moment that was read by numbers, without fields.
+use Rattle.std.proofs.Common.{◌≡◌, ◌∙◌, List, Ok, map, sym, ap, subst}
+use Rattle.timefd_component.specs.Tree.{Text, compound, trees}
+use Rattle.timefd_moment.specs.declared.moment.Moment.{Moment}
+use Rattle.timefd_node_list.specs.declared.leaves.Leaf.{Leaf}
+use Rattle.timefd_node_list.specs.LeafMeaning.{leaf_tree}
+use Rattle.timefd_parse.specs.declared.parsing.BorrowedOutput.{BorrowedOutput}
+use Rattle.timefd_read_dates.specs.Reads.{fields_of}
+use Rattle.timefd_read_dates.specs.Short.{fields_with}
+use Rattle.timefd_read_dates.specs.declared.short.Numbers.{Numbers}
+use Rattle.timefd_read_moment.specs.Values.{IsMomentOf}
+use Rattle.timefd_write.specs.ReadBack.{IsMadeOf, IsOfFields, IsReadBack}
+
+pub by_numbers : (o : BorrowedOutput) (leaves : List Leaf) (text : Text) (n : Numbers) (m : Moment) → IsMadeOf o leaves
+    → fields_of (compound (trees (map leaf_tree leaves))) text ≡ Ok (fields_with n)
+    → IsMomentOf (fields_with n) (Ok m) → IsReadBack o text (Ok m)
+by_numbers o leaves text n m made read is =
+    subst (λ r. IsOfFields r (Ok m)) (sym (ap (λ t. fields_of t text) made ∙ read)) is
