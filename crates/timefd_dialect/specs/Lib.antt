@@ -20,10 +20,10 @@ pub mod Limits
 pub mod Steps
 pub mod Items
 pub mod Answers
-pub mod Laws
 pub mod Roles
 pub mod TrapWords
 pub mod Traps
 pub mod SpotSteps
 pub mod Back
 pub mod BackSteps
+pub mod Laws
