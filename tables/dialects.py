@@ -10,6 +10,8 @@ import string
 import tomllib
 import unicodedata
 
+from layout import statement
+
 FOLDER = pathlib.Path(__file__).resolve().parent / "dialects"
 CRATE = "crates/timefd_dialect"
 NAMES = ("python", "c", "gnu", "chrono", "jiff", "ruby", "java", "go", "moment")
@@ -156,6 +158,30 @@ def rust_constant(key, rows):
     return begin + "\n" + "".join(f"    {it},\n" for it in written) + "];\n"
 
 
+@functools.cache
+def shared_rows():
+    """The rows of a byte that most of the dialects with a `%` have, if two have the same."""
+    counts = {}
+    for name in NAMES:
+        if load(name)["kind"] == "percent":
+            for key, rows in groups_of(name).items():
+                constant = rust_constant(key, rows)
+                counts.setdefault(key, {}).setdefault(constant, []).append(name)
+    best = {key: max(found.items(), key=lambda it: len(it[1])) for key, found in counts.items()}
+    return {key: constant for key, (constant, names) in best.items() if len(names) > 1}
+
+
+def is_shared(key, rows):
+    return shared_rows().get(key) == rust_constant(key, rows)
+
+
+def rust_shared():
+    constants = "\n".join(f"pub {constant}" for constant in shared_rows().values())
+    reason = "use crate::reason::Reason;\n" if " refused " in constants else ""
+    return ("//! Rows of strftime that several dialects share. `tables/write` writes them.\n\n"
+            f"{reason}use crate::row::{{NotBefore, Range, Row, Verdict, row}};\n\n{constants}")
+
+
 def rust_arm_of(key):
     return f"        {byte_literal(key)} => {constant_name(key)},\n"
 
@@ -204,8 +230,12 @@ def rust_keys(name):
 
 def rust_table(name):
     groups, parts = groups_of(name), parts_of(name)
-    reason = "use crate::reason::Reason;\n" if any("why" in row for rows in groups.values() for row in rows.values()) else ""
-    constants = "\n".join(rust_constant(*group) for group in groups.items())
+    is_percent = load(name)["kind"] == "percent"
+    own = {key: rows for key, rows in groups.items() if not (is_percent and is_shared(key, rows))}
+    taken = sorted(constant_name(key) for key in groups if key not in own)
+    shared = "\n".join(statement("use crate::tables::strftime", taken)) + "\n" if taken else ""
+    reason = "use crate::reason::Reason;\n" if any("why" in row for rows in own.values() for row in rows.values()) else ""
+    constants = "\n".join(rust_constant(*group) for group in own.items())
     matches = rust_match(name, "groups", f"The rows {KEYS[load(name)['kind']]}", "marked_rows(byte)" if len(parts) > 1 else "&[]")
     if "marked" in parts:
         matches += rust_match(name, "marked", "Those of the directives with a flag, a digit or another mark there", "&[]")
@@ -213,7 +243,7 @@ def rust_table(name):
             "ghost use Rattle.std.specs.Prelude.{◌≡◌};\nghost use Rattle.timefd_dialect.specs.Groups.{keys_of, rows_at};\n"
             f"ghost use Rattle.timefd_dialect.specs.{camel(name)}.{{{', '.join(definitions(name))}}};\n"
             "ghost use Rattle.timefd_dialect.specs.Rows.{entries};\n\n"
-            f"{reason}use crate::row::{{NotBefore, Range, Row, Verdict, row}};\n\n{matches}{rust_keys(name)}{constants}")
+            f"{reason}use crate::row::{{NotBefore, Range, Row, Verdict, row}};\n{shared}\n{matches}{rust_keys(name)}{constants}")
 
 
 def definitions(name):
@@ -406,7 +436,7 @@ def files():
              "crates/timefd_c/src/reason_code.rt": reason_codes(),
              "bindings/rust/src/reason.rs": bound_reasons(), "bindings/python/timefd/reason.py": python_reasons(),
              "crates/timefd_c/specs/FormatReasons.antt": specified_codes(),
-             f"{CRATE}/src/rows.rt": rust_rows(), f"{CRATE}/specs/Tables.antt": specified_tables()}
+             f"{CRATE}/src/rows.rt": rust_rows(), f"{CRATE}/src/tables/strftime.rt": rust_shared(), f"{CRATE}/specs/Tables.antt": specified_tables()}
     for name in NAMES:
         found[f"{CRATE}/src/tables/{name}.rt"] = rust_table(name)
         found[f"{CRATE}/specs/{camel(name)}.antt"] = specified_table(name)

@@ -6,7 +6,8 @@ use Rattle.timefd_dialect.specs.declared.dialect.Dialect.{Dialect}
 use Rattle.timefd_dialect.specs.declared.spot.Part.{Part}
 use Rattle.timefd_dialect.specs.declared.spot.Spot.{Spot}
 use Rattle.timefd_dialect.specs.SpotSteps.{IsPart}
-use Rattle.timefd_dialect.specs.Traps.{Said, said_at, Splits, spot_between, spots_of, AreSpots}
+use Rattle.timefd_dialect.specs.Laws.{OneListOfTraps}
+use Rattle.timefd_dialect.specs.Traps.{Said, said_at, Splits, spot_between, spots_of, AreSpots, traps_in}
 
 -- parts lead from the format to the rest, and these are the directives among them
 pub record HasSpots (dialect : Dialect) (format rest : Text) (spots : List Spot) : Type 0 where
@@ -74,3 +75,27 @@ all_spots dialect format (b ∷ rest) spots read e = absurd (omega (arith, none 
   where
     none : (n : ℕ) → (n == 0) ≡ true → n ≡ 0
     none n e = grind (arith, nat_tests)
+
+-- A format is split in one way, and so has one list of traps.
+
+nothing_left : (text : Text) → text ≡ [] → ¬ (0 < length text)
+nothing_left text e some = omega (arith, ap length e, some)
+
+split_once : (dialect : Dialect) (text : Text) (ps qs : List Said) → Splits dialect text ps []
+    → Splits dialect text qs [] → ps ≡ qs
+split_once dialect text [] [] a b = refl
+split_once dialect text [] (q ∷ qs) a b = absurd (nothing_left text a b.0)
+split_once dialect text (p ∷ ps) [] a b = absurd (nothing_left text b a.0)
+split_once dialect text (p ∷ ps) (q ∷ qs) a b =
+    let first : p ≡ q = sym a.1 ∙ b.1 in
+    ap (λ x. x ∷ ps) first
+    ∙ ap (λ x. q ∷ x) (split_once dialect p.rest ps qs a.2
+    (subst (λ s. Splits dialect s.rest qs []) (sym first) b.2))
+
+pub one_list_of_traps_law : (dialect : Dialect) (text : Text)
+    → OneListOfTraps dialect text
+one_list_of_traps_law dialect text xs ys a b =
+    a.2 ∙ ap traps_in
+    (a.1.2
+    ∙ ap (spots_of (length text) text) (split_once dialect text a.1.0 b.1.0 a.1.1 b.1.1)
+    ∙ sym b.1.2) ∙ sym b.2

@@ -3,7 +3,9 @@ use Rattle.std.specs.Prelude.{ℕ, ◌≡◌, ◌⊎◌, List}
 use Rattle.timefd_component.specs.Tree.{Text}
 use Rattle.timefd_dialect.specs.declared.dialect.Dialect.{Dialect}
 use Rattle.timefd_dialect.specs.declared.reason.Reason.{Reason}
+use Rattle.timefd_dialect.specs.declared.trapping.Found.{Found}
 use Rattle.timefd_dialect.specs.Reading.{Piece, Means, RefusedAt}
+use Rattle.timefd_dialect.specs.Traps.{AreTraps}
 
 -- A format means a list of pieces, or is refused.
 abbrev pub HasAnswer : Dialect → Text → Type 0
@@ -19,3 +21,8 @@ pub record OneAnswer (dialect : Dialect) (text : Text) : Type 0 where
       → RefusedAt dialect text s j → (r ≡ s) × (i ≡ j)
   pub not_both : (ps : List Piece) (r : Reason) (i : ℕ) → Means dialect text ps
       → ¬ (RefusedAt dialect text r i)
+
+-- A format has one list of traps at most.
+abbrev pub OneListOfTraps : Dialect → Text → Type 0
+OneListOfTraps dialect text =
+    (xs ys : List Found) → AreTraps dialect text xs → AreTraps dialect text ys → xs ≡ ys

@@ -29,3 +29,4 @@ pub mod Traps
 pub mod SpotSteps
 pub mod Back
 pub mod BackSteps
+pub mod Laws

@@ -9,3 +9,4 @@ pub mod jiff;
 pub mod moment;
 pub mod python;
 pub mod ruby;
+pub mod strftime;

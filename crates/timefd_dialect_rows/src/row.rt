@@ -14,29 +14,30 @@ pub fn answer(alloc: Global, line: &str) -> Result<String, AllocError> {
     let Some((name, format)) = line.split_once('\t') else {
         return String::from_str(alloc, "a row is the name of a dialect, a tab and a format");
     };
-    let (name, asked) = match name.split_once(' ') {
-        Some((name, word)) => (name, Some(word)),
-        None => (name, None),
-    };
-    match Dialect::named(name) {
-        Some(dialect) => answer_to(alloc, dialect, asked, format),
-        None => format!(in alloc; "`{name}` is no dialect"),
+    match name.split_once(' ') {
+        Some((word, name)) => answer_to(alloc, word, name, format),
+        None => match Dialect::named(name) {
+            Some(dialect) => answer_of(alloc, to_version_three(alloc, dialect, format)),
+            None => no_dialect(alloc, name),
+        },
     }
 }
 
-fn answer_to(
-    alloc: Global,
-    dialect: Dialect,
-    asked: Option<&str>,
-    text: &str,
-) -> Result<String, AllocError> {
-    match asked {
-        None => answer_of(alloc, to_version_three(alloc, dialect, text)),
-        Some("read") => answer_of(alloc, to_version_three_for_reading(alloc, dialect, text)),
-        Some("back") => format_of(alloc, dialect, text),
-        Some("traps") => traps_of(alloc, dialect, text),
-        Some(word) => format!(in alloc; "`{word}` is not asked of a dialect"),
+/// What a word before the name of a dialect asks for.
+fn answer_to(alloc: Global, word: &str, name: &str, text: &str) -> Result<String, AllocError> {
+    let Some(dialect) = Dialect::named(name) else {
+        return no_dialect(alloc, name);
+    };
+    match word {
+        "read" => answer_of(alloc, to_version_three_for_reading(alloc, dialect, text)),
+        "back" => format_of(alloc, dialect, text),
+        "traps" => traps_of(alloc, dialect, text),
+        _ => format!(in alloc; "`{word}` is not asked of a dialect"),
     }
+}
+
+fn no_dialect(alloc: Global, name: &str) -> Result<String, AllocError> {
+    format!(in alloc; "`{name}` is no dialect")
 }
 
 fn answer_of(alloc: Global, answer: Result<Converted, DialectError>) -> Result<String, AllocError> {

@@ -7,6 +7,13 @@ ghost use Rattle.timefd_dialect.specs.Rows.{entries};
 
 use crate::reason::Reason;
 use crate::row::{NotBefore, Range, Row, Verdict, row};
+use crate::tables::strftime::{
+    CAPITAL_A, CAPITAL_B, CAPITAL_D, CAPITAL_E, CAPITAL_H, CAPITAL_I, CAPITAL_M, CAPITAL_O,
+    CAPITAL_P, CAPITAL_R, CAPITAL_S, CAPITAL_T, CAPITAL_U, CAPITAL_V, CAPITAL_W, CAPITAL_X,
+    CAPITAL_Z, PERCENT_SIGN, SMALL_A, SMALL_B, SMALL_C, SMALL_D, SMALL_E, SMALL_G, SMALL_H,
+    SMALL_J, SMALL_K, SMALL_L, SMALL_M, SMALL_N, SMALL_P, SMALL_R, SMALL_S, SMALL_T, SMALL_U,
+    SMALL_W, SMALL_X, SMALL_Y,
+};
 
 /// The rows of the directives with this byte after the `%`, the longest first.
 #[tactic(auto, unfolding(crate::specs::C::c_groups))]
@@ -106,109 +113,15 @@ pub fn c_keys() -> &'static [u8]
 
 const KEYS: &[u8] = b"deHkIljmMSUVWygCYGuwaAbBhpPDFrRTntzsEOZvfNLQqiJKocxX%-_0^#+123456789";
 
-const SMALL_D: &[Row] = &[row!("%d" => "[day]")];
-
-const SMALL_E: &[Row] = &[row!("%e" => "[day padding:space]")];
-
-const CAPITAL_H: &[Row] = &[row!("%H" => "[hour]")];
-
-const SMALL_K: &[Row] = &[row!("%k" => "[hour padding:space]")];
-
-const CAPITAL_I: &[Row] = &[row!("%I" => "[hour repr:12]")];
-
-const SMALL_L: &[Row] = &[row!("%l" => "[hour repr:12 padding:space]")];
-
-const SMALL_J: &[Row] = &[row!("%j" => "[ordinal]")];
-
-const SMALL_M: &[Row] = &[row!("%m" => "[month]")];
-
-const CAPITAL_M: &[Row] = &[row!("%M" => "[minute]")];
-
-const CAPITAL_S: &[Row] = &[row!("%S" => "[second]")];
-
-const CAPITAL_U: &[Row] = &[row!("%U" => "[week_number repr:sunday]")];
-
-const CAPITAL_V: &[Row] = &[row!("%V" => "[week_number]")];
-
-const CAPITAL_W: &[Row] = &[row!("%W" => "[week_number repr:monday]")];
-
-const SMALL_Y: &[Row] = &[row!("%y" => "[year repr:last_two]")];
-
-const SMALL_G: &[Row] = &[row!("%g" => "[year repr:last_two base:iso_week]" within YearsFrom1)];
-
 const CAPITAL_C: &[Row] = &[row!("%C" => "[year repr:century]" within YearsFrom1000)];
 
 const CAPITAL_Y: &[Row] = &[row!("%Y" => "[year]" within YearsFrom1000)];
 
 const CAPITAL_G: &[Row] = &[row!("%G" => "[year base:iso_week]" within YearsFrom1000)];
 
-const SMALL_U: &[Row] = &[row!("%u" => "[weekday repr:monday]")];
-
-const SMALL_W: &[Row] = &[row!("%w" => "[weekday repr:sunday one_indexed:false]")];
-
-const SMALL_A: &[Row] = &[row!("%a" => "[weekday repr:short]")];
-
-const CAPITAL_A: &[Row] = &[row!("%A" => "[weekday]")];
-
-const SMALL_B: &[Row] = &[row!("%b" => "[month repr:short]")];
-
-const CAPITAL_B: &[Row] = &[row!("%B" => "[month repr:long]")];
-
-const SMALL_H: &[Row] = &[row!("%h" => "[month repr:short]")];
-
-const SMALL_P: &[Row] = &[row!("%p" => "[period]")];
-
-const CAPITAL_P: &[Row] = &[row!("%P" => "[period case:lower]")];
-
-const CAPITAL_D: &[Row] = &[row!("%D" => "[month]/[day]/[year repr:last_two]")];
-
 const CAPITAL_F: &[Row] = &[row!("%F" => "[year]-[month]-[day]" within YearsFrom1000)];
 
-const SMALL_R: &[Row] = &[row!("%r" => "[hour repr:12]:[minute]:[second] [period]")];
-
-const CAPITAL_R: &[Row] = &[row!("%R" => "[hour]:[minute]")];
-
-const CAPITAL_T: &[Row] = &[row!("%T" => "[hour]:[minute]:[second]")];
-
-const PERCENT_SIGN: &[Row] = &[row!("%%" => "%")];
-
-const SMALL_N: &[Row] = &[row!("%n" => "\n")];
-
-const SMALL_T: &[Row] = &[row!("%t" => "\t")];
-
 const SMALL_Z: &[Row] = &[row!("%z" => "[offset_hour sign:mandatory][offset_minute]")];
-
-const SMALL_S: &[Row] = &[row!("%s" => "[unix_timestamp]")];
-
-const CAPITAL_E: &[Row] = &[
-    row!("%Ec" => "[weekday repr:short] [month repr:short] [day padding:space] \
-        [hour]:[minute]:[second] [year]" within YearsFrom1000),
-    row!("%EC" => "[year repr:century]" within YearsFrom1000),
-    row!("%Ex" => "[month]/[day]/[year repr:last_two]"),
-    row!("%EX" => "[hour]:[minute]:[second]"),
-    row!("%Ey" => "[year repr:last_two]"),
-    row!("%EY" => "[year]" within YearsFrom1000),
-];
-
-const CAPITAL_O: &[Row] = &[
-    row!("%Od" => "[day]"),
-    row!("%OH" => "[hour]"),
-    row!("%OI" => "[hour repr:12]"),
-    row!("%OM" => "[minute]"),
-    row!("%OS" => "[second]"),
-    row!("%OU" => "[week_number repr:sunday]"),
-    row!("%OV" => "[week_number]"),
-    row!("%OW" => "[week_number repr:monday]"),
-    row!("%Om" => "[month]"),
-    row!("%Ou" => "[weekday repr:monday]"),
-    row!("%Ow" => "[weekday repr:sunday one_indexed:false]"),
-    row!("%Oy" => "[year repr:last_two]"),
-    row!("%Oe" => "[day padding:space]"),
-    row!("%Ok" => "[hour padding:space]"),
-    row!("%Ol" => "[hour repr:12 padding:space]"),
-];
-
-const CAPITAL_Z: &[Row] = &[row!("%Z" refused ZoneName)];
 
 const HYPHEN: &[Row] = &[
     row!("%-Ec" => "[weekday repr:short] [month repr:short] [day padding:space] \
@@ -582,12 +495,3 @@ const DIGIT_SEVEN: &[Row] = &[row!("%7" refused Width)];
 const DIGIT_EIGHT: &[Row] = &[row!("%8" refused Width)];
 
 const DIGIT_NINE: &[Row] = &[row!("%9" refused Width)];
-
-const SMALL_C: &[Row] = &[
-    row!("%c" => "[weekday repr:short] [month repr:short] [day padding:space] \
-        [hour]:[minute]:[second] [year]" within YearsFrom1000),
-];
-
-const SMALL_X: &[Row] = &[row!("%x" => "[month]/[day]/[year repr:last_two]")];
-
-const CAPITAL_X: &[Row] = &[row!("%X" => "[hour]:[minute]:[second]")];

@@ -7,6 +7,13 @@ ghost use Rattle.timefd_dialect.specs.Rows.{entries};
 
 use crate::reason::Reason;
 use crate::row::{NotBefore, Range, Row, Verdict, row};
+use crate::tables::strftime::{
+    CAPITAL_A, CAPITAL_B, CAPITAL_C, CAPITAL_D, CAPITAL_F, CAPITAL_G, CAPITAL_H, CAPITAL_I,
+    CAPITAL_M, CAPITAL_P, CAPITAL_R, CAPITAL_S, CAPITAL_T, CAPITAL_U, CAPITAL_V, CAPITAL_W,
+    CAPITAL_X, CAPITAL_Y, CAPITAL_Z, PERCENT_SIGN, SMALL_A, SMALL_B, SMALL_D, SMALL_E, SMALL_G,
+    SMALL_H, SMALL_J, SMALL_K, SMALL_L, SMALL_M, SMALL_N, SMALL_P, SMALL_R, SMALL_S, SMALL_T,
+    SMALL_U, SMALL_W, SMALL_X, SMALL_Y, SMALL_Z,
+};
 
 /// The rows of the directives with this byte after the `%`, the longest first.
 #[tactic(auto, unfolding(crate::specs::Chrono::chrono_groups))]
@@ -81,81 +88,9 @@ pub fn chrono_keys() -> &'static [u8]
 
 const KEYS: &[u8] = b"deHkIljmMSUVWygCYGuwaAbBhpPDFrRT%ntfvs-369.0z:+_Z#cxX";
 
-const SMALL_D: &[Row] = &[row!("%d" => "[day]")];
-
-const SMALL_E: &[Row] = &[row!("%e" => "[day padding:space]")];
-
-const CAPITAL_H: &[Row] = &[row!("%H" => "[hour]")];
-
-const SMALL_K: &[Row] = &[row!("%k" => "[hour padding:space]")];
-
-const CAPITAL_I: &[Row] = &[row!("%I" => "[hour repr:12]")];
-
-const SMALL_L: &[Row] = &[row!("%l" => "[hour repr:12 padding:space]")];
-
-const SMALL_J: &[Row] = &[row!("%j" => "[ordinal]")];
-
-const SMALL_M: &[Row] = &[row!("%m" => "[month]")];
-
-const CAPITAL_M: &[Row] = &[row!("%M" => "[minute]")];
-
-const CAPITAL_S: &[Row] = &[row!("%S" => "[second]")];
-
-const CAPITAL_U: &[Row] = &[row!("%U" => "[week_number repr:sunday]")];
-
-const CAPITAL_V: &[Row] = &[row!("%V" => "[week_number]")];
-
-const CAPITAL_W: &[Row] = &[row!("%W" => "[week_number repr:monday]")];
-
-const SMALL_Y: &[Row] = &[row!("%y" => "[year repr:last_two]")];
-
-const SMALL_G: &[Row] = &[row!("%g" => "[year repr:last_two base:iso_week]" within YearsFrom1)];
-
-const CAPITAL_C: &[Row] = &[row!("%C" => "[year repr:century]")];
-
-const CAPITAL_Y: &[Row] = &[row!("%Y" => "[year]")];
-
-const CAPITAL_G: &[Row] = &[row!("%G" => "[year base:iso_week]" within YearsFrom1)];
-
-const SMALL_U: &[Row] = &[row!("%u" => "[weekday repr:monday]")];
-
-const SMALL_W: &[Row] = &[row!("%w" => "[weekday repr:sunday one_indexed:false]")];
-
-const SMALL_A: &[Row] = &[row!("%a" => "[weekday repr:short]")];
-
-const CAPITAL_A: &[Row] = &[row!("%A" => "[weekday]")];
-
-const SMALL_B: &[Row] = &[row!("%b" => "[month repr:short]")];
-
-const CAPITAL_B: &[Row] = &[row!("%B" => "[month repr:long]")];
-
-const SMALL_H: &[Row] = &[row!("%h" => "[month repr:short]")];
-
-const SMALL_P: &[Row] = &[row!("%p" => "[period]")];
-
-const CAPITAL_P: &[Row] = &[row!("%P" => "[period case:lower]")];
-
-const CAPITAL_D: &[Row] = &[row!("%D" => "[month]/[day]/[year repr:last_two]")];
-
-const CAPITAL_F: &[Row] = &[row!("%F" => "[year]-[month]-[day]")];
-
-const SMALL_R: &[Row] = &[row!("%r" => "[hour repr:12]:[minute]:[second] [period]")];
-
-const CAPITAL_R: &[Row] = &[row!("%R" => "[hour]:[minute]")];
-
-const CAPITAL_T: &[Row] = &[row!("%T" => "[hour]:[minute]:[second]")];
-
-const PERCENT_SIGN: &[Row] = &[row!("%%" => "%")];
-
-const SMALL_N: &[Row] = &[row!("%n" => "\n")];
-
-const SMALL_T: &[Row] = &[row!("%t" => "\t")];
-
 const SMALL_F: &[Row] = &[row!("%f" => "[subsecond digits:9]")];
 
 const SMALL_V: &[Row] = &[row!("%v" => "[day padding:space]-[month repr:short]-[year]")];
-
-const SMALL_S: &[Row] = &[row!("%s" => "[unix_timestamp]")];
 
 const HYPHEN: &[Row] = &[
     row!("%-s" => "[unix_timestamp]"),
@@ -223,10 +158,6 @@ const DIGIT_ZERO: &[Row] = &[
     row!("%0" refused Flag),
 ];
 
-const SMALL_Z: &[Row] = &[
-    row!("%z" => "[offset_hour sign:mandatory][offset_minute]" within WholeMinutes),
-];
-
 const COLON: &[Row] = &[
     row!("%:::z" => "[offset_hour sign:mandatory]"),
     row!("%::z" => "[offset_hour sign:mandatory]:[offset_minute]:[offset_second]"),
@@ -263,15 +194,9 @@ const UNDERSCORE: &[Row] = &[
     row!("%_" refused Flag),
 ];
 
-const CAPITAL_Z: &[Row] = &[row!("%Z" refused ZoneName)];
-
 const HASH: &[Row] = &[row!("%#z" refused ReadingOnly)];
 
 const SMALL_C: &[Row] = &[
     row!("%c" => "[weekday repr:short] [month repr:short] [day padding:space] \
         [hour]:[minute]:[second] [year]"),
 ];
-
-const SMALL_X: &[Row] = &[row!("%x" => "[month]/[day]/[year repr:last_two]")];
-
-const CAPITAL_X: &[Row] = &[row!("%X" => "[hour]:[minute]:[second]")];
