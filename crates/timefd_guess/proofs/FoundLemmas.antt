@@ -1,7 +1,8 @@
 -- What is found of texts so far, and what holds of it.
-use Rattle.std.proofs.Common.{ℕ, ◌≡◌, ◌+◌, ◌-◌, ◌++◌, Bool, true, false, List, [], ◌∷◌, take, length, zero, suc, Option, Some, None, append-nil, append_assoc, refl, sym, ap, subst, ◌∙◌, inl, inr, arith, Result, Ok, Err}
+use Rattle.std.proofs.Common.{ℕ, ◌≡◌, ◌+◌, ◌-◌, ◌++◌, Bool, true, false, List, [], ◌∷◌, take, drop, get_or, length, zero, suc, Option, Some, None, length-take, append-nil, append_assoc, refl, sym, ap, subst, ◌∙◌, inl, inr, arith, Result, Ok, Err}
 use Rattle.std.specs.Prelude.{All, ◌≤◌, IfOk}
 use Rattle.std.specs.declared.alloc.AllocError.{AllocError}
+use Rattle.std.proofs.Math.Seq.{take-length}
 use Rattle.std.proofs.lemmas.List.Elements.{All-nil, All-cons, All-append, All-take}
 use denote.Ref.{Bor}
 use Rattle.timefd_component.specs.Tree.{Text, Tree, pack}
@@ -20,6 +21,14 @@ use Rattle.timefd_language.specs.Grammar.{Spells, nesting_limit}
 use Rattle.timefd_language.specs.declared.description_version.DescriptionVersion.TheVariants.{Three}
 use Rattle.timefd_guess.specs.declared.candidate.Candidate.{Candidate}
 use Rattle.timefd_guess.specs.declared.guessing.Guess.{Guess}
+
+-- the first of a list and those after it, as a pattern takes them
+split : {A : Type 0} (rest : List A) (n : ℕ) (d : A) → n ≡ length rest → 1 ≤ length rest
+    → rest ≡ get_or rest 0 d ∷ take (n - 1) (drop 1 rest)
+split [] n d same some = absurd (omega (arith, some))
+split (first ∷ rest) n d same some =
+    let few : n - 1 ≡ length rest = omega (arith, same) in
+    ap (λ r. first ∷ r) (sym (ap (λ k. take k rest) few ∙ take-length rest))
 
 -- Texts that come back.
 
@@ -113,6 +122,15 @@ one_counted tree all rest after text count new one split comes sum so_far n coun
     (subst (λ r. Counts tree (texts r) (one_if one + n)) (sym split)
     (one, n, comes, counts, refl)))
 
+pub first_counted : (tree : Tree) (all : List Text) (rest : List (Bor Text)) (k : ℕ) (d : Bor Text)
+    (count new : ℕ) (one : Bool) → k ≡ length rest → 1 ≤ length rest
+    → ComesBack tree (get_or rest 0 d).now one → new ≡ count + one_if one
+    → Counting tree all (texts rest) count
+    → Counting tree all (texts (take (k - 1) (drop 1 rest))) new
+first_counted tree all rest k d count new one same some comes sum so_far =
+    one_counted tree all rest (take (k - 1) (drop 1 rest)) (get_or rest 0 d) count new one
+    (split rest k d same some) comes sum so_far
+
 pub all_counted : (tree : Tree) (all : List Text) (rest : List (Bor Text)) (count : ℕ) → rest ≡ []
     → Counting tree all (texts rest) count → Counts tree all count
 all_counted tree all rest count none so_far =
@@ -120,11 +138,14 @@ all_counted tree all rest count none so_far =
     (so_far 0 (subst (λ r. Counts tree (texts r) 0) (sym none) refl))
 
 -- What is counted is no more than what is gone.
-pub bound_more : (rest after : List (Bor Text)) (count new most : ℕ) (one : Bool) → 1 ≤ length rest
-    → length after ≡ length rest - 1 → new ≡ count + one_if one → count + length rest ≤ most
-    → new + length after ≤ most
-bound_more rest after count new most true some less sum within = omega (arith, some, less, sum, within)
-bound_more rest after count new most false some less sum within = omega (arith, some, less, sum, within)
+pub bound_more : (rest : List (Bor Text)) (k count new most : ℕ) (one : Bool) → k ≡ length rest
+    → 1 ≤ length rest → new ≡ count + one_if one → count + length rest ≤ most
+    → new + length (take (k - 1) (drop 1 rest)) ≤ most
+bound_more [] k count new most one same some sum within = absurd (omega (arith, some))
+bound_more (first ∷ rest) k count new most true same some sum within =
+    omega (arith, same, sum, within, length-take (k - 1) rest)
+bound_more (first ∷ rest) k count new most false same some sum within =
+    omega (arith, same, sum, within, length-take (k - 1) rest)
 
 -- Candidates that are found.
 
@@ -145,6 +166,14 @@ one_found rows all rest after row old found new split one so_far more others =
     (so_far (one.1 ++ more)
     (subst (λ r. AreFound (entries r) all (one.1 ++ more)) (sym split)
     (one.0, one.1, more, one.2, one.3, others, refl)))
+
+pub first_found : (rows : List Entry) (all : List Text) (rest : List Candidate) (k : ℕ)
+    (d : Candidate) (old found new : List Guess) → k ≡ length rest → 1 ≤ length rest
+    → Appends (entry_of (get_or rest 0 d)) all found new → Finds rows all (entries rest) old found
+    → Finds rows all (entries (take (k - 1) (drop 1 rest))) old new
+first_found rows all rest k d old found new same some one so_far =
+    one_found rows all rest (take (k - 1) (drop 1 rest)) (get_or rest 0 d) old found new
+    (split rest k d same some) one so_far
 
 pub all_found : (rows : List Entry) (all : List Text) (rest : List Candidate) (old found : List Guess)
     → rest ≡ [] → Finds rows all (entries rest) old found → Adds rows all old found
@@ -179,6 +208,15 @@ one_group rows all rest after group candidates old found new split are one so_fa
     (subst (λ r. AreFound (rows_in r) all (one.0 ++ more)) (sym split)
     (joined (rows_of group) (rows_in after) all one.0 more
     (subst (λ r. AreFound r all one.0) are one.1) others)))
+
+pub first_group : (rows : List Entry) (all : List Text) (rest : List Group) (k : ℕ) (d : Group)
+    (candidates : List Candidate) (old found new : List Guess) → k ≡ length rest → 1 ≤ length rest
+    → entries candidates ≡ rows_of (get_or rest 0 d) → Adds (entries candidates) all found new
+    → Finds rows all (rows_in rest) old found
+    → Finds rows all (rows_in (take (k - 1) (drop 1 rest))) old new
+first_group rows all rest k d candidates old found new same some are one so_far =
+    one_group rows all rest (take (k - 1) (drop 1 rest)) (get_or rest 0 d) candidates old found new
+    (split rest k d same some) are one so_far
 
 pub all_in_groups : (rows : List Entry) (all : List Text) (rest : List Group) (found : List Guess)
     → rest ≡ [] → Finds rows all (rows_in rest) [] found → AreFound rows all found

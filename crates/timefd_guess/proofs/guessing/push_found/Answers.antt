@@ -1,16 +1,19 @@
-use Rattle.std.proofs.Common.{rules}
+use Rattle.std.proofs.Common.{rules, arith}
+use Rattle.std.proofs.lemmas.List.{nil_from_length}
 use Rattle.timefd_guess.specs.Candidates.{entries}
 use Rattle.timefd_guess.specs.Found.{texts}
-use Rattle.timefd_guess.proofs.FoundLemmas.{all_found, one_found}
+use Rattle.timefd_guess.proofs.FoundLemmas.{all_found, first_found}
 use Rattle.timefd_guess.proofs.guessing.push_found.Goals as goal
 
 pub candidates-preserved : goal.candidates-preserved
 candidates-preserved c =
-    one_found (entries c.args.candidates.now) (texts c.args.texts.now) c.candidates.rest.now _ _
+    first_found (entries c.args.candidates.now) (texts c.args.texts.now) c.candidates.rest.now _ _
     c.args.found.now.items c.candidates.found.items c.push_if.new.found.items (search rules)
-    c.in_ok-push_if.ensures c.candidates.invariant
+    c.in-len1-up.len_at_least c.in_ok-push_if.ensures c.candidates.invariant
 
 pub returns : goal.returns
 returns c =
     all_found (entries c.args.candidates.now) (texts c.args.texts.now) c.candidates.rest.now
-    c.args.found.now.items c.candidates.found.items (search rules) c.candidates.invariant
+    c.args.found.now.items c.candidates.found.items
+    (nil_from_length c.candidates.rest.now (omega (arith, c.in_default.len_below)))
+    c.candidates.invariant
