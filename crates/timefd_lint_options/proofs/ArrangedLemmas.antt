@@ -28,10 +28,10 @@ ended old mid new names first is =
     ∙ (ap (λ t. t ++ texts names) first ∙ append_assoc (texts old) (alone (codes "--")) (texts names)))
 
 -- What is left adds the rest.
-pub record IsArrangedTo (all : List Text) (place : Place) (rest options names : List Text) : Type 0 where
-  pub options : options ++ options_in place rest ≡ options_in places.Option all
-  pub names : names ++ names_in place rest ≡ names_in places.Option all
-  pub place : place_after place rest ≡ place_after places.Option all
+pub record IsArrangedTo (all : List Text) (here : Place) (left taken named : List Text) : Type 0 where
+  pub options : taken ++ options_in here left ≡ options_in places.Option all
+  pub names : named ++ names_in here left ≡ names_in places.Option all
+  pub place : place_after here left ≡ place_after places.Option all
 
 pub at_first : (all : List Text) → IsArrangedTo all places.Option all [] []
 at_first all = record { options = refl; names = refl; place = refl }
