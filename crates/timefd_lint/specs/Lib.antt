@@ -12,5 +12,4 @@ pub mod Rules
 pub mod Pages
 pub mod CodeNames
 pub mod Unwalked
-pub mod Identities
 pub mod Sought

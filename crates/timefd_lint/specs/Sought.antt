@@ -1,5 +1,5 @@
 -- How the names of files end that are looked at below folders.
-use Rattle.std.specs.Prelude.{Bool, true, false, ◌||◌, List, [], ◌∷◌, codes, if◌then◌else◌}
+use Rattle.std.specs.Prelude.{◌||◌, ◌==◌, length, List, [], ◌∷◌, codes, if◌then◌else◌}
 use Rattle.timefd_component.specs.Tree.{Text}
 use Rattle.timefd_keys.specs.declared.key.Key.{Key}
 use Rattle.timefd_lint_options.specs.declared.settings.Settings.{Settings}
@@ -11,10 +11,6 @@ abbrev pub rust_and_keys : List Text
 rust_and_keys =
     codes ".rs" ∷ codes ".toml" ∷ codes ".json" ∷ codes ".yaml" ∷ codes ".yml" ∷ []
 
-abbrev pub has_none : List Key → Bool
-has_none [] = true
-has_none (key ∷ keys) = false
-
 -- Sources of Rust, and files with keys where keys are looked for.
 abbrev pub endings : Settings → List Key → List Text
-endings s keys = if has_none keys || s.is_source then rust else rust_and_keys
+endings s keys = if (length keys == 0) || s.is_source then rust else rust_and_keys

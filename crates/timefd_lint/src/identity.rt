@@ -1,8 +1,5 @@
 //! Which file a name stands for.
 
-ghost use Rattle.std.specs.Prelude.{◌≡◌, ◌∷◌, ◌++◌, [], OnOk};
-ghost use Rattle.timefd_lint.specs.Identities as spec;
-
 use crate::line::RunError;
 use std::fs;
 use std::os::unix::fs::MetadataExt;
@@ -11,17 +8,8 @@ use std::rt::Files;
 /// A file of the system, whatever its names.
 #[derive(Clone, Copy)]
 pub struct Identity {
-    pub device: u64,
-    pub inode: u64,
-}
-
-impl Identity {
-    // Whether it is that of the same file.
-    fn is(self, other: Identity) -> bool
-        ensures { result ≡ spec.is_same self other }
-    {
-        self.device == other.device && self.inode == other.inode
-    }
+    device: u64,
+    inode: u64,
 }
 
 /// The file of a name; `None` where there is none.
@@ -34,16 +22,17 @@ pub fn identity_of<R: Files>(rt: &R, name: &str) -> Option<Identity> {
 }
 
 /// Whether a file is one of those that are met.
-pub fn is_among(met: &[Identity], identity: Identity) -> bool
-    ensures { result ≡ spec.is_among met.now identity }
-{
-    met.iter().any(|other| other.is(identity))
+pub fn is_among(met: &[Identity], identity: Identity) -> bool {
+    for other in met {
+        if other.device == identity.device && other.inode == identity.inode {
+            return true;
+        }
+    }
+    false
 }
 
 /// Adds a file to those that are met.
-pub fn meet(met: &mut Vec<Identity>, identity: Identity) -> Result<(), RunError>
-    ensures { OnOk result (met.new.items ≡ met.old.items ++ identity ∷ []) }
-{
+pub fn meet(met: &mut Vec<Identity>, identity: Identity) -> Result<(), RunError> {
     match met.push(identity) {
         Ok(()) => Ok(()),
         Err(_) => Err(RunError::Memory),

@@ -28,47 +28,47 @@ ended old mid new names first is =
     ∙ (ap (λ t. t ++ texts names) first ∙ append_assoc (texts old) (alone (codes "--")) (texts names)))
 
 -- What is left adds the rest.
-pub record IsArrangedTo (all : List Text) (place : Place) (rest options names : List Text) : Type 0 where
-  pub options : options ++ options_in place rest ≡ options_in places.Option all
-  pub names : names ++ names_in place rest ≡ names_in places.Option all
-  pub place : place_after place rest ≡ place_after places.Option all
+pub record IsArrangedTo (all : List Text) (here : Place) (left taken named : List Text) : Type 0 where
+  pub options : taken ++ options_in here left ≡ options_in places.Option all
+  pub names : named ++ names_in here left ≡ names_in places.Option all
+  pub place : place_after here left ≡ place_after places.Option all
 
 pub at_first : (all : List Text) → IsArrangedTo all places.Option all [] []
 at_first all = record { options = refl; names = refl; place = refl }
 
-pub one_more : (all : List Text) (place place' : Place) (word : Bor Text) (more rest : List (Bor Text))
-    (options options' names names' : List Text) → rest ≡ word ∷ more
-    → options' ≡ options ++ options_at place word.now → names' ≡ names ++ names_at place word.now
-    → place' ≡ next place word.now → IsArrangedTo all place (texts rest) options names
-    → IsArrangedTo all place' (texts more) options' names'
-one_more all place place' word more rest options options' names names' split os ns is so_far =
+pub one_more : (all : List Text) (here here' : Place) (word : Bor Text) (more rest : List (Bor Text))
+    (taken taken' named named' : List Text) → rest ≡ word ∷ more
+    → taken' ≡ taken ++ options_at here word.now → named' ≡ named ++ names_at here word.now
+    → here' ≡ next here word.now → IsArrangedTo all here (texts rest) taken named
+    → IsArrangedTo all here' (texts more) taken' named'
+one_more all here here' word more rest taken taken' named named' split os ns is so_far =
     let at : texts rest ≡ word.now ∷ texts more = ap texts split in
     record {
       options =
-          ap (λ o. o ++ options_in place' (texts more)) os ∙
-          (ap (λ p. (options ++ options_at place word.now) ++ options_in p (texts more)) is ∙
-          (append_assoc options (options_at place word.now) (options_in (next place word.now) (texts more)) ∙
-          (ap (λ ws. options ++ options_in place ws) (sym at) ∙ so_far.options)));
+          ap (λ o. o ++ options_in here' (texts more)) os ∙
+          (ap (λ p. (taken ++ options_at here word.now) ++ options_in p (texts more)) is ∙
+          (append_assoc taken (options_at here word.now) (options_in (next here word.now) (texts more)) ∙
+          (ap (λ ws. taken ++ options_in here ws) (sym at) ∙ so_far.options)));
       names =
-          ap (λ o. o ++ names_in place' (texts more)) ns ∙
-          (ap (λ p. (names ++ names_at place word.now) ++ names_in p (texts more)) is ∙
-          (append_assoc names (names_at place word.now) (names_in (next place word.now) (texts more)) ∙
-          (ap (λ ws. names ++ names_in place ws) (sym at) ∙ so_far.names)));
+          ap (λ o. o ++ names_in here' (texts more)) ns ∙
+          (ap (λ p. (named ++ names_at here word.now) ++ names_in p (texts more)) is ∙
+          (append_assoc named (names_at here word.now) (names_in (next here word.now) (texts more)) ∙
+          (ap (λ ws. named ++ names_in here ws) (sym at) ∙ so_far.names)));
       place =
-          ap (λ p. place_after p (texts more)) is ∙ (ap (place_after place) (sym at) ∙ so_far.place);
+          ap (λ p. place_after p (texts more)) is ∙ (ap (place_after here) (sym at) ∙ so_far.place);
     }
 
-pub at_last : (all : List Text) (place : Place) (rest : List (Bor Text)) (options names new : List Text)
-    → rest ≡ [] → IsArrangedTo all place (texts rest) options names
-    → new ≡ options ++ ended_with place names → new ≡ arranged all
-at_last all place rest options names new none so_far is =
+pub at_last : (all : List Text) (here : Place) (rest : List (Bor Text)) (taken named new : List Text)
+    → rest ≡ [] → IsArrangedTo all here (texts rest) taken named
+    → new ≡ taken ++ ended_with here named → new ≡ arranged all
+at_last all here rest taken named new none so_far is =
     let left : texts rest ≡ [] = ap texts none in
-    let os : options ≡ options_in places.Option all =
-    sym (append-nil options) ∙ (ap (λ ws. options ++ options_in place ws) (sym left) ∙ so_far.options) in
-    let ns : names ≡ names_in places.Option all =
-    sym (append-nil names) ∙ (ap (λ ws. names ++ names_in place ws) (sym left) ∙ so_far.names) in
-    let pl : place ≡ place_after places.Option all =
-    ap (place_after place) (sym left) ∙ so_far.place in
-    is ∙ (ap (λ o. o ++ ended_with place names) os ∙
-    (ap (λ p. options_in places.Option all ++ ended_with p names) pl ∙
+    let os : taken ≡ options_in places.Option all =
+    sym (append-nil taken) ∙ (ap (λ ws. taken ++ options_in here ws) (sym left) ∙ so_far.options) in
+    let ns : named ≡ names_in places.Option all =
+    sym (append-nil named) ∙ (ap (λ ws. named ++ names_in here ws) (sym left) ∙ so_far.names) in
+    let pl : here ≡ place_after places.Option all =
+    ap (place_after here) (sym left) ∙ so_far.place in
+    is ∙ (ap (λ o. o ++ ended_with here named) os ∙
+    (ap (λ p. options_in places.Option all ++ ended_with p named) pl ∙
     ap (λ n. options_in places.Option all ++ ended_with (place_after places.Option all) n) ns))
