@@ -30,11 +30,33 @@ packed m [] = refl
 packed m (t ∷ []) = sym (alone (written m t))
 packed m (t ∷ u ∷ ts) = refl
 
-pub description_shown : (m : Moment) (list : List Tree) (t : Tree)
-    (r : Result (Vec ℕ Global) FormatTextError) → t ≡ pack list → IsShownAs (written m t) r
-    → IsShownAs (written_all m (trees list)) r
-description_shown m list t r is shown =
-    subst (λ x. IsShownAs x r) (packed m list) (subst (λ u. IsShownAs (written m u) r) is shown)
+module _ (m : Moment) (list : List Tree) (r : Result (Vec ℕ Global) FormatTextError) where
+  of_items : (items : List BorrowedFormatItem) → item_trees items ≡ list
+      → IsShownAs (written_all m (trees (item_trees items))) r
+      → IsShownAs (written_all m (trees list)) r
+  of_items items is shown = subst (λ l. IsShownAs (written_all m (trees l)) r) is shown
+
+  pub items_shown : (v : DescriptionVersion) (vec : Vec BorrowedFormatItem Global)
+      (lent : List BorrowedFormatItem) → lent ≡ vec.items → IsOutput v list (Items vec)
+      → IsShownAs (written_all m (trees (item_trees lent))) r
+      → IsShownAs (written_all m (trees list)) r
+  items_shown One vec lent e is shown = of_items lent (ap (λ xs. map item_tree xs) e ∙ is) shown
+  items_shown Two vec lent e is shown = of_items lent (ap (λ xs. map item_tree xs) e ∙ is) shown
+  items_shown Three vec lent e is shown = absurd is
+
+  pub strftime_shown : (items lent : List BorrowedFormatItem) → lent ≡ items
+      → item_trees items ≡ list → IsShownAs (written_all m (trees (item_trees lent))) r
+      → IsShownAs (written_all m (trees list)) r
+  strftime_shown items lent e is shown =
+      of_items lent (ap (λ xs. map item_tree xs) e ∙ is) shown
+
+  pub description_shown : (v : DescriptionVersion) (d : FormatDescriptionV3)
+      → IsOutput v list (Description d) → IsShownAs (written m (description_tree d)) r
+      → IsShownAs (written_all m (trees list)) r
+  description_shown One d is shown = absurd is
+  description_shown Two d is shown = absurd is
+  description_shown Three d is shown =
+      subst (λ x. IsShownAs x r) (packed m list) (subst (λ t. IsShownAs (written m t) r) is shown)
 
 -- where memory ran out, whatever was to be written
 pub nothing_shown : (w : Result Text Unshown) (e : FormatTextError) → IsMemory e

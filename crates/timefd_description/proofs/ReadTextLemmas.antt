@@ -40,10 +40,34 @@ as_told : (w : Result Fields ReadError) (r : Result Fields ReadTextError) → r 
 as_told (Ok f) r e = subst (λ x. AreFieldsAs (Ok f) x) (sym e) refl
 as_told (Err u) r e = subst (λ x. AreFieldsAs (Err u) x) (sym e) refl
 
-pub description_read : (text : Text) (list : List Tree) (t : Tree) (r : Result Fields ReadTextError)
-    → t ≡ pack list → r ≡ told (fields_of t text) → AreFieldsAs (fields_in list text) r
-description_read text list t r is same = as_told (fields_in list text) r
-    (same ∙ (ap (λ u. told (fields_of u text)) is ∙ ap (λ w. told w) (packed list text)))
+module _ (text : Text) (list : List Tree) (r : Result Fields ReadTextError) where
+  of_items : (items : List BorrowedFormatItem) → item_trees items ≡ list
+      → r ≡ told (fields_of (compound (trees (item_trees items))) text)
+      → AreFieldsAs (fields_in list text) r
+  of_items items is e =
+      as_told (fields_in list text) r (e ∙ ap (λ l. told (fields_in l text)) is)
+
+  pub items_read : (v : DescriptionVersion) (vec : Vec BorrowedFormatItem Global)
+      (lent : List BorrowedFormatItem) → lent ≡ vec.items → IsOutput v list (Items vec)
+      → r ≡ told (fields_of (compound (trees (item_trees lent))) text)
+      → AreFieldsAs (fields_in list text) r
+  items_read One vec lent e is same = of_items lent (ap (λ xs. map item_tree xs) e ∙ is) same
+  items_read Two vec lent e is same = of_items lent (ap (λ xs. map item_tree xs) e ∙ is) same
+  items_read Three vec lent e is same = absurd is
+
+  pub strftime_read : (items lent : List BorrowedFormatItem) → lent ≡ items
+      → item_trees items ≡ list → r ≡ told (fields_of (compound (trees (item_trees lent))) text)
+      → AreFieldsAs (fields_in list text) r
+  strftime_read items lent e is same =
+      of_items lent (ap (λ xs. map item_tree xs) e ∙ is) same
+
+  pub description_read : (v : DescriptionVersion) (d : FormatDescriptionV3)
+      → IsOutput v list (Description d) → r ≡ told (fields_of (description_tree d) text)
+      → AreFieldsAs (fields_in list text) r
+  description_read One d is same = absurd is
+  description_read Two d is same = absurd is
+  description_read Three d is same = as_told (fields_in list text) r
+      (same ∙ (ap (λ t. told (fields_of t text)) is ∙ ap (λ w. told w) (packed list text)))
 
 -- what reads, or doesn't, has no fault
 pub no_fault : (P : Fault → Type 0) (w : Result Fields ReadError) (r : Result Fields ReadTextError)

@@ -1,19 +1,24 @@
-//! What the text of a description writes of a moment, in any language.
+//! The text of a description, and what it writes.
 
 ghost use Rattle.std.specs.Prelude.{List};
 ghost use Rattle.timefd_component.specs.Tree.{Tree, trees};
-ghost use Rattle.timefd_description.specs.Descriptions.{tree};
-ghost use Rattle.timefd_description.specs.Formatted.{IsRefusedFor, IsShownAs};
 ghost use Rattle.timefd_fault.specs.Faults as spec;
 ghost use Rattle.timefd_format.specs.Written.{written, written_all};
+ghost use Rattle.timefd_format_item.specs.Meaning.{item_trees};
+ghost use Rattle.timefd_description.specs.Formatted.{IsFaulty, IsMemory, IsRefusedFor, IsShownAs};
+ghost use Rattle.timefd_items.specs.Description.{description_tree};
 ghost use Rattle.timefd_language.specs.Grammar.{nesting_limit};
 ghost use Rattle.timefd_parse.specs.Language.{FaultIn, SpellsIn};
 
-use crate::description::Description;
 use crate::format_error::{FormatTextError, of_parse_error, of_text_error};
-use std::alloc::Global;
+use std::alloc::{AllocError, Global};
+use timefd_format::{format, format_items};
+use timefd_format_item::BorrowedFormatItem;
 use timefd_moment::Moment;
-use timefd_parse::Language;
+use timefd_parse::{
+    BorrowedOutput, DescriptionVersion, FormatDescriptionV3, Language, NESTING_LIMIT,
+    StrftimeTables, count_strftime, parse_all_borrowed, parse_strftime_all_borrowed,
+};
 
 /// What a text of a language writes of the moment, in bytes.
 ///
@@ -33,20 +38,84 @@ pub fn format_text<'a>(
     ensures refused { (f : spec.Fault) → FaultIn language nesting_limit text.now f
         → IsRefusedFor f result }
 {
-    match Description::parse(alloc, language, text) {
-        Ok(description) => shown(alloc, moment, &description),
+    match language {
+        Language::Version(version) => format_version(alloc, version, text, moment),
+        Language::Strftime => format_strftime(alloc, text, moment),
+    }
+}
+
+fn format_version<'a>(
+    alloc: Global,
+    version: DescriptionVersion,
+    text: &'a str,
+    moment: Moment,
+) -> Result<Vec<u8>, FormatTextError<'a>>
+    ensures spelled { (list : List Tree)
+        → SpellsIn (Language.Version version) nesting_limit text.now list
+        → IsShownAs (written_all moment (trees list)) result }
+    ensures refused { (f : spec.Fault)
+        → FaultIn (Language.Version version) nesting_limit text.now f → IsRefusedFor f result }
+{
+    match parse_all_borrowed(alloc, version, NESTING_LIMIT, text) {
+        Ok(BorrowedOutput::Items(items)) => shown_items(alloc, moment, &items),
+        Ok(BorrowedOutput::Description(description)) => {
+            shown_description(alloc, moment, &description)
+        }
         Err(error) => Err(of_parse_error(error)),
     }
 }
 
-fn shown<'e>(
+fn format_strftime<'a>(
+    alloc: Global,
+    text: &'a str,
+    moment: Moment,
+) -> Result<Vec<u8>, FormatTextError<'a>>
+    ensures spelled { (list : List Tree) → SpellsIn Language.Strftime nesting_limit text.now list
+        → IsShownAs (written_all moment (trees list)) result }
+    ensures refused { (f : spec.Fault) → FaultIn Language.Strftime nesting_limit text.now f
+        → IsRefusedFor f result }
+{
+    let tables = StrftimeTables::new();
+    match parse_strftime_all_borrowed(alloc, &tables, text) {
+        Ok(items) => shown_items(alloc, moment, &items),
+        Err(_) => Err(strftime_error(text)),
+    }
+}
+
+// Why a text of strftime was not read, found again as an error that doesn't borrow the tables.
+fn strftime_error(text: &str) -> FormatTextError<'_>
+    ensures spelled { (list : List Tree) → SpellsIn Language.Strftime nesting_limit text.now list
+        → IsMemory result }
+    ensures refused { (f : spec.Fault) → FaultIn Language.Strftime nesting_limit text.now f
+        → IsFaulty f result }
+{
+    match count_strftime(text) {
+        Ok(_) => FormatTextError::Memory(AllocError),
+        Err(fault) => FormatTextError::Fault(fault),
+    }
+}
+
+fn shown_items<'e>(
     alloc: Global,
     moment: Moment,
-    description: &Description<'_>,
+    items: &[BorrowedFormatItem<'_>],
 ) -> Result<Vec<u8>, FormatTextError<'e>>
-    ensures { IsShownAs (written moment (tree description.now)) result }
+    ensures { IsShownAs (written_all moment (trees (item_trees items.now))) result }
 {
-    match description.format(alloc, moment) {
+    match format_items(alloc, moment, items) {
+        Ok(bytes) => Ok(bytes),
+        Err(error) => Err(of_text_error(error)),
+    }
+}
+
+fn shown_description<'e>(
+    alloc: Global,
+    moment: Moment,
+    description: &FormatDescriptionV3<'_>,
+) -> Result<Vec<u8>, FormatTextError<'e>>
+    ensures { IsShownAs (written moment (description_tree description.now)) result }
+{
+    match format(alloc, moment, description.view()) {
         Ok(text) => Ok(text.into_bytes()),
         Err(error) => Err(of_text_error(error)),
     }

@@ -1,21 +1,25 @@
-//! What a text shows by the text of a description, in any language.
+//! The text of a description, and what another text shows by it.
 
 ghost use Rattle.std.specs.Prelude.{◌≡◌, List};
 ghost use Rattle.std.specs.Result.{IfErr};
-ghost use Rattle.timefd_component.specs.Tree.{Tree};
-ghost use Rattle.timefd_description.specs.Descriptions.{tree};
-ghost use Rattle.timefd_description.specs.ReadAnswers.{AreFieldsAs, HasFaultOf, IsReadAs, IsRefusedFor, fields_in, told};
+ghost use Rattle.timefd_component.specs.Tree.{Tree, compound, trees};
 ghost use Rattle.timefd_fault.specs.Faults as spec;
+ghost use Rattle.timefd_format_item.specs.Meaning.{item_trees};
+ghost use Rattle.timefd_items.specs.Description.{description_tree};
 ghost use Rattle.timefd_language.specs.Grammar.{nesting_limit};
 ghost use Rattle.timefd_parse.specs.Language.{FaultIn, SpellsIn};
 ghost use Rattle.timefd_read_dates.specs.Reads.{fields_of};
+ghost use Rattle.timefd_description.specs.ReadAnswers.{AreFieldsAs, HasFaultOf, IsFaulty, IsMemory, IsReadAs, IsRefusedFor, fields_in, told};
 
-use crate::description::Description;
 use crate::read_error::{ReadTextError, of_parse_error};
-use std::alloc::Global;
+use std::alloc::{AllocError, Global};
+use timefd_format_item::BorrowedFormatItem;
 use timefd_moment::Moment;
-use timefd_parse::Language;
-use timefd_read_dates::Fields;
+use timefd_parse::{
+    BorrowedOutput, DescriptionVersion, FormatDescriptionV3, Language, NESTING_LIMIT,
+    StrftimeTables, count_strftime, parse_all_borrowed, parse_strftime_all_borrowed,
+};
+use timefd_read_dates::{Fields, ReadError, read_fields, read_item_fields};
 use timefd_read_moment::moment;
 
 /// The moment that a whole text shows by the text of a description, in any language.
@@ -73,16 +77,88 @@ pub fn read_text_fields<'a>(
     // A fault that is answered is the one that the rules assign.
     ensures fault { IfErr result (HasFaultOf (FaultIn language nesting_limit description.now)) }
 {
-    match Description::parse(alloc, language, description) {
-        Ok(opened) => fields(&opened, text),
+    match language {
+        Language::Version(version) => by_version(alloc, version, description, text),
+        Language::Strftime => by_strftime(alloc, description, text),
+    }
+}
+
+fn by_version<'a>(
+    alloc: Global,
+    version: DescriptionVersion,
+    description: &'a str,
+    text: &str,
+) -> Result<Fields, ReadTextError<'a>>
+    ensures spelled { (list : List Tree)
+        → SpellsIn (Language.Version version) nesting_limit description.now list
+        → AreFieldsAs (fields_in list text.now) result }
+    ensures refused { (f : spec.Fault)
+        → FaultIn (Language.Version version) nesting_limit description.now f
+        → IsRefusedFor f result }
+    ensures fault { IfErr result (HasFaultOf (FaultIn (Language.Version version) nesting_limit description.now)) }
+{
+    match parse_all_borrowed(alloc, version, NESTING_LIMIT, description) {
+        Ok(BorrowedOutput::Items(items)) => read_by_items(&items, text),
+        Ok(BorrowedOutput::Description(description)) => read_by_description(&description, text),
         Err(error) => Err(of_parse_error(error)),
     }
 }
 
-fn fields<'e>(description: &Description<'_>, text: &str) -> Result<Fields, ReadTextError<'e>>
-    ensures { result ≡ told (fields_of (tree description.now) text.now) }
+fn by_strftime<'a>(
+    alloc: Global,
+    description: &'a str,
+    text: &str,
+) -> Result<Fields, ReadTextError<'a>>
+    ensures spelled { (list : List Tree)
+        → SpellsIn Language.Strftime nesting_limit description.now list
+        → AreFieldsAs (fields_in list text.now) result }
+    ensures refused { (f : spec.Fault) → FaultIn Language.Strftime nesting_limit description.now f
+        → IsRefusedFor f result }
+    ensures fault { IfErr result (HasFaultOf (FaultIn Language.Strftime nesting_limit description.now)) }
 {
-    match description.read(text) {
+    let tables = StrftimeTables::new();
+    match parse_strftime_all_borrowed(alloc, &tables, description) {
+        Ok(items) => read_by_items(&items, text),
+        Err(_) => Err(strftime_error(description)),
+    }
+}
+
+// Why a text of strftime was not read, found again as an error that doesn't borrow the tables.
+fn strftime_error(description: &str) -> ReadTextError<'_>
+    ensures spelled { (list : List Tree)
+        → SpellsIn Language.Strftime nesting_limit description.now list → IsMemory result }
+    ensures refused { (f : spec.Fault) → FaultIn Language.Strftime nesting_limit description.now f
+        → IsFaulty f result }
+    ensures fault { HasFaultOf (FaultIn Language.Strftime nesting_limit description.now) result }
+{
+    match count_strftime(description) {
+        Ok(_) => ReadTextError::Memory(AllocError),
+        Err(fault) => ReadTextError::Fault(fault),
+    }
+}
+
+fn read_by_items<'e>(
+    items: &[BorrowedFormatItem<'_>],
+    text: &str,
+) -> Result<Fields, ReadTextError<'e>>
+    ensures { result ≡ told (fields_of (compound (trees (item_trees items.now))) text.now) }
+{
+    answer(read_item_fields(items, text))
+}
+
+fn read_by_description<'e>(
+    description: &FormatDescriptionV3<'_>,
+    text: &str,
+) -> Result<Fields, ReadTextError<'e>>
+    ensures { result ≡ told (fields_of (description_tree description.now) text.now) }
+{
+    answer(read_fields(description.view(), text))
+}
+
+fn answer<'e>(read: Result<Fields, ReadError>) -> Result<Fields, ReadTextError<'e>>
+    ensures { result ≡ told read }
+{
+    match read {
         Ok(fields) => Ok(fields),
         Err(error) => Err(ReadTextError::Unread(error)),
     }

@@ -1,18 +1,39 @@
 -- The parts of what a text spells.
-use Rattle.std.proofs.Common.{◌≡◌, List, ap, ◌∙◌}
-use Rattle.timefd_component.specs.Tree.{Tree, pack}
+use Rattle.std.proofs.Common.{◌≡◌, List, [], ◌∷◌, Result, Ok, Err, refl, sym, ap, ◌∙◌, append-nil}
+use Rattle.std.specs.Prelude.{IfOk, MatchResult}
+use Rattle.timefd_fault.specs.declared.borrowed_parse_error.BorrowedParseError.{BorrowedParseError}
+use Rattle.timefd_component.specs.Tree.{Tree, pack, trees}
+use Rattle.timefd_language.specs.declared.description_version.DescriptionVersion.{DescriptionVersion}
+use Rattle.timefd_language.specs.declared.description_version.DescriptionVersion.TheVariants.{One, Two, Three}
+use Rattle.timefd_node_list.specs.Leaves.{leaves, leaves_all, leaves_in}
+use Rattle.timefd_parse.specs.Answers.{IsOutput}
+use Rattle.timefd_parse.specs.declared.parsing.BorrowedOutput.{BorrowedOutput}
+use Rattle.timefd_parse.specs.declared.parsing.BorrowedOutput.TheVariants.{Items, Description}
+use Rattle.timefd_format_item.specs.declared.borrowed_format_item.BorrowedFormatItem.{BorrowedFormatItem}
+use Rattle.timefd_format_item.specs.Meaning.{item_trees}
 use Rattle.timefd_node_list.proofs.LeafLemmas.{leaves_packed}
-use Rattle.timefd_node_list.specs.Leaves.{leaves, leaves_in}
-use Rattle.timefd_parse.specs.declared.language.Language.{Language}
 use Rattle.timefd_warnings.specs.declared.levels.Levels.{Levels}
 use Rattle.timefd_warnings.specs.declared.warned.Style.{Style}
 use Rattle.timefd_warnings.specs.Levels.{found}
-use Rattle.timefd_lint_warnings.specs.Found.{found_in, style_of}
+use Rattle.timefd_lint_warnings.specs.Found.{output_parts}
 
-pub found_as_spelled : (language : Language) (list : List Tree) (t : Tree) (style : Style)
-    (levels reported : Levels) → style ≡ style_of language → t ≡ pack list
-    → reported ≡ found levels style (leaves t) → reported ≡ found_in language levels list
-found_as_spelled language list t style levels reported styled is e =
-    e ∙ ap (λ s. found levels s (leaves t)) styled ∙
-    ap (λ u. found levels (style_of language) (leaves u)) is ∙
-    ap (found levels (style_of language)) (leaves_packed list)
+pub parts_of_output : (version : DescriptionVersion) (list : List Tree) (output : BorrowedOutput)
+    → IsOutput version list output → output_parts output ≡ leaves_in list
+parts_of_output One list (Items items) is = ap (λ ts. leaves_all (trees ts)) is
+parts_of_output Two list (Items items) is = ap (λ ts. leaves_all (trees ts)) is
+parts_of_output Three list (Items items) is = absurd is
+parts_of_output One list (Description d) is = absurd is
+parts_of_output Two list (Description d) is = absurd is
+parts_of_output Three list (Description d) is = ap leaves is ∙ leaves_packed list
+
+pub found_as_spelled : (version : DescriptionVersion) (list : List Tree) (output : BorrowedOutput)
+    (levels told : Levels) → told ≡ found levels Style.Brackets (output_parts output)
+    → IsOutput version list output → told ≡ found levels Style.Brackets (leaves_in list)
+found_as_spelled version list output levels told are is =
+    are ∙ ap (found levels Style.Brackets) (parts_of_output version list output is)
+
+pub items_as_spelled : (items : List BorrowedFormatItem) (list : List Tree) (levels told : Levels)
+    → told ≡ found levels Style.Percents (leaves_all (trees (item_trees items)))
+    → item_trees items ≡ list → told ≡ found levels Style.Percents (leaves_in list)
+items_as_spelled items list levels told are is =
+    are ∙ ap (λ ts. found levels Style.Percents (leaves_in ts)) is

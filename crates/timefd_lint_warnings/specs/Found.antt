@@ -1,9 +1,13 @@
 -- The warnings of a text, by what it spells.
 use Rattle.std.specs.Prelude.{List, Option, None, Some}
-use Rattle.timefd_component.specs.Tree.{Tree}
-use Rattle.timefd_node_list.specs.Leaves.{leaves_in}
+use Rattle.timefd_component.specs.Tree.{Tree, trees}
+use Rattle.timefd_format_item.specs.Meaning.{item_trees}
+use Rattle.timefd_items.specs.Description.{description_tree}
+use Rattle.timefd_node_list.specs.Leaves.{leaves, leaves_all, leaves_in}
 use Rattle.timefd_parse.specs.declared.language.Language.{Language}
 use Rattle.timefd_parse.specs.declared.language.Language.TheVariants.{Version, Strftime}
+use Rattle.timefd_parse.specs.declared.parsing.BorrowedOutput.{BorrowedOutput}
+use Rattle.timefd_parse.specs.declared.parsing.BorrowedOutput.TheVariants.{Items, Description}
 use Rattle.timefd_warnings.specs.declared.levels.Level.TheVariants.{Allowed}
 use Rattle.timefd_warnings.specs.declared.levels.Levels.{Levels}
 use Rattle.timefd_warnings.specs.declared.warned.Style.{Style}
@@ -22,3 +26,8 @@ found_in language levels list = found levels (style_of language) (leaves_in list
 abbrev pub found_by : Option Levels → Language → List Tree → Levels
 found_by None language list = all_at Allowed
 found_by (Some levels) language list = found_in language levels list
+
+-- the parts of what was read
+abbrev pub output_parts : BorrowedOutput → List Tree
+output_parts (Items items) = leaves_all (trees (item_trees items.items))
+output_parts (Description d) = leaves (description_tree d)

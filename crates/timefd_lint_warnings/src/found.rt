@@ -2,17 +2,20 @@
 
 ghost use Rattle.std.specs.Prelude.{◌≡◌, List, IfOk};
 ghost use Rattle.timefd_component.specs.Tree.{Tree};
-ghost use Rattle.timefd_description.specs.Descriptions.{tree};
-ghost use Rattle.timefd_language.specs.Grammar.{nesting_limit};
+ghost use Rattle.timefd_language.specs.Grammar.{Spells, nesting_limit};
+ghost use Rattle.timefd_language.specs.Strftime.{SpellsStrftime};
 ghost use Rattle.timefd_parse.specs.Language.{SpellsIn};
+ghost use Rattle.timefd_warnings.specs.declared.warned.Style.TheVariants as styles;
 ghost use Rattle.timefd_warnings.specs.Levels.{found};
-ghost use Rattle.timefd_node_list.specs.Leaves.{leaves};
+ghost use Rattle.timefd_node_list.specs.Leaves.{leaves_in};
 ghost use Rattle.timefd_lint_warnings.specs.Found as spec;
 
 use std::alloc::{AllocError, Global};
-use timefd_description::Description;
-use timefd_parse::Language;
-use timefd_warnings::{Level, Levels, Style};
+use timefd_parse::{
+    BorrowedOutput, DescriptionVersion, Language, NESTING_LIMIT, StrftimeTables,
+    parse_all_borrowed, parse_strftime_all_borrowed,
+};
+use timefd_warnings::{Description, Level, Levels, Style};
 
 /// What is told of a text that a language accepts: the levels of the warnings that it has; any other
 /// is allowed. An `Err` says that memory ran out.
@@ -25,9 +28,9 @@ pub fn found_in(
     ensures { (list : List Tree) → SpellsIn language nesting_limit text.now list
         → IfOk result (λ told. told ≡ spec.found_in language levels list) }
 {
-    match Description::parse(alloc, language, text) {
-        Ok(description) => Ok(found_of(&description, style_of(language), levels)),
-        Err(_) => Err(AllocError),
+    match language {
+        Language::Version(version) => found_in_version(alloc, version, text, levels),
+        Language::Strftime => found_in_strftime(alloc, text, levels),
     }
 }
 
@@ -47,21 +50,39 @@ pub fn found_by(
     }
 }
 
-fn found_of(description: &Description<'_>, style: Style, levels: Levels) -> Levels
-    ensures { result ≡ found levels style (leaves (tree description.now)) }
+fn found_in_version(
+    alloc: Global,
+    version: DescriptionVersion,
+    text: &str,
+    levels: Levels,
+) -> Result<Levels, AllocError>
+    ensures { (list : List Tree) → Spells version nesting_limit 0 text.now list
+        → IfOk result (λ told. told ≡ found levels styles.Brackets (leaves_in list)) }
 {
-    levels.found(
-        style,
-        timefd_warnings::Description::Version3(description.view()),
-    )
+    match parse_all_borrowed(alloc, version, NESTING_LIMIT, text) {
+        Ok(output) => Ok(found_of(&output, levels)),
+        Err(_) => Err(AllocError),
+    }
 }
 
-/// How components are written in a language.
-fn style_of(language: Language) -> Style
-    ensures { result ≡ spec.style_of language }
+fn found_of(output: &BorrowedOutput<'_>, levels: Levels) -> Levels
+    ensures { result ≡ found levels styles.Brackets (spec.output_parts output.now) }
 {
-    match language {
-        Language::Version(_) => Style::Brackets,
-        Language::Strftime => Style::Percents,
+    match output {
+        BorrowedOutput::Description(description) => {
+            levels.found(Style::Brackets, Description::Version3(description.view()))
+        }
+        BorrowedOutput::Items(items) => levels.found(Style::Brackets, Description::Items(items)),
+    }
+}
+
+fn found_in_strftime(alloc: Global, text: &str, levels: Levels) -> Result<Levels, AllocError>
+    ensures { (list : List Tree) → SpellsStrftime text.now list
+        → IfOk result (λ told. told ≡ found levels styles.Percents (leaves_in list)) }
+{
+    let tables = StrftimeTables::new();
+    match parse_strftime_all_borrowed(alloc, &tables, text) {
+        Ok(items) => Ok(levels.found(Style::Percents, Description::Items(&items))),
+        Err(_) => Err(AllocError),
     }
 }

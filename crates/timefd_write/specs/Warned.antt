@@ -1,16 +1,12 @@
 -- The warnings that are told of descriptions.
 use Rattle.std.specs.Prelude.{Bool, true, false, List, ◌++◌}
-use Rattle.timefd_component.specs.Tree.{Text, Tree, trees}
+use Rattle.timefd_component.specs.Tree.{Text, Tree}
 use Rattle.timefd_drawing.specs.declared.draw.Format.{Format}
 use Rattle.timefd_drawing.specs.declared.position.Origin.{Origin}
-use Rattle.timefd_format_item.specs.Meaning.{item_trees}
-use Rattle.timefd_items.specs.Description.{description_tree}
-use Rattle.timefd_lint_warnings.specs.Found.{style_of}
+use Rattle.timefd_lint_warnings.specs.Found.{output_parts, style_of}
 use Rattle.timefd_lint_warnings.specs.Messages.{messages}
-use Rattle.timefd_node_list.specs.Leaves.{leaves, leaves_all}
 use Rattle.timefd_parse.specs.declared.language.Language.{Language}
 use Rattle.timefd_parse.specs.declared.parsing.BorrowedOutput.{BorrowedOutput}
-use Rattle.timefd_parse.specs.declared.parsing.BorrowedOutput.TheVariants.{Items, Description}
 use Rattle.timefd_warnings.specs.declared.levels.Level.{Level}
 use Rattle.timefd_warnings.specs.declared.levels.Level.TheVariants.{Allowed, Warned}
 use Rattle.timefd_warnings.specs.declared.levels.Levels.{Levels}
@@ -38,11 +34,6 @@ abbrev pub warned_in : Style → List Tree → Levels
 warned_in style ts =
     with_level (with_level (all_at Allowed) NoComponent (level_if (warns style NoComponent ts))) OtherLanguage
     (level_if (warns style OtherLanguage ts))
-
--- the parts of what was read
-abbrev pub output_parts : BorrowedOutput → List Tree
-output_parts (Items items) = leaves_all (trees (item_trees items.items))
-output_parts (Description d) = leaves (description_tree d)
 
 -- those of a description of the language
 abbrev pub warned_of : Language → BorrowedOutput → Levels

@@ -1,9 +1,9 @@
 //! The warnings that are told of descriptions.
 
 ghost use Rattle.std.specs.Prelude.{◌≡◌, IfOk};
+ghost use Rattle.timefd_lint_warnings.specs.Found.{output_parts};
 ghost use Rattle.timefd_warnings.specs.Parts.{parts};
 ghost use Rattle.timefd_write.specs.Warned as spec;
-ghost use Rattle.timefd_write.specs.Warned.{output_parts};
 
 use crate::language::Languages;
 use crate::message::{Manner, tell};

@@ -1,22 +1,14 @@
-use Rattle.timefd_component.specs.Tree.{trees}
-use Rattle.timefd_format.specs.Written.{written_all}
-use Rattle.timefd_description.specs.Descriptions.{tree}
-use Rattle.timefd_description.proofs.FormatLemmas.{description_shown, nothing_shown}
+use Rattle.std.proofs.Common.{subst}
+use Rattle.timefd_parse.specs.Language.{FaultIn}
+use Rattle.timefd_language.specs.Grammar.{nesting_limit}
 use Rattle.timefd_description.proofs.formatting.format_text.Goals as goal
 
-pub returns-in-Ok-clause-spelled : goal.returns-in-Ok-clause-spelled
-returns-in-Ok-clause-spelled c = λ list spells.
-    description_shown c.args.moment list (tree c.in-Ok.description) c.shown.result
-    (c.in-Ok.ensures.spelled list spells) c.shown.ensures
+pub returns-in-Version-clause-refused : goal.returns-in-Version-clause-refused
+returns-in-Version-clause-refused c = λ f has.
+    c.format_version.ensures.refused f
+    (subst (λ l. FaultIn l nesting_limit c.args.text.now f) c.in-Version.is has)
 
-pub returns-in-Ok-clause-refused : goal.returns-in-Ok-clause-refused
-returns-in-Ok-clause-refused c = λ f has. absurd (c.in-Ok.ensures.refused f has)
-
-pub returns-in-Err-clause-spelled : goal.returns-in-Err-clause-spelled
-returns-in-Err-clause-spelled c = λ list spells.
-    nothing_shown (written_all c.args.moment (trees list)) c.of_parse_error.result
-    (c.of_parse_error.ensures.memory (c.in-Err.ensures.spelled list spells))
-
-pub returns-in-Err-clause-refused : goal.returns-in-Err-clause-refused
-returns-in-Err-clause-refused c = λ f has.
-    c.of_parse_error.ensures.fault f (c.in-Err.ensures.refused f has)
+pub returns-in-Strftime-clause-refused : goal.returns-in-Strftime-clause-refused
+returns-in-Strftime-clause-refused c = λ f has.
+    c.format_strftime.ensures.refused f
+    (subst (λ l. FaultIn l nesting_limit c.args.text.now f) c.in-Strftime.is has)

@@ -1,8 +1,19 @@
-use Rattle.timefd_description.specs.Descriptions.{tree}
-use Rattle.timefd_lint_warnings.proofs.FoundLemmas.{found_as_spelled}
+use Rattle.std.proofs.Common.{◌≡◌, List, subst, sym}
+use Rattle.std.specs.Prelude.{IfOk}
+use Rattle.timefd_component.specs.Tree.{Tree}
+use Rattle.timefd_language.specs.Grammar.{nesting_limit}
+use Rattle.timefd_parse.specs.Language.{SpellsIn}
+use Rattle.timefd_lint_warnings.specs.Found.{found_in}
 use Rattle.timefd_lint_warnings.proofs.found.found_in.Goals as goal
 
-pub returns-in-Ok : goal.returns-in-Ok
-returns-in-Ok c = λ list spells.
-    found_as_spelled c.args.language list (tree c.in-Ok.description) c.style_of.result c.args.levels
-    c.found_of.result c.style_of.ensures (c.in-Ok.ensures.spelled list spells) c.found_of.ensures
+pub returns-in-Version : goal.returns-in-Version
+returns-in-Version c =
+    subst (λ l. (list : List Tree) → SpellsIn l nesting_limit c.args.text.now list
+    → IfOk c.found_in_version.result (λ told. told ≡ found_in l c.args.levels list))
+    (sym c.in-Version.is) c.found_in_version.ensures
+
+pub returns-in-Strftime : goal.returns-in-Strftime
+returns-in-Strftime c =
+    subst (λ l. (list : List Tree) → SpellsIn l nesting_limit c.args.text.now list
+    → IfOk c.found_in_strftime.result (λ told. told ≡ found_in l c.args.levels list))
+    (sym c.in-Strftime.is) c.found_in_strftime.ensures

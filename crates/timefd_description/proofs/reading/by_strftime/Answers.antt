@@ -1,0 +1,28 @@
+use Rattle.timefd_component.specs.Tree.{compound, trees}
+use Rattle.timefd_format_item.specs.Meaning.{item_trees}
+use Rattle.timefd_language.specs.Grammar.{nesting_limit}
+use Rattle.timefd_parse.specs.Language.{FaultIn}
+use Rattle.timefd_read_dates.specs.Reads.{fields_of}
+use Rattle.timefd_description.proofs.ReadTextLemmas.{no_fault, nothing_read, strftime_read}
+use Rattle.timefd_description.specs.ReadAnswers.{fields_in}
+use Rattle.timefd_parse.specs.declared.language.Language.TheVariants as languages
+use Rattle.timefd_description.proofs.reading.by_strftime.Goals as goal
+
+pub returns-in-Ok-clause-spelled : goal.returns-in-Ok-clause-spelled
+returns-in-Ok-clause-spelled c = λ list spelled.
+    strftime_read c.args.text.now list c.read_by_items.result c.in-Ok.items.items c.deref.result.now
+    c.deref.ensures.value (c.in-Ok.ensures.spelled list spelled) c.read_by_items.ensures
+
+pub returns-in-Ok-clause-refused : goal.returns-in-Ok-clause-refused
+returns-in-Ok-clause-refused c = λ f has. absurd (c.in-Ok.ensures.refused f has)
+
+pub returns-in-Ok-clause-fault : goal.returns-in-Ok-clause-fault
+returns-in-Ok-clause-fault c =
+    no_fault (FaultIn languages.Strftime nesting_limit c.args.description.now)
+    (fields_of (compound (trees (item_trees c.deref.result.now))) c.args.text.now)
+    c.read_by_items.result c.read_by_items.ensures
+
+pub returns-in-Err-clause-spelled : goal.returns-in-Err-clause-spelled
+returns-in-Err-clause-spelled c = λ list spelled.
+    nothing_read (fields_in list c.args.text.now) c.strftime_error.result
+    (c.strftime_error.ensures.spelled list spelled)
