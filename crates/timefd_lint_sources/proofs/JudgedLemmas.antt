@@ -13,6 +13,7 @@ as_it_is d none = record {
   dialect = refl;
   items = refl;
   version = refl;
+  call = refl;
   places = refl;
   text = subst (λ o. IsJudgedText o d.unescaped.text.items d.unescaped.text.items) (sym none) refl;
 }
@@ -25,6 +26,7 @@ no_text d v takes none = record {
   dialect = refl;
   items = refl;
   version = refl;
+  call = refl;
   places = refl;
   text = subst (λ o. IsJudgedText o d.unescaped.text.items d.unescaped.text.items) (sym takes)
       (inl (none, refl));

@@ -1,12 +1,14 @@
 -- What is seen in a source, by how its descriptions are found.
-use Rattle.std.proofs.Common.{◌≡◌, List, [], ◌++◌, sym, subst}
+use Rattle.std.proofs.Common.{ℕ, ◌≡◌, ◌∙◌, List, [], ◌++◌, ap, refl, sym, subst}
 use denote.Ref.{Bor}
 use Rattle.timefd_component.specs.Tree.{Text}
 use Rattle.timefd_keys.specs.declared.format.Format.{Format}
 use Rattle.timefd_keys.specs.declared.key.Key.{Key}
 use Rattle.timefd_keys.specs.Found as keyed
 use Rattle.timefd_sources.specs.declared.description.Description.{Description}
+use Rattle.timefd_sources.specs.declared.look.Look.{Look}
 use Rattle.timefd_sources.specs.Found.{AllStandIn, AreDescriptionsOf, AreInOrder}
+use Rattle.timefd_sources.specs.Looks.{IsLook}
 use Rattle.timefd_sources.proofs.LookLemmas.{all_seen, seen_in_order, seen_stand}
 use Rattle.timefd_lint_sources.specs.declared.remark.Remark.{Remark}
 use Rattle.timefd_lint_sources.specs.declared.source.Report.{Report}
@@ -15,9 +17,19 @@ use Rattle.timefd_lint_sources.specs.declared.told.Finder.TheVariants.{Rust, Key
 use Rattle.timefd_lint_sources.specs.declared.told.Source.{Source}
 use Rattle.timefd_lint_sources.specs.declared.told.Telling.{Telling}
 use Rattle.timefd_lint_sources.specs.Items.{AreJudgedAs}
-use Rattle.timefd_lint_sources.specs.Remarks.{AreRemarksBy, AreSeenIn, ends_of, messages_of}
+use Rattle.timefd_lint_sources.specs.Remarks.{AreRemarksBy, AreSeenIn, ends_of, messages_of, remarks_on}
 use Rattle.timefd_lint_sources.specs.Told.{AreAllBy, AreSeen, AreTold, IsFoundBy, IsSourceTold}
 use Rattle.timefd_lint_sources.proofs.FinderLemmas.{all_by_keys, all_by_rust, by_keys, by_rust}
+
+pub of_look : (source : Text) (look : Look) (calls comments : List ℕ) (remarks : List Remark) → IsLook source look
+    → calls ≡ look.calls.items → comments ≡ look.comments.items → remarks ≡ remarks_on calls comments
+    → AreSeenIn source look.descriptions.items remarks
+of_look source look calls comments remarks is calls_are comments_are remarked = record {
+  look = look;
+  is = is;
+  same = refl;
+  remarked = remarked ∙ (ap (λ l. remarks_on l comments) calls_are ∙ ap (remarks_on look.calls.items) comments_are);
+}
 
 pub of_rust : (s : Source) (source : Text) (ds : List Description) (remarks : List Remark) → s.finder ≡ Rust
     → source ≡ s.text.now → AreSeenIn source ds remarks → AreSeen s ds remarks

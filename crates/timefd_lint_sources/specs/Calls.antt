@@ -6,7 +6,7 @@ use Rattle.timefd_drawing.specs.declared.draw.Format.TheVariants.{Human, Json, S
 use Rattle.timefd_drawing.specs.declared.draw.Style.{Style}
 use Rattle.timefd_drawing.specs.declared.github.Command.TheVariants.{Notice}
 use Rattle.timefd_drawing.specs.Github.{annotation}
-use Rattle.timefd_drawing.specs.Positions.{line_number, told_column}
+use Rattle.timefd_drawing.specs.Positions.{column, line_number}
 use Rattle.timefd_drawing.specs.Shown.{safe}
 use Rattle.timefd_sources.specs.declared.description.Description.{Description}
 use Rattle.timefd_lint_sources.specs.declared.told.Source.{Source}
@@ -38,7 +38,7 @@ note_in Sarif file line column = []
 
 abbrev pub note_at : Style → Source → ℕ → Text
 note_at style s at =
-    note_in style.format s.file.now (line_number 1 s.text.now at) (told_column style.format s.text.now at)
+    note_in style.format s.file.now (line_number 1 s.text.now at) (column s.text.now at)
 
 abbrev pub note_for : Style → Source → Option ℕ → Text
 note_for style s None = []

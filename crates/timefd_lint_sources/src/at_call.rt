@@ -4,13 +4,13 @@ ghost use Rattle.std.specs.Prelude.{◌≡◌, IfOk, string_bytes};
 ghost use Rattle.timefd_drawing.specs.Counted.{IsCounted};
 ghost use Rattle.timefd_lint_sources.specs.Calls as spec;
 
-use crate::position::told_position_of;
+use crate::position::FIRST_LINE;
 use crate::told::Source;
 use std::alloc::{AllocError, Global};
 use timefd_drawing::github::{Command, annotation};
 use timefd_drawing::json::Entry;
 use timefd_drawing::shown::safe;
-use timefd_drawing::{Counter, Format, Position, Style};
+use timefd_drawing::{Counter, Format, Position, Style, position_from};
 use timefd_sources::Description;
 
 /// The name of such a note.
@@ -46,7 +46,7 @@ fn note_at(
     requires { IsCounted 1 source.text.now from }
     ensures { IfOk result (λ note. note.items ≡ spec.note_at style source.entry at) }
 {
-    let place = told_position_of(alloc, style.format, source.text, from, at)?;
+    let place = position_from(alloc, FIRST_LINE, source.text, from, at)?;
     note_in(alloc, style.format, source.file, place)
 }
 

@@ -26,6 +26,7 @@ pub struct Report {
 
 /// Looks at the descriptions in a source, and tells what is wrong with each where that stands.
 /// An `Err` says that memory ran out.
+#[tactic(auto, using(crate::proofs::SeenLemmas::source_told))]
 pub fn lint_source(
     alloc: Global,
     telling: Telling,
@@ -61,11 +62,12 @@ struct Seen {
 }
 
 // What is seen in a source.
+#[tactic(auto, using(crate::proofs::SeenLemmas::of_rust, crate::proofs::SeenLemmas::of_keys))]
 fn seen_in(alloc: Global, source: Source<'_>) -> Result<Seen, AllocError>
     ensures { IfOk result (λ seen. AreSeen source.entry seen.descriptions.items seen.remarks.items) }
 {
     match source.finder {
-        Finder::Rust => seen_in_rust(alloc, source.text),
+        Finder::Rust => Ok(seen_in_rust(alloc, source.text)?),
         Finder::Keys(format, keys) => Ok(Seen {
             descriptions: descriptions_by(alloc, format, source.text, keys)?,
             remarks: Vec::new(alloc),
