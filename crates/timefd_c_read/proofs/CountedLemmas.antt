@@ -6,8 +6,8 @@ use Rattle.timefd_fault.specs.BorrowedFaults.{IsLent, IsRefusal}
 use Rattle.timefd_component.specs.Tree.{Text, Tree, component, literal, compound, optional, first}
 use Rattle.timefd_fault.specs.Faults.{Fault}
 use Rattle.timefd_language.specs.declared.description_version.DescriptionVersion.{DescriptionVersion}
-use Rattle.timefd_language.specs.declared.fault.ReadError.{ReadError}
-use Rattle.timefd_language.specs.declared.fault.ReadError.TheVariants as errors
+use Rattle.timefd_fault.specs.declared.read_error.ReadError.{ReadError}
+use Rattle.timefd_fault.specs.declared.read_error.ReadError.TheVariants as errors
 use Rattle.timefd_language.specs.Broken.{FaultOf, broken_fault}
 use Rattle.timefd_language.specs.Fault.{raised}
 use Rattle.timefd_fault.specs.ReadErrors.{MemoryOr}
