@@ -1,5 +1,5 @@
 -- What is found of texts so far, and what holds of it.
-use Rattle.std.proofs.Common.{ℕ, ◌≡◌, ◌+◌, ◌-◌, ◌++◌, Bool, true, false, List, [], ◌∷◌, take, drop, get_or, length, zero, suc, Option, Some, None, length-take, append-nil, append_assoc, refl, sym, ap, subst, ◌∙◌, inl, inr, arith, Result, Ok, Err}
+use Rattle.std.proofs.Common.{ℕ, ◌≡◌, ◌+◌, ◌-◌, ◌++◌, Bool, true, false, List, [], ◌∷◌, take, drop, get_or, length, Some, None, length-take, append-nil, append_assoc, refl, sym, ap, subst, ◌∙◌, inl, inr, arith, Result, Ok, Err}
 use Rattle.std.specs.Prelude.{All, ◌≤◌, IfOk}
 use Rattle.std.specs.declared.alloc.AllocError.{AllocError}
 use Rattle.std.proofs.Math.Seq.{take-length}
@@ -12,7 +12,7 @@ use Rattle.timefd_fault.specs.declared.borrowed_parse_error.BorrowedParseError.{
 use Rattle.timefd_fault.specs.declared.borrowed_parse_error.BorrowedParseError.TheVariants.{Invalid}
 use Rattle.timefd_guess.specs.Candidates.{Entry, entries, entry_of, rows_of, rows_in}
 use Rattle.timefd_guess.specs.declared.candidates.Group.{Group}
-use Rattle.timefd_guess.specs.Found.{texts, Adds, IsRead, IsWritten, ReadBy, ComesBack, AllComeBack, Counts, one_if, ReadsAll, IsOffered, IsGuess, Appends, AreFound, IsReadBack, ReadsBack}
+use Rattle.timefd_guess.specs.Found.{texts, Adds, IsRead, IsWritten, ReadBy, ComesBack, AllComeBack, Counts, one_if, ReadsAll, IsOffered, Appends, AreFound, IsReadBack, ReadsBack}
 use Rattle.timefd_fault.specs.Faults.{Fault}
 use Rattle.timefd_language.specs.Broken.{FaultOf}
 use Rattle.timefd_moment.specs.declared.moment.Moment.{Moment}

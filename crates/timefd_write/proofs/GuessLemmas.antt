@@ -1,8 +1,18 @@
 -- Lines of descriptions, one more behind others.
-use Rattle.std.proofs.Common.{◌≡◌, List, [], ◌∷◌, ◌++◌, codes, sym, ap, ◌∙◌, append_assoc, append-nil}
+use Rattle.std.proofs.Common.{◌≡◌, Bool, List, [], ◌∷◌, ◌++◌, Option, codes, sym, ap, subst, ◌∙◌, append_assoc, append-nil}
+use Rattle.std.specs.Io.KnownBytes.{Appends}
 use Rattle.timefd_component.specs.Tree.{Text}
 use Rattle.timefd_guess.specs.declared.guessing.Guess.{Guess}
-use Rattle.timefd_write.specs.Guessed.{guess_lines}
+use Rattle.timefd_guess.specs.Candidates.{all_entries}
+use Rattle.timefd_guess.specs.Found.{AreGuesses}
+use Rattle.timefd_write.specs.Guessed.{WritesGuesses, guess_lines, is_any}
+
+pub writes : (texts : List Text) (before after : Option Text) (lines : Text)
+    (guesses : List Guess) (found : Bool) → AreGuesses all_entries texts guesses
+    → lines ≡ guess_lines guesses → Appends before after lines → found ≡ is_any guesses
+    → WritesGuesses texts before after found
+writes texts before after lines guesses found are is appended any =
+    (guesses, are, subst (Appends before after) is appended, any)
 
 pub line_more : (old between new : Text) (rest after : List Guess) (guess : Guess) (all : Text)
     → between ≡ old ++ guess.description.now → new ≡ between ++ codes "\n" → rest ≡ guess ∷ after

@@ -58,15 +58,23 @@ fn input_end(rt: &HostRuntime, request: GuessRequest) -> Result<GuessEnd, GuessE
 // The lines of the standard input.
 fn input_lines(rt: &HostRuntime) -> Result<Vec<String>, GuessEnd> {
     let mut lines = Vec::new(rt.alloc());
-    for line in BufReader::new(rt.alloc(), rt.stdin())
-        .map_err(read_error)?
-        .lines(rt.alloc())
-    {
-        if lines.push(line.map_err(read_error)?).is_err() {
-            return Err(GuessEnd::Memory);
+    let Ok(input) = BufReader::new(rt.alloc(), rt.stdin()) else {
+        return Err(GuessEnd::Memory);
+    };
+    for line in input.lines(rt.alloc()) {
+        match line {
+            Ok(line) => push_line(&mut lines, line)?,
+            Err(error) => return Err(read_error(error)),
         }
     }
     Ok(lines)
+}
+
+fn push_line(lines: &mut Vec<String>, line: String) -> Result<(), GuessEnd> {
+    match lines.push(line) {
+        Ok(()) => Ok(()),
+        Err(_) => Err(GuessEnd::Memory),
+    }
 }
 
 fn read_error(error: std::io::Error) -> GuessEnd {

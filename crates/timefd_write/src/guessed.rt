@@ -12,6 +12,7 @@ use timefd_guess::{Guess, guesses};
 
 /// Writes the descriptions that all texts may be written by, a line each, and answers whether there is one. The
 /// errors have how many texts don't tell day and month apart, unless that is left out.
+#[tactic(auto, using(crate::proofs::GuessLemmas::writes))]
 pub fn write_guesses<W: Write, E: Write>(
     alloc: Global,
     is_quiet: bool,
@@ -28,8 +29,18 @@ pub fn write_guesses<W: Write, E: Write>(
     }
     let lines = guess_lines(alloc, &found)?;
     match output.write_all(lines.as_bytes()) {
-        Ok(()) => Ok(!found.is_empty()),
+        Ok(()) => Ok(is_any(&found)),
         Err(_) => Err(RunError::Write),
+    }
+}
+
+// Whether there is a description.
+fn is_any(found: &[Guess]) -> bool
+    ensures { result ≡ spec.is_any found.now }
+{
+    match found {
+        [] => false,
+        [_, ..] => true,
     }
 }
 
