@@ -12,3 +12,4 @@ pub mod WarnedLemmas
 pub mod ExpectedLemmas
 pub mod MomentLemmas
 pub mod MessageLemmas
+pub mod ClockLemmas

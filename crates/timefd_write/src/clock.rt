@@ -10,6 +10,7 @@ use timefd_jiff::moment_in_zone;
 use timefd_moment::{Moment, UnixTime};
 
 /// What a clock in the zone shows now; `None` where the clock can't be read, or shows a time before 1970.
+#[tactic(auto, using(crate::proofs::ClockLemmas::some_instant))]
 pub fn moment_now<C: Clock>(clock: &C, zone: &TimeZone<'_>) -> Option<Moment>
     ensures { IfSome result (λ moment. (unix : Instant) × IsOnClock zone.now (instant unix) moment) }
 {
@@ -19,5 +20,15 @@ pub fn moment_now<C: Clock>(clock: &C, zone: &TimeZone<'_>) -> Option<Moment>
         is_negative: false,
         nanoseconds: since_1970.as_nanos(),
     };
-    moment_in_zone(zone, unix).ok()
+    shown_at(zone, unix)
+}
+
+// What a clock in the zone shows at an instant.
+fn shown_at(zone: &TimeZone<'_>, unix: UnixTime) -> Option<Moment>
+    ensures { IfSome result (λ moment. IsOnClock zone.now (instant unix) moment) }
+{
+    match moment_in_zone(zone, unix) {
+        Ok(moment) => Some(moment),
+        Err(_) => None,
+    }
 }
