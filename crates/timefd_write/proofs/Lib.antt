@@ -12,4 +12,3 @@ pub mod WarnedLemmas
 pub mod ExpectedLemmas
 pub mod MomentLemmas
 pub mod MessageLemmas
-pub mod ClockLemmas

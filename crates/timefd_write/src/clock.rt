@@ -10,9 +10,8 @@ use timefd_jiff::moment_in_zone;
 use timefd_moment::{Moment, UnixTime};
 
 /// What a clock in the zone shows now; `None` where the clock can't be read, or shows a time before 1970.
-#[tactic(auto, using(crate::proofs::ClockLemmas::some_instant))]
 pub fn moment_now<C: Clock>(clock: &C, zone: &TimeZone<'_>) -> Option<Moment>
-    ensures { IfSome result (λ moment. (unix : Instant) × IsOnClock zone.now (instant unix) moment) }
+    ensures { IfSome result (λ moment. (known : Instant) × IsOnClock zone.now (instant known) moment) }
 {
     let now = SystemTime::now(clock).ok()?;
     let since_1970 = now.duration_since(SystemTime::UNIX_EPOCH).ok()?;
@@ -25,7 +24,7 @@ pub fn moment_now<C: Clock>(clock: &C, zone: &TimeZone<'_>) -> Option<Moment>
 
 // What a clock in the zone shows at an instant.
 fn shown_at(zone: &TimeZone<'_>, unix: UnixTime) -> Option<Moment>
-    ensures { IfSome result (λ moment. IsOnClock zone.now (instant unix) moment) }
+    ensures { IfSome result (λ moment. (known : Instant) × IsOnClock zone.now (instant known) moment) }
 {
     match moment_in_zone(zone, unix) {
         Ok(moment) => Some(moment),

@@ -64,7 +64,6 @@ fn expected<'s>(parts: Parts<'_, 's>, word: &str) -> Option<&'s str>
 }
 
 // How many parts the word goes on with, where it doesn't go on with the literal after them.
-#[tactic(auto, using(crate::proofs::ExpectedLemmas::stop_is))]
 fn stop_of(parts: Parts<'_, '_>, word: &str) -> Option<usize>
     ensures { IfSome result (IsStop (spec.part_trees parts.entry) word.now) }
 {
