@@ -1,5 +1,5 @@
 -- What is read in place, and what that is; a part that stands at a place.
-use Rattle.std.proofs.Common.{ℕ, suc, ◌≡◌, ◌∙◌, ◌-◌, ◌<◌, ◌≤◌, Bool, true, false, List, length, map, take, get_or, Result, Ok, Err, Unit, sym, ap, subst, arith}
+use Rattle.std.proofs.Common.{ℕ, suc, ◌≡◌, ◌∙◌, ◌-◌, ◌<◌, ◌≤◌, Bool, true, false, List, length, map, take, get_or, Result, Ok, Err, sym, ap, subst, arith}
 use Rattle.std.proofs.lemmas.List.{get_or-map, take-map}
 use Rattle.timefd_component.specs.Tree.{Text, Tree, compound, literal, no_trees, trees}
 use Rattle.timefd_parse.specs.declared.parsing.BorrowedOutput.{BorrowedOutput}

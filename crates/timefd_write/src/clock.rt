@@ -11,7 +11,7 @@ use timefd_moment::{Moment, UnixTime};
 
 /// What a clock in the zone shows now; `None` where the clock can't be read, or shows a time before 1970.
 pub fn moment_now<C: Clock>(clock: &C, zone: &TimeZone<'_>) -> Option<Moment>
-    ensures { IfSome result (λ moment. (unix : Instant) × IsOnClock zone.now (instant unix) moment) }
+    ensures { IfSome result (λ moment. (known : Instant) × IsOnClock zone.now (instant known) moment) }
 {
     let now = SystemTime::now(clock).ok()?;
     let since_1970 = now.duration_since(SystemTime::UNIX_EPOCH).ok()?;
@@ -19,5 +19,15 @@ pub fn moment_now<C: Clock>(clock: &C, zone: &TimeZone<'_>) -> Option<Moment>
         is_negative: false,
         nanoseconds: since_1970.as_nanos(),
     };
-    moment_in_zone(zone, unix).ok()
+    shown_at(zone, unix)
+}
+
+// What a clock in the zone shows at an instant.
+fn shown_at(zone: &TimeZone<'_>, unix: UnixTime) -> Option<Moment>
+    ensures { IfSome result (λ moment. (known : Instant) × IsOnClock zone.now (instant known) moment) }
+{
+    match moment_in_zone(zone, unix) {
+        Ok(moment) => Some(moment),
+        Err(_) => None,
+    }
 }

@@ -64,7 +64,6 @@ fn expected<'s>(parts: Parts<'_, 's>, word: &str) -> Option<&'s str>
 }
 
 // How many parts the word goes on with, where it doesn't go on with the literal after them.
-#[tactic(auto, using(crate::proofs::ExpectedLemmas::stop_is))]
 fn stop_of(parts: Parts<'_, '_>, word: &str) -> Option<usize>
     ensures { IfSome result (IsStop (spec.part_trees parts.entry) word.now) }
 {
@@ -99,7 +98,7 @@ fn count_of(parts: Parts<'_, '_>) -> usize
 // Whether the word doesn't go on with a literal of the first so many parts.
 #[tactic(auto, using(crate::proofs::ExpectedLemmas::taken))]
 fn stops(parts: Parts<'_, '_>, count: usize, word: &str) -> bool
-    requires { count ≤ length (spec.part_trees parts.entry) }
+    requires { count ≤ length (spec.part_trees parts) }
     ensures { result ≡ spec.stops (take count (spec.part_trees parts.entry)) word.now }
 {
     match parts {
@@ -139,7 +138,7 @@ fn is_literal(read: Result<(), ReadError>) -> bool
 // The text of the part at this place, where it is a literal.
 #[tactic(auto, using(crate::proofs::ExpectedLemmas::at_place))]
 fn literal_at<'s>(parts: Parts<'_, 's>, at: usize) -> Option<&'s str>
-    requires { at < length (spec.part_trees parts.entry) }
+    requires { at < length (spec.part_trees parts) }
     ensures { IfSome result (λ text. IsLiteral (spec.part_trees parts.entry) at text.now) }
 {
     match parts {
