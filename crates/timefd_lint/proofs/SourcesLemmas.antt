@@ -144,7 +144,7 @@ remarked is_whole language comment telling s ds all front [] seen is = record {
 remarked is_whole language comment telling s ds all front (r ∷ left) seen is =
     let t : Told = record {
       line = [];
-      origin = record { file = s.file; line = 1 };
+      origin = place s.file 1;
       is_marked = false;
       end = text_end (end_of r);
       message = message_of telling.style s r;

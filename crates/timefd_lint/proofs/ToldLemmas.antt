@@ -471,6 +471,7 @@ is_failed_alone PassedOver e = absurd (false≢true e)
 is_failed_alone (Accepted found) e = absurd (false≢true e)
 is_failed_alone Refused e = absurd (false≢true e)
 is_failed_alone NotText e = absurd (false≢true e)
+is_failed_alone Unread e = absurd (false≢true e)
 is_failed_alone Failed e = refl
 
 pub line_fails : (is_first : Bool) (language : Language) (comment : Option (Bor Text)) (telling : Telling)
