@@ -1,5 +1,6 @@
 -- Descriptions that texts are read by, and what is told of them.
 use Rattle.std.specs.Prelude.{ℕ, ◌≡◌, ◌==◌, Bool, true, false, Option, Some, None, codes, decimal, ◌++◌, if◌then◌else◌, string_bytes, ⊤}
+use Rattle.std.specs.declared.alloc.Global.{Global}
 use Rattle.std.specs.declared.string.String.{String}
 use Rattle.timefd_component.specs.Tree.{Text}
 use Rattle.timefd_dialect.specs.ToRead.{IsToRead, IsUnreadFor}
@@ -41,7 +42,7 @@ limits_told limits =
     if limits.first_year == 0 then of_all_years limits.whole_minutes
     else Some (from_year limits.first_year limits.whole_minutes)
 
-abbrev pub IsTold : Option Text → Option String → Type 0
+abbrev pub IsTold : Option Text → Option (String Global) → Type 0
 IsTold None None = ⊤
 IsTold None (Some text) = ⊥
 IsTold (Some told) None = ⊥
