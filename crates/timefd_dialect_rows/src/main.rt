@@ -1,8 +1,7 @@
 //! Answers rows: each line of the standard input is the name of a dialect, a tab and a format, and
 //! the line of the standard output that stands beside it is its text of version 3, or why it has
-//! none. The word `read` before the name asks for the text that reads what a format writes, `traps` for
-//! the traps of a format, and `back` for the format of a text of version 3. `stdin` and `stdout` of this crate are tests. Empty lines and
-//! comments, which begin with `#`, are copied.
+//! none; with `read ` before the name, the text that reads what the format writes. `stdin` and `stdout` of this crate are tests. Empty lines and comments, which begin with `#`,
+//! are copied.
 #![tactic(auto)]
 
 mod row;

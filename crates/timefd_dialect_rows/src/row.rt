@@ -2,8 +2,7 @@
 
 use std::alloc::{AllocError, Global};
 use timefd_dialect::{
-    Converted, Dialect, DialectError, FormatError, Found, Refusal, from_version_three,
-    to_version_three, to_version_three_for_reading, traps,
+    Converted, Dialect, DialectError, Refusal, to_version_three, to_version_three_for_reading,
 };
 
 /// What stands beside a line.
@@ -14,25 +13,25 @@ pub fn answer(alloc: Global, line: &str) -> Result<String, AllocError> {
     let Some((name, format)) = line.split_once('\t') else {
         return String::from_str(alloc, "a row is the name of a dialect, a tab and a format");
     };
-    match name.split_once(' ') {
-        Some((word, name)) => answer_to(alloc, word, name, format),
-        None => match Dialect::named(name) {
-            Some(dialect) => answer_of(alloc, to_version_three(alloc, dialect, format)),
-            None => no_dialect(alloc, name),
-        },
+    match name.strip_prefix("read ") {
+        Some(name) => answer_to_read(alloc, name, format),
+        None => answer_to_write(alloc, name, format),
     }
 }
 
-/// What a word before the name of a dialect asks for.
-fn answer_to(alloc: Global, word: &str, name: &str, text: &str) -> Result<String, AllocError> {
-    let Some(dialect) = Dialect::named(name) else {
-        return no_dialect(alloc, name);
-    };
-    match word {
-        "read" => answer_of(alloc, to_version_three_for_reading(alloc, dialect, text)),
-        "back" => format_of(alloc, dialect, text),
-        "traps" => traps_of(alloc, dialect, text),
-        _ => format!(in alloc; "`{word}` is not asked of a dialect"),
+/// The text that writes the same.
+fn answer_to_write(alloc: Global, name: &str, format: &str) -> Result<String, AllocError> {
+    match Dialect::named(name) {
+        Some(dialect) => answer_of(alloc, to_version_three(alloc, dialect, format)),
+        None => no_dialect(alloc, name),
+    }
+}
+
+/// The text that reads what the format writes.
+fn answer_to_read(alloc: Global, name: &str, format: &str) -> Result<String, AllocError> {
+    match Dialect::named(name) {
+        Some(dialect) => answer_of(alloc, to_version_three_for_reading(alloc, dialect, format)),
+        None => no_dialect(alloc, name),
     }
 }
 
@@ -62,35 +61,4 @@ fn told(alloc: Global, converted: &Converted) -> Result<String, AllocError> {
 
 fn refused(alloc: Global, refusal: Refusal) -> Result<String, AllocError> {
     format!(in alloc; "{} at byte {}", refusal.reason.name(), refusal.index)
-}
-
-/// The traps of a format, each with the indices of its directive.
-fn traps_of(alloc: Global, dialect: Dialect, format: &str) -> Result<String, AllocError> {
-    let found = traps(alloc, dialect, format)?;
-    if found.is_empty() {
-        return String::from_str(alloc, "no trap");
-    }
-    let mut text = String::new(alloc);
-    for trap in found.iter() {
-        push_found(alloc, &mut text, *trap)?;
-    }
-    Ok(text)
-}
-
-fn push_found(alloc: Global, text: &mut String, found: Found) -> Result<(), AllocError> {
-    if !text.is_empty() {
-        text.push_str("; ")?;
-    }
-    let one = format!(in alloc; "{} {}..{}", found.trap.name(), found.start, found.end)?;
-    text.push_str(one.as_str())
-}
-
-/// The format of a text of version 3.
-fn format_of(alloc: Global, dialect: Dialect, text: &str) -> Result<String, AllocError> {
-    match from_version_three(alloc, dialect, text) {
-        Ok(converted) => told(alloc, &converted),
-        Err(FormatError::Lacking(index)) => format!(in alloc; "lacking at byte {index}"),
-        Err(FormatError::Merged) => String::from_str(alloc, "merged"),
-        Err(FormatError::Memory(error)) => Err(error),
-    }
 }
