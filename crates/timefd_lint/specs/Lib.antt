@@ -10,6 +10,3 @@ pub mod Logs
 pub mod ErrorCodes
 pub mod Rules
 pub mod Pages
-pub mod CodeNames
-pub mod Unwalked
-pub mod Sought

@@ -28,11 +28,3 @@ explained_in (option ∷ []) = None
 explained_in (option ∷ name ∷ []) =
     if bytes_eq option.now (codes "--explain") then subject_named name.now else None
 explained_in (option ∷ name ∷ next ∷ words) = None
-
--- the name behind the option, where these two stand alone
-abbrev pub name_explained : List (Bor Text) → Option Text
-name_explained [] = None
-name_explained (option ∷ []) = None
-name_explained (option ∷ name ∷ []) =
-    if bytes_eq option.now (codes "--explain") then Some name.now else None
-name_explained (option ∷ name ∷ next ∷ words) = None

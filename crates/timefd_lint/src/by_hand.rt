@@ -1,11 +1,9 @@
 //! What is told of descriptions that would be converted, and want changing by hand.
 
-ghost use Rattle.timefd_drawing.specs.Counted.{IsCounted};
-
 use std::alloc::{AllocError, Global};
 use std::str;
 use timefd_drawing::shown::safe;
-use timefd_drawing::{Counter, Position, counted, none_counted, position_from};
+use timefd_drawing::{Position, position_of};
 use timefd_lint_sources::FIRST_LINE;
 use timefd_parse::{DescriptionVersion, ParseError};
 use timefd_rewrite::lay_out;
@@ -30,15 +28,12 @@ pub fn notes(
         return Ok(told);
     }
     let descriptions = descriptions_of(alloc, source)?;
-    let mut from = none_counted(FIRST_LINE);
-    'notes: for (description, outcome) in descriptions.iter().zip(outcomes) {
+    for (description, outcome) in descriptions.iter().zip(outcomes) {
         if wants_hand(*outcome) {
-            from = counted(FIRST_LINE, source, from, description.piece.start);
             let Some(why) = why(alloc, change, version, source, description, *outcome)? else {
                 continue;
             };
-            let place = place(alloc, name, source, from, description)?;
-            push_note(&place, &why, &mut told)?;
+            push_note(alloc, name, source, description, &why, &mut told)?;
         }
     }
     Ok(told)
@@ -86,8 +81,15 @@ fn why(
     Ok(Some(reason(alloc, version, source, description, &new)?))
 }
 
-fn push_note(place: &str, why: &str, told: &mut String) -> Result<(), AllocError> {
-    told.push_str(place)?;
+fn push_note(
+    alloc: Global,
+    name: &str,
+    source: &str,
+    description: &Description,
+    why: &str,
+    told: &mut String,
+) -> Result<(), AllocError> {
+    told.push_str(&place(alloc, name, source, description)?)?;
     told.push_str(": change by hand: ")?;
     told.push_str(why)?;
     told.push_str("\n")
@@ -98,14 +100,15 @@ fn place(
     alloc: Global,
     name: &str,
     source: &str,
-    from: Counter,
     description: &Description,
-) -> Result<String, AllocError>
-    requires { IsCounted 1 source.now from }
-{
+) -> Result<String, AllocError> {
     let file = safe(alloc, name)?;
-    let start = description.piece.start;
-    let Position { line, column } = position_from(alloc, FIRST_LINE, source, from, start)?;
+    let Position { line, column } = position_of(
+        alloc,
+        FIRST_LINE,
+        source,
+        description.piece.start,
+    )?;
     format!(in alloc; "{file}:{line}:{column}")
 }
 

@@ -1,17 +1,12 @@
 //! Folders that can't be walked, in words.
 
-ghost use Rattle.std.specs.Prelude.{◌≡◌, IfOk, string_bytes};
-ghost use Rattle.timefd_lint.specs.Unwalked as spec;
-
 use std::alloc::{AllocError, Global};
 use std::io::ErrorKind;
 use timefd_drawing::shown::safe;
 use timefd_lint_files::Reason;
 
 /// Why the sources below a folder aren't known, in a sentence: of this folder, or this file in it.
-pub fn sentence(alloc: Global, path: &str, reason: Reason) -> Result<String, AllocError>
-    ensures { IfOk result (λ told. string_bytes told ≡ spec.sentence path.now reason) }
-{
+pub fn sentence(alloc: Global, path: &str, reason: Reason) -> Result<String, AllocError> {
     let path = safe(alloc, path)?;
     match reason {
         Reason::Unread(kind) => {
@@ -22,9 +17,7 @@ pub fn sentence(alloc: Global, path: &str, reason: Reason) -> Result<String, All
     }
 }
 
-fn cause(kind: ErrorKind) -> &'static str
-    ensures { result.now ≡ spec.cause kind }
-{
+fn cause(kind: ErrorKind) -> &'static str {
     match kind {
         ErrorKind::NotFound => ": no such file",
         ErrorKind::PermissionDenied => ": permission denied",

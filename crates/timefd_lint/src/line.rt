@@ -13,7 +13,7 @@ ghost use Rattle.timefd_lint.specs.Told.{Says, WritesTree};
 
 use crate::options::Options;
 use std::alloc::{AllocError, Global};
-use std::io::{ErrorKind, Write};
+use std::io::Write;
 use std::str;
 use timefd_diagnosis::{Diagnostic, MOST_FURTHER, diagnose, further_faults};
 use timefd_drawing::{Origin, drawn_all, note};
@@ -207,13 +207,6 @@ pub fn write<W: Write>(writer: &mut W, bytes: &[u8]) -> Result<(), RunError>
 {
     match writer.write_all(bytes) {
         Ok(()) => Ok(()),
-        Err(error) => Err(unwritten(error.kind())),
-    }
-}
-
-fn unwritten(kind: ErrorKind) -> RunError {
-    match kind {
-        ErrorKind::OutOfMemory => RunError::Memory,
-        _ => RunError::Write,
+        Err(_) => Err(RunError::Write),
     }
 }

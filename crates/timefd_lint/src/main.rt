@@ -4,7 +4,6 @@
 #![tactic(auto)]
 
 mod by_hand;
-mod code_names;
 mod color;
 mod config;
 mod error_code;
@@ -19,7 +18,6 @@ mod lines;
 mod log;
 mod mark;
 mod options;
-mod output;
 mod page;
 mod progress;
 mod rewriting;
@@ -27,7 +25,6 @@ mod rules;
 mod run;
 mod running;
 mod rust;
-mod said;
 mod session;
 mod sought;
 mod source;
@@ -42,36 +39,30 @@ use config::{ConfigFailure, counted_keys, read_config};
 use line::RunError;
 use log::write_log;
 use options::{Options, run_options};
-use output::{Audience, Screen};
-use page::{Subject, explained_in, name_explained, page_on};
-use progress::Progress;
+use page::{Subject, explained_in, page_on};
 use running::run_in_form;
 use rust::are_sources;
-use said::say;
 use session::session_status;
 use sought::sought;
-use source::is_absent;
 use status::{
-    FAILED, NOT_TEXT, WRONG_ARGUMENTS, no_memory, told, unknown_code, walk_failed, write_failed,
-    wrong_arguments,
+    FAILED, NOT_TEXT, WRONG_ARGUMENTS, no_memory, told, walk_failed, write_failed, wrong_arguments,
 };
 use std::alloc::{AllocError, Global};
-use std::io::{BufWriter, IsTerminal, Write};
+use std::io::{BufWriter, Write};
 use std::process::ExitCode;
 use summary::summary;
 use tally::Tally;
-use timefd_drawing::people::show;
 use timefd_keys::Key;
 use timefd_lint_config::{OwnedKey, same_keys, with_keys};
 use timefd_lint_files::{WalkError, expanded};
 use timefd_lint_options::{
-    Asked, OptionError, Settings, arranged, is_log, keys_of, lines_conflict, options_of,
+    Asked, OptionError, Settings, is_log, keys_of, lines_conflict, options_of,
 };
 use timefd_streams::{WordsError, all_words, lent};
 
 // Writes a text to the standard output, and answers the status.
 fn written(rt: &HostRuntime, text: &str) -> u8 {
-    match show(rt.alloc(), false, text.as_bytes(), &mut rt.stdout()) {
+    match rt.stdout().write_all(text.as_bytes()) {
         Ok(()) => 0,
         Err(_) => write_failed(rt),
     }
@@ -87,17 +78,9 @@ fn page_status(rt: &HostRuntime, subject: Subject) -> u8 {
 
 // The status of what the words behind the program's name ask for.
 fn words_status(rt: &HostRuntime, words: &[&str]) -> u8 {
-    if let Some(subject) = explained_in(words) {
-        return page_status(rt, subject);
-    }
-    if let Some(name) = name_explained(words) {
-        if is_absent(rt, name) {
-            return unknown_code(rt, name);
-        }
-    }
-    match arranged(rt.alloc(), words) {
-        Ok(words) => options_status(rt, &words),
-        Err(AllocError) => no_memory(rt),
+    match explained_in(words) {
+        Some(subject) => page_status(rt, subject),
+        None => options_status(rt, words),
     }
 }
 
@@ -186,45 +169,10 @@ fn files_status(rt: &HostRuntime, settings: Settings<'_>, keys: &[Key<'_>], file
 }
 
 fn run_status(rt: &HostRuntime, settings: Settings<'_>, options: Options<'_>) -> u8 {
-    let progress = Progress::new(rt);
-    if rt.stdout().is_terminal() {
-        let colored = options.telling.style.is_colored;
-        let mut screen = Screen::new(rt, colored, &progress);
-        return run_to(
-            rt,
-            settings,
-            options,
-            Audience::People,
-            &progress,
-            &mut screen,
-        );
-    }
-    match BufWriter::new(rt.alloc(), rt.stdout()) {
-        Ok(mut writer) => {
-            run_to(
-                rt,
-                settings,
-                options,
-                Audience::Programs,
-                &progress,
-                &mut writer,
-            )
-        }
-        Err(_) => no_memory(rt),
-    }
-}
-
-// The status of a run whose messages are written to this writer.
-fn run_to<W: Write>(
-    rt: &HostRuntime,
-    settings: Settings<'_>,
-    options: Options<'_>,
-    audience: Audience,
-    progress: &Progress<'_>,
-    writer: &mut W,
-) -> u8 {
-    let end = run_in_form(rt, settings, options, audience, progress, writer);
-    progress.clear();
+    let Ok(mut writer) = BufWriter::new(rt.alloc(), rt.stdout()) else {
+        return no_memory(rt);
+    };
+    let end = run_in_form(rt, settings, options, &mut writer);
     match (end, writer.flush()) {
         (Ok(tally), Ok(())) => end_of(rt, settings, options.file_count(), tally),
         (Err(RunError::Memory), _) => no_memory(rt),
@@ -249,7 +197,7 @@ fn end_of(rt: &HostRuntime, settings: Settings<'_>, file_count: usize, tally: Ta
     }
     match summary(rt.alloc(), settings.warns, tally, file_count) {
         Ok(line) => {
-            let _ = say(rt.alloc(), &line, &mut rt.stderr());
+            let _ = eprintln!(rt; "{line}");
             status
         }
         Err(AllocError) => no_memory(rt),

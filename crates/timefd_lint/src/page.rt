@@ -1,6 +1,6 @@
 //! The page on an error or a warning.
 
-ghost use Rattle.std.specs.Prelude.{◌≡◌, option_map};
+ghost use Rattle.std.specs.Prelude.{◌≡◌};
 ghost use Rattle.timefd_lint.specs.Pages as spec;
 
 use crate::error_code::ErrorCode;
@@ -37,19 +37,6 @@ pub fn explained_in(words: &[&str]) -> Option<Subject>
     };
     match *option {
         "--explain" => subject_named(name),
-        _ => None,
-    }
-}
-
-/// The name behind `--explain`, if these words are that alone.
-pub fn name_explained<'a>(words: &[&'a str]) -> Option<&'a str>
-    ensures { option_map (λ name. name.now) result ≡ spec.name_explained words.now }
-{
-    let [option, name] = words else {
-        return None;
-    };
-    match *option {
-        "--explain" => Some(name),
         _ => None,
     }
 }

@@ -6,10 +6,9 @@ use crate::failure::OpenError;
 use crate::source::Source;
 use std::alloc::Global;
 use std::cell::Cell;
-use std::io::{BufReader, IsTerminal, Write};
+use std::io::{BufReader, IsTerminal};
 use std::rt::Files;
 use std::time::{Duration, Instant};
-use timefd_drawing::people::show;
 
 /// After how many milliseconds a run is told of.
 const FIRST: u64 = 1000;
@@ -18,66 +17,38 @@ const FIRST: u64 = 1000;
 const BETWEEN: u64 = 100;
 
 /// What takes a line of progress away: the start of the line, and all behind it cleared.
-const CLEAR: &[u8] = b"\r\x1b[K";
+const CLEAR: &str = "\r\x1b[K";
 
-/// A line of progress on the standard error, where that is a terminal.
-#[derive(Drop)]
-pub struct Progress<'a> {
-    rt: &'a HostRuntime,
-    shows: bool,
-    stands: Cell<bool>,
-}
-
-impl<'a> Progress<'a> {
-    /// No line so far.
-    pub fn new(rt: &'a HostRuntime) -> Progress<'a> {
-        Progress {
-            rt,
-            shows: rt.stderr().is_terminal(),
-            stands: Cell::new(false),
-        }
-    }
-
-    /// Takes the line away, if one stands there.
-    pub fn clear(&self) {
-        if self.stands.get() {
-            let _ = self.rt.stderr().write_all(CLEAR);
-            self.stands.set(false);
-        }
-    }
-
-    // Shows a line in the place of the one before.
-    fn show(&self, line: &str) {
-        let _ = self.rt.stderr().write_all(CLEAR);
-        let _ = show(
-            self.rt.alloc(),
-            false,
-            line.as_bytes(),
-            &mut self.rt.stderr(),
-        );
-        self.stands.set(true);
-    }
-}
-
-/// The files of the system, of which a run that takes more than a second tells how many it opened.
+/// The files of the system, of which a run that takes more than a second tells how many it opened. It tells
+/// so on the standard error, where that is a terminal and the standard output, which has lines of its
+/// own, is none.
 #[derive(Drop)]
 pub struct Watched<'a> {
     rt: &'a HostRuntime,
-    progress: &'a Progress<'a>,
+    shows: bool,
     file_count: usize,
     opened: Cell<usize>,
     next: Cell<Option<Instant>>,
+    has_told: Cell<bool>,
 }
 
 impl<'a> Watched<'a> {
     /// A run over so many files, which begins now.
-    pub fn new(rt: &'a HostRuntime, progress: &'a Progress<'a>, file_count: usize) -> Watched<'a> {
+    pub fn new(rt: &'a HostRuntime, file_count: usize) -> Watched<'a> {
         Watched {
             rt,
-            progress,
+            shows: rt.stderr().is_terminal() && !rt.stdout().is_terminal(),
             file_count,
             opened: Cell::new(0),
             next: Cell::new(behind_now(rt, FIRST)),
+            has_told: Cell::new(false),
+        }
+    }
+
+    /// Takes the line of progress away, if one stands there.
+    pub fn end(&self) {
+        if self.has_told.get() {
+            let _ = eprint!(self.rt; "{CLEAR}");
         }
     }
 
@@ -85,11 +56,10 @@ impl<'a> Watched<'a> {
     fn pass(&self) {
         let opened = self.opened.get().saturating_add(1);
         self.opened.set(opened);
-        if self.progress.shows && self.is_time() {
+        if self.shows && self.is_time() {
             let file_count = self.file_count;
-            if let Ok(line) = format!(in self.rt.alloc(); "{opened} of {file_count} files") {
-                self.progress.show(&line);
-            }
+            let _ = eprint!(self.rt; "{CLEAR}{opened} of {file_count} files");
+            self.has_told.set(true);
             self.next.set(behind_now(self.rt, BETWEEN));
         }
     }

@@ -7,15 +7,12 @@ use crate::identity::{identity_of, is_among, meet};
 use crate::line::RunError;
 use crate::lines::failed;
 use crate::options::Options;
-use crate::output::Audience;
 use crate::rust::is_source;
-use crate::said::say;
 use crate::tally::Tally;
-use std::alloc::{AllocError, Global};
-use std::io::Write;
+use std::alloc::Global;
+use std::io::{Eprint, Write};
 use std::rt::Files;
 use timefd_convert::conversion_between;
-use timefd_drawing::people::{People, show};
 use timefd_drawing::shown::safe;
 use timefd_lint_options::{Settings, target};
 use timefd_parse::{DescriptionVersion, Language};
@@ -84,14 +81,12 @@ pub fn rewriting_of(settings: Settings<'_>) -> Option<Rewriting> {
 /// Looks at the lines of each file in turn, or at the descriptions of a source, and shows what changes
 /// in it or writes it back. One that several names stand for is taken once. A file that can't be read
 /// or not be written back is noted, and the others are still looked at.
-pub fn rewrite_files<R: Files, W: Write, E: Write>(
+pub fn rewrite_files<R: Files + Eprint, W: Write>(
     rt: &R,
     alloc: Global,
     options: Options<'_>,
     rewriting: Rewriting,
-    audience: Audience,
     writer: &mut W,
-    errors: &mut E,
 ) -> Result<Tally, RunError> {
     let mut met = Vec::new(alloc);
     let mut tally = Tally::new();
@@ -102,10 +97,7 @@ pub fn rewrite_files<R: Files, W: Write, E: Write>(
             }
             meet(&mut met, identity)?;
         }
-        let end = rewrite_file(
-            rt, alloc, options, rewriting, audience, name, writer, errors,
-        )?;
-        tally = tally.and(end);
+        tally = tally.and(rewrite_file(rt, alloc, options, rewriting, name, writer)?);
         // What is written back is another file of the same name.
         if let Some(identity) = identity_of(rt, name) {
             meet(&mut met, identity)?;
@@ -115,15 +107,13 @@ pub fn rewrite_files<R: Files, W: Write, E: Write>(
 }
 
 // Looks at a file, and shows what changes in it or writes it back.
-fn rewrite_file<R: Files, W: Write, E: Write>(
+fn rewrite_file<R: Files + Eprint, W: Write>(
     rt: &R,
     alloc: Global,
     options: Options<'_>,
     rewriting: Rewriting,
-    audience: Audience,
     name: &str,
     writer: &mut W,
-    errors: &mut E,
 ) -> Result<Tally, RunError> {
     let old = match Original::read(rt, alloc, name) {
         Ok(old) => old,
@@ -138,18 +128,16 @@ fn rewrite_file<R: Files, W: Write, E: Write>(
         };
         looked_at(alloc, options, layout, name, &old.bytes, writer)?
     };
-    let tally = found.tally.and(by_hand(alloc, &found, errors));
-    match shown_or_written(
-        rt, alloc, rewriting, audience, name, &old, &found, writer, errors,
-    ) {
+    let tally = found.tally.and(by_hand(rt, &found));
+    match shown_or_written(rt, alloc, rewriting, name, &old, &found, writer) {
         Ok(()) => Ok(tally),
         Err(error) => Ok(tally.and(noted(alloc, options, name, error, writer)?)),
     }
 }
 
 // Tells which descriptions want changing by hand.
-fn by_hand<E: Write>(alloc: Global, found: &Found, errors: &mut E) -> Tally {
-    let _ = show(alloc, false, found.by_hand.as_bytes(), errors);
+fn by_hand<R: Eprint>(rt: &R, found: &Found) -> Tally {
+    let _ = rt.eprint(format_args!("{}", found.by_hand));
     Tally {
         is_left: !found.by_hand.is_empty(),
         ..Tally::new()
@@ -175,60 +163,32 @@ fn noted<W: Write>(
 }
 
 // Shows what changes in a file, or writes it back; neither where nothing changes.
-fn shown_or_written<R: Files, W: Write, E: Write>(
+fn shown_or_written<R: Files + Eprint, W: Write>(
     rt: &R,
     alloc: Global,
     rewriting: Rewriting,
-    audience: Audience,
     name: &str,
     old: &Original<R::File>,
     found: &Found,
     writer: &mut W,
-    errors: &mut E,
 ) -> Result<(), FixError> {
     if found.counts.rewritten == 0 {
         return Ok(());
     }
     let file = safe(alloc, name)?;
     if found.counts.refused > 0 && !rewriting.is_partial {
-        let _ = say(
-            alloc,
-            &refused(alloc, rewriting.writes, &file, found)?,
-            errors,
-        );
+        tell_refused(rt, rewriting.writes, &file, found);
         return Ok(());
     }
     if rewriting.writes {
         old.replace(rt, alloc, name, &found.bytes)?;
-        let _ = say(alloc, &rewrote(alloc, &file, found)?, errors);
+        tell_rewritten(rt, &file, found);
         return Ok(());
     }
-    match show_diff(alloc, audience, &file, &old.bytes, &found.bytes, writer) {
+    match write_diff(alloc, &file, &old.bytes, &found.bytes, writer) {
         Ok(()) => Ok(()),
         Err(RewriteError::Memory) => Err(FixError::Memory),
         Err(RewriteError::Read | RewriteError::Write) => Err(FixError::Output),
-    }
-}
-
-// Shows what changes in a file. To programs, which may patch it by that, it goes byte by byte.
-fn show_diff<W: Write>(
-    alloc: Global,
-    audience: Audience,
-    name: &str,
-    old: &[u8],
-    new: &[u8],
-    writer: &mut W,
-) -> Result<(), RewriteError> {
-    match audience {
-        Audience::People => {
-            let mut people = People {
-                alloc,
-                is_colored: false,
-                writer,
-            };
-            write_diff(alloc, name, old, new, &mut people)
-        }
-        Audience::Programs => write_diff(alloc, name, old, new, writer),
     }
 }
 
@@ -241,8 +201,8 @@ fn noun(unit: Unit, count: u64) -> &'static str {
     }
 }
 
-// Why a file some of whose lines or descriptions are refused is left out.
-fn refused(alloc: Global, writes: bool, file: &str, found: &Found) -> Result<String, AllocError> {
+// Says why a file some of whose lines or descriptions are refused is left out.
+fn tell_refused<R: Eprint>(rt: &R, writes: bool, file: &str, found: &Found) {
     let Counts { lines, refused, .. } = found.counts;
     let noun = noun(found.unit, lines);
     let are = if refused == 1 { "is" } else { "are" };
@@ -251,18 +211,18 @@ fn refused(alloc: Global, writes: bool, file: &str, found: &Found) -> Result<Str
     } else {
         ("no diff of", "--write --partial")
     };
-    format!(in alloc;
+    let _ = rt.eprintln(format_args!(
         "{left} {file}: {refused} of {lines} {noun} {are} refused; {cure} rewrites the others"
-    )
+    ));
 }
 
-// That a file is written back.
-fn rewrote(alloc: Global, file: &str, found: &Found) -> Result<String, AllocError> {
+// Says that a file is written back.
+fn tell_rewritten<R: Eprint>(rt: &R, file: &str, found: &Found) {
     let Counts {
         lines,
         rewritten,
         ..
     } = found.counts;
     let noun = noun(found.unit, lines);
-    format!(in alloc; "rewrote {file}: {rewritten} of {lines} {noun}")
+    let _ = rt.eprintln(format_args!("rewrote {file}: {rewritten} of {lines} {noun}"));
 }

@@ -3,8 +3,7 @@
 use crate::line::RunError;
 use crate::log::write_log;
 use crate::options::Options;
-use crate::output::Audience;
-use crate::progress::{Progress, Watched};
+use crate::progress::Watched;
 use crate::rewriting::{rewrite_files, rewriting_of};
 use crate::run::run;
 use crate::source::BUFFER;
@@ -17,14 +16,12 @@ pub fn run_in_form<W: Write>(
     rt: &HostRuntime,
     settings: Settings<'_>,
     options: Options<'_>,
-    audience: Audience,
-    progress: &Progress<'_>,
     writer: &mut W,
 ) -> Result<Tally, RunError> {
     if is_log(settings.format) {
-        run_logged(rt, settings, options, audience, progress, writer)
+        run_logged(rt, settings, options, writer)
     } else {
-        run_and_rewrite(rt, settings, options, audience, progress, writer)
+        run_and_rewrite(rt, settings, options, writer)
     }
 }
 
@@ -33,12 +30,10 @@ fn run_logged<W: Write>(
     rt: &HostRuntime,
     settings: Settings<'_>,
     options: Options<'_>,
-    audience: Audience,
-    progress: &Progress<'_>,
     writer: &mut W,
 ) -> Result<Tally, RunError> {
     let mut results = Vec::new(rt.alloc());
-    match run_and_rewrite(rt, settings, options, audience, progress, &mut results) {
+    match run_and_rewrite(rt, settings, options, &mut results) {
         Ok(tally) => {
             write_log(rt.alloc(), &results, writer)?;
             Ok(tally)
@@ -52,24 +47,16 @@ fn run_and_rewrite<W: Write>(
     rt: &HostRuntime,
     settings: Settings<'_>,
     options: Options<'_>,
-    audience: Audience,
-    progress: &Progress<'_>,
     writer: &mut W,
 ) -> Result<Tally, RunError> {
     if let Some(rewriting) = rewriting_of(settings) {
-        return rewrite_files(
-            rt,
-            rt.alloc(),
-            options,
-            rewriting,
-            audience,
-            writer,
-            &mut rt.stderr(),
-        );
+        return rewrite_files(rt, rt.alloc(), options, rewriting, writer);
     }
     let Ok(mut input) = BufReader::with_capacity(rt.alloc(), BUFFER, rt.stdin()) else {
         return Err(RunError::Memory);
     };
-    let watched = Watched::new(rt, progress, options.file_count());
-    run(&watched, rt.alloc(), options, &mut input, writer)
+    let watched = Watched::new(rt, options.file_count());
+    let end = run(&watched, rt.alloc(), options, &mut input, writer);
+    watched.end();
+    end
 }

@@ -1,9 +1,5 @@
 //! Which files below folders are looked at.
 
-ghost use Rattle.std.specs.Prelude.{◌≡◌};
-ghost use Rattle.timefd_diagnosis.specs.Words.{texts};
-ghost use Rattle.timefd_lint.specs.Sought as spec;
-
 use timefd_keys::Key;
 use timefd_lint_files::Sought;
 use timefd_lint_options::Settings;
@@ -16,10 +12,7 @@ const RUST_AND_KEYS: &[&str] = &[".rs", ".toml", ".json", ".yaml", ".yml"];
 
 /// Which files below folders are looked at: sources of Rust, and files with keys where keys are looked for, but for
 /// what is excluded.
-pub fn sought<'a>(settings: Settings<'_>, keys: &[Key<'_>], excluded: &'a str) -> Sought<'a>
-    ensures endings { texts result.endings.now ≡ spec.endings settings.entry keys.now }
-    ensures excluded { result.excluded.now ≡ excluded.now }
-{
+pub fn sought<'a>(settings: Settings<'_>, keys: &[Key<'_>], excluded: &'a str) -> Sought<'a> {
     Sought {
         endings: if keys.is_empty() || settings.is_source {
             RUST

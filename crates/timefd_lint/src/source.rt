@@ -6,8 +6,8 @@ ghost use Rattle.timefd_lint.specs.declared.failure.OpenError.{OpenError};
 
 use crate::failure::{OpenError, unread};
 use std::alloc::Global;
-use std::fs::{self, File};
-use std::io::{BufRead, BufReader, ErrorKind};
+use std::fs::File;
+use std::io::{BufRead, BufReader};
 use std::rt::Files;
 
 /// How many bytes are read at once.
@@ -47,13 +47,5 @@ impl<R: Files> Source for R {
             },
             Err(error) => Err(OpenError::Failed(unread(error.kind()))),
         }
-    }
-}
-
-/// Whether the system has no file of a name.
-pub fn is_absent<R: Files>(rt: &R, name: &str) -> bool {
-    match fs::metadata(rt, name) {
-        Ok(_) => false,
-        Err(error) => error.kind() == ErrorKind::NotFound,
     }
 }

@@ -17,8 +17,7 @@ are none, where, why, and what to write in their place. The file - is the standa
 whose name ends in .rs, a source of Rust, they are the string literals in calls of time and chrono.
 With --key they are, in files whose names end in .toml, .json, .yaml or .yml, strings of these keys.
 A folder stands for the sources below it, and with --key for those files too, but not for hidden ones
-and those that .gitignore files name, or the list exclude in a file .timefd.toml. Options may stand
-behind files too, and as --OPTION=VALUE.
+and those that .gitignore files name, or the list exclude in a file .timefd.toml.
 
   --language 1|2|3|strftime    the language of all lines; version 3 if it isn't given
   --format human|json|short|github|sarif

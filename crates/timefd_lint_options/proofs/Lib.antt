@@ -1,4 +1,3 @@
 pub mod AskedLemmas
 pub mod SuggestionLemmas
 pub mod KeyWordLemmas
-pub mod ArrangedLemmas

@@ -6,4 +6,3 @@ pub mod Conflicts
 pub mod Asked
 pub mod Suggestions
 pub mod KeyWords
-pub mod Arranged
