@@ -22,7 +22,6 @@ pub mod Steps
 pub mod Items
 pub mod Answers
 pub mod ToRead
-pub mod Laws
 pub mod Roles
 pub mod TrapWords
 pub mod Traps
