@@ -1,9 +1,7 @@
 //! A file whose lines are rewritten: it is read whole, and a new one takes its place.
 
-ghost use Rattle.std.specs.Fs.{IsDir, IsFile, asks_create_new, asks_write, file_type};
-ghost use Rattle.std.specs.Prelude.{◌≡◌, ◌↔◌, None, Some, IfOk, IsTrue};
+ghost use Rattle.std.specs.Prelude.{IfOk};
 ghost use Rattle.std.specs.Io.KnownBytes.{Appends};
-ghost use Rattle.timefd_lint.specs.declared.failure.Failure.TheVariants as failures;
 
 use crate::failure::{Failure, unread};
 use crate::stamp::{Stamp, may_be_replaced};
@@ -101,24 +99,13 @@ impl<F: Read + OpenFile + Drop> Original<F> {
 // nobody writes into would be waited for.
 fn opened<R: Files>(rt: &R, name: &str) -> Result<R::File, FixError> {
     let found = fs::metadata(rt, name).map_err(unreadable)?;
-    match not_opened(&found) {
-        Some(failure) => Err(FixError::Failed(failure)),
-        None => File::open(rt, name).map_err(unreadable),
-    }
-}
-
-// Why a file isn't opened: only a regular one is.
-fn not_opened(found: &Metadata) -> Option<Failure>
-    ensures regular { result ≡ None ↔ IsFile (file_type found.now) }
-    ensures folder { result ≡ Some failures.Folder ↔ IsDir (file_type found.now) }
-{
     if found.is_dir() {
-        return Some(Failure::Folder);
+        return Err(FixError::Failed(Failure::Folder));
     }
-    if found.is_file() {
-        return None;
+    if !found.is_file() {
+        return Err(FixError::Failed(Failure::NotRegular));
     }
-    Some(Failure::NotRegular)
+    File::open(rt, name).map_err(unreadable)
 }
 
 // All bytes of a file: as many as it had when it was found.
@@ -158,21 +145,13 @@ fn replace_at<R: Files>(
     replaced
 }
 
-// How a new file is opened: there is none of its name, and nobody else may read it while it is written.
-fn new_options() -> OpenOptions
-    ensures new { IsTrue (asks_create_new result) }
-    ensures write { IsTrue (asks_write result) }
-{
+// A new file, which nobody else may read while it is written.
+fn created<R: Files>(rt: &R, name: &str) -> Result<R::File, FixError> {
     let mut options = OpenOptions::new();
-    options.mode(0o600);
     options.write(true);
     options.create_new(true);
-    options
-}
-
-// A new file.
-fn created<R: Files>(rt: &R, name: &str) -> Result<R::File, FixError> {
-    match new_options().open(rt, name) {
+    options.mode(0o600);
+    match options.open(rt, name) {
         Ok(file) => Ok(file),
         Err(error) if error.kind() == ErrorKind::AlreadyExists => {
             Err(FixError::Failed(Failure::Occupied))
