@@ -46,12 +46,15 @@ abbrev pub counted : Bool → Tally → ℕ → Text
 counted true tally file_count = with_warnings tally file_count
 counted false tally file_count = without_warnings tally file_count
 
--- as `.., 2 files; 3 calls with a name in place of a text`, where there are such calls
-abbrev pub with_unread : Text → ℕ → Text
-with_unread line unread =
-    if nat_eq unread 0 then line
-    else line ++ (codes "; " ++ (decimal unread ++ (codes " " ++ (calls unread
+-- as `.., 2 files; 3 calls with a name in place of a text`
+abbrev pub with_calls : Text → ℕ → Text
+with_calls line unread =
+    line ++ (codes "; " ++ (decimal unread ++ (codes " " ++ (calls unread
     ++ codes " with a name in place of a text"))))
+
+-- the same, where there are such calls
+abbrev pub with_unread : Text → ℕ → Text
+with_unread line unread = if nat_eq unread 0 then line else with_calls line unread
 
 abbrev pub summary : Bool → Tally → ℕ → Text
 summary warns tally file_count = with_unread (counted warns tally file_count) tally.unread

@@ -31,6 +31,12 @@ fn with_unread(alloc: Global, counted: String, unread: u64) -> Result<String, Al
     if unread == 0 {
         return Ok(counted);
     }
+    with_calls(alloc, &counted, unread)
+}
+
+fn with_calls(alloc: Global, counted: &str, unread: u64) -> Result<String, AllocError>
+    ensures { IfOk result (λ line. string_bytes line ≡ spec.with_calls counted.now unread) }
+{
     let noun = call_noun(unread);
     format!(in alloc; "{counted}; {unread} {noun} with a name in place of a text")
 }
