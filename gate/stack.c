@@ -9,7 +9,7 @@
 #include <string.h>
 #include <sys/mman.h>
 
-enum { DEEPEST = 127, DEEPER = 20000, SHORT = 512, BUFFER = 8192, NODES = 2048, STACK = 2048 * 1024, GUARD = 64 * 1024, UNTOUCHED = 0xA5 };
+enum { DEEPEST = 127, HALF = 63, DEEPER = 20000, SHORT = 512, BUFFER = 8192, NODES = 2048, STACK = 2048 * 1024, GUARD = 64 * 1024, UNTOUCHED = 0xA5 };
 
 /* What nests: so many fronts, the inside, so many backs; and likewise a date that is read by it to its end. */
 struct family {
@@ -231,10 +231,11 @@ static size_t taken_by(size_t call, const struct family *family, size_t depth, i
     return touched;
 }
 
-/* What each level of a family's text takes. */
+/* What each level of a family's text takes, between two deep texts: a short one goes other ways. */
 static size_t measure(size_t call, const struct family *family) {
-    size_t shallow = taken_by(call, family, 1, 1), deep = taken_by(call, family, DEEPEST, 1);
-    size_t level = deep < shallow ? 0 : (deep - shallow) / (DEEPEST - 1);
+    size_t shallow = taken_by(call, family, HALF, 1), deep = taken_by(call, family, DEEPEST, 1);
+    size_t level = deep < shallow ? 0 : (deep - shallow) / (DEEPEST - HALF);
+    taken_by(call, family, 1, 1);
     if (level > CALLS[call].level) {
         printf("stack: %s takes %zu bytes for each level of %s, not at most %zu\n", CALLS[call].name, level, family->name,
                CALLS[call].level);
